@@ -1,0 +1,10 @@
+use Rattle.std.proofs.Common.{ap, rules, ◌≡◌, ◌+◌, ◌-◌, ◌^◌, min, length}
+use Rattle.borsh_io.specs.Errors.{error_kind}
+use Rattle.borsh.proofs.Lengths.{no_length}
+use Rattle.borsh.proofs.ser.object_length.Goals as goal
+
+pub returns-clause-err : goal.returns-clause-err
+returns-clause-err g c =
+    let t = g.T.BorshType.codec in
+    let w = c.in_ok-serialize.ensures.ok in
+    no_length t.write_allocates (t.encoding c.args.value.now) w.bytes c.serialize.new.writer.len c.len.result c.from.result c.ok_or.result c.ok_or.ensures.value c.len.ensures (search rules) w.is (search rules)

@@ -1,0 +1,5 @@
+pub mod Words
+pub mod Digits
+pub mod Requests
+pub mod Meanings
+pub mod Answers

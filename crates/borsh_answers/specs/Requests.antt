@@ -1,0 +1,43 @@
+-- What a line asks for.
+use Rattle.std.specs.Prelude.{ℕ, ◌+◌, ◌==◌, Bool, true, false, List, take, drop, Option, Some, None, option_and_then, if◌then◌else◌, codes, nat_eq, position}
+use Rattle.std.specs.Option.{option_map}
+use Rattle.std.specs.Cmp.Lexicographic.{pointwise}
+use Rattle.borsh_answers.specs.declared.words.Word.{Word}
+use Rattle.borsh_answers.specs.declared.requests.Request.{Request}
+use Rattle.borsh_answers.specs.declared.requests.Request.TheVariants.{Value}
+use Rattle.borsh_answers.specs.Words.{word_named}
+use Rattle.borsh_answers.specs.Digits.{bytes_written}
+
+-- the `?` of an option
+infixl 10 ◌>>=◌
+abbrev pub ◌>>=◌ : {A B : Type 0} → Option A → (A → Option B) → Option B
+o >>= f = option_and_then f o
+
+-- what a line asks for
+pub data Asked : Type 0 where
+  -- that bytes are read as a value of a type, in the strict mode or not
+  value : Word → Bool → List ℕ → Asked
+
+abbrev pub asked_by : Request → Asked
+asked_by (Value word strict bytes) = value word strict bytes.items
+
+-- the part before the first space, and the part behind it
+abbrev pub cut : List ℕ → Option (List ℕ × List ℕ)
+cut text = option_map (λ at. (take at text, drop (at + 1) text)) (position (λ b. b == 32) text)
+
+-- `TYPE HEX`
+abbrev pub asked_value : Bool → List ℕ → Option Asked
+asked_value strict text = do
+  parts ← cut text
+  word ← word_named parts.0
+  bytes ← bytes_written parts.1
+  Some (value word strict bytes)
+
+-- a command and what stands behind its space
+abbrev pub asked_command : List ℕ → List ℕ → Option Asked
+asked_command command text =
+    if pointwise nat_eq command (codes "read") then asked_value true text else (if pointwise nat_eq command (codes "canon") then asked_value false text else None)
+
+-- what a line asks for; nothing where it is no command
+abbrev pub asked : List ℕ → Option Asked
+asked line = option_and_then (λ parts. asked_command parts.0 parts.1) (cut line)

@@ -1,0 +1,74 @@
+// What a line asks for.
+ghost use Rattle.std.specs.Prelude.{◌≡◌, ◌==◌, ◌<◌, length, position, IfOk, IfSome, MatchOption, None, Some};
+ghost use Rattle.borsh_answers.specs.Requests.{cut, asked_by, asked_value, asked};
+
+use super::digits::bytes_from;
+use super::words::Word;
+use std::alloc::{AllocError, Global};
+
+/// What a line asks for.
+#[derive(Drop)]
+pub enum Request {
+    /// Bytes are to be read as a value of the type, which is written again; in the strict mode keys have
+    /// to stand in order.
+    Value {
+        word: Word,
+        strict: bool,
+        bytes: Vec<u8>,
+    },
+}
+
+/// Where the first space of a text is.
+fn first_space(text: &[u8]) -> Option<usize>
+    ensures place { result ≡ position (λ byte. byte == 32) text.now }
+    ensures within { IfSome result (λ at. at < length text.now) }
+{
+    text.iter().position(|byte| *byte == b' ')
+}
+
+/// The part of a text before its first space, and the part behind it.
+fn cut_at_space(text: &[u8]) -> Option<(&[u8], &[u8])>
+    ensures { MatchOption result (cut text.now ≡ None) (λ parts. cut text.now ≡ Some (parts.0.now, parts.1.now)) }
+{
+    match first_space(text) {
+        Some(at) => Some((&text[..at], &text[at + 1..])),
+        None => None,
+    }
+}
+
+impl Request {
+    /// What a line asks for; `None` where it is no command.
+    pub fn from_line(alloc: Global, line: &[u8]) -> Result<Option<Request>, AllocError>
+        ensures { IfOk result (λ o. MatchOption o (asked line.now ≡ None) (λ request. asked line.now ≡ Some (asked_by request))) }
+    {
+        match cut_at_space(line) {
+            Some((command, text)) if command == b"read".as_slice() => {
+                Request::value(alloc, true, text)
+            }
+            Some((command, text)) if command == b"canon".as_slice() => {
+                Request::value(alloc, false, text)
+            }
+            _ => Ok(None),
+        }
+    }
+
+    /// The request behind `read` and `canon`.
+    fn value(alloc: Global, strict: bool, text: &[u8]) -> Result<Option<Request>, AllocError>
+        ensures { IfOk result (λ o. MatchOption o (asked_value strict text.now ≡ None) (λ request. asked_value strict text.now ≡ Some (asked_by request))) }
+    {
+        let Some((name, digits)) = cut_at_space(text) else {
+            return Ok(None);
+        };
+        let Some(word) = Word::named(name) else {
+            return Ok(None);
+        };
+        let Some(bytes) = bytes_from(alloc, digits)? else {
+            return Ok(None);
+        };
+        Ok(Some(Request::Value {
+            word,
+            strict,
+            bytes,
+        }))
+    }
+}

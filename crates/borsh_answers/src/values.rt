@@ -1,0 +1,79 @@
+// Bytes that are read as a value, which is written again.
+ghost use Rattle.std.specs.Prelude.{◌≡◌, ◌≢◌, ◌++◌, true, codes, IfOk, IfErr};
+ghost use Rattle.borsh.specs.Errors.{error_kind};
+ghost use Rattle.borsh.specs.Reading.{WhyNotWhole};
+ghost use Rattle.borsh_answers.specs.Digits.{digits_of};
+ghost use Rattle.borsh_answers.specs.Answers.{IsLine, IsErrorLine, AnswersValue};
+
+use borsh::io::{Error, ErrorKind};
+use borsh::{BorshDeserialize, BorshSerialize, from_slice, from_slice_unordered, to_vec};
+use std::alloc::{AllocError, Global};
+
+/// The answer to bytes that are to be read as a `T`; `strict` where keys have to stand in order.
+pub fn value_answer<T: BorshSerialize + BorshDeserialize>(
+    alloc: Global,
+    strict: bool,
+    bytes: &[u8],
+) -> Result<Vec<u8>, AllocError>
+    ensures answers { IfOk result (λ out. AnswersValue T.codec strict bytes.now out.items) }
+    ensures line { IfOk result (λ out. IsLine out.items) }
+{
+    let value: T = match value_from(alloc, strict, bytes) {
+        Ok(value) => value,
+        Err(e) => return error_answer(alloc, &e),
+    };
+    match to_vec(alloc, &value) {
+        Ok(again) => ok_answer(alloc, &again),
+        Err(_) => Err(AllocError),
+    }
+}
+
+/// The value that all of the bytes are a reading of, in the strict or the unordered mode.
+fn value_from<T: BorshDeserialize>(alloc: Global, strict: bool, bytes: &[u8]) -> Result<T, Error>
+    ensures ok { IfOk result (λ v. T.codec.reading strict bytes.now v) }
+    ensures err { IfErr result (λ e. WhyNotWhole T.codec strict bytes.now (error_kind e)) }
+{
+    if strict {
+        from_slice(alloc, bytes)
+    } else {
+        from_slice_unordered(alloc, bytes)
+    }
+}
+
+/// `ok` and the bytes as digits.
+pub fn ok_answer(alloc: Global, bytes: &[u8]) -> Result<Vec<u8>, AllocError>
+    ensures { IfOk result (λ out. out.items ≡ codes "ok " ++ digits_of bytes.now) }
+{
+    let mut out = Vec::new(alloc);
+    out.extend_from_slice(b"ok ")?;
+    if bytes.is_empty() {
+        out.push(b'-')?;
+        return Ok(out);
+    }
+    let digits = hex::encode(alloc, bytes)?;
+    out.extend_from_slice(digits.as_bytes())?;
+    Ok(out)
+}
+
+/// `error` and what the error displays, with a space for each line feed. Want of memory is no answer.
+pub fn error_answer(alloc: Global, error: &Error) -> Result<Vec<u8>, AllocError>
+    ensures is { IfOk result (λ out. IsErrorLine out.items) }
+    ensures told { IfOk result (λ _. error_kind error.now ≢ ErrorKind.OutOfMemory) }
+{
+    if error.kind() == ErrorKind::OutOfMemory {
+        return Err(AllocError);
+    }
+    let mut out = Vec::new(alloc);
+    out.extend_from_slice(b"error ")?;
+    for byte in error.message().as_bytes() {
+        out.push(space_for_feed(*byte))?;
+    }
+    Ok(out)
+}
+
+/// A line feed becomes a space.
+fn space_for_feed(byte: u8) -> u8
+    ensures { result ≢ 10 }
+{
+    if byte == b'\n' { b' ' } else { byte }
+}

@@ -1,0 +1,6 @@
+use Rattle.std.proofs.Common.{rules}
+use Rattle.borsh_types.proofs.NumberBytes.{number_of}
+use Rattle.borsh_de.proofs.numbers.u64_of.Goals as goal
+
+pub returns : goal.returns
+returns c = number_of 7 c.args.bytes _ (search rules) (search rules) c.from_le_bytes.ensures

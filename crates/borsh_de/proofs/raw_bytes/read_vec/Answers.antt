@@ -1,0 +1,42 @@
+use Rattle.std.proofs.Common.{arith, ◌≡◌, ◌-◌, ◌≤◌, List, ◌++◌, length, take, drop, refl, sym, ◌∙◌, ap, length-append}
+use Rattle.std.proofs.lemmas.List.{length-take, length-drop, take_all, take_at}
+use Rattle.std.proofs.lemmas.Result.{err_from_is_err_and}
+use Rattle.borsh_types.proofs.ReadSteps.{took_weaker, took_nothing, took_then}
+use Rattle.borsh_types.proofs.ReadBytes.{reads_bytes, denied_bytes}
+use Rattle.borsh_de.proofs.Pieces.{grown, fits_both}
+use Rattle.borsh_de.proofs.raw_bytes.read_vec.Goals as goal
+
+pub returns-in_err-fill-clause-err : goal.returns-in_err-fill-clause-err
+returns-in_err-fill-clause-err g c =
+    let p = err_from_is_err_and c.from_residual-in_err-fill.result c.from_residual-in_err-fill.ensures.1 in
+    rw (p.1, p.2) (denied_bytes (omega (arith, c.deref_mut.ensures.len, c.in_ok-bytes.ensures.len, c.min.ensures)) (took_nothing _ refl) c.in_err-fill.ensures.err)
+
+pub returns-in_err-fill-2-clause-err : goal.returns-in_err-fill-2-clause-err
+returns-in_err-fill-2-clause-err g c =
+    let p = err_from_is_err_and c.from_residual-in_err-fill-2.result c.from_residual-in_err-fill-2.ensures.1 in
+    let now = c.deref_mut-in-loop-bytes.result.now in
+    let filled = c.len-filled.result in
+    let piece : length (take (length now - filled) (drop filled now)) ≤ length now - filled = omega (arith, length-take (length now - filled) (drop filled now)) in
+    rw (p.1, p.2) (denied_bytes (omega (arith, piece, c.loop-bytes.invariant.few, c.len-filled.ensures, c.deref_mut-in-loop-bytes.ensures.len, c.in_ok-resize.ensures.len, c.min-in-loop-bytes.ensures)) c.loop-bytes.invariant.took c.in_err-fill-2.ensures.err)
+
+pub returns-clause-ok : goal.returns-clause-ok
+returns-clause-ok g c = reads_bytes (omega (arith, c.loop-bytes.invariant.few, c.loop-bytes-test.false, c.len.ensures)) c.loop-bytes.invariant.fit c.loop-bytes.invariant.took
+
+pub loop-bytes-preserved : goal.loop-bytes-preserved
+loop-bytes-preserved g c =
+    let i = c.loop-bytes.invariant in
+    let xs = c.loop-bytes.bytes.items in
+    let resized = c.deref_mut-in-loop-bytes.result.now in
+    let filled = c.len-filled.result in
+    let buf = c.fill-in-loop-bytes.new.buf in
+    let long = c.deref_mut-in-loop-bytes.ensures.len ∙ c.in_ok-resize.ensures.len in
+    let was = c.deref_mut-in-loop-bytes.ensures.value ∙ c.in_ok-resize.ensures.items in
+    let whole = take_all c.min-in-loop-bytes.result xs (omega (arith, c.len-filled.ensures, i.few, c.min-in-loop-bytes.ensures)) in
+    let start : take filled resized ≡ xs = rw (was, whole) (take_at xs _ filled (omega (arith, c.len-filled.ensures))) in
+    let all = grown xs resized buf _ filled _ start (omega (arith, c.len-filled.ensures, long, c.min-in-loop-bytes.ensures)) (omega (arith, c.fill-in-loop-bytes.auto.buf, length-drop filled resized, length-take (length resized - filled) (drop filled resized))) (sym c.deref_mut-in-loop-bytes.ensures.len) in
+    record {
+      took = took_weaker (λ x p. p.whole ∙ ap (λ z. z ++ p.second) p.left ∙ ap (λ z. xs ++ z) p.right ∙ sym all) (took_then i.took c.in_ok-fill-2.ensures.ok);
+      few = omega (arith, ap length all, length-append xs buf);
+      fit = λ k. rw all (fits_both xs buf i.fit c.in_ok-fill-2.ensures.fits k);
+      some = λ h. omega (arith, ap length all, length-append xs buf, i.some h);
+    }

@@ -1,0 +1,91 @@
+// What is read.
+ghost use Rattle.std.specs.Prelude.{◌≡◌, List, true, IfOk, IfErr, MatchOption};
+ghost use Rattle.borsh_io.specs.Errors.{error_kind};
+ghost use Rattle.borsh_io.specs.Stream.{memory_stream};
+ghost use Rattle.borsh_types.specs.Shapes.{listed};
+ghost use Rattle.borsh_types.specs.Reading.{Reads, Denied, ReadsBehind, DeniedBehind, ReadsAll, DeniedAll, WhyNotWhole};
+
+use super::refusals::not_all_bytes_read;
+use borsh_io::{ErrorKind, Read, Result};
+use borsh_types::BorshType;
+use std::alloc::Global;
+
+/// A type whose values are read from their encodings.
+///
+/// The answer depends on the bytes to come alone, not on how the reader cuts them or where it is
+/// interrupted. Each call is refused
+/// - with `InvalidData` where no beginning of the bytes to come is a reading of the type (in the calls
+///   that want all of the bytes: where all of them are none), or where the reader failed;
+/// - with `OutOfMemory` where memory was refused, to the value or to the text of a refusal;
+/// - with the reader's error, where it failed.
+/// After a refusal a tail of the bytes to come is left.
+pub trait BorshDeserialize: BorshType + Sized + Drop {
+    /// Reads a value from the front of the bytes to come, and leaves the rest.
+    fn deserialize_reader<R: Read>(alloc: Global, reader: &mut R) -> Result<Self>
+        ensures ok { IfOk result (λ v. Reads Self Self.codec (R.stream reader.old) (R.stream reader.new) v) }
+        ensures err { IfErr result (λ e. Denied Self Self.codec (R.stream reader.old) (R.stream reader.new) (error_kind e)) };
+
+    /// Reads `len` values one after another, where the type has a way to read them at once: only `u8`
+    /// has one. Where the answer is `None` nothing was read.
+    fn vec_from_reader<R: Read>(
+        _alloc: Global,
+        _len: u32,
+        _reader: &mut R,
+    ) -> Result<Option<Vec<Self>>>
+        ensures ok { IfOk result (λ o. MatchOption o (_reader.new ≡ _reader.old) (λ v. Reads (List Self) (listed _len Self.codec) (R.stream _reader.old) (R.stream _reader.new) v.items)) }
+        ensures err { IfErr result (λ e. Denied (List Self) (listed _len Self.codec) (R.stream _reader.old) (R.stream _reader.new) (error_kind e)) }
+    {
+        Ok(None)
+    }
+
+    /// Reads a value from the front of the slice, which becomes what is left.
+    final fn deserialize(alloc: Global, buf: &mut &[u8]) -> Result<Self>
+        ensures ok { IfOk result (λ v. Reads Self Self.codec (memory_stream buf.old.now) (memory_stream buf.new.now) v) }
+        ensures err { IfErr result (λ e. Denied Self Self.codec (memory_stream buf.old.now) (memory_stream buf.new.now) (error_kind e)) }
+    {
+        Self::deserialize_reader(alloc, buf)
+    }
+
+    /// Reads a value from all of the slice. Bytes left over are refused: `InvalidData`, "Not all bytes
+    /// read".
+    final fn try_from_slice(alloc: Global, v: &[u8]) -> Result<Self>
+        ensures ok { IfOk result (λ x. Self.codec.reading true v.now x) }
+        ensures err { IfErr result (λ e. WhyNotWhole Self.codec true v.now (error_kind e)) }
+    {
+        let mut rest = v;
+        let value = Self::deserialize_reader(alloc, &mut rest)?;
+        if !rest.is_empty() {
+            return Err(not_all_bytes_read());
+        }
+        Ok(value)
+    }
+
+    /// Reads a value from all of the bytes to come, and looks for one more byte. Where there is one, or
+    /// where the reader fails then, the answer is `InvalidData`, "Not all bytes read"; but a failure of
+    /// the kind `UnexpectedEof` is taken as the end.
+    final fn try_from_reader<R: Read>(alloc: Global, reader: &mut R) -> Result<Self>
+        ensures ok { IfOk result (λ v. ReadsAll Self Self.codec (R.stream reader.old) (R.stream reader.new) v) }
+        ensures err { IfErr result (λ e. DeniedAll Self Self.codec (R.stream reader.old) (R.stream reader.new) (error_kind e)) }
+    {
+        let value = Self::deserialize_reader(alloc, reader)?;
+        let mut more = [0u8; 1];
+        match reader.read_exact(&mut more) {
+            Ok(()) => Err(not_all_bytes_read()),
+            Err(e) => match e.kind() {
+                ErrorKind::UnexpectedEof => Ok(value),
+                _ => Err(not_all_bytes_read()),
+            },
+        }
+    }
+}
+
+/// An enum that is read in two steps.
+pub trait EnumExt: BorshDeserialize {
+    /// Reads what follows a tag that was read before.
+    ///
+    /// Refused as [`deserialize_reader`](BorshDeserialize::deserialize_reader) is, for the tag followed
+    /// by the bytes to come.
+    fn deserialize_variant<R: Read>(alloc: Global, reader: &mut R, tag: u8) -> Result<Self>
+        ensures ok { IfOk result (λ v. ReadsBehind tag Self Self.codec (R.stream reader.old) (R.stream reader.new) v) }
+        ensures err { IfErr result (λ e. DeniedBehind tag Self Self.codec (R.stream reader.old) (R.stream reader.new) (error_kind e)) };
+}

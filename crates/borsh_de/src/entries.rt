@@ -1,0 +1,105 @@
+// Entries of maps and keys of sets that are read: the whole list first, and then the order of the keys.
+ghost use Rattle.borsh_io.specs.Errors.{error_kind};
+ghost use Rattle.borsh_types.specs.Maps.{IsOutOfOrder, alone, bare_entries, entries};
+ghost use Rattle.borsh_types.specs.Reading.{Denied, Reads};
+ghost use Rattle.borsh_types.specs.Shapes.{counted, pair, refusing};
+ghost use Rattle.std.specs.Bool.{⊤};
+ghost use Rattle.std.specs.List.Sorted.{IsStrictlySortedBy};
+ghost use Rattle.std.specs.Map.{keys_of};
+ghost use Rattle.std.specs.Prelude.{◌≡◌, ◌↔◌, true, List, IsTrue, IfErr, IfOk, OnErr, OnOk};
+
+use super::deserialize::BorshDeserialize;
+use super::lists::{read_counted, read_list};
+use super::refusals::wrong_order;
+use borsh_io::error::ERROR_ZST_FORBIDDEN;
+use borsh_io::{Error, ErrorKind, Read, Result};
+use borsh_types::BorshKey;
+use std::alloc::Global;
+
+/// Whether the keys of the entries strictly ascend.
+#[inline]
+fn entries_ascend<K: Ord, V>(entries: &[(K, V)]) -> bool
+    ensures { IsTrue result ↔ IsStrictlySortedBy K.cmp (keys_of entries.now) }
+{
+    entries.is_sorted_by(|a, b| a.0.cmp(&b.0).is_lt())
+}
+
+/// Whether the keys strictly ascend.
+#[inline]
+fn keys_ascend<K: Ord>(keys: &[K]) -> bool
+    ensures { IsTrue result ↔ IsStrictlySortedBy K.cmp keys.now }
+{
+    keys.is_sorted_by(|a, b| a.cmp(b).is_lt())
+}
+
+/// Refuses entries whose keys don't strictly ascend, where order is wanted: `InvalidData`, "keys were
+/// not serialized in ascending order".
+#[inline]
+fn check_entries<K: Ord, V>(strict: bool, entries: &[(K, V)]) -> Result<()>
+    ensures ok { OnOk result (strict ≡ true → IsStrictlySortedBy K.cmp (keys_of entries.now)) }
+    ensures kind { IfErr result (λ e. error_kind e ≡ ErrorKind.InvalidData) }
+    ensures why { OnErr result (IsOutOfOrder K.cmp strict entries.now) }
+{
+    if strict && !entries_ascend(entries) {
+        return Err(wrong_order());
+    }
+    Ok(())
+}
+
+/// The same for the keys of a set.
+#[inline]
+fn check_keys<K: Ord>(strict: bool, keys: &[K]) -> Result<()>
+    ensures ok { OnOk result (strict ≡ true → IsStrictlySortedBy K.cmp keys.now) }
+    ensures kind { IfErr result (λ e. error_kind e ≡ ErrorKind.InvalidData) }
+    ensures why { OnErr result (IsOutOfOrder K.cmp strict (bare_entries keys.now)) }
+{
+    if strict && !keys_ascend(keys) {
+        return Err(wrong_order());
+    }
+    Ok(())
+}
+
+/// Reads a count and that many entries in any order. Keys whose encodings are empty are refused before
+/// anything is read.
+#[inline]
+pub(crate) fn read_pairs<K: BorshDeserialize, V: BorshDeserialize, R: Read>(
+    alloc: Global,
+    reader: &mut R,
+) -> Result<Vec<(K, V)>>
+    ensures ok { IfOk result (λ v. Reads (List (K × V)) (refusing K.codec.is_empty (counted (pair K.codec V.codec))) (R.stream reader.old) (R.stream reader.new) v.items) }
+    ensures err { IfErr result (λ e. Denied (List (K × V)) (refusing K.codec.is_empty (counted (pair K.codec V.codec))) (R.stream reader.old) (R.stream reader.new) (error_kind e)) }
+{
+    if K::encodes_empty() {
+        return Err(Error::new(ErrorKind::InvalidData, ERROR_ZST_FORBIDDEN));
+    }
+    read_counted(alloc, reader)
+}
+
+/// The same, but where the reader wants order the keys have to ascend strictly.
+#[inline]
+pub(crate) fn read_entries<K: BorshKey + BorshDeserialize + Ord, V: BorshDeserialize, R: Read>(
+    alloc: Global,
+    reader: &mut R,
+) -> Result<Vec<(K, V)>>
+    ensures ok { IfOk result (λ v. Reads (List (K × V)) (refusing K.codec.is_empty (entries K.cmp (pair K.codec V.codec))) (R.stream reader.old) (R.stream reader.new) v.items) }
+    ensures err { IfErr result (λ e. Denied (List (K × V)) (refusing K.codec.is_empty (entries K.cmp (pair K.codec V.codec))) (R.stream reader.old) (R.stream reader.new) (error_kind e)) }
+{
+    let read = read_pairs(alloc, reader)?;
+    check_entries(reader.strict_order(), &read)?;
+    Ok(read)
+}
+
+/// Reads a count and that many keys, which have to ascend strictly where the reader wants order. Keys
+/// whose encodings are empty are refused before anything is read.
+#[inline]
+pub(crate) fn read_keys<K: BorshKey + BorshDeserialize + Ord, R: Read>(
+    alloc: Global,
+    reader: &mut R,
+) -> Result<Vec<K>>
+    ensures ok { IfOk result (λ v. Reads (List (K × ⊤)) (refusing K.codec.is_empty (entries K.cmp (alone K.codec))) (R.stream reader.old) (R.stream reader.new) (bare_entries v.items)) }
+    ensures err { IfErr result (λ e. Denied (List (K × ⊤)) (refusing K.codec.is_empty (entries K.cmp (alone K.codec))) (R.stream reader.old) (R.stream reader.new) (error_kind e)) }
+{
+    let read = read_list(alloc, reader)?;
+    check_keys(reader.strict_order(), &read)?;
+    Ok(read)
+}

@@ -1,0 +1,15 @@
+// How much memory to take at first.
+ghost use Rattle.std.specs.Prelude.{◌≡◌, ◌≤◌, ◌/◌, min, max};
+
+use borsh_types::BorshType;
+
+/// How many elements to make room for at first, where `hint` are announced: as many as lie in 4096
+/// bytes of memory, and at least one. So an announcement alone takes no more memory than that.
+#[inline]
+pub fn cautious<T: BorshType>(hint: u32) -> usize
+    ensures some { 1 ≤ result }
+    ensures few { result ≤ 4096 }
+{
+    let size = T::element_size().max(1);
+    (hint as usize).min(4096 / size).max(1)
+}

@@ -1,0 +1,77 @@
+// Bytes from the front of what is to come.
+ghost use Rattle.std.specs.Prelude.{◌≡◌, ◌<◌, get_or, ℕ, List, false, length, ◌∷◌, [], OnOk, IfOk, IfErr};
+ghost use Rattle.borsh_io.specs.Errors.{error_kind};
+ghost use Rattle.borsh_types.specs.Shapes.{number, listed};
+ghost use Rattle.borsh_types.specs.Types.Addresses.{octets};
+ghost use Rattle.borsh_types.specs.Reading.{Took, Refused, Reads, Denied};
+
+use super::refusals::unexpected_length;
+use borsh_io::{ErrorKind, Read, Result};
+use std::alloc::Global;
+
+/// Fills the buffer with the front of the bytes to come. Input that ends early is refused with
+/// `InvalidData`, "Unexpected length of input".
+#[inline]
+pub fn fill<R: Read>(reader: &mut R, buf: &mut [u8]) -> Result<()>
+    ensures ok { OnOk result (Took (λ x. x ≡ buf.new) (R.stream reader.old) (R.stream reader.new)) }
+    ensures fits { (i : ℕ) → get_or buf.new i 0 < 256 }
+    ensures err { IfErr result (λ e. Refused false (λ x. length x ≡ length buf.old) (R.stream reader.old) (R.stream reader.new) (error_kind e)) }
+{
+    match reader.read_exact(buf) {
+        Ok(()) => Ok(()),
+        Err(e) => match e.kind() {
+            ErrorKind::UnexpectedEof => Err(unexpected_length()),
+            _ => Err(e),
+        },
+    }
+}
+
+/// The next bytes, as many as the array has. Refused as [`fill`] is.
+#[inline]
+pub fn read_bytes<R: Read, const N: usize>(reader: &mut R) -> Result<[u8; N]>
+    ensures ok { IfOk result (λ bytes. Took (λ x. x ≡ bytes) (R.stream reader.old) (R.stream reader.new)) }
+    ensures err { IfErr result (λ e. Refused false (λ x. length x ≡ N) (R.stream reader.old) (R.stream reader.new) (error_kind e)) }
+{
+    let mut bytes = [0u8; N];
+    fill(reader, &mut bytes)?;
+    Ok(bytes)
+}
+
+/// The same, as octets that are read one by one. Refused as [`fill`] is.
+#[inline]
+pub(crate) fn read_octets<R: Read, const N: usize>(reader: &mut R) -> Result<[u8; N]>
+    ensures ok { IfOk result (λ bytes. Reads (List ℕ) (octets N) (R.stream reader.old) (R.stream reader.new) bytes) }
+    ensures err { IfErr result (λ e. Denied (List ℕ) (octets N) (R.stream reader.old) (R.stream reader.new) (error_kind e)) }
+{
+    let bytes: [u8; N] = read_bytes(reader)?;
+    Ok(bytes)
+}
+
+/// The next byte, which says which kind of value follows. Refused as [`fill`] is.
+#[inline]
+pub fn read_tag<R: Read>(reader: &mut R) -> Result<u8>
+    ensures ok { IfOk result (λ tag. Took (λ x. x ≡ tag ∷ []) (R.stream reader.old) (R.stream reader.new)) }
+    ensures err { IfErr result (λ e. Refused false (λ x. length x ≡ 1) (R.stream reader.old) (R.stream reader.new) (error_kind e)) }
+{
+    let bytes: [u8; 1] = read_bytes(reader)?;
+    Ok(bytes[0])
+}
+
+/// Room is made for so many announced bytes before any of them came.
+const FIRST_ROOM: usize = 1048576;
+
+/// The next `len` bytes. Room is made for 1 MiB at first and then for as many again as came, so bytes
+/// that are announced and don't come cost little memory. Refused as [`fill`] is, and with `OutOfMemory`.
+pub(crate) fn read_vec<R: Read>(alloc: Global, len: usize, reader: &mut R) -> Result<Vec<u8>>
+    ensures ok { IfOk result (λ v. Reads (List ℕ) (listed len (number 1)) (R.stream reader.old) (R.stream reader.new) v.items) }
+    ensures err { IfErr result (λ e. Denied (List ℕ) (listed len (number 1)) (R.stream reader.old) (R.stream reader.new) (error_kind e)) }
+{
+    let mut bytes = vec![in alloc; 0u8; len.min(FIRST_ROOM)]?;
+    fill(reader, &mut bytes)?;
+    while bytes.len() < len {
+        let filled = bytes.len();
+        bytes.resize(filled.saturating_mul(2).min(len), 0)?;
+        fill(reader, &mut bytes[filled..])?;
+    }
+    Ok(bytes)
+}

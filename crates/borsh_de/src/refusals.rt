@@ -1,0 +1,55 @@
+// Why bytes are refused.
+ghost use Rattle.std.specs.Prelude.{◌≡◌};
+ghost use Rattle.borsh_io.specs.Errors.{error_kind};
+ghost use Rattle.borsh_types.specs.Reading.{IsRefusal};
+
+use borsh_io::{Error, ErrorKind};
+use std::alloc::AllocError;
+
+pub const ERROR_NOT_ALL_BYTES_READ: &str = "Not all bytes read";
+
+pub const ERROR_UNEXPECTED_LENGTH_OF_INPUT: &str = "Unexpected length of input";
+
+pub const ERROR_INVALID_ZERO_VALUE: &str = "Expected a non-zero value";
+
+/// The refusal of maps and sets whose keys don't strictly ascend, where the reader wants order.
+pub const ERROR_WRONG_ORDER_OF_KEYS: &str = "keys were not serialized in ascending order";
+
+/// A refusal of bytes: `InvalidData` with this text, or `OutOfMemory` where the text found no memory.
+#[cold]
+pub fn invalid_data(text: Result<String, AllocError>) -> Error
+    ensures { IsRefusal (error_kind result) }
+{
+    match text {
+        Ok(text) => Error::new(ErrorKind::InvalidData, text),
+        Err(e) => Error::from(e),
+    }
+}
+
+#[cold]
+pub(crate) fn not_all_bytes_read() -> Error
+    ensures { error_kind result ≡ ErrorKind.InvalidData }
+{
+    Error::new(ErrorKind::InvalidData, ERROR_NOT_ALL_BYTES_READ)
+}
+
+#[cold]
+pub(crate) fn unexpected_length() -> Error
+    ensures { error_kind result ≡ ErrorKind.InvalidData }
+{
+    Error::new(ErrorKind::InvalidData, ERROR_UNEXPECTED_LENGTH_OF_INPUT)
+}
+
+#[cold]
+pub(crate) fn not_non_zero() -> Error
+    ensures { error_kind result ≡ ErrorKind.InvalidData }
+{
+    Error::new(ErrorKind::InvalidData, ERROR_INVALID_ZERO_VALUE)
+}
+
+#[cold]
+pub(crate) fn wrong_order() -> Error
+    ensures { error_kind result ≡ ErrorKind.InvalidData }
+{
+    Error::new(ErrorKind::InvalidData, ERROR_WRONG_ORDER_OF_KEYS)
+}

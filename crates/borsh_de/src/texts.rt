@@ -1,0 +1,58 @@
+// Texts: a count of four bytes and the bytes of the characters, in UTF-8.
+ghost use Rattle.std.specs.Prelude.{◌≡◌, ℕ, List, IfOk, IfErr};
+ghost use Rattle.std.specs.String.{string_bytes};
+ghost use Rattle.std.specs.Cow.{cow_str_bytes};
+ghost use Rattle.borsh_io.specs.Errors.{error_kind};
+ghost use Rattle.borsh_types.specs.Shapes.{along};
+ghost use Rattle.borsh_types.specs.Types.Texts.{text};
+ghost use Rattle.borsh_types.specs.Reading.{Reads, Denied};
+
+use super::deserialize::BorshDeserialize;
+use super::lists::read_counted;
+use super::refusals::invalid_data;
+use borsh_io::{Read, Result};
+use std::alloc::Global;
+use std::borrow::CowStr;
+use std::boxed::BoxedStr;
+use std::rc::RcStr;
+
+/// Reads the count of bytes and the bytes, which become the text as they lie. Bytes that aren't UTF-8
+/// are refused: `InvalidData`, with what std says of them.
+pub(crate) fn read_text<R: Read>(alloc: Global, reader: &mut R) -> Result<String>
+    ensures ok { IfOk result (λ string. Reads (List ℕ) text (R.stream reader.old) (R.stream reader.new) (string_bytes string)) }
+    ensures err { IfErr result (λ e. Denied (List ℕ) text (R.stream reader.old) (R.stream reader.new) (error_kind e)) }
+{
+    let bytes: Vec<u8> = read_counted(alloc, reader)?;
+    match String::from_utf8(bytes) {
+        Ok(string) => Ok(string),
+        Err(error) => Err(invalid_data(format!(in alloc; "{error}"))),
+    }
+}
+
+impl BorshDeserialize for String {
+    #[inline]
+    fn deserialize_reader<R: Read>(alloc: Global, reader: &mut R) -> Result<String> {
+        read_text(alloc, reader)
+    }
+}
+
+impl BorshDeserialize for BoxedStr {
+    #[inline]
+    fn deserialize_reader<R: Read>(alloc: Global, reader: &mut R) -> Result<BoxedStr> {
+        Ok(read_text(alloc, reader)?.into_boxed_str())
+    }
+}
+
+impl BorshDeserialize for RcStr {
+    #[inline]
+    fn deserialize_reader<R: Read>(alloc: Global, reader: &mut R) -> Result<RcStr> {
+        Ok(RcStr::from_string(read_text(alloc, reader)?)?)
+    }
+}
+
+impl BorshDeserialize for CowStr<'_> {
+    #[inline]
+    fn deserialize_reader<R: Read>(alloc: Global, reader: &mut R) -> Result<Self> {
+        Ok(CowStr::Owned(read_text(alloc, reader)?))
+    }
+}

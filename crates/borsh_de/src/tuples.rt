@@ -1,0 +1,210 @@
+// Tuples of one to twelve places: their parts in order.
+use super::deserialize::BorshDeserialize;
+use borsh_io::{Read, Result};
+use std::alloc::Global;
+
+impl<A: BorshDeserialize> BorshDeserialize for (A,) {
+    #[inline]
+    fn deserialize_reader<R: Read>(alloc: Global, reader: &mut R) -> Result<(A,)> {
+        let a = A::deserialize_reader(alloc, reader)?;
+        Ok((a,))
+    }
+}
+
+impl<A: BorshDeserialize, B: BorshDeserialize> BorshDeserialize for (A, B) {
+    #[inline]
+    fn deserialize_reader<R: Read>(alloc: Global, reader: &mut R) -> Result<(A, B)> {
+        let a = A::deserialize_reader(alloc, reader)?;
+        let b = B::deserialize_reader(alloc, reader)?;
+        Ok((a, b))
+    }
+}
+
+impl<A: BorshDeserialize, B: BorshDeserialize, C: BorshDeserialize> BorshDeserialize for (A, B, C) {
+    #[inline]
+    fn deserialize_reader<R: Read>(alloc: Global, reader: &mut R) -> Result<(A, B, C)> {
+        let (a, (b, c)) = <(A, (B, C))>::deserialize_reader(alloc, reader)?;
+        Ok((a, b, c))
+    }
+}
+
+impl<
+    A: BorshDeserialize,
+    B: BorshDeserialize,
+    C: BorshDeserialize,
+    D: BorshDeserialize,
+> BorshDeserialize for (A, B, C, D) {
+    #[inline]
+    fn deserialize_reader<R: Read>(alloc: Global, reader: &mut R) -> Result<(A, B, C, D)> {
+        let (a, (b, c, d)) = <(A, (B, C, D))>::deserialize_reader(alloc, reader)?;
+        Ok((a, b, c, d))
+    }
+}
+
+impl<
+    A: BorshDeserialize,
+    B: BorshDeserialize,
+    C: BorshDeserialize,
+    D: BorshDeserialize,
+    E: BorshDeserialize,
+> BorshDeserialize for (A, B, C, D, E) {
+    #[inline]
+    fn deserialize_reader<R: Read>(alloc: Global, reader: &mut R) -> Result<(A, B, C, D, E)> {
+        let (a, (b, c, d, e)) = <(A, (B, C, D, E))>::deserialize_reader(alloc, reader)?;
+        Ok((a, b, c, d, e))
+    }
+}
+
+impl<
+    A: BorshDeserialize,
+    B: BorshDeserialize,
+    C: BorshDeserialize,
+    D: BorshDeserialize,
+    E: BorshDeserialize,
+    F: BorshDeserialize,
+> BorshDeserialize for (A, B, C, D, E, F) {
+    #[inline]
+    fn deserialize_reader<R: Read>(alloc: Global, reader: &mut R) -> Result<(A, B, C, D, E, F)> {
+        let (a, (b, c, d, e, f)) = <(A, (B, C, D, E, F))>::deserialize_reader(alloc, reader)?;
+        Ok((a, b, c, d, e, f))
+    }
+}
+
+impl<
+    A: BorshDeserialize,
+    B: BorshDeserialize,
+    C: BorshDeserialize,
+    D: BorshDeserialize,
+    E: BorshDeserialize,
+    F: BorshDeserialize,
+    G: BorshDeserialize,
+> BorshDeserialize for (A, B, C, D, E, F, G) {
+    #[inline]
+    fn deserialize_reader<R: Read>(alloc: Global, reader: &mut R) -> Result<(A, B, C, D, E, F, G)> {
+        let (a, (b, c, d, e, f, g)) = <(A, (B, C, D, E, F, G))>::deserialize_reader(alloc, reader)?;
+        Ok((a, b, c, d, e, f, g))
+    }
+}
+
+impl<
+    A: BorshDeserialize,
+    B: BorshDeserialize,
+    C: BorshDeserialize,
+    D: BorshDeserialize,
+    E: BorshDeserialize,
+    F: BorshDeserialize,
+    G: BorshDeserialize,
+    H: BorshDeserialize,
+> BorshDeserialize for (A, B, C, D, E, F, G, H) {
+    #[inline]
+    fn deserialize_reader<R: Read>(
+        alloc: Global,
+        reader: &mut R,
+    ) -> Result<(A, B, C, D, E, F, G, H)> {
+        let (a, (b, c, d, e, f, g, h)) = <(A, (B, C, D, E, F, G, H))>::deserialize_reader(
+            alloc, reader,
+        )?;
+        Ok((a, b, c, d, e, f, g, h))
+    }
+}
+
+impl<
+    A: BorshDeserialize,
+    B: BorshDeserialize,
+    C: BorshDeserialize,
+    D: BorshDeserialize,
+    E: BorshDeserialize,
+    F: BorshDeserialize,
+    G: BorshDeserialize,
+    H: BorshDeserialize,
+    I: BorshDeserialize,
+> BorshDeserialize for (A, B, C, D, E, F, G, H, I) {
+    #[inline]
+    fn deserialize_reader<R: Read>(
+        alloc: Global,
+        reader: &mut R,
+    ) -> Result<(A, B, C, D, E, F, G, H, I)> {
+        let (a, (b, c, d, e, f, g, h, i)) = <(A, (B, C, D, E, F, G, H, I))>::deserialize_reader(
+            alloc, reader,
+        )?;
+        Ok((a, b, c, d, e, f, g, h, i))
+    }
+}
+
+impl<
+    A: BorshDeserialize,
+    B: BorshDeserialize,
+    C: BorshDeserialize,
+    D: BorshDeserialize,
+    E: BorshDeserialize,
+    F: BorshDeserialize,
+    G: BorshDeserialize,
+    H: BorshDeserialize,
+    I: BorshDeserialize,
+    J: BorshDeserialize,
+> BorshDeserialize for (A, B, C, D, E, F, G, H, I, J) {
+    #[inline]
+    fn deserialize_reader<R: Read>(
+        alloc: Global,
+        reader: &mut R,
+    ) -> Result<(A, B, C, D, E, F, G, H, I, J)> {
+        let (a, (b, c, d, e, f, g, h, i, j)) = <(
+            A,
+            (B, C, D, E, F, G, H, I, J),
+        )>::deserialize_reader(alloc, reader)?;
+        Ok((a, b, c, d, e, f, g, h, i, j))
+    }
+}
+
+impl<
+    A: BorshDeserialize,
+    B: BorshDeserialize,
+    C: BorshDeserialize,
+    D: BorshDeserialize,
+    E: BorshDeserialize,
+    F: BorshDeserialize,
+    G: BorshDeserialize,
+    H: BorshDeserialize,
+    I: BorshDeserialize,
+    J: BorshDeserialize,
+    K: BorshDeserialize,
+> BorshDeserialize for (A, B, C, D, E, F, G, H, I, J, K) {
+    #[inline]
+    fn deserialize_reader<R: Read>(
+        alloc: Global,
+        reader: &mut R,
+    ) -> Result<(A, B, C, D, E, F, G, H, I, J, K)> {
+        let (a, (b, c, d, e, f, g, h, i, j, k)) = <(
+            A,
+            (B, C, D, E, F, G, H, I, J, K),
+        )>::deserialize_reader(alloc, reader)?;
+        Ok((a, b, c, d, e, f, g, h, i, j, k))
+    }
+}
+
+impl<
+    A: BorshDeserialize,
+    B: BorshDeserialize,
+    C: BorshDeserialize,
+    D: BorshDeserialize,
+    E: BorshDeserialize,
+    F: BorshDeserialize,
+    G: BorshDeserialize,
+    H: BorshDeserialize,
+    I: BorshDeserialize,
+    J: BorshDeserialize,
+    K: BorshDeserialize,
+    L: BorshDeserialize,
+> BorshDeserialize for (A, B, C, D, E, F, G, H, I, J, K, L) {
+    #[inline]
+    fn deserialize_reader<R: Read>(
+        alloc: Global,
+        reader: &mut R,
+    ) -> Result<(A, B, C, D, E, F, G, H, I, J, K, L)> {
+        let (a, (b, c, d, e, f, g, h, i, j, k, l)) = <(
+            A,
+            (B, C, D, E, F, G, H, I, J, K, L),
+        )>::deserialize_reader(alloc, reader)?;
+        Ok((a, b, c, d, e, f, g, h, i, j, k, l))
+    }
+}

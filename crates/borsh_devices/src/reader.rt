@@ -1,0 +1,50 @@
+// A reader over a slice.
+ghost use Rattle.std.specs.Prelude.{◌≡◌, Some, length, true};
+ghost use Rattle.borsh_io.specs.Stream.{Stream};
+ghost use Rattle.borsh_devices.specs.Devices.{slice_stream};
+
+use super::course::Course;
+use borsh_io::{Read, Result};
+
+/// Gives the bytes of a slice, as a course says.
+#[derive(Drop)]
+pub struct TestReader<'a> {
+    bytes: &'a [u8],
+    course: Course,
+}
+
+impl<'a> TestReader<'a> {
+    pub fn new(bytes: &'a [u8], course: Course) -> TestReader<'a>
+        ensures bytes { result.bytes.now ≡ bytes.now }
+        ensures course { result.course ≡ course }
+    {
+        TestReader { bytes, course }
+    }
+
+    /// The bytes that are left.
+    pub fn rest(&self) -> &'a [u8] {
+        self.bytes
+    }
+
+    /// How many calls of `read` came.
+    pub fn calls(&self) -> u64 {
+        self.course.calls()
+    }
+}
+
+impl Read for TestReader<'_> {
+    ghost stream = { λ r. slice_stream r.bytes.now r.course.faults r.course.interruptions };
+
+    fn read(&mut self, buf: &mut [u8]) -> Result<usize> {
+        let most = self.course.begin()?;
+        let all = self.bytes;
+        let n = all.len().min(buf.len()).min(most);
+        buf[..n].copy_from_slice(&all[..n]);
+        self.bytes = &all[n..];
+        Ok(n)
+    }
+
+    fn strict_order(&self) -> bool {
+        true
+    }
+}

@@ -1,0 +1,54 @@
+// A writer into memory.
+ghost use Rattle.std.specs.Prelude.{◌≡◌};
+ghost use Rattle.borsh_devices.specs.Devices.{room_writing, room-laws};
+
+use super::course::Course;
+use borsh_io::{Result, Write};
+
+/// Takes bytes into a vector, as a course says, and is full after so many.
+#[derive(Drop)]
+pub struct TestWriter {
+    taken: Vec<u8>,
+    room: usize,
+    course: Course,
+}
+
+impl TestWriter {
+    /// Goes on behind what the vector has, and takes `room` bytes more.
+    pub fn new(taken: Vec<u8>, room: usize, course: Course) -> TestWriter {
+        TestWriter {
+            taken,
+            room,
+            course,
+        }
+    }
+
+    /// The bytes that were taken.
+    pub fn taken(&self) -> &[u8] {
+        self.taken.as_slice()
+    }
+
+    /// How many calls of `write` and `flush` came.
+    pub fn calls(&self) -> u64 {
+        self.course.calls()
+    }
+}
+
+impl Write for TestWriter {
+    ghost writing = { room_writing (λ w. w.taken.items) (λ w. w.room) (λ w. w.course.faults) (λ w. w.course.interruptions) };
+
+    fn write(&mut self, buf: &[u8]) -> Result<usize> {
+        let most = self.course.begin()?;
+        let n = buf.len().min(self.room).min(most);
+        self.taken.extend_from_slice(&buf[..n])?;
+        self.room -= n;
+        Ok(n)
+    }
+
+    fn flush(&mut self) -> Result<()> {
+        self.course.begin()?;
+        Ok(())
+    }
+
+    ghost lawful = { room-laws (λ w. w.taken.items) (λ w. w.room) (λ w. w.course.faults) (λ w. w.course.interruptions) };
+}

@@ -1,0 +1,41 @@
+// A reader whose keys may come in any order.
+ghost use Rattle.std.specs.Prelude.{◌≡◌};
+ghost use Rattle.borsh_io.specs.Stream.{unordered};
+ghost use Rattle.borsh_io.specs.Unordered.{unordered_inner};
+
+use super::error::Result;
+use super::read::Read;
+
+/// A reader whose keys may come in any order, with repeats. In all else it does what the inner reader
+/// does.
+#[derive(Drop)]
+pub struct Unordered<R> {
+    inner: R,
+}
+
+impl<R: Read> Unordered<R> {
+    pub fn new(inner: R) -> Unordered<R>
+        ensures { unordered_inner result ≡ inner }
+    {
+        Unordered { inner }
+    }
+}
+
+impl<R: Read> Read for Unordered<R> {
+    ghost stream = { λ u. unordered (R.stream (unordered_inner u)) };
+
+    #[inline]
+    fn read(&mut self, buf: &mut [u8]) -> Result<usize> {
+        self.inner.read(buf)
+    }
+
+    #[inline]
+    fn strict_order(&self) -> bool {
+        false
+    }
+
+    #[inline]
+    fn read_exact(&mut self, buf: &mut [u8]) -> Result<()> {
+        self.inner.read_exact(buf)
+    }
+}

@@ -1,0 +1,98 @@
+// The writers over vectors, slices and references.
+ghost use Rattle.std.specs.Prelude.{◌≡◌, ◌≢◌, ℕ, ◌+◌, ◌-◌, ◌<◌, ◌≤◌, [], List, Ok, min, length, take, IsOk, IsTrue, IfOk, OnOk, OnErr, IfErr, vec_len, vec_capacity};
+ghost use Rattle.borsh_io.specs.Errors.{error_kind};
+ghost use Rattle.borsh_io.specs.Sink.{Writes, WriterInterrupted, WriterFailed, WriteRefused, through, appending, overwriting};
+ghost use Rattle.borsh_io.specs.SinkLaws.{through-laws, appending-laws, overwriting-laws};
+
+use super::error::{Error, ErrorKind, Result};
+use super::write::Write;
+
+impl<W: Write> Write for &mut W {
+    ghost writing = { through (λ r. r.now) W.writing };
+
+    #[inline]
+    fn write(&mut self, buf: &[u8]) -> Result<usize> {
+        Write::write(&mut **self, buf)
+    }
+
+    #[inline]
+    fn flush(&mut self) -> Result<()> {
+        Write::flush(&mut **self)
+    }
+
+    #[inline]
+    fn write_all(&mut self, buf: &[u8]) -> Result<()> {
+        Write::write_all(&mut **self, buf)
+    }
+
+    ghost lawful = { through-laws (λ r. r.now) W.lawful };
+}
+
+/// The bytes go to the end of the vector. Memory that is refused leaves it unchanged (`OutOfMemory`);
+/// it is refused only where the vector has to grow.
+impl Write for Vec<u8> {
+    ghost writing = { appending (λ v. v.items) };
+
+    #[inline]
+    fn write(&mut self, buf: &[u8]) -> Result<usize>
+        ensures bound { IfOk result (λ n. n ≤ length buf.now) }
+        ensures writes { IfOk result (λ n. Writes (appending (λ v. v.items)) self.old self.new (take n buf.now)) }
+        ensures uninterrupted { OnOk result (((appending (λ v. v.items)).sink self.new).interruptions ≡ ((appending (λ v. v.items)).sink self.old).interruptions) }
+        ensures some { IfOk result (λ n. n ≡ 0 → 0 < length buf.now → IsTrue ((appending (λ v. v.items)).sink self.new).full) }
+        ensures interrupted { IfErr result (λ e. error_kind e ≡ ErrorKind.Interrupted → WriterInterrupted (appending (λ v. v.items)) self.old self.new) }
+        ensures failed { IfErr result (λ e. error_kind e ≢ ErrorKind.Interrupted → WriterFailed (appending (λ v. v.items)) self.old self.new (error_kind e)) }
+        ensures all { IfOk result (λ n. n ≡ length buf.now) }
+        ensures full { OnErr result (vec_capacity self.old < vec_len self.old + length buf.now) }
+    {
+        self.extend_from_slice(buf)?;
+        Ok(buf.len())
+    }
+
+    #[inline]
+    fn flush(&mut self) -> Result<()>
+        ensures writes { OnOk result (Writes (appending (λ v. v.items)) self.old self.new []) }
+        ensures uninterrupted { OnOk result (((appending (λ v. v.items)).sink self.new).interruptions ≡ ((appending (λ v. v.items)).sink self.old).interruptions) }
+        ensures interrupted { IfErr result (λ e. error_kind e ≡ ErrorKind.Interrupted → WriterInterrupted (appending (λ v. v.items)) self.old self.new) }
+        ensures failed { IfErr result (λ e. error_kind e ≢ ErrorKind.Interrupted → WriterFailed (appending (λ v. v.items)) self.old self.new (error_kind e)) }
+        ensures succeeds { IsOk result }
+        ensures unchanged { self.new ≡ self.old }
+    {
+        Ok(())
+    }
+
+    #[inline]
+    fn write_all(&mut self, buf: &[u8]) -> Result<()>
+        ensures writes { OnOk result (Writes (appending (λ v. v.items)) self.old self.new buf.now) }
+        ensures retried { IfErr result (λ e. error_kind e ≢ ErrorKind.Interrupted) }
+        ensures refused { IfErr result (λ e. WriteRefused (appending (λ v. v.items)) self.old self.new buf.now (error_kind e)) }
+        ensures unchanged { OnErr result (self.new.items ≡ self.old.items) }
+        ensures full { OnErr result (vec_capacity self.old < vec_len self.old + length buf.now) }
+    {
+        self.extend_from_slice(buf)?;
+        Ok(())
+    }
+
+    ghost lawful = { appending-laws (λ v. v.items) };
+}
+
+/// The bytes go over the front of the slice, which then begins behind them. It is full when it is
+/// empty; where not all fits, what fits is written.
+impl Write for &mut [u8] {
+    ghost writing = { overwriting (λ s. s.now) };
+
+    #[inline]
+    fn write(&mut self, buf: &[u8]) -> Result<usize> {
+        let all = std::mem::take(self);
+        let n = buf.len().min(all.len());
+        all[..n].copy_from_slice(&buf[..n]);
+        *self = &mut all[n..];
+        Ok(n)
+    }
+
+    #[inline]
+    fn flush(&mut self) -> Result<()> {
+        Ok(())
+    }
+
+    ghost lawful = { overwriting-laws (λ s. s.now) };
+}

@@ -1,0 +1,16 @@
+-- The lines that have ended are answered, and the part behind them is kept; each turn uses up a read.
+use Rattle.std.proofs.Common.{ℕ, List, length, ◌≡◌}
+use Rattle.borsh_answers.specs.Answers.{Answers}
+use Rattle.borsh_lines.proofs.Turns.{SoFar}
+use Rattle.borsh_lines.proofs.runner.run_lines.Given as goal
+
+abbrev pub invariant-chunks : goal.invariant-chunks
+invariant-chunks g l = record {
+  taken : List ℕ;
+  out : List ℕ;
+  room : length l.buffer.items ≡ 8192;
+  so_far : SoFar Answers g.W.Write.writing (g.R.Read.stream l.initial.reader) (g.R.Read.stream l.reader) l.initial.writer l.writer taken l.line.items out;
+}
+
+abbrev pub decreases-chunks : goal.decreases-chunks
+decreases-chunks g l = (g.R.Read.stream l.reader).reads

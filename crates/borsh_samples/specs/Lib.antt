@@ -1,0 +1,3 @@
+pub mod MyEnum
+pub mod One
+pub mod OneOrZero

@@ -1,0 +1,17 @@
+//! Types as a user of the library writes them: their meaning, their laws, writing and reading, by the
+//! library's public contracts alone.
+#![tactic(auto)]
+
+pub mod my_enum;
+pub mod my_struct;
+pub mod octet;
+pub mod one;
+pub mod one_or_zero;
+pub mod readme;
+
+pub use my_enum::MyEnum;
+pub use my_struct::MyStruct;
+pub use octet::Octet;
+pub use one::One;
+pub use one_or_zero::OneOrZero;
+pub use readme::A;

@@ -1,0 +1,45 @@
+// A struct of two parts.
+ghost use Rattle.borsh.specs.Shapes.{along};
+ghost use Rattle.borsh.specs.Laws.Exact.{along-lawful};
+ghost use Rattle.borsh.specs.Laws.Numbers.{number-lawful};
+ghost use Rattle.borsh.specs.Laws.Pairs.{pair-lawful};
+ghost use Rattle.borsh.specs.Laws.Rows.{elements-lawful};
+
+use borsh::io::{Read, Result, Write};
+use borsh::ser::write_two;
+use borsh::{BorshDeserialize, BorshSerialize, BorshType};
+use std::alloc::Global;
+
+/// The parts in order.
+#[derive(Drop)]
+pub struct MyStruct {
+    pub a: u64,
+    pub b: Vec<u8>,
+}
+
+impl BorshType for MyStruct {
+    ghost codec = { along (λ v. (v.a, v.b)) ⟦<(u64, Vec<u8>) as BorshType>⟧.codec };
+
+    ghost lawful = { along-lawful (λ v. (v.a, v.b)) (pair-lawful (number-lawful 8) (along-lawful (λ v. v.items) (elements-lawful (number-lawful 1)))) };
+
+    fn encodes_empty() -> bool {
+        <(u64, Vec<u8>)>::encodes_empty()
+    }
+
+    fn element_size() -> usize {
+        <(u64, Vec<u8>)>::element_size()
+    }
+}
+
+impl BorshSerialize for MyStruct {
+    fn serialize<W: Write>(&self, alloc: Global, writer: &mut W) -> Result<()> {
+        write_two(&self.a, &self.b, alloc, writer)
+    }
+}
+
+impl BorshDeserialize for MyStruct {
+    fn deserialize_reader<R: Read>(alloc: Global, reader: &mut R) -> Result<MyStruct> {
+        let (a, b) = <(u64, Vec<u8>)>::deserialize_reader(alloc, reader)?;
+        Ok(MyStruct { a, b })
+    }
+}

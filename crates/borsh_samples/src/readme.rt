@@ -1,0 +1,46 @@
+// The struct of the original's README: a number and a text.
+ghost use Rattle.borsh.specs.Shapes.{along};
+ghost use Rattle.borsh.specs.Laws.Exact.{along-lawful};
+ghost use Rattle.borsh.specs.Laws.Numbers.{number-lawful};
+ghost use Rattle.borsh.specs.Laws.Pairs.{pair-lawful};
+ghost use Rattle.borsh.specs.Types.Texts.{text-lawful};
+ghost use Rattle.std.specs.String.{string_bytes};
+
+use borsh::io::{Read, Result, Write};
+use borsh::ser::write_two;
+use borsh::{BorshDeserialize, BorshSerialize, BorshType};
+use std::alloc::Global;
+
+/// The parts in order.
+#[derive(Drop)]
+pub struct A {
+    pub x: u64,
+    pub y: String,
+}
+
+impl BorshType for A {
+    ghost codec = { along (λ v. (v.x, v.y)) ⟦<(u64, String) as BorshType>⟧.codec };
+
+    ghost lawful = { along-lawful (λ v. (v.x, v.y)) (pair-lawful (number-lawful 8) (along-lawful string_bytes text-lawful)) };
+
+    fn encodes_empty() -> bool {
+        <(u64, String)>::encodes_empty()
+    }
+
+    fn element_size() -> usize {
+        <(u64, String)>::element_size()
+    }
+}
+
+impl BorshSerialize for A {
+    fn serialize<W: Write>(&self, alloc: Global, writer: &mut W) -> Result<()> {
+        write_two(&self.x, &self.y, alloc, writer)
+    }
+}
+
+impl BorshDeserialize for A {
+    fn deserialize_reader<R: Read>(alloc: Global, reader: &mut R) -> Result<A> {
+        let (x, y) = <(u64, String)>::deserialize_reader(alloc, reader)?;
+        Ok(A { x, y })
+    }
+}

@@ -1,0 +1,32 @@
+-- When a name of a container describes the bytes of a type.
+use Rattle.std.specs.Prelude.{◌≡◌, ℕ, ℤ, List, [], ◌∷◌, ◌++◌, Option, Some, ⊤}
+use Rattle.borsh_types.specs.Codec.{Codec}
+use Rattle.borsh_walks.specs.Container.{Shape, Member, Members, Listed, tag}
+use Rattle.borsh_schema.specs.Described.{Parts, none, defined, both, shape}
+
+-- each of the named definitions stands in the container
+abbrev pub Holds : (List ℕ → Option Shape) → Parts → Type 0
+Holds C none = ⊤
+Holds C (defined n d ps) = (C n ≡ Some (shape d)) × Holds C ps
+Holds C (both ps qs) = Holds C ps × Holds C qs
+
+-- each encoding is a member of the name
+pub record Describes (A : Type 0) (C : List ℕ → Option Shape) (c : Codec A) (n : List ℕ) : Type 0 where
+  pub member : (a : A) (x : List ℕ) → c.encoding a ≡ Some x → Member C n x
+
+-- each encoding is a member of each of the names, in order
+pub record DescribesAll (A : Type 0) (C : List ℕ → Option Shape) (c : Codec A) (ns : List (List ℕ)) : Type 0 where
+  pub members : (a : A) (x : List ℕ) → c.encoding a ≡ Some x → Members C ns x
+
+-- the bytes are the tag of a listed discriminant, and then a member of its variant
+pub record IsVariant (C : List ℕ → Option Shape) (w : ℕ) (vs : List (ℤ × List ℕ)) (x : List ℕ) : Type 0 where
+  pub discriminant : ℤ
+  pub variant : List ℕ
+  pub part : List ℕ
+  pub listed : Listed discriminant variant vs
+  pub whole : tag w discriminant ++ part ≡ x
+  pub member : Member C variant part
+
+-- each encoding is one of a listed variant
+pub record DescribesChoice (A : Type 0) (C : List ℕ → Option Shape) (c : Codec A) (w : ℕ) (vs : List (ℤ × List ℕ)) : Type 0 where
+  pub one : (a : A) (x : List ℕ) → c.encoding a ≡ Some x → IsVariant C w vs x

@@ -1,0 +1,4 @@
+-- The laws of describing, and of joining.
+pub mod Members
+pub mod Joining
+pub mod Containers

@@ -1,0 +1,11 @@
+pub mod Described
+pub mod Joined
+pub mod Names
+pub mod Types
+pub mod Language
+pub mod Laws
+pub mod Containers
+pub mod Questions
+pub mod Errors
+pub mod Sized
+pub use Rattle.borsh_walks.specs.Container

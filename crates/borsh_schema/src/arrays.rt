@@ -1,0 +1,40 @@
+// Arrays: their elements in order, with no count.
+ghost use Rattle.borsh_schema.specs.Described.{defined, list, both, none};
+ghost use Rattle.borsh_schema.specs.Laws.Members.{describes_row};
+ghost use Rattle.borsh_schema.specs.Names.{array_name};
+
+use super::definitions::SchemaBuildError;
+use super::parts::add_with_parts;
+use super::schema::BorshSchema;
+use borsh_walks::{Declaration, Definition, LengthRange};
+use std::alloc::Global;
+use std::collections::BTreeMap;
+
+impl<T: BorshSchema, const N: usize> BorshSchema for [T; N] {
+    ghost name = { array_name T.name N };
+
+    ghost parts = { defined (array_name T.name N) (list 0 N N T.name) (both T.parts none) };
+
+    fn declaration(alloc: Global) -> Result<Declaration, SchemaBuildError> {
+        let element = T::declaration(alloc)?;
+        let length = N;
+        Ok(format!(in alloc; "[{element}; {length}]")?)
+    }
+
+    fn add_definitions_recursively(
+        alloc: Global,
+        definitions: &mut BTreeMap<Declaration, Definition>,
+    ) -> Result<(), SchemaBuildError> {
+        let definition = Definition::Sequence {
+            length_width: Definition::ARRAY_LENGTH_WIDTH,
+            length_range: LengthRange {
+                start: N as u64,
+                end: N as u64,
+            },
+            elements: T::declaration(alloc)?,
+        };
+        add_with_parts::<(T, ())>(alloc, Self::declaration(alloc)?, definition, definitions)
+    }
+
+    ghost describes = { λ C h. describes_row N h.0 (T.describes C h.1.0) };
+}

@@ -1,0 +1,118 @@
+// Containers: a type's name and the definitions that it leads to.
+ghost use Rattle.std.specs.Prelude.{◌≡◌, List, ℕ, Some, None, OnOk, IfOk, IfErr, OnErr, MatchResult, IsSome, option_map, string_bytes};
+ghost use Rattle.std.specs.Str.{bytes_eq};
+ghost use Rattle.std.specs.Map.{update};
+ghost use Rattle.std.specs.BTreeMap.{get_by_text, IsUnchanged};
+ghost use Rattle.borsh_schema.specs.Containers.{declaration_of, map_of, defined_in, left_of, IsContainerOf, DescribesRoot};
+ghost use Rattle.borsh_schema.specs.Described.{nothing_defined};
+ghost use Rattle.borsh_schema.specs.Joined.{BuildFault};
+
+use super::definitions::SchemaBuildError;
+use super::schema::BorshSchema;
+use borsh_walks::{Declaration, Definition};
+use std::alloc::{AllocError, Global};
+use std::collections::{BTreeMap, btree_map};
+
+/// A type's name, and what the names stand for that it leads to.
+#[derive(Clone, Debug, PartialEq, Eq, Drop)]
+pub struct BorshSchemaContainer {
+    pub(crate) declaration: Declaration,
+    pub(crate) definitions: BTreeMap<Declaration, Definition>,
+}
+
+impl BorshSchemaContainer {
+    /// The container of these. Nothing is asked of them.
+    pub fn new(
+        declaration: Declaration,
+        definitions: BTreeMap<Declaration, Definition>,
+    ) -> BorshSchemaContainer
+        ensures declaration { declaration_of result ≡ declaration }
+        ensures definitions { map_of result ≡ definitions }
+    {
+        BorshSchemaContainer {
+            declaration,
+            definitions,
+        }
+    }
+
+    /// The container of a type. Where a name of the type has two different definitions the answer is
+    /// `Redefinition` of such a name.
+    pub fn for_type<T: BorshSchema>(alloc: Global) -> Result<BorshSchemaContainer, SchemaBuildError>
+        ensures ok { IfOk result (λ c. IsContainerOf T.name T.parts c) }
+        ensures err { IfErr result (λ e. BuildFault nothing_defined T.parts e) }
+        ensures language { IfOk result (λ c. DescribesRoot T.codec c) }
+    {
+        let mut definitions = BTreeMap::new(alloc);
+        T::add_definitions_recursively(alloc, &mut definitions)?;
+        Ok(BorshSchemaContainer::new(T::declaration(alloc)?, definitions))
+    }
+
+    /// The type's name.
+    pub fn declaration(&self) -> &Declaration
+        ensures { result.now ≡ declaration_of self.now }
+    {
+        &self.declaration
+    }
+
+    /// The names with their definitions, by ascending name.
+    pub fn definitions(&self) -> Definitions<'_>
+        ensures { left_of result ≡ (map_of self.now).entries }
+    {
+        Definitions {
+            entries: self.definitions.iter(),
+        }
+    }
+
+    /// The definition of a name.
+    pub fn get_definition(&self, declaration: &str) -> Option<&Definition>
+        ensures { option_map (λ d. d.now) result ≡ get_by_text (map_of self.now) declaration.now }
+    {
+        self.definitions.get(declaration)
+    }
+
+    /// Gives a name a definition, and answers the one that it had. Where memory is refused the
+    /// container is unchanged, and what was given is dropped.
+    pub fn insert_definition(
+        &mut self,
+        declaration: Declaration,
+        definition: Definition,
+    ) -> Result<Option<Definition>, AllocError>
+        ensures declaration { declaration_of self.new ≡ declaration_of self.old }
+        ensures replaced { IfOk result (λ old. old ≡ get_by_text (map_of self.old) (string_bytes declaration)) }
+        ensures ok { OnOk result ((n : List ℕ) → get_by_text (map_of self.new) n ≡ update bytes_eq (get_by_text (map_of self.old)) (string_bytes declaration) (Some definition) n) }
+        ensures err { OnErr result (IsUnchanged (map_of self.old) (map_of self.new)) }
+    {
+        Ok(self.definitions.insert(declaration, definition)?)
+    }
+
+    /// Takes a name's definition out.
+    pub fn remove_definition(&mut self, declaration: &str) -> Option<Definition>
+        ensures declaration { declaration_of self.new ≡ declaration_of self.old }
+        ensures removed { result ≡ get_by_text (map_of self.old) declaration.now }
+        ensures others { (n : List ℕ) → get_by_text (map_of self.new) n ≡ update bytes_eq (get_by_text (map_of self.old)) declaration.now None n }
+    {
+        self.definitions.remove(declaration)
+    }
+}
+
+/// The names of a container with their definitions, by ascending name.
+#[derive(Drop)]
+pub struct Definitions<'a> {
+    entries: btree_map::Iter<'a, Declaration, Definition>,
+}
+
+impl<'a> Iterator for Definitions<'a> {
+    type Item = (&'a Declaration, &'a Definition);
+
+    ghost use Rattle.std.specs.Prelude.{length};
+    ghost use Rattle.std.specs.Iterator.{at_most};
+    ghost use Rattle.std.specs.Map.Iter.{TakesFirst, deref_pair};
+
+    ghost next_gives = { λ s r t. TakesFirst deref_pair (left_of s) r (left_of t) };
+
+    ghost remaining = { λ s. at_most (length (left_of s)) };
+
+    fn next(&mut self) -> Option<(&'a Declaration, &'a Definition)> {
+        self.entries.next()
+    }
+}

@@ -1,0 +1,25 @@
+//! Which bytes a type has, told by named definitions.
+#![tactic(auto)]
+
+pub mod arrays;
+pub mod container;
+pub mod definitions;
+pub mod lists;
+pub mod maps;
+pub mod non_zeros;
+pub mod numbers;
+pub mod parts;
+mod places;
+pub mod pointers;
+pub mod questions;
+pub mod ranges;
+pub mod schema;
+pub mod sums;
+pub mod texts;
+pub mod tuples;
+pub mod units;
+
+pub use container::{BorshSchemaContainer, Definitions};
+pub use definitions::{SchemaBuildError, add_definition};
+pub use parts::{SchemaParts, add_with_parts, declared, field, variant};
+pub use schema::BorshSchema;

@@ -1,0 +1,158 @@
+// Lists: a count of four bytes and the elements in order.
+ghost use Rattle.std.specs.Prelude.{codes};
+ghost use Rattle.std.specs.Box.{boxed_slice_items};
+ghost use Rattle.std.specs.Cow.{cow_slice_items};
+ghost use Rattle.std.specs.Rc.{rc_slice_items};
+ghost use Rattle.borsh_schema.specs.Laws.Members.{describes_along, describes_counted, describes_elements};
+ghost use Rattle.borsh_schema.specs.Names.{applied};
+ghost use Rattle.borsh_schema.specs.Types.{list_parts};
+
+use super::definitions::SchemaBuildError;
+use super::parts::add_list;
+use super::schema::BorshSchema;
+use borsh_walks::{Declaration, Definition};
+use std::alloc::Global;
+use std::borrow::CowSlice;
+use std::boxed::BoxedSlice;
+use std::collections::{BTreeMap, LinkedList, VecDeque};
+use std::rc::RcSlice;
+
+impl<T: BorshSchema> BorshSchema for Vec<T> {
+    ghost name = { applied (codes "Vec<") T.name };
+
+    ghost parts = { list_parts (codes "Vec<") T.name T.parts };
+
+    fn declaration(alloc: Global) -> Result<Declaration, SchemaBuildError> {
+        let element = T::declaration(alloc)?;
+        Ok(format!(in alloc; "Vec<{element}>")?)
+    }
+
+    fn add_definitions_recursively(
+        alloc: Global,
+        definitions: &mut BTreeMap<Declaration, Definition>,
+    ) -> Result<(), SchemaBuildError> {
+        add_list::<T>(alloc, Self::declaration(alloc)?, definitions)
+    }
+
+    ghost describes = { λ C h. describes_along (λ v. v.items) (describes_elements h.0 (T.describes C h.1.0)) };
+}
+
+impl<T: BorshSchema> BorshSchema for VecDeque<T> {
+    ghost name = { applied (codes "VecDeque<") T.name };
+
+    ghost parts = { list_parts (codes "VecDeque<") T.name T.parts };
+
+    fn declaration(alloc: Global) -> Result<Declaration, SchemaBuildError> {
+        let element = T::declaration(alloc)?;
+        Ok(format!(in alloc; "VecDeque<{element}>")?)
+    }
+
+    fn add_definitions_recursively(
+        alloc: Global,
+        definitions: &mut BTreeMap<Declaration, Definition>,
+    ) -> Result<(), SchemaBuildError> {
+        add_list::<T>(alloc, Self::declaration(alloc)?, definitions)
+    }
+
+    ghost describes = { λ C h. describes_along (λ v. v.items) (describes_elements h.0 (T.describes C h.1.0)) };
+}
+
+impl<T: BorshSchema> BorshSchema for LinkedList<T> {
+    ghost name = { applied (codes "LinkedList<") T.name };
+
+    ghost parts = { list_parts (codes "LinkedList<") T.name T.parts };
+
+    fn declaration(alloc: Global) -> Result<Declaration, SchemaBuildError> {
+        let element = T::declaration(alloc)?;
+        Ok(format!(in alloc; "LinkedList<{element}>")?)
+    }
+
+    fn add_definitions_recursively(
+        alloc: Global,
+        definitions: &mut BTreeMap<Declaration, Definition>,
+    ) -> Result<(), SchemaBuildError> {
+        add_list::<T>(alloc, Self::declaration(alloc)?, definitions)
+    }
+
+    ghost describes = { λ C h. describes_elements h.0 (T.describes C h.1.0) };
+}
+
+impl<T: BorshSchema> BorshSchema for BoxedSlice<T> {
+    ghost name = { applied (codes "Vec<") T.name };
+
+    ghost parts = { list_parts (codes "Vec<") T.name T.parts };
+
+    fn declaration(alloc: Global) -> Result<Declaration, SchemaBuildError> {
+        let element = T::declaration(alloc)?;
+        Ok(format!(in alloc; "Vec<{element}>")?)
+    }
+
+    fn add_definitions_recursively(
+        alloc: Global,
+        definitions: &mut BTreeMap<Declaration, Definition>,
+    ) -> Result<(), SchemaBuildError> {
+        add_list::<T>(alloc, Self::declaration(alloc)?, definitions)
+    }
+
+    ghost describes = { λ C h. describes_along boxed_slice_items (describes_elements h.0 (T.describes C h.1.0)) };
+}
+
+impl<T: BorshSchema> BorshSchema for RcSlice<T> {
+    ghost name = { applied (codes "Vec<") T.name };
+
+    ghost parts = { list_parts (codes "Vec<") T.name T.parts };
+
+    fn declaration(alloc: Global) -> Result<Declaration, SchemaBuildError> {
+        let element = T::declaration(alloc)?;
+        Ok(format!(in alloc; "Vec<{element}>")?)
+    }
+
+    fn add_definitions_recursively(
+        alloc: Global,
+        definitions: &mut BTreeMap<Declaration, Definition>,
+    ) -> Result<(), SchemaBuildError> {
+        add_list::<T>(alloc, Self::declaration(alloc)?, definitions)
+    }
+
+    ghost describes = { λ C h. describes_along rc_slice_items (describes_elements h.0 (T.describes C h.1.0)) };
+}
+
+impl<T: BorshSchema> BorshSchema for CowSlice<'_, T> {
+    ghost name = { applied (codes "Vec<") T.name };
+
+    ghost parts = { list_parts (codes "Vec<") T.name T.parts };
+
+    fn declaration(alloc: Global) -> Result<Declaration, SchemaBuildError> {
+        let element = T::declaration(alloc)?;
+        Ok(format!(in alloc; "Vec<{element}>")?)
+    }
+
+    fn add_definitions_recursively(
+        alloc: Global,
+        definitions: &mut BTreeMap<Declaration, Definition>,
+    ) -> Result<(), SchemaBuildError> {
+        add_list::<T>(alloc, Self::declaration(alloc)?, definitions)
+    }
+
+    ghost describes = { λ C h. describes_along cow_slice_items (describes_elements h.0 (T.describes C h.1.0)) };
+}
+
+impl<T: BorshSchema> BorshSchema for &[T] {
+    ghost name = { applied (codes "Vec<") T.name };
+
+    ghost parts = { list_parts (codes "Vec<") T.name T.parts };
+
+    fn declaration(alloc: Global) -> Result<Declaration, SchemaBuildError> {
+        let element = T::declaration(alloc)?;
+        Ok(format!(in alloc; "Vec<{element}>")?)
+    }
+
+    fn add_definitions_recursively(
+        alloc: Global,
+        definitions: &mut BTreeMap<Declaration, Definition>,
+    ) -> Result<(), SchemaBuildError> {
+        add_list::<T>(alloc, Self::declaration(alloc)?, definitions)
+    }
+
+    ghost describes = { λ C h. describes_along (λ r. r.now) (describes_counted h.0 (T.describes C h.1.0)) };
+}

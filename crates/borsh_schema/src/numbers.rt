@@ -1,0 +1,239 @@
+// Whole numbers: so many bytes.
+ghost use Rattle.std.specs.Prelude.{codes};
+ghost use Rattle.borsh_schema.specs.Types.{primitive_parts};
+ghost use Rattle.borsh_schema.specs.Laws.Members.{describes_number, describes_signed};
+
+use super::definitions::SchemaBuildError;
+use super::parts::{add_primitive, declared};
+use super::schema::BorshSchema;
+use borsh_walks::{Declaration, Definition};
+use std::alloc::Global;
+use std::collections::BTreeMap;
+
+impl BorshSchema for u8 {
+    ghost name = { codes "u8" };
+
+    ghost parts = { primitive_parts (codes "u8") 1 };
+
+    fn declaration(alloc: Global) -> Result<Declaration, SchemaBuildError> {
+        declared(alloc, "u8")
+    }
+
+    fn add_definitions_recursively(
+        alloc: Global,
+        definitions: &mut BTreeMap<Declaration, Definition>,
+    ) -> Result<(), SchemaBuildError> {
+        add_primitive(alloc, "u8", 1, definitions)
+    }
+
+    ghost describes = { λ C h. describes_number 1 h.0 };
+}
+
+impl BorshSchema for u16 {
+    ghost name = { codes "u16" };
+
+    ghost parts = { primitive_parts (codes "u16") 2 };
+
+    fn declaration(alloc: Global) -> Result<Declaration, SchemaBuildError> {
+        declared(alloc, "u16")
+    }
+
+    fn add_definitions_recursively(
+        alloc: Global,
+        definitions: &mut BTreeMap<Declaration, Definition>,
+    ) -> Result<(), SchemaBuildError> {
+        add_primitive(alloc, "u16", 2, definitions)
+    }
+
+    ghost describes = { λ C h. describes_number 2 h.0 };
+}
+
+impl BorshSchema for u32 {
+    ghost name = { codes "u32" };
+
+    ghost parts = { primitive_parts (codes "u32") 4 };
+
+    fn declaration(alloc: Global) -> Result<Declaration, SchemaBuildError> {
+        declared(alloc, "u32")
+    }
+
+    fn add_definitions_recursively(
+        alloc: Global,
+        definitions: &mut BTreeMap<Declaration, Definition>,
+    ) -> Result<(), SchemaBuildError> {
+        add_primitive(alloc, "u32", 4, definitions)
+    }
+
+    ghost describes = { λ C h. describes_number 4 h.0 };
+}
+
+impl BorshSchema for u64 {
+    ghost name = { codes "u64" };
+
+    ghost parts = { primitive_parts (codes "u64") 8 };
+
+    fn declaration(alloc: Global) -> Result<Declaration, SchemaBuildError> {
+        declared(alloc, "u64")
+    }
+
+    fn add_definitions_recursively(
+        alloc: Global,
+        definitions: &mut BTreeMap<Declaration, Definition>,
+    ) -> Result<(), SchemaBuildError> {
+        add_primitive(alloc, "u64", 8, definitions)
+    }
+
+    ghost describes = { λ C h. describes_number 8 h.0 };
+}
+
+impl BorshSchema for u128 {
+    ghost name = { codes "u128" };
+
+    ghost parts = { primitive_parts (codes "u128") 16 };
+
+    fn declaration(alloc: Global) -> Result<Declaration, SchemaBuildError> {
+        declared(alloc, "u128")
+    }
+
+    fn add_definitions_recursively(
+        alloc: Global,
+        definitions: &mut BTreeMap<Declaration, Definition>,
+    ) -> Result<(), SchemaBuildError> {
+        add_primitive(alloc, "u128", 16, definitions)
+    }
+
+    ghost describes = { λ C h. describes_number 16 h.0 };
+}
+
+impl BorshSchema for usize {
+    ghost name = { codes "u64" };
+
+    ghost parts = { primitive_parts (codes "u64") 8 };
+
+    fn declaration(alloc: Global) -> Result<Declaration, SchemaBuildError> {
+        declared(alloc, "u64")
+    }
+
+    fn add_definitions_recursively(
+        alloc: Global,
+        definitions: &mut BTreeMap<Declaration, Definition>,
+    ) -> Result<(), SchemaBuildError> {
+        add_primitive(alloc, "u64", 8, definitions)
+    }
+
+    ghost describes = { λ C h. describes_number 8 h.0 };
+}
+
+impl BorshSchema for i8 {
+    ghost name = { codes "i8" };
+
+    ghost parts = { primitive_parts (codes "i8") 1 };
+
+    fn declaration(alloc: Global) -> Result<Declaration, SchemaBuildError> {
+        declared(alloc, "i8")
+    }
+
+    fn add_definitions_recursively(
+        alloc: Global,
+        definitions: &mut BTreeMap<Declaration, Definition>,
+    ) -> Result<(), SchemaBuildError> {
+        add_primitive(alloc, "i8", 1, definitions)
+    }
+
+    ghost describes = { λ C h. describes_signed 1 h.0 };
+}
+
+impl BorshSchema for i16 {
+    ghost name = { codes "i16" };
+
+    ghost parts = { primitive_parts (codes "i16") 2 };
+
+    fn declaration(alloc: Global) -> Result<Declaration, SchemaBuildError> {
+        declared(alloc, "i16")
+    }
+
+    fn add_definitions_recursively(
+        alloc: Global,
+        definitions: &mut BTreeMap<Declaration, Definition>,
+    ) -> Result<(), SchemaBuildError> {
+        add_primitive(alloc, "i16", 2, definitions)
+    }
+
+    ghost describes = { λ C h. describes_signed 2 h.0 };
+}
+
+impl BorshSchema for i32 {
+    ghost name = { codes "i32" };
+
+    ghost parts = { primitive_parts (codes "i32") 4 };
+
+    fn declaration(alloc: Global) -> Result<Declaration, SchemaBuildError> {
+        declared(alloc, "i32")
+    }
+
+    fn add_definitions_recursively(
+        alloc: Global,
+        definitions: &mut BTreeMap<Declaration, Definition>,
+    ) -> Result<(), SchemaBuildError> {
+        add_primitive(alloc, "i32", 4, definitions)
+    }
+
+    ghost describes = { λ C h. describes_signed 4 h.0 };
+}
+
+impl BorshSchema for i64 {
+    ghost name = { codes "i64" };
+
+    ghost parts = { primitive_parts (codes "i64") 8 };
+
+    fn declaration(alloc: Global) -> Result<Declaration, SchemaBuildError> {
+        declared(alloc, "i64")
+    }
+
+    fn add_definitions_recursively(
+        alloc: Global,
+        definitions: &mut BTreeMap<Declaration, Definition>,
+    ) -> Result<(), SchemaBuildError> {
+        add_primitive(alloc, "i64", 8, definitions)
+    }
+
+    ghost describes = { λ C h. describes_signed 8 h.0 };
+}
+
+impl BorshSchema for i128 {
+    ghost name = { codes "i128" };
+
+    ghost parts = { primitive_parts (codes "i128") 16 };
+
+    fn declaration(alloc: Global) -> Result<Declaration, SchemaBuildError> {
+        declared(alloc, "i128")
+    }
+
+    fn add_definitions_recursively(
+        alloc: Global,
+        definitions: &mut BTreeMap<Declaration, Definition>,
+    ) -> Result<(), SchemaBuildError> {
+        add_primitive(alloc, "i128", 16, definitions)
+    }
+
+    ghost describes = { λ C h. describes_signed 16 h.0 };
+}
+
+impl BorshSchema for isize {
+    ghost name = { codes "i64" };
+
+    ghost parts = { primitive_parts (codes "i64") 8 };
+
+    fn declaration(alloc: Global) -> Result<Declaration, SchemaBuildError> {
+        declared(alloc, "i64")
+    }
+
+    fn add_definitions_recursively(
+        alloc: Global,
+        definitions: &mut BTreeMap<Declaration, Definition>,
+    ) -> Result<(), SchemaBuildError> {
+        add_primitive(alloc, "i64", 8, definitions)
+    }
+
+    ghost describes = { λ C h. describes_signed 8 h.0 };
+}

@@ -1,0 +1,173 @@
+// The definitions of a type and of its parts, one after another.
+ghost use Rattle.std.specs.Prelude.{◌≡◌, IfOk, IfErr, OnOk, string_bytes};
+ghost use Rattle.borsh_schema.specs.declared.definitions.SchemaBuildError.TheVariants.{OutOfMemory};
+ghost use Rattle.borsh_schema.specs.Described.{Parts, none, both, defined, contents_of, described_of};
+ghost use Rattle.borsh_schema.specs.Joined.{IsJoined, NotJoined};
+ghost use Rattle.borsh_schema.specs.Types.{primitive_parts, list_of};
+
+use super::definitions::{SchemaBuildError, add_definition};
+use super::schema::BorshSchema;
+use borsh_walks::{Declaration, Definition, DiscriminantValue, FieldName, VariantName};
+use std::alloc::Global;
+use std::collections::BTreeMap;
+use std::marker::PhantomData;
+
+/// Types whose definitions are put in together: a type and the others, as `(A, (B, (C, ())))`.
+pub trait SchemaParts {
+    ghost all_parts: { Parts };
+
+    /// Puts in the definitions of all, with the answers of
+    /// [`BorshSchema::add_definitions_recursively`].
+    fn add_all(
+        alloc: Global,
+        definitions: &mut BTreeMap<Declaration, Definition>,
+    ) -> Result<(), SchemaBuildError>
+        ensures ok { OnOk result (IsJoined (contents_of definitions.old) all_parts (contents_of definitions.new)) }
+        ensures err { IfErr result (λ e. NotJoined (contents_of definitions.old) all_parts (contents_of definitions.new) e) };
+}
+
+impl SchemaParts for () {
+    ghost all_parts = { none };
+
+    #[inline]
+    fn add_all(
+        _alloc: Global,
+        _definitions: &mut BTreeMap<Declaration, Definition>,
+    ) -> Result<(), SchemaBuildError> {
+        Ok(())
+    }
+}
+
+impl<T: BorshSchema, R: SchemaParts> SchemaParts for (T, R) {
+    ghost all_parts = { both T.parts R.all_parts };
+
+    #[inline]
+    fn add_all(
+        alloc: Global,
+        definitions: &mut BTreeMap<Declaration, Definition>,
+    ) -> Result<(), SchemaBuildError> {
+        T::add_definitions_recursively(alloc, definitions)?;
+        R::add_all(alloc, definitions)
+    }
+}
+
+/// Two lists of types, one after the other.
+#[derive(Drop)]
+pub struct Both<P, Q> {
+    _lists: PhantomData<(P, Q)>,
+}
+
+impl<P: SchemaParts, Q: SchemaParts> SchemaParts for Both<P, Q> {
+    ghost all_parts = { both P.all_parts Q.all_parts };
+
+    #[inline]
+    fn add_all(
+        alloc: Global,
+        definitions: &mut BTreeMap<Declaration, Definition>,
+    ) -> Result<(), SchemaBuildError> {
+        P::add_all(alloc, definitions)?;
+        Q::add_all(alloc, definitions)
+    }
+}
+
+/// Puts in a type's definition and those of its parts, which are named as `(A, (B, ()))`. The answers
+/// are those of [`BorshSchema::add_definitions_recursively`].
+pub fn add_with_parts<P: SchemaParts>(
+    alloc: Global,
+    declaration: Declaration,
+    definition: Definition,
+    definitions: &mut BTreeMap<Declaration, Definition>,
+) -> Result<(), SchemaBuildError>
+    ensures ok { OnOk result (IsJoined (contents_of definitions.old) (defined (string_bytes declaration) (described_of definition) P.all_parts) (contents_of definitions.new)) }
+    ensures err { IfErr result (λ e. NotJoined (contents_of definitions.old) (defined (string_bytes declaration) (described_of definition) P.all_parts) (contents_of definitions.new) e) }
+{
+    add_definition(declaration, definition, definitions)?;
+    P::add_all(alloc, definitions)
+}
+
+/// A name as a text of its own. The error is always `OutOfMemory`.
+pub fn declared(alloc: Global, name: &str) -> Result<Declaration, SchemaBuildError>
+    ensures ok { IfOk result (λ d. string_bytes d ≡ name.now) }
+    ensures err { IfErr result (λ e. e ≡ OutOfMemory) }
+{
+    Ok(String::from_str(alloc, name)?)
+}
+
+/// A field's name and type. The error is always `OutOfMemory`.
+pub fn field<T: BorshSchema>(
+    alloc: Global,
+    name: &str,
+) -> Result<(FieldName, Declaration), SchemaBuildError>
+    ensures name { IfOk result (λ f. string_bytes f.0 ≡ name.now) }
+    ensures declaration { IfOk result (λ f. string_bytes f.1 ≡ T.name) }
+    ensures err { IfErr result (λ e. e ≡ OutOfMemory) }
+{
+    Ok((declared(alloc, name)?, T::declaration(alloc)?))
+}
+
+/// A variant's discriminant, name and type. The error is always `OutOfMemory`.
+pub fn variant<T: BorshSchema>(
+    alloc: Global,
+    discriminant: DiscriminantValue,
+    name: &str,
+) -> Result<(DiscriminantValue, VariantName, Declaration), SchemaBuildError>
+    ensures discriminant { IfOk result (λ v. v.0 ≡ discriminant) }
+    ensures name { IfOk result (λ v. string_bytes v.1 ≡ name.now) }
+    ensures declaration { IfOk result (λ v. string_bytes v.2 ≡ T.name) }
+    ensures err { IfErr result (λ e. e ≡ OutOfMemory) }
+{
+    Ok((discriminant, declared(alloc, name)?, T::declaration(alloc)?))
+}
+
+/// A variant whose part has a name of its own and no type. The error is always `OutOfMemory`.
+pub fn named_variant(
+    alloc: Global,
+    discriminant: DiscriminantValue,
+    name: &str,
+    declaration: &str,
+) -> Result<(DiscriminantValue, VariantName, Declaration), SchemaBuildError>
+    ensures discriminant { IfOk result (λ v. v.0 ≡ discriminant) }
+    ensures name { IfOk result (λ v. string_bytes v.1 ≡ name.now) }
+    ensures declaration { IfOk result (λ v. string_bytes v.2 ≡ declaration.now) }
+    ensures err { IfErr result (λ e. e ≡ OutOfMemory) }
+{
+    Ok((
+        discriminant,
+        declared(alloc, name)?,
+        declared(alloc, declaration)?,
+    ))
+}
+
+// Puts in a name for so many bytes.
+pub(crate) fn add_primitive(
+    alloc: Global,
+    name: &str,
+    size: u8,
+    definitions: &mut BTreeMap<Declaration, Definition>,
+) -> Result<(), SchemaBuildError>
+    ensures ok { OnOk result (IsJoined (contents_of definitions.old) (primitive_parts name.now size) (contents_of definitions.new)) }
+    ensures err { IfErr result (λ e. NotJoined (contents_of definitions.old) (primitive_parts name.now size) (contents_of definitions.new) e) }
+{
+    add_definition(
+        declared(alloc, name)?,
+        Definition::Primitive(size),
+        definitions,
+    )
+}
+
+// Puts in a list's name: a count of four bytes and the elements.
+pub(crate) fn add_list<T: BorshSchema>(
+    alloc: Global,
+    declaration: Declaration,
+    definitions: &mut BTreeMap<Declaration, Definition>,
+) -> Result<(), SchemaBuildError>
+    ensures ok { OnOk result (IsJoined (contents_of definitions.old) (defined (string_bytes declaration) (list_of T.name) (both T.parts none)) (contents_of definitions.new)) }
+    ensures err { IfErr result (λ e. NotJoined (contents_of definitions.old) (defined (string_bytes declaration) (list_of T.name) (both T.parts none)) (contents_of definitions.new) e) }
+{
+    let definition = Definition::Sequence {
+        length_width: Definition::DEFAULT_LENGTH_WIDTH,
+        length_range: Definition::DEFAULT_LENGTH_RANGE,
+        elements: T::declaration(alloc)?,
+    };
+    add_with_parts::<(T, ())>(alloc, declaration, definition, definitions)
+}

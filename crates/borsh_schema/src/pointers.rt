@@ -1,0 +1,47 @@
+// Pointers, which are what they point to.
+ghost use Rattle.borsh_schema.specs.Laws.Members.{describes_along, describes_stored};
+
+use super::definitions::SchemaBuildError;
+use super::schema::BorshSchema;
+use borsh_walks::{Declaration, Definition};
+use std::alloc::Global;
+use std::collections::BTreeMap;
+use std::rc::Rc;
+
+impl<T: BorshSchema> BorshSchema for Box<T> {
+    ghost name = { T.name };
+
+    ghost parts = { T.parts };
+
+    fn declaration(alloc: Global) -> Result<Declaration, SchemaBuildError> {
+        T::declaration(alloc)
+    }
+
+    fn add_definitions_recursively(
+        alloc: Global,
+        definitions: &mut BTreeMap<Declaration, Definition>,
+    ) -> Result<(), SchemaBuildError> {
+        T::add_definitions_recursively(alloc, definitions)
+    }
+
+    ghost describes = { λ C h. describes_along (λ b. b.value) (describes_stored (T.describes C h)) };
+}
+
+impl<T: BorshSchema> BorshSchema for Rc<T> {
+    ghost name = { T.name };
+
+    ghost parts = { T.parts };
+
+    fn declaration(alloc: Global) -> Result<Declaration, SchemaBuildError> {
+        T::declaration(alloc)
+    }
+
+    fn add_definitions_recursively(
+        alloc: Global,
+        definitions: &mut BTreeMap<Declaration, Definition>,
+    ) -> Result<(), SchemaBuildError> {
+        T::add_definitions_recursively(alloc, definitions)
+    }
+
+    ghost describes = { λ C h. describes_along (λ b. b.value) (describes_stored (T.describes C h)) };
+}

@@ -1,0 +1,151 @@
+// Ranges: their ends.
+ghost use Rattle.std.specs.Prelude.{codes};
+ghost use Rattle.std.specs.Range.{range_inclusive_start, range_inclusive_end};
+ghost use Rattle.borsh_schema.specs.Described.{defined, both, none};
+ghost use Rattle.borsh_schema.specs.Laws.Members.{describes_along, describes_parts, all_one, all_more};
+ghost use Rattle.borsh_schema.specs.Names.{applied};
+ghost use Rattle.borsh_schema.specs.Types.{range_of, range_from, range_to};
+
+use super::definitions::SchemaBuildError;
+use super::parts::{add_with_parts, field};
+use super::schema::BorshSchema;
+use borsh_walks::{Declaration, Definition, Fields};
+use std::alloc::Global;
+use std::collections::BTreeMap;
+use std::ops::{Range, RangeFrom, RangeInclusive, RangeTo, RangeToInclusive};
+
+impl<T: BorshSchema> BorshSchema for Range<T> {
+    ghost name = { applied (codes "Range<") T.name };
+
+    ghost parts = { defined (applied (codes "Range<") T.name) (range_of T.name) (both T.parts none) };
+
+    fn declaration(alloc: Global) -> Result<Declaration, SchemaBuildError> {
+        let start = T::declaration(alloc)?;
+        Ok(format!(in alloc; "Range<{start}>")?)
+    }
+
+    fn add_definitions_recursively(
+        alloc: Global,
+        definitions: &mut BTreeMap<Declaration, Definition>,
+    ) -> Result<(), SchemaBuildError> {
+        let fields = Fields::NamedFields(vec![in alloc;
+            field::<T>(alloc, "start")?,
+            field::<T>(alloc, "end")?,
+        ]?);
+        add_with_parts::<(T, ())>(
+            alloc,
+            Self::declaration(alloc)?,
+            Definition::Struct { fields },
+            definitions,
+        )
+    }
+
+    ghost describes = { λ C h. describes_along (λ r. (r.start, r.end)) (describes_parts h.0 (all_more (T.describes C h.1.0) (all_one (T.describes C h.1.0)))) };
+}
+
+impl<T: BorshSchema> BorshSchema for RangeInclusive<T> {
+    ghost name = { applied (codes "RangeInclusive<") T.name };
+
+    ghost parts = { defined (applied (codes "RangeInclusive<") T.name) (range_of T.name) (both T.parts none) };
+
+    fn declaration(alloc: Global) -> Result<Declaration, SchemaBuildError> {
+        let start = T::declaration(alloc)?;
+        Ok(format!(in alloc; "RangeInclusive<{start}>")?)
+    }
+
+    fn add_definitions_recursively(
+        alloc: Global,
+        definitions: &mut BTreeMap<Declaration, Definition>,
+    ) -> Result<(), SchemaBuildError> {
+        let fields = Fields::NamedFields(vec![in alloc;
+            field::<T>(alloc, "start")?,
+            field::<T>(alloc, "end")?,
+        ]?);
+        add_with_parts::<(T, ())>(
+            alloc,
+            Self::declaration(alloc)?,
+            Definition::Struct { fields },
+            definitions,
+        )
+    }
+
+    ghost describes = { λ C h. describes_along (λ r. (range_inclusive_start r, range_inclusive_end r)) (describes_parts h.0 (all_more (T.describes C h.1.0) (all_one (T.describes C h.1.0)))) };
+}
+
+impl<T: BorshSchema> BorshSchema for RangeFrom<T> {
+    ghost name = { applied (codes "RangeFrom<") T.name };
+
+    ghost parts = { defined (applied (codes "RangeFrom<") T.name) (range_from T.name) (both T.parts none) };
+
+    fn declaration(alloc: Global) -> Result<Declaration, SchemaBuildError> {
+        let start = T::declaration(alloc)?;
+        Ok(format!(in alloc; "RangeFrom<{start}>")?)
+    }
+
+    fn add_definitions_recursively(
+        alloc: Global,
+        definitions: &mut BTreeMap<Declaration, Definition>,
+    ) -> Result<(), SchemaBuildError> {
+        let fields = Fields::NamedFields(vec![in alloc; field::<T>(alloc, "start")?]?);
+        add_with_parts::<(T, ())>(
+            alloc,
+            Self::declaration(alloc)?,
+            Definition::Struct { fields },
+            definitions,
+        )
+    }
+
+    ghost describes = { λ C h. describes_along (λ r. r.start) (describes_parts h.0 (all_one (T.describes C h.1.0))) };
+}
+
+impl<T: BorshSchema> BorshSchema for RangeTo<T> {
+    ghost name = { applied (codes "RangeTo<") T.name };
+
+    ghost parts = { defined (applied (codes "RangeTo<") T.name) (range_to T.name) (both T.parts none) };
+
+    fn declaration(alloc: Global) -> Result<Declaration, SchemaBuildError> {
+        let end = T::declaration(alloc)?;
+        Ok(format!(in alloc; "RangeTo<{end}>")?)
+    }
+
+    fn add_definitions_recursively(
+        alloc: Global,
+        definitions: &mut BTreeMap<Declaration, Definition>,
+    ) -> Result<(), SchemaBuildError> {
+        let fields = Fields::NamedFields(vec![in alloc; field::<T>(alloc, "end")?]?);
+        add_with_parts::<(T, ())>(
+            alloc,
+            Self::declaration(alloc)?,
+            Definition::Struct { fields },
+            definitions,
+        )
+    }
+
+    ghost describes = { λ C h. describes_along (λ r. r.end) (describes_parts h.0 (all_one (T.describes C h.1.0))) };
+}
+
+impl<T: BorshSchema> BorshSchema for RangeToInclusive<T> {
+    ghost name = { applied (codes "RangeToInclusive<") T.name };
+
+    ghost parts = { defined (applied (codes "RangeToInclusive<") T.name) (range_to T.name) (both T.parts none) };
+
+    fn declaration(alloc: Global) -> Result<Declaration, SchemaBuildError> {
+        let end = T::declaration(alloc)?;
+        Ok(format!(in alloc; "RangeToInclusive<{end}>")?)
+    }
+
+    fn add_definitions_recursively(
+        alloc: Global,
+        definitions: &mut BTreeMap<Declaration, Definition>,
+    ) -> Result<(), SchemaBuildError> {
+        let fields = Fields::NamedFields(vec![in alloc; field::<T>(alloc, "end")?]?);
+        add_with_parts::<(T, ())>(
+            alloc,
+            Self::declaration(alloc)?,
+            Definition::Struct { fields },
+            definitions,
+        )
+    }
+
+    ghost describes = { λ C h. describes_along (λ r. r.end) (describes_parts h.0 (all_one (T.describes C h.1.0))) };
+}

@@ -1,0 +1,41 @@
+// Types with a schema.
+ghost use Rattle.std.specs.Prelude.{◌≡◌, IfOk, IfErr, OnOk, List, ℕ, Option, string_bytes};
+ghost use Rattle.borsh_walks.specs.Container.{Shape};
+ghost use Rattle.borsh_schema.specs.declared.definitions.SchemaBuildError.TheVariants.{OutOfMemory};
+ghost use Rattle.borsh_schema.specs.Described.{Parts, contents_of};
+ghost use Rattle.borsh_schema.specs.Joined.{IsJoined, NotJoined};
+ghost use Rattle.borsh_schema.specs.Language.{Holds, Describes};
+
+use super::definitions::SchemaBuildError;
+use borsh_types::BorshType;
+use borsh_walks::{Declaration, Definition};
+use std::alloc::Global;
+use std::collections::BTreeMap;
+
+/// A type whose bytes a container describes.
+///
+/// An implementation says the bytes of the type's name (`name`) and the definitions of all that the
+/// name leads to (`parts`), and proves that in every container that holds these definitions each
+/// encoding is a member of the name (`describes`).
+pub trait BorshSchema: BorshType {
+    ghost name: { List ℕ };
+
+    ghost parts: { Parts };
+
+    /// The name of the type. The error is always `OutOfMemory`.
+    fn declaration(alloc: Global) -> Result<Declaration, SchemaBuildError>
+        ensures ok { IfOk result (λ d. string_bytes d ≡ name) }
+        ensures err { IfErr result (λ e. e ≡ OutOfMemory) };
+
+    /// Puts the type's definition and those of its parts into the map. Where a name has two different
+    /// definitions the answer is `Redefinition` of such a name. After a refusal the map holds what it
+    /// held, and some of the type's definitions.
+    fn add_definitions_recursively(
+        alloc: Global,
+        definitions: &mut BTreeMap<Declaration, Definition>,
+    ) -> Result<(), SchemaBuildError>
+        ensures ok { OnOk result (IsJoined (contents_of definitions.old) parts (contents_of definitions.new)) }
+        ensures err { IfErr result (λ e. NotJoined (contents_of definitions.old) parts (contents_of definitions.new) e) };
+
+    ghost describes: { (C : List ℕ → Option Shape) → Holds C parts → Describes Self C Self.codec name };
+}

@@ -1,0 +1,99 @@
+// Values that are one of several kinds.
+ghost use Rattle.std.specs.Prelude.{codes, refl};
+ghost use Rattle.borsh_types.specs.Types.Sums.{option_parts, result_parts};
+ghost use Rattle.borsh_walks.specs.Container.{first_variant, later_variant};
+ghost use Rattle.borsh_schema.specs.Described.{defined, both, none};
+ghost use Rattle.borsh_schema.specs.Laws.Members.{describes_along, describes_bool, describes_choice, describes_unit, choice_more, choice_none};
+ghost use Rattle.borsh_schema.specs.Names.{applied, applied_to_two};
+ghost use Rattle.borsh_schema.specs.Types.{primitive_parts, unit_parts, option_of, result_of};
+
+use super::definitions::SchemaBuildError;
+use super::parts::{add_primitive, add_with_parts, declared, variant};
+use super::schema::BorshSchema;
+use borsh_walks::{Declaration, Definition};
+use std::alloc::Global;
+use std::collections::BTreeMap;
+
+impl BorshSchema for bool {
+    ghost name = { codes "bool" };
+
+    ghost parts = { primitive_parts (codes "bool") 1 };
+
+    fn declaration(alloc: Global) -> Result<Declaration, SchemaBuildError> {
+        declared(alloc, "bool")
+    }
+
+    fn add_definitions_recursively(
+        alloc: Global,
+        definitions: &mut BTreeMap<Declaration, Definition>,
+    ) -> Result<(), SchemaBuildError> {
+        add_primitive(alloc, "bool", 1, definitions)
+    }
+
+    ghost describes = { λ C h. describes_bool h.0 };
+}
+
+impl<T: BorshSchema> BorshSchema for Option<T> {
+    ghost name = { applied (codes "Option<") T.name };
+
+    ghost parts = { defined (applied (codes "Option<") T.name) (option_of T.name) (both T.parts (both unit_parts none)) };
+
+    fn declaration(alloc: Global) -> Result<Declaration, SchemaBuildError> {
+        let value = T::declaration(alloc)?;
+        Ok(format!(in alloc; "Option<{value}>")?)
+    }
+
+    fn add_definitions_recursively(
+        alloc: Global,
+        definitions: &mut BTreeMap<Declaration, Definition>,
+    ) -> Result<(), SchemaBuildError> {
+        let variants = vec![in alloc;
+            variant::<()>(alloc, 0, "None")?,
+            variant::<T>(alloc, 1, "Some")?,
+        ]?;
+        add_with_parts::<(T, ((), ()))>(
+            alloc,
+            Self::declaration(alloc)?,
+            Definition::Enum {
+                tag_width: 1,
+                variants,
+            },
+            definitions,
+        )
+    }
+
+    ghost describes = { λ C h. describes_along option_parts (describes_choice h.0 (choice_more first_variant refl (describes_unit h.1.1.0.0) (choice_more (later_variant first_variant) refl (T.describes C h.1.0) choice_none))) };
+}
+
+impl<T: BorshSchema, E: BorshSchema> BorshSchema for Result<T, E> {
+    ghost name = { applied_to_two (codes "Result<") T.name E.name };
+
+    ghost parts = { defined (applied_to_two (codes "Result<") T.name E.name) (result_of T.name E.name) (both T.parts (both E.parts none)) };
+
+    fn declaration(alloc: Global) -> Result<Declaration, SchemaBuildError> {
+        let value = T::declaration(alloc)?;
+        let error = E::declaration(alloc)?;
+        Ok(format!(in alloc; "Result<{value}, {error}>")?)
+    }
+
+    fn add_definitions_recursively(
+        alloc: Global,
+        definitions: &mut BTreeMap<Declaration, Definition>,
+    ) -> Result<(), SchemaBuildError> {
+        let variants = vec![in alloc;
+            variant::<T>(alloc, 1, "Ok")?,
+            variant::<E>(alloc, 0, "Err")?,
+        ]?;
+        add_with_parts::<(T, (E, ()))>(
+            alloc,
+            Self::declaration(alloc)?,
+            Definition::Enum {
+                tag_width: 1,
+                variants,
+            },
+            definitions,
+        )
+    }
+
+    ghost describes = { λ C h. describes_along result_parts (describes_choice h.0 (choice_more (later_variant first_variant) refl (E.describes C h.1.1.0) (choice_more first_variant refl (T.describes C h.1.0) choice_none))) };
+}

@@ -1,0 +1,128 @@
+// Texts: a count of four bytes and the bytes of the characters.
+ghost use Rattle.std.specs.Prelude.{◌≡◌, IfOk, IfErr, OnOk, codes};
+ghost use Rattle.std.specs.Box.{boxed_str_bytes};
+ghost use Rattle.std.specs.Cow.{cow_str_bytes};
+ghost use Rattle.std.specs.Rc.{rc_str_bytes};
+ghost use Rattle.std.specs.String.{string_bytes};
+ghost use Rattle.borsh_schema.specs.declared.definitions.SchemaBuildError.TheVariants.{OutOfMemory};
+ghost use Rattle.borsh_schema.specs.Described.{contents_of};
+ghost use Rattle.borsh_schema.specs.Joined.{IsJoined, NotJoined};
+ghost use Rattle.borsh_schema.specs.Laws.Members.{describes_along, describes_text};
+ghost use Rattle.borsh_schema.specs.Types.{text_parts};
+
+use super::definitions::SchemaBuildError;
+use super::parts::{add_list, declared};
+use super::schema::BorshSchema;
+use borsh_walks::{Declaration, Definition};
+use std::alloc::Global;
+use std::borrow::CowStr;
+use std::boxed::BoxedStr;
+use std::collections::BTreeMap;
+use std::rc::RcStr;
+
+impl BorshSchema for String {
+    ghost name = { codes "String" };
+
+    ghost parts = { text_parts };
+
+    fn declaration(alloc: Global) -> Result<Declaration, SchemaBuildError> {
+        declared(alloc, "String")
+    }
+
+    fn add_definitions_recursively(
+        alloc: Global,
+        definitions: &mut BTreeMap<Declaration, Definition>,
+    ) -> Result<(), SchemaBuildError> {
+        add_list::<u8>(alloc, Self::declaration(alloc)?, definitions)
+    }
+
+    ghost describes = { λ C h. describes_along string_bytes (describes_text h.0 h.1.0.0) };
+}
+
+impl BorshSchema for &str {
+    ghost name = { codes "String" };
+
+    ghost parts = { text_parts };
+
+    fn declaration(alloc: Global) -> Result<Declaration, SchemaBuildError>
+        ensures ok { IfOk result (λ d. string_bytes d ≡ codes "String") }
+        ensures err { IfErr result (λ e. e ≡ OutOfMemory) }
+    {
+        declared(alloc, "String")
+    }
+
+    fn add_definitions_recursively(
+        alloc: Global,
+        definitions: &mut BTreeMap<Declaration, Definition>,
+    ) -> Result<(), SchemaBuildError>
+        ensures ok { OnOk result (IsJoined (contents_of definitions.old) text_parts (contents_of definitions.new)) }
+        ensures err { IfErr result (λ e. NotJoined (contents_of definitions.old) text_parts (contents_of definitions.new) e) }
+    {
+        add_list::<u8>(alloc, Self::declaration(alloc)?, definitions)
+    }
+
+    ghost describes = { λ C h. describes_along (λ r. r.now) (describes_text h.0 h.1.0.0) };
+}
+
+impl BorshSchema for BoxedStr {
+    ghost name = { codes "String" };
+
+    ghost parts = { text_parts };
+
+    fn declaration(alloc: Global) -> Result<Declaration, SchemaBuildError> {
+        declared(alloc, "String")
+    }
+
+    fn add_definitions_recursively(
+        alloc: Global,
+        definitions: &mut BTreeMap<Declaration, Definition>,
+    ) -> Result<(), SchemaBuildError> {
+        add_list::<u8>(alloc, Self::declaration(alloc)?, definitions)
+    }
+
+    ghost describes = { λ C h. describes_along boxed_str_bytes (describes_text h.0 h.1.0.0) };
+}
+
+impl BorshSchema for RcStr {
+    ghost name = { codes "String" };
+
+    ghost parts = { text_parts };
+
+    fn declaration(alloc: Global) -> Result<Declaration, SchemaBuildError> {
+        declared(alloc, "String")
+    }
+
+    fn add_definitions_recursively(
+        alloc: Global,
+        definitions: &mut BTreeMap<Declaration, Definition>,
+    ) -> Result<(), SchemaBuildError> {
+        add_list::<u8>(alloc, Self::declaration(alloc)?, definitions)
+    }
+
+    ghost describes = { λ C h. describes_along rc_str_bytes (describes_text h.0 h.1.0.0) };
+}
+
+impl BorshSchema for CowStr<'_> {
+    ghost name = { codes "String" };
+
+    ghost parts = { text_parts };
+
+    fn declaration(alloc: Global) -> Result<Declaration, SchemaBuildError>
+        ensures ok { IfOk result (λ d. string_bytes d ≡ codes "String") }
+        ensures err { IfErr result (λ e. e ≡ OutOfMemory) }
+    {
+        declared(alloc, "String")
+    }
+
+    fn add_definitions_recursively(
+        alloc: Global,
+        definitions: &mut BTreeMap<Declaration, Definition>,
+    ) -> Result<(), SchemaBuildError>
+        ensures ok { OnOk result (IsJoined (contents_of definitions.old) text_parts (contents_of definitions.new)) }
+        ensures err { IfErr result (λ e. NotJoined (contents_of definitions.old) text_parts (contents_of definitions.new) e) }
+    {
+        add_list::<u8>(alloc, Self::declaration(alloc)?, definitions)
+    }
+
+    ghost describes = { λ C h. describes_along cow_str_bytes (describes_text h.0 h.1.0.0) };
+}

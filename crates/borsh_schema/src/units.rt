@@ -1,0 +1,74 @@
+// Types whose encodings are empty.
+ghost use Rattle.std.specs.Prelude.{codes};
+ghost use Rattle.borsh_schema.specs.Described.{defined, no_fields, none};
+ghost use Rattle.borsh_schema.specs.Laws.Members.{describes_along, describes_unit, describes_parts, all_none};
+ghost use Rattle.borsh_schema.specs.Types.{unit_parts};
+
+use super::definitions::SchemaBuildError;
+use super::parts::{add_primitive, add_with_parts, declared};
+use super::schema::BorshSchema;
+use borsh_walks::{Declaration, Definition, Fields};
+use std::alloc::Global;
+use std::collections::BTreeMap;
+use std::marker::PhantomData;
+use std::ops::RangeFull;
+
+impl BorshSchema for () {
+    ghost name = { codes "()" };
+
+    ghost parts = { unit_parts };
+
+    fn declaration(alloc: Global) -> Result<Declaration, SchemaBuildError> {
+        declared(alloc, "()")
+    }
+
+    fn add_definitions_recursively(
+        alloc: Global,
+        definitions: &mut BTreeMap<Declaration, Definition>,
+    ) -> Result<(), SchemaBuildError> {
+        add_primitive(alloc, "()", 0, definitions)
+    }
+
+    ghost describes = { λ C h. describes_unit h.0 };
+}
+
+impl<T> BorshSchema for PhantomData<T> {
+    ghost name = { codes "()" };
+
+    ghost parts = { unit_parts };
+
+    fn declaration(alloc: Global) -> Result<Declaration, SchemaBuildError> {
+        declared(alloc, "()")
+    }
+
+    fn add_definitions_recursively(
+        alloc: Global,
+        definitions: &mut BTreeMap<Declaration, Definition>,
+    ) -> Result<(), SchemaBuildError> {
+        add_primitive(alloc, "()", 0, definitions)
+    }
+
+    ghost describes = { λ C h. describes_along (λ _. tt) (describes_unit h.0) };
+}
+
+impl BorshSchema for RangeFull {
+    ghost name = { codes "RangeFull" };
+
+    ghost parts = { defined (codes "RangeFull") no_fields none };
+
+    fn declaration(alloc: Global) -> Result<Declaration, SchemaBuildError> {
+        declared(alloc, "RangeFull")
+    }
+
+    fn add_definitions_recursively(
+        alloc: Global,
+        definitions: &mut BTreeMap<Declaration, Definition>,
+    ) -> Result<(), SchemaBuildError> {
+        let definition = Definition::Struct {
+            fields: Fields::Empty,
+        };
+        add_with_parts::<()>(alloc, Self::declaration(alloc)?, definition, definitions)
+    }
+
+    ghost describes = { λ C h. describes_along (λ _. tt) (describes_parts h.0 all_none) };
+}

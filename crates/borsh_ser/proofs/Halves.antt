@@ -1,0 +1,12 @@
+-- A list in two parts.
+use Rattle.std.proofs.Common.{◌≡◌, ℕ, ◌+◌, List, ◌++◌, length, Option, sym, ◌∙◌, ap, arith, length-append}
+use Rattle.borsh_types.specs.Shapes.{number_encoding, joined, all_joined}
+use Rattle.borsh_types.proofs.WriteRows.{all_joined-append}
+
+-- the count of both parts is that of the list
+pub parts_count : {A : Type 0} (front back items : List A) (n : ℕ) → front ++ back ≡ items → length front + length back ≡ n → number_encoding 4 n ≡ number_encoding 4 (length items)
+parts_count front back items n e l = ap (number_encoding 4) (omega (arith, ap length e, length-append front back))
+
+-- the bytes of both parts are those of the list
+pub parts_joined : {A : Type 0} (f : A → Option (List ℕ)) (front back items : List A) → front ++ back ≡ items → joined (all_joined f front) (all_joined f back) ≡ all_joined f items
+parts_joined f front back items e = sym (all_joined-append f front back) ∙ ap (all_joined f) e

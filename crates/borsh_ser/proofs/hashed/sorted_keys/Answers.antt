@@ -1,0 +1,7 @@
+use Rattle.borsh_types.proofs.SortedRefs.{sorted_key_refs}
+use Rattle.borsh_ser.proofs.hashed.sorted_keys.Goals as goal
+
+pub returns : goal.returns
+returns g c =
+    sorted_key_refs g.met.K.Ord.total g.K.PartialEq.eq g.met.K.Ord.matches_eq (λ r. r.now) c.args.set.now.keys c.in_ok-all.all.items c.sort_unstable.new.self.items
+    c.key_refs.ensures.unique c.in_ok-all.ensures.refs c.sort_unstable.ensures.permutation c.sort_unstable.ensures.sorted

@@ -1,0 +1,6 @@
+use Rattle.std.proofs.Common.{arith}
+use Rattle.borsh_types.proofs.NumberBytes.{bytes_of}
+use Rattle.borsh_ser.proofs.numbers.bytes_of_u32.Goals as goal
+
+pub returns : goal.returns
+returns c = bytes_of 4 c.args.n (omega arith) c.to_le_bytes.ensures

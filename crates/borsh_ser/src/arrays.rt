@@ -1,0 +1,12 @@
+// Arrays: their elements in order, with no count.
+use super::lists::write_elements;
+use super::serialize::BorshSerialize;
+use borsh_io::{Result, Write};
+use std::alloc::Global;
+
+impl<T: BorshSerialize, const N: usize> BorshSerialize for [T; N] {
+    #[inline]
+    fn serialize<W: Write>(&self, alloc: Global, writer: &mut W) -> Result<()> {
+        write_elements(self, alloc, writer)
+    }
+}

@@ -1,0 +1,28 @@
+//! Writing.
+#![tactic(auto)]
+
+pub mod addresses;
+pub mod arrays;
+pub mod hashed;
+pub mod kit_types;
+pub mod linked;
+pub mod lists;
+pub mod maps;
+pub mod non_zeros;
+pub mod numbers;
+pub mod parts;
+pub mod pointers;
+pub mod ranges;
+pub mod raw_bytes;
+pub mod serialize;
+pub mod sums;
+pub mod texts;
+pub mod tuples;
+pub mod units;
+
+pub use parts::{
+    write_eight, write_eleven, write_five, write_four, write_nine, write_seven, write_six,
+    write_tagged, write_ten, write_three, write_twelve, write_two,
+};
+pub use raw_bytes::write_bytes;
+pub use serialize::BorshSerialize;

@@ -1,0 +1,78 @@
+// Lists whose elements don't lie in one place: a count of four bytes and the elements in order.
+ghost use Rattle.std.specs.Prelude.{◌≡◌, OnOk, IfErr};
+ghost use Rattle.borsh_io.specs.Errors.{error_kind};
+ghost use Rattle.borsh_types.specs.Shapes.{all_joined, counted};
+ghost use Rattle.borsh_types.specs.Writing.{WritesAll, WriteDenied};
+
+use super::lists::{write_count, write_elements};
+use super::serialize::BorshSerialize;
+use borsh_io::error::ERROR_ZST_FORBIDDEN;
+use borsh_io::{Error, ErrorKind, Result, Write};
+use std::alloc::Global;
+use std::collections::{LinkedList, VecDeque};
+
+/// Writes the count and the elements of both parts of the queue. Refused as `write_counted` is.
+#[inline]
+fn write_queue<T: BorshSerialize, W: Write>(
+    queue: &VecDeque<T>,
+    alloc: Global,
+    writer: &mut W,
+) -> Result<()>
+    ensures ok { OnOk result (WritesAll W.writing writer.old writer.new ((counted T.codec).encoding queue.now.items)) }
+    ensures err { IfErr result (λ e. WriteDenied T.codec.write_allocates W.writing writer.old writer.new ((counted T.codec).encoding queue.now.items) (error_kind e)) }
+{
+    let (front, back) = queue.as_slices();
+    write_count(queue.len(), writer)?;
+    write_elements(front, alloc, writer)?;
+    write_elements(back, alloc, writer)
+}
+
+/// Writes the elements of the list one after another.
+#[inline]
+fn write_linked<T: BorshSerialize, W: Write>(
+    list: &LinkedList<T>,
+    alloc: Global,
+    writer: &mut W,
+) -> Result<()>
+    ensures ok { OnOk result (WritesAll W.writing writer.old writer.new (all_joined T.codec.encoding list.now)) }
+    ensures err { IfErr result (λ e. WriteDenied T.codec.write_allocates W.writing writer.old writer.new (all_joined T.codec.encoding list.now) (error_kind e)) }
+{
+    for item in list.iter() {
+        item.serialize(alloc, writer)?;
+    }
+    Ok(())
+}
+
+/// Writes the count and the elements of the list. Refused as `write_counted` is.
+#[inline]
+fn write_linked_counted<T: BorshSerialize, W: Write>(
+    list: &LinkedList<T>,
+    alloc: Global,
+    writer: &mut W,
+) -> Result<()>
+    ensures ok { OnOk result (WritesAll W.writing writer.old writer.new ((counted T.codec).encoding list.now)) }
+    ensures err { IfErr result (λ e. WriteDenied T.codec.write_allocates W.writing writer.old writer.new ((counted T.codec).encoding list.now) (error_kind e)) }
+{
+    write_count(list.len(), writer)?;
+    write_linked(list, alloc, writer)
+}
+
+impl<T: BorshSerialize> BorshSerialize for VecDeque<T> {
+    #[inline]
+    fn serialize<W: Write>(&self, alloc: Global, writer: &mut W) -> Result<()> {
+        if T::encodes_empty() {
+            return Err(Error::new(ErrorKind::InvalidData, ERROR_ZST_FORBIDDEN));
+        }
+        write_queue(self, alloc, writer)
+    }
+}
+
+impl<T: BorshSerialize> BorshSerialize for LinkedList<T> {
+    #[inline]
+    fn serialize<W: Write>(&self, alloc: Global, writer: &mut W) -> Result<()> {
+        if T::encodes_empty() {
+            return Err(Error::new(ErrorKind::InvalidData, ERROR_ZST_FORBIDDEN));
+        }
+        write_linked_counted(self, alloc, writer)
+    }
+}

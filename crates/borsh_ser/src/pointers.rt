@@ -1,0 +1,26 @@
+// Pointers, which are written as what they point to.
+use super::serialize::BorshSerialize;
+use borsh_io::{Result, Write};
+use std::alloc::Global;
+use std::rc::Rc;
+
+impl<T: BorshSerialize> BorshSerialize for &T {
+    #[inline]
+    fn serialize<W: Write>(&self, alloc: Global, writer: &mut W) -> Result<()> {
+        T::serialize(*self, alloc, writer)
+    }
+}
+
+impl<T: BorshSerialize> BorshSerialize for Box<T> {
+    #[inline]
+    fn serialize<W: Write>(&self, alloc: Global, writer: &mut W) -> Result<()> {
+        self.as_ref().serialize(alloc, writer)
+    }
+}
+
+impl<T: BorshSerialize> BorshSerialize for Rc<T> {
+    #[inline]
+    fn serialize<W: Write>(&self, alloc: Global, writer: &mut W) -> Result<()> {
+        self.as_ref().serialize(alloc, writer)
+    }
+}

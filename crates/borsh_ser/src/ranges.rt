@@ -1,0 +1,41 @@
+// Ranges: their start, where they have one, and then their end, where they have one.
+use super::parts::write_two;
+use super::serialize::BorshSerialize;
+use borsh_io::{Result, Write};
+use std::alloc::Global;
+use std::ops::{Range, RangeFrom, RangeInclusive, RangeTo, RangeToInclusive};
+
+impl<T: BorshSerialize> BorshSerialize for Range<T> {
+    #[inline]
+    fn serialize<W: Write>(&self, alloc: Global, writer: &mut W) -> Result<()> {
+        write_two(&self.start, &self.end, alloc, writer)
+    }
+}
+
+impl<T: BorshSerialize> BorshSerialize for RangeInclusive<T> {
+    #[inline]
+    fn serialize<W: Write>(&self, alloc: Global, writer: &mut W) -> Result<()> {
+        write_two(self.start(), self.end(), alloc, writer)
+    }
+}
+
+impl<T: BorshSerialize> BorshSerialize for RangeFrom<T> {
+    #[inline]
+    fn serialize<W: Write>(&self, alloc: Global, writer: &mut W) -> Result<()> {
+        self.start.serialize(alloc, writer)
+    }
+}
+
+impl<T: BorshSerialize> BorshSerialize for RangeTo<T> {
+    #[inline]
+    fn serialize<W: Write>(&self, alloc: Global, writer: &mut W) -> Result<()> {
+        self.end.serialize(alloc, writer)
+    }
+}
+
+impl<T: BorshSerialize> BorshSerialize for RangeToInclusive<T> {
+    #[inline]
+    fn serialize<W: Write>(&self, alloc: Global, writer: &mut W) -> Result<()> {
+        self.end.serialize(alloc, writer)
+    }
+}

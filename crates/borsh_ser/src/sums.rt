@@ -1,0 +1,36 @@
+// Values that are one of several kinds: a tag, one byte, and a part.
+use super::parts::write_tagged;
+use super::raw_bytes::write_bytes;
+use super::serialize::BorshSerialize;
+use borsh_io::{Result, Write};
+use std::alloc::Global;
+
+impl BorshSerialize for bool {
+    #[inline]
+    fn serialize<W: Write>(&self, _alloc: Global, writer: &mut W) -> Result<()> {
+        write_bytes(&[u8::from(*self)], writer)
+    }
+}
+
+impl<T: BorshSerialize> BorshSerialize for Option<T> {
+    #[inline]
+    fn serialize<W: Write>(&self, alloc: Global, writer: &mut W) -> Result<()> {
+        match self {
+            None => write_bytes(&[0], writer),
+            Some(value) => {
+                write_bytes(&[1], writer)?;
+                value.serialize(alloc, writer)
+            }
+        }
+    }
+}
+
+impl<T: BorshSerialize, E: BorshSerialize> BorshSerialize for std::result::Result<T, E> {
+    #[inline]
+    fn serialize<W: Write>(&self, alloc: Global, writer: &mut W) -> Result<()> {
+        match self {
+            Err(error) => write_tagged(0, error, alloc, writer),
+            Ok(value) => write_tagged(1, value, alloc, writer),
+        }
+    }
+}

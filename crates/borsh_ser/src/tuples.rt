@@ -1,0 +1,187 @@
+// Tuples of one to twelve places: their parts in order.
+use super::parts::{
+    write_eight, write_eleven, write_five, write_four, write_nine, write_seven, write_six,
+    write_ten, write_three, write_twelve, write_two,
+};
+use super::serialize::BorshSerialize;
+use borsh_io::{Result, Write};
+use std::alloc::Global;
+
+impl<A: BorshSerialize> BorshSerialize for (A,) {
+    #[inline]
+    fn serialize<W: Write>(&self, alloc: Global, writer: &mut W) -> Result<()> {
+        self.0.serialize(alloc, writer)
+    }
+}
+
+impl<A: BorshSerialize, B: BorshSerialize> BorshSerialize for (A, B) {
+    #[inline]
+    fn serialize<W: Write>(&self, alloc: Global, writer: &mut W) -> Result<()> {
+        write_two(&self.0, &self.1, alloc, writer)
+    }
+}
+
+impl<A: BorshSerialize, B: BorshSerialize, C: BorshSerialize> BorshSerialize for (A, B, C) {
+    #[inline]
+    fn serialize<W: Write>(&self, alloc: Global, writer: &mut W) -> Result<()> {
+        write_three(&self.0, &self.1, &self.2, alloc, writer)
+    }
+}
+
+impl<A: BorshSerialize, B: BorshSerialize, C: BorshSerialize, D: BorshSerialize> BorshSerialize
+    for (A, B, C, D) {
+    #[inline]
+    fn serialize<W: Write>(&self, alloc: Global, writer: &mut W) -> Result<()> {
+        write_four(&self.0, &self.1, &self.2, &self.3, alloc, writer)
+    }
+}
+
+impl<
+    A: BorshSerialize,
+    B: BorshSerialize,
+    C: BorshSerialize,
+    D: BorshSerialize,
+    E: BorshSerialize,
+> BorshSerialize for (A, B, C, D, E) {
+    #[inline]
+    fn serialize<W: Write>(&self, alloc: Global, writer: &mut W) -> Result<()> {
+        write_five(&self.0, &self.1, &self.2, &self.3, &self.4, alloc, writer)
+    }
+}
+
+impl<
+    A: BorshSerialize,
+    B: BorshSerialize,
+    C: BorshSerialize,
+    D: BorshSerialize,
+    E: BorshSerialize,
+    F: BorshSerialize,
+> BorshSerialize for (A, B, C, D, E, F) {
+    #[inline]
+    fn serialize<W: Write>(&self, alloc: Global, writer: &mut W) -> Result<()> {
+        write_six(
+            &self.0, &self.1, &self.2, &self.3, &self.4, &self.5, alloc, writer,
+        )
+    }
+}
+
+impl<
+    A: BorshSerialize,
+    B: BorshSerialize,
+    C: BorshSerialize,
+    D: BorshSerialize,
+    E: BorshSerialize,
+    F: BorshSerialize,
+    G: BorshSerialize,
+> BorshSerialize for (A, B, C, D, E, F, G) {
+    #[inline]
+    fn serialize<W: Write>(&self, alloc: Global, writer: &mut W) -> Result<()> {
+        write_seven(
+            &self.0, &self.1, &self.2, &self.3, &self.4, &self.5, &self.6, alloc, writer,
+        )
+    }
+}
+
+impl<
+    A: BorshSerialize,
+    B: BorshSerialize,
+    C: BorshSerialize,
+    D: BorshSerialize,
+    E: BorshSerialize,
+    F: BorshSerialize,
+    G: BorshSerialize,
+    H: BorshSerialize,
+> BorshSerialize for (A, B, C, D, E, F, G, H) {
+    #[inline]
+    fn serialize<W: Write>(&self, alloc: Global, writer: &mut W) -> Result<()> {
+        write_eight(
+            &self.0, &self.1, &self.2, &self.3, &self.4, &self.5, &self.6, &self.7, alloc, writer,
+        )
+    }
+}
+
+impl<
+    A: BorshSerialize,
+    B: BorshSerialize,
+    C: BorshSerialize,
+    D: BorshSerialize,
+    E: BorshSerialize,
+    F: BorshSerialize,
+    G: BorshSerialize,
+    H: BorshSerialize,
+    I: BorshSerialize,
+> BorshSerialize for (A, B, C, D, E, F, G, H, I) {
+    #[inline]
+    fn serialize<W: Write>(&self, alloc: Global, writer: &mut W) -> Result<()> {
+        write_nine(
+            &self.0, &self.1, &self.2, &self.3, &self.4, &self.5, &self.6, &self.7, &self.8, alloc,
+            writer,
+        )
+    }
+}
+
+impl<
+    A: BorshSerialize,
+    B: BorshSerialize,
+    C: BorshSerialize,
+    D: BorshSerialize,
+    E: BorshSerialize,
+    F: BorshSerialize,
+    G: BorshSerialize,
+    H: BorshSerialize,
+    I: BorshSerialize,
+    J: BorshSerialize,
+> BorshSerialize for (A, B, C, D, E, F, G, H, I, J) {
+    #[inline]
+    fn serialize<W: Write>(&self, alloc: Global, writer: &mut W) -> Result<()> {
+        write_ten(
+            &self.0, &self.1, &self.2, &self.3, &self.4, &self.5, &self.6, &self.7, &self.8,
+            &self.9, alloc, writer,
+        )
+    }
+}
+
+impl<
+    A: BorshSerialize,
+    B: BorshSerialize,
+    C: BorshSerialize,
+    D: BorshSerialize,
+    E: BorshSerialize,
+    F: BorshSerialize,
+    G: BorshSerialize,
+    H: BorshSerialize,
+    I: BorshSerialize,
+    J: BorshSerialize,
+    K: BorshSerialize,
+> BorshSerialize for (A, B, C, D, E, F, G, H, I, J, K) {
+    #[inline]
+    fn serialize<W: Write>(&self, alloc: Global, writer: &mut W) -> Result<()> {
+        write_eleven(
+            &self.0, &self.1, &self.2, &self.3, &self.4, &self.5, &self.6, &self.7, &self.8,
+            &self.9, &self.10, alloc, writer,
+        )
+    }
+}
+
+impl<
+    A: BorshSerialize,
+    B: BorshSerialize,
+    C: BorshSerialize,
+    D: BorshSerialize,
+    E: BorshSerialize,
+    F: BorshSerialize,
+    G: BorshSerialize,
+    H: BorshSerialize,
+    I: BorshSerialize,
+    J: BorshSerialize,
+    K: BorshSerialize,
+    L: BorshSerialize,
+> BorshSerialize for (A, B, C, D, E, F, G, H, I, J, K, L) {
+    #[inline]
+    fn serialize<W: Write>(&self, alloc: Global, writer: &mut W) -> Result<()> {
+        write_twelve(
+            &self.0, &self.1, &self.2, &self.3, &self.4, &self.5, &self.6, &self.7, &self.8,
+            &self.9, &self.10, &self.11, alloc, writer,
+        )
+    }
+}

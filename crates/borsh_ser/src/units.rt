@@ -1,0 +1,27 @@
+// Values of types with one value: no bytes.
+use super::serialize::BorshSerialize;
+use borsh_io::{Result, Write};
+use std::alloc::Global;
+use std::marker::PhantomData;
+use std::ops::RangeFull;
+
+impl BorshSerialize for () {
+    #[inline]
+    fn serialize<W: Write>(&self, _alloc: Global, _writer: &mut W) -> Result<()> {
+        Ok(())
+    }
+}
+
+impl BorshSerialize for RangeFull {
+    #[inline]
+    fn serialize<W: Write>(&self, _alloc: Global, _writer: &mut W) -> Result<()> {
+        Ok(())
+    }
+}
+
+impl<T> BorshSerialize for PhantomData<T> {
+    #[inline]
+    fn serialize<W: Write>(&self, _alloc: Global, _writer: &mut W) -> Result<()> {
+        Ok(())
+    }
+}

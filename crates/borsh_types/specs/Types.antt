@@ -1,0 +1,4 @@
+-- The meanings of the types, and their laws, a file for each family.
+pub mod Sums
+pub mod Texts
+pub mod Addresses

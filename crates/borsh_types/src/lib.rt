@@ -1,0 +1,21 @@
+//! What types mean as bytes.
+#![tactic(auto)]
+
+pub mod addresses;
+pub mod arrays;
+pub mod keys;
+pub mod kit_types;
+pub mod lists;
+pub mod maps;
+pub mod non_zeros;
+pub mod numbers;
+pub mod pointers;
+pub mod ranges;
+pub mod sums;
+pub mod texts;
+pub mod tuples;
+pub mod types;
+pub mod units;
+
+pub use keys::BorshKey;
+pub use types::BorshType;

@@ -1,0 +1,165 @@
+// Whole numbers that are not zero: their number.
+ghost use Rattle.std.specs.Int.NonZero.{non_zero_u8_get, non_zero_u16_get, non_zero_u32_get, non_zero_u64_get, non_zero_u128_get, non_zero_usize_get, non_zero_i8_get, non_zero_i16_get, non_zero_i32_get, non_zero_i64_get, non_zero_i128_get};
+ghost use Rattle.borsh_types.specs.Shapes.{along, number, signed};
+ghost use Rattle.borsh_types.specs.Laws.Exact.{along-lawful};
+ghost use Rattle.borsh_types.specs.Laws.Numbers.{number-lawful, signed-lawful};
+
+use super::types::BorshType;
+use std::num::{
+    NonZeroI8, NonZeroI16, NonZeroI32, NonZeroI64, NonZeroI128, NonZeroU8, NonZeroU16, NonZeroU32,
+    NonZeroU64, NonZeroU128, NonZeroUsize,
+};
+
+impl BorshType for NonZeroU8 {
+    ghost codec = { along non_zero_u8_get (number 1) };
+
+    ghost lawful = { along-lawful non_zero_u8_get (number-lawful 1) };
+
+    fn encodes_empty() -> bool {
+        false
+    }
+
+    fn element_size() -> usize {
+        size_of::<NonZeroU8>()
+    }
+}
+
+impl BorshType for NonZeroU16 {
+    ghost codec = { along non_zero_u16_get (number 2) };
+
+    ghost lawful = { along-lawful non_zero_u16_get (number-lawful 2) };
+
+    fn encodes_empty() -> bool {
+        false
+    }
+
+    fn element_size() -> usize {
+        size_of::<NonZeroU16>()
+    }
+}
+
+impl BorshType for NonZeroU32 {
+    ghost codec = { along non_zero_u32_get (number 4) };
+
+    ghost lawful = { along-lawful non_zero_u32_get (number-lawful 4) };
+
+    fn encodes_empty() -> bool {
+        false
+    }
+
+    fn element_size() -> usize {
+        size_of::<NonZeroU32>()
+    }
+}
+
+impl BorshType for NonZeroU64 {
+    ghost codec = { along non_zero_u64_get (number 8) };
+
+    ghost lawful = { along-lawful non_zero_u64_get (number-lawful 8) };
+
+    fn encodes_empty() -> bool {
+        false
+    }
+
+    fn element_size() -> usize {
+        size_of::<NonZeroU64>()
+    }
+}
+
+impl BorshType for NonZeroU128 {
+    ghost codec = { along non_zero_u128_get (number 16) };
+
+    ghost lawful = { along-lawful non_zero_u128_get (number-lawful 16) };
+
+    fn encodes_empty() -> bool {
+        false
+    }
+
+    fn element_size() -> usize {
+        size_of::<NonZeroU128>()
+    }
+}
+
+impl BorshType for NonZeroUsize {
+    ghost codec = { along non_zero_usize_get (number 8) };
+
+    ghost lawful = { along-lawful non_zero_usize_get (number-lawful 8) };
+
+    fn encodes_empty() -> bool {
+        false
+    }
+
+    fn element_size() -> usize {
+        size_of::<NonZeroUsize>()
+    }
+}
+
+impl BorshType for NonZeroI8 {
+    ghost codec = { along non_zero_i8_get (signed 1) };
+
+    ghost lawful = { along-lawful non_zero_i8_get (signed-lawful 1) };
+
+    fn encodes_empty() -> bool {
+        false
+    }
+
+    fn element_size() -> usize {
+        size_of::<NonZeroI8>()
+    }
+}
+
+impl BorshType for NonZeroI16 {
+    ghost codec = { along non_zero_i16_get (signed 2) };
+
+    ghost lawful = { along-lawful non_zero_i16_get (signed-lawful 2) };
+
+    fn encodes_empty() -> bool {
+        false
+    }
+
+    fn element_size() -> usize {
+        size_of::<NonZeroI16>()
+    }
+}
+
+impl BorshType for NonZeroI32 {
+    ghost codec = { along non_zero_i32_get (signed 4) };
+
+    ghost lawful = { along-lawful non_zero_i32_get (signed-lawful 4) };
+
+    fn encodes_empty() -> bool {
+        false
+    }
+
+    fn element_size() -> usize {
+        size_of::<NonZeroI32>()
+    }
+}
+
+impl BorshType for NonZeroI64 {
+    ghost codec = { along non_zero_i64_get (signed 8) };
+
+    ghost lawful = { along-lawful non_zero_i64_get (signed-lawful 8) };
+
+    fn encodes_empty() -> bool {
+        false
+    }
+
+    fn element_size() -> usize {
+        size_of::<NonZeroI64>()
+    }
+}
+
+impl BorshType for NonZeroI128 {
+    ghost codec = { along non_zero_i128_get (signed 16) };
+
+    ghost lawful = { along-lawful non_zero_i128_get (signed-lawful 16) };
+
+    fn encodes_empty() -> bool {
+        false
+    }
+
+    fn element_size() -> usize {
+        size_of::<NonZeroI128>()
+    }
+}

@@ -1,0 +1,12 @@
+pub mod Laws
+pub mod Variants
+pub mod SizeWalk
+pub mod SizeMeasure
+pub mod SizeDue
+pub mod SizeStands
+pub mod ZeroWalk
+pub mod SpotMeasure
+pub mod ZeroGlue
+pub mod RulesLaws
+pub mod RulesDue
+pub mod RulesGlue

@@ -1,0 +1,32 @@
+use Rattle.std.proofs.Common.{◌≡◌, refl, sym, subst, arith}
+use Rattle.std.specs.BTreeMap.{btree_map_len}
+use Rattle.borsh_walks.specs.Counts.{definitions_of}
+use Rattle.borsh_walks.specs.Container.{Zero}
+use Rattle.borsh_walks.specs.Definitions.{definitions_in, shape_of}
+use Rattle.borsh_walks.proofs.SizeMeasure.{names_within}
+use Rattle.borsh_walks.proofs.RulesLaws.{breaks, breaks_zero, keeps_all}
+use Rattle.borsh_walks.proofs.rules.broken_rule.Goals as goal
+
+pub returns-in-Some-clause-answer : goal.returns-in-Some-clause-answer
+returns-in-Some-clause-answer c = λ x e. breaks (definitions_of c.args.counted.now) (shape_of c.args.definition.now) e _ c.in-Some.ensures
+
+pub returns-in-Some-clause-counts : goal.returns-in-Some-clause-counts
+returns-in-Some-clause-counts c = λ base h.
+    let r = c.requires in
+    let few = names_within c.args.counted.now.map.now r.names r.distinct (λ x a. (r.looked x a).1) in
+    (btree_map_len c.args.table.now, omega (arith, few, r.len), h, refl)
+
+pub returns-then-branch-clause-answer : goal.returns-then-branch-clause-answer
+returns-then-branch-clause-answer c = λ x e. breaks_zero (definitions_of c.args.counted.now) (shape_of c.args.definition.now) e (sym c.in-Some-element_to_check.ensures) (c.in_ok-is_zero.ensures.answer.0 c.if-branch.true)
+
+pub returns-else-branch-clause-answer : goal.returns-else-branch-clause-answer
+returns-else-branch-clause-answer c = λ x e r b.
+    keeps_all (definitions_of c.args.counted.now) (shape_of c.args.definition.now) e c.in_default.ensures
+    (λ p h z. let q : c.in-Some-element_to_check.element.now ≡ p = (let a = c.in-Some-element_to_check.ensures in cc) in
+    let w = c.in_ok-is_zero.ensures.answer.1 (subst (λ y. Zero (definitions_of c.args.counted.now) y) (sym q) z) in let n = c.if-branch.false in cc) r b
+
+pub returns-in_default-element_to_check-clause-counts : goal.returns-in_default-element_to_check-clause-counts
+returns-in_default-element_to_check-clause-counts c = λ base h.
+    let r = c.requires in
+    let few = names_within c.args.counted.now.map.now r.names r.distinct (λ x a. (r.looked x a).1) in
+    (btree_map_len c.args.table.now, omega (arith, few, r.len), h, refl)

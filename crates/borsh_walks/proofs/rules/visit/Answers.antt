@@ -1,0 +1,108 @@
+use Rattle.std.proofs.Common.{◌≡◌, suc, ◌≤◌, ◌∷◌, Some, None, refl, sym, ◌∙◌, subst, arith, true}
+use Rattle.std.specs.Prelude.{Option, option_map, MatchOption}
+use Rattle.std.specs.BTreeMap.{btree_map_len, get_by_text}
+use Rattle.borsh_walks.specs.Container.{is_missing, missing_definition}
+use Rattle.borsh_walks.specs.Counts.{counts_of, definitions_of, raised_for}
+use Rattle.borsh_walks.specs.Definitions.{definitions_in, shape_of}
+use Rattle.borsh_walks.specs.declared.counted.Question.TheVariants.{Rules}
+use Rattle.borsh_walks.specs.ZeroAnswer.{ZeroTable, zero_mark}
+use Rattle.borsh_walks.specs.RulesAnswer.{RuleAnswer, ElementMarked, rule_of}
+use Rattle.borsh_walks.specs.declared.zero.Spot.{Spot}
+use Rattle.borsh_walks.proofs.SizeMeasure.{names_within, found_shape, found_none}
+use Rattle.borsh_walks.proofs.SpotMeasure.{changed_by}
+use Rattle.borsh_walks.proofs.ZeroWalk.{still}
+use Rattle.borsh_walks.proofs.ZeroGlue.{grown, on_err, more_names}
+use Rattle.borsh_walks.proofs.RulesLaws.{rules_fault}
+use Rattle.borsh_walks.proofs.RulesGlue.{both_more, rules_visit}
+use Rattle.borsh_walks.proofs.rules.visit.Goals as goal
+
+pub returns-in_default-clause-visited : goal.returns-in_default-clause-visited
+returns-in_default-clause-visited c = λ root s r n.
+    rules_fault (definitions_of c.args.counted.now) root c.args.name.now missing_definition c.error_of.result c.error_of.ensures r (is_missing (found_none c.args.counted.now.map c.args.counted.now.map c.args.name.now refl c.in_default.ensures.found))
+
+pub returns-in_default-clause-counts : goal.returns-in_default-clause-counts
+returns-in_default-clause-counts c = λ root s n base h.
+    let r = c.requires in
+    let zeros = names_within c.args.counted.now.map.now r.names r.distinct (λ x a. (r.looked x a).1) in
+    let few = names_within c.args.counted.now.map.now s.names s.distinct (λ x a. (s.looked x a).3) in
+    (btree_map_len c.args.seen.now, btree_map_len c.args.table.now, omega (arith, few, s.len), omega (arith, zeros, r.len), c.in_default.ensures.counts ∙ h, tt)
+
+pub broken_rule-requires : goal.broken_rule-requires
+broken_rule-requires c = subst (λ m. ZeroTable (definitions_in m.now) c.args.table.now) (sym c.in-Some.ensures.same.0) c.requires
+
+pub returns-in_err-broken-clause-counts : goal.returns-in_err-broken-clause-counts
+returns-in_err-broken-clause-counts c = λ root s n base h.
+    let C = definitions_of c.args.counted.now in
+    let e = found_shape c.args.counted.now.map c.args.counted.now.map c.args.name.now c.in-Some.definition.now refl c.in-Some.ensures.found in
+    let l = more_names C {T = zero_mark c.args.seen.now} c.args.name.now _ s.distinct (λ x a. let k = s.looked x a in (k.0, k.3)) n e in
+    let few = names_within c.args.counted.now.map.now (c.args.name.now ∷ s.names) l.0 l.1 in
+    let k = c.in_err-broken.ensures.counts (raised_for Rules (suc (btree_map_len c.args.seen.now)) base) (both_more (btree_map_len c.args.seen.now) (btree_map_len c.args.table.now) (counts_of c.args.counted.now) (counts_of c.look.new.self) base h c.in-Some.ensures.counts) in
+    (suc (btree_map_len c.args.seen.now), k.0, omega (arith, few, s.len), subst (λ m. k.0 ≤ btree_map_len m.now) c.in-Some.ensures.same.0 k.1, k.2, on_err _ c.from_residual.result c.from_residual.ensures.0)
+
+pub returns-in-Some-2-clause-visited : goal.returns-in-Some-2-clause-visited
+returns-in-Some-2-clause-visited c = λ root s r n.
+    let C = definitions_of c.args.counted.now in
+    let e = found_shape c.args.counted.now.map c.args.counted.now.map c.args.name.now c.in-Some.definition.now refl c.in-Some.ensures.found in
+    let a = subst (λ m. RuleAnswer (definitions_in m.now) (shape_of c.in-Some.definition.now) c.in_ok-broken.field-0) c.in-Some.ensures.same.0 c.in_ok-broken.ensures.answer in
+    let b = subst (λ o. RuleAnswer C (shape_of c.in-Some.definition.now) o) c.in-Some-2.is a in
+    rules_fault C root c.args.name.now (rule_of c.in-Some-2.broken) c.error_of-in-Some-2.result c.error_of-in-Some-2.ensures r (b c.args.name.now e)
+
+pub returns-in-Some-2-clause-counts : goal.returns-in-Some-2-clause-counts
+returns-in-Some-2-clause-counts c = λ root s n base h.
+    let C = definitions_of c.args.counted.now in
+    let e = found_shape c.args.counted.now.map c.args.counted.now.map c.args.name.now c.in-Some.definition.now refl c.in-Some.ensures.found in
+    let l = more_names C {T = zero_mark c.args.seen.now} c.args.name.now _ s.distinct (λ x a. let k = s.looked x a in (k.0, k.3)) n e in
+    let few = names_within c.args.counted.now.map.now (c.args.name.now ∷ s.names) l.0 l.1 in
+    let k = c.in_ok-broken.ensures.counts (raised_for Rules (suc (btree_map_len c.args.seen.now)) base) (both_more (btree_map_len c.args.seen.now) (btree_map_len c.args.table.now) (counts_of c.args.counted.now) (counts_of c.look.new.self) base h c.in-Some.ensures.counts) in
+    (suc (btree_map_len c.args.seen.now), k.0, omega (arith, few, s.len), subst (λ m. k.0 ≤ btree_map_len m.now) c.in-Some.ensures.same.0 k.1, k.2, tt)
+
+pub returns-in_err-insert-clause-counts : goal.returns-in_err-insert-clause-counts
+returns-in_err-insert-clause-counts c = λ root s n base h.
+    let C = definitions_of c.args.counted.now in
+    let e = found_shape c.args.counted.now.map c.args.counted.now.map c.args.name.now c.in-Some.definition.now refl c.in-Some.ensures.found in
+    let l = more_names C {T = zero_mark c.args.seen.now} c.args.name.now _ s.distinct (λ x a. let k = s.looked x a in (k.0, k.3)) n e in
+    let few = names_within c.args.counted.now.map.now (c.args.name.now ∷ s.names) l.0 l.1 in
+    let k = c.in_ok-broken.ensures.counts (raised_for Rules (suc (btree_map_len c.args.seen.now)) base) (both_more (btree_map_len c.args.seen.now) (btree_map_len c.args.table.now) (counts_of c.args.counted.now) (counts_of c.look.new.self) base h c.in-Some.ensures.counts) in
+    (suc (btree_map_len c.args.seen.now), k.0, omega (arith, few, s.len), subst (λ m. k.0 ≤ btree_map_len m.now) c.in-Some.ensures.same.0 k.1, k.2, on_err _ c.from_residual-in_err-insert.result c.from_residual-in_err-insert.ensures.0)
+
+pub returns-in_err-push-clause-counts : goal.returns-in_err-push-clause-counts
+returns-in_err-push-clause-counts c = λ root s n base h.
+    let C = definitions_of c.args.counted.now in
+    let e = found_shape c.args.counted.now.map c.args.counted.now.map c.args.name.now c.in-Some.definition.now refl c.in-Some.ensures.found in
+    let l = more_names C {T = zero_mark c.args.seen.now} c.args.name.now _ s.distinct (λ x a. let k = s.looked x a in (k.0, k.3)) n e in
+    let few = names_within c.args.counted.now.map.now (c.args.name.now ∷ s.names) l.0 l.1 in
+    let k = c.in_ok-broken.ensures.counts (raised_for Rules (suc (btree_map_len c.args.seen.now)) base) (both_more (btree_map_len c.args.seen.now) (btree_map_len c.args.table.now) (counts_of c.args.counted.now) (counts_of c.look.new.self) base h c.in-Some.ensures.counts) in
+    (suc (btree_map_len c.args.seen.now), k.0, omega (arith, few, s.len), subst (λ m. k.0 ≤ btree_map_len m.now) c.in-Some.ensures.same.0 k.1, k.2, on_err _ c.from_residual-in_err-push.result c.from_residual-in_err-push.ensures.0)
+
+none_from : {X : Type 0} (o : Option X) → ((x : X) → o ≡ Some x → ⊥) → o ≡ None
+none_from None f = refl
+none_from (Some x) f = absurd (f x refl)
+
+pub returns-clause-visited : goal.returns-clause-visited
+returns-clause-visited c = λ root s r n.
+    let C = definitions_of c.args.counted.now in
+    let d = shape_of c.in-Some.definition.now in
+    let none = none_from c.in_ok-broken.field-0 c.in_default-2.not-Some in
+    let e = found_shape c.args.counted.now.map c.args.counted.now.map c.args.name.now c.in-Some.definition.now refl c.in-Some.ensures.found in
+    let a = subst (λ m. RuleAnswer (definitions_in m.now) d c.in_ok-broken.field-0) c.in-Some.ensures.same.0 c.in_ok-broken.ensures.answer in
+    let keeps = subst (λ o. RuleAnswer C d o) none a in
+    let t = subst (λ m. ZeroTable (definitions_in m.now) c.broken_rule.new.table) c.in-Some.ensures.same.0 c.in_ok-broken.ensures.table in
+    let k = subst (λ m. MatchOption c.in_ok-broken.field-0 (ElementMarked (definitions_in m.now) d c.args.table.now c.broken_rule.new.table) (λ _. Unit {0})) c.in-Some.ensures.same.0 c.in_ok-broken.ensures.marked in
+    let marks = subst (λ o. MatchOption o (ElementMarked C d c.args.table.now c.broken_rule.new.table) (λ _. Unit {0})) none k in
+    let u = changed_by C c.args.name.now c.args.seen.now c.insert.new.self true c.in_ok-insert.ensures.updates in
+    let len = grown c.in_ok-insert.field-0 c.in_ok-insert.ensures.len (c.in_ok-insert.ensures.old ∙ n) in
+    let g : Spot = record { name = c.args.name; definition = c.in-Some.definition; next = 0 } in (
+      rules_visit C root g s r n e (keeps c.args.name.now e) t marks u len refl refl c.in_ok-push.ensures.items,
+      (still C u, (λ h. let b = u.here in cc), omega (arith, len)),
+      (g, c.in_ok-push.ensures.items, refl, sym c.in-Some.ensures.found),
+    )
+
+pub returns-clause-counts : goal.returns-clause-counts
+returns-clause-counts c = λ root s n base h.
+    let C = definitions_of c.args.counted.now in
+    let e = found_shape c.args.counted.now.map c.args.counted.now.map c.args.name.now c.in-Some.definition.now refl c.in-Some.ensures.found in
+    let l = more_names C {T = zero_mark c.args.seen.now} c.args.name.now _ s.distinct (λ x a. let k = s.looked x a in (k.0, k.3)) n e in
+    let few = names_within c.args.counted.now.map.now (c.args.name.now ∷ s.names) l.0 l.1 in
+    let k = c.in_ok-broken.ensures.counts (raised_for Rules (suc (btree_map_len c.args.seen.now)) base) (both_more (btree_map_len c.args.seen.now) (btree_map_len c.args.table.now) (counts_of c.args.counted.now) (counts_of c.look.new.self) base h c.in-Some.ensures.counts) in
+    let len = grown c.in_ok-insert.field-0 c.in_ok-insert.ensures.len (c.in_ok-insert.ensures.old ∙ n) in
+    (suc (btree_map_len c.args.seen.now), k.0, omega (arith, few, s.len), subst (λ m. k.0 ≤ btree_map_len m.now) c.in-Some.ensures.same.0 k.1, k.2, (sym len, k.3))

@@ -1,0 +1,19 @@
+use Rattle.std.proofs.Common.{◌+◌, ◌-◌, ◌*◌, ◌≡◌, ℕ, List, length}
+use Rattle.std.specs.BTreeMap.{btree_map_len}
+use Rattle.borsh_walks.specs.Counts.{counts_of, definitions_of, LooksOn, raised_for}
+use Rattle.borsh_walks.specs.declared.counted.Question.TheVariants.{Size}
+use Rattle.borsh_walks.proofs.SizeWalk.{State}
+use Rattle.borsh_walks.proofs.SizeMeasure.{marks, rest, rests, work}
+use Rattle.borsh_walks.proofs.sizes.walk_sizes.Given as goal
+
+abbrev pub invariant-loop-part : goal.invariant-loop-part
+invariant-loop-part l = record {
+  names : List (List ℕ);
+  state : State (definitions_of l.fn.counted) l.root (marks l.table) l.way.items l.frame names;
+  looks : counts_of l.counted ≡ raised_for Size (length names) (counts_of l.fn.counted);
+  same : LooksOn l.fn.counted l.counted;
+  table_len : btree_map_len l.table ≡ length names;
+}
+
+abbrev pub decreases-loop-part : goal.decreases-loop-part
+decreases-loop-part l = (btree_map_len l.counted.map.now - btree_map_len l.table) * (2 + work l.counted.map.now.entries) + (rests l.way.items + rest l.frame)

@@ -1,0 +1,10 @@
+pub mod Container
+pub mod Definitions
+pub mod Counts
+pub mod Codecs
+pub mod Errors
+pub mod SizeParts
+pub mod SizeAnswer
+pub mod ZeroAnswer
+pub mod RulesAnswer
+pub mod RulesState

@@ -1,0 +1,66 @@
+-- What the walk over the reached names keeps.
+use Rattle.std.specs.Prelude.{◌≡◌, ℕ, ◌+◌, ◌≤◌, ◌↔◌, ◌⊎◌, ◌++◌, List, [], ◌∷◌, length, drop, Option, Some, None, Bool, Result, OnOk, Ok, Err, ⊤}
+use Rattle.std.specs.Borrow.{Bor}
+use Rattle.std.specs.BTreeMap.{BTreeMap, btree_map_len, get_by_text}
+use Rattle.borsh_walks.specs.Container.{Shape, Among, Rule, Breaks, Reached, mentions}
+use Rattle.borsh_walks.specs.Definitions.{shape_of}
+use Rattle.borsh_walks.specs.Counts.{counts_of, definition_at, definition_count, definitions_of, raised_for}
+use Rattle.borsh_walks.specs.SizeAnswer.{Distinct}
+use Rattle.borsh_walks.specs.ZeroAnswer.{zero_mark, ZeroTable}
+use Rattle.borsh_walks.specs.RulesAnswer.{RulesFault, checked_element}
+use Rattle.borsh_walks.specs.declared.counted.Counted.{Counted}
+use Rattle.borsh_walks.specs.declared.counted.Expansions.{Expansions}
+use Rattle.borsh_walks.specs.declared.counted.Question.TheVariants.{Zero, Rules}
+use Rattle.borsh_walks.specs.declared.zero.Spot.{Spot}
+use Rattle.borsh_walks.specs.declared.error.SchemaContainerValidateError.{SchemaContainerValidateError}
+
+abbrev pub spot_shape : Spot → Shape
+spot_shape f = shape_of f.definition.now
+
+-- the mentions that wait on the way
+abbrev pub waiting : List Spot → List (List ℕ)
+waiting [] = []
+waiting (f ∷ fs) = drop f.next (mentions (spot_shape f)) ++ waiting fs
+
+module _ (C : List ℕ → Option Shape) (root : List ℕ) where
+  abbrev pub AllSpots : List Spot → Type 0
+  AllSpots [] = ⊤
+  AllSpots (f ∷ fs) = ((C f.name.now ≡ Some (spot_shape f)) × Reached C root f.name.now × (f.next ≤ length (mentions (spot_shape f)))) × AllSpots fs
+
+  -- the names seen are reached and keep their rules, and what they mention is seen, waits on the way, or is among `extra`
+  pub record RulesState (extra : List (List ℕ)) (seen : BTreeMap (Bor (List ℕ)) Bool) (way : List Spot) (zeros : BTreeMap (Bor (List ℕ)) Bool) : Type 0 where
+    pub names : List (List ℕ)
+    pub distinct : Distinct names
+    pub marked : (x : List ℕ) (b : Bool) → zero_mark seen x ≡ Some b → Among x names
+    pub looked : (x : List ℕ) → Among x names → (zero_mark seen x ≡ None → ⊥) × Reached C root x × ((r : Rule) → Breaks C r x → ⊥) × ((d : Shape) × (C x ≡ Some d))
+    pub len : btree_map_len seen ≡ length names
+    pub spots : AllSpots way
+    pub closed : (x : List ℕ) (d : Shape) (y : List ℕ) → Among x names → C x ≡ Some d → Among y (mentions d) → Among y names ⊎ Among y extra ⊎ Among y (waiting way)
+    pub zero : ZeroTable C zeros
+    pub elements : (x : List ℕ) (d : Shape) (e : List ℕ) → Among x names → C x ≡ Some d → checked_element d ≡ Some e → (C e ≡ None → ⊥) → zero_mark zeros e ≡ None → ⊥
+
+-- `rules` and `zero` have counted j and k names
+abbrev pub IsBothCount : Counted → ℕ → ℕ → Expansions → Type 0
+IsBothCount c j k base = counts_of c ≡ raised_for Rules j (raised_for Zero k base)
+
+abbrev pub RulesCounted : {E : Type 0} → Counted → Counted → BTreeMap (Bor (List ℕ)) Bool → BTreeMap (Bor (List ℕ)) Bool → BTreeMap (Bor (List ℕ)) Bool → BTreeMap (Bor (List ℕ)) Bool → Result (Unit {0}) E → Type 0
+RulesCounted old new s t u v r = (base : Expansions) → IsBothCount old (btree_map_len s) (btree_map_len u) base → (j : ℕ) × (k : ℕ) × (j ≤ definition_count old) × (k ≤ definition_count old) × IsBothCount new j k base × OnOk r ((j ≡ btree_map_len t) × (k ≡ btree_map_len v))
+
+-- the name is seen from now on, and what was seen still is
+abbrev pub HasSeen : List ℕ → BTreeMap (Bor (List ℕ)) Bool → BTreeMap (Bor (List ℕ)) Bool → Type 0
+HasSeen name s t = ((x : List ℕ) → (zero_mark s x ≡ None → ⊥) → zero_mark t x ≡ None → ⊥) × (zero_mark t name ≡ None → ⊥) × (btree_map_len t ≡ btree_map_len s + 1)
+
+-- the name was put on the way
+abbrev pub HasPushed : Counted → List Spot → List Spot → List ℕ → Type 0
+HasPushed c old new name = (f : Spot) × (new ≡ old ++ f ∷ []) × (f.next ≡ 0) × (definition_at c name ≡ Some f.definition.now)
+
+-- what a visit makes of the state
+abbrev pub IsVisited : Counted → Counted → List ℕ → BTreeMap (Bor (List ℕ)) Bool → BTreeMap (Bor (List ℕ)) Bool → List Spot → List Spot → BTreeMap (Bor (List ℕ)) Bool → BTreeMap (Bor (List ℕ)) Bool → List ℕ → Result (Unit {0}) SchemaContainerValidateError → Type 0
+IsVisited old new name s t way ways u v root (Ok _) = RulesState (definitions_of old) root [] t ways v × HasSeen name s t × HasPushed old way ways name
+IsVisited old new name s t way ways u v root (Err e) = RulesFault (definitions_of old) root e
+
+-- on a yes `rules` rises by the number of reached names, and `zero` by at least the number of elements that are checked
+abbrev pub RulesCountedOnYes : Counted → Counted → List ℕ → Type 0
+RulesCountedOnYes old new root = (xs : List (List ℕ)) × (zs : List (List ℕ)) × Distinct xs × Distinct zs × ((x : List ℕ) → Among x xs ↔ Reached (definitions_of old) root x)
+    × ((x : List ℕ) (d : Shape) (e : List ℕ) → Reached (definitions_of old) root x → definitions_of old x ≡ Some d → checked_element d ≡ Some e → Among e zs)
+    × (counts_of new ≡ raised_for Rules (length xs) (raised_for Zero (length zs) (counts_of old)))

@@ -1,0 +1,59 @@
+// How many definitions a walk looks into.
+ghost use Rattle.borsh_walks.specs.Counts.{counts_of, definition_at, IsCounting, LooksOn, raised_for};
+ghost use Rattle.std.specs.Prelude.{◌≡◌, if◌then◌else◌, is_some, option_map};
+
+use crate::definition::Definition;
+use std::collections::BTreeMap;
+
+/// How many definitions were looked into, for each kind of question. A count at its greatest value
+/// stays.
+#[derive(Clone, Copy, Debug, PartialEq, Eq)]
+pub struct Expansions {
+    pub size: u64,
+    pub zero: u64,
+    pub rules: u64,
+}
+
+/// What a definition is looked into for.
+#[derive(Clone, Copy, Debug, PartialEq, Eq)]
+pub enum Question {
+    /// How long its encodings may be.
+    Size,
+    /// Whether its encodings are all empty.
+    Zero,
+    /// Whether it keeps the rules.
+    Rules,
+}
+
+/// A map of definitions that are counted where they are looked into.
+#[derive(Drop)]
+pub struct Counted<'a, 'b> {
+    map: &'a BTreeMap<String, Definition>,
+    counts: &'b mut Expansions,
+}
+
+impl<'a, 'b> Counted<'a, 'b> {
+    /// The definitions of `map`, counted in `counts`.
+    pub fn new(map: &'a BTreeMap<String, Definition>, counts: &'b mut Expansions) -> Counted<'a, 'b>
+        ensures { IsCounting result map.entry counts.entry }
+    {
+        Counted { map, counts }
+    }
+
+    /// The definition of the name. Where there is one, the count of the question is raised by one.
+    pub fn look(&mut self, question: Question, name: &str) -> Option<&'a Definition>
+        ensures same { LooksOn self.old self.new }
+        ensures found { option_map (λ d. d.now) result ≡ definition_at self.old name.now }
+        ensures counts { counts_of self.new ≡ (if is_some result then raised_for question 1 (counts_of self.old) else counts_of self.old) }
+    {
+        let found = self.map.get(name);
+        if found.is_some() {
+            match question {
+                Question::Size => self.counts.size = self.counts.size.saturating_add(1),
+                Question::Zero => self.counts.zero = self.counts.zero.saturating_add(1),
+                Question::Rules => self.counts.rules = self.counts.rules.saturating_add(1),
+            }
+        }
+        found
+    }
+}

@@ -1,0 +1,26 @@
+//! Definitions of types by names, and what can be said of all their encodings.
+//!
+//! [`check_rules`] says whether the names reached from a root keep the rules, and [`root_size`] how long
+//! the encodings of the root may be. Both go over any definitions, also over names that lead back to
+//! themselves, look into each definition at most once for each kind of question, and don't recurse.
+#![tactic(auto)]
+
+mod codec;
+pub mod counted;
+pub mod definition;
+pub mod error;
+mod parts;
+pub mod rules;
+pub mod sizes;
+mod zero;
+
+pub use counted::{Counted, Expansions, Question};
+pub use definition::{
+    Declaration, Definition, DiscriminantValue, FieldName, Fields, LengthRange, VariantName,
+};
+pub use error::{SchemaContainerValidateError, SchemaMaxSerializedSizeError};
+pub use rules::check_rules;
+pub use sizes::root_size;
+
+#[cfg(test)]
+mod tests;

@@ -1,0 +1,228 @@
+// Whether the names that are reached keep the rules.
+ghost use Rattle.borsh_walks.specs.Container.{IsValid, Reached};
+ghost use Rattle.borsh_walks.specs.Counts.{counts_of, definition_count, definitions_of, LooksOn, raised_for};
+ghost use Rattle.borsh_walks.specs.RulesAnswer.{IsRulesDue, IsRulesError, RulesFault, IsWidth, KeepsWidths, BreaksShape, BreaksWidth, ElementMarked, RuleAnswer, rule_of, checked_element};
+ghost use Rattle.borsh_walks.specs.Definitions.{shape_of};
+ghost use Rattle.borsh_walks.specs.ZeroAnswer.{zero_mark, ZeroCounted, ZeroTable};
+ghost use Rattle.borsh_walks.specs.RulesState.{IsVisited, RulesCounted, RulesCountedOnYes, RulesState};
+ghost use Rattle.borsh_walks.specs.declared.counted.Question.TheVariants.{Rules, Zero};
+ghost use Rattle.std.specs.Prelude.{◌≡◌, ◌∷◌, [], List, None, ℕ, ◌≤◌, IfOk, MatchResult, MatchOption, OnOk, option_map};
+
+use crate::counted::{Counted, Question};
+use crate::definition::Definition;
+use crate::error::SchemaContainerValidateError;
+use crate::parts::mentioned_part;
+use crate::zero::{Spot, is_zero};
+use std::alloc::{AllocError, Global};
+use std::collections::BTreeMap;
+
+// A rule that a definition breaks.
+#[derive(Clone, Copy)]
+pub enum Broken {
+    ZeroSized,
+    Wide,
+    Narrow,
+    NotPowerOfTwo,
+    Missing,
+    EmptyRange,
+}
+
+// The rule of a sequence's width that is broken, if one is.
+fn broken_width(width: u8, end: u64) -> Option<Broken>
+    ensures { MatchOption result (IsWidth width end) (λ k. BreaksWidth (rule_of k) width end) }
+{
+    match width {
+        0 => None,
+        1 => if end < 256 {
+            None
+        } else {
+            Some(Broken::Narrow)
+        },
+        2 => if end < 65536 {
+            None
+        } else {
+            Some(Broken::Narrow)
+        },
+        3 => Some(Broken::NotPowerOfTwo),
+        4 => if end < 4294967296 {
+            None
+        } else {
+            Some(Broken::Narrow)
+        },
+        5 => Some(Broken::NotPowerOfTwo),
+        6 => Some(Broken::NotPowerOfTwo),
+        7 => Some(Broken::NotPowerOfTwo),
+        8 => None,
+        _ => Some(Broken::Wide),
+    }
+}
+
+// The rule without a look at other names that the definition breaks, if it breaks one.
+fn broken_shape(definition: &Definition) -> Option<Broken>
+    ensures { MatchOption result (KeepsWidths (shape_of definition.now)) (λ k. BreaksShape (rule_of k) (shape_of definition.now)) }
+{
+    match definition {
+        Definition::Sequence {
+            length_width,
+            length_range,
+            ..
+        } => {
+            if length_range.end < length_range.start {
+                Some(Broken::EmptyRange)
+            } else {
+                broken_width(*length_width, length_range.end)
+            }
+        }
+        Definition::Enum { tag_width, .. } => {
+            if *tag_width > 8 {
+                Some(Broken::Wide)
+            } else {
+                None
+            }
+        }
+        _ => None,
+    }
+}
+
+// The element of a sequence that must not be of zero size.
+fn element_to_check(definition: &Definition) -> Option<&str>
+    ensures { option_map (λ p. p.now) result ≡ checked_element (shape_of definition.now) }
+{
+    match definition {
+        Definition::Sequence {
+            length_width,
+            length_range,
+            elements,
+        } => {
+            if *length_width == 0 && length_range.start == length_range.end {
+                None
+            } else {
+                Some(elements.as_str())
+            }
+        }
+        _ => None,
+    }
+}
+
+// The rule that the definition breaks, if it breaks one.
+fn broken_rule<'a>(
+    alloc: Global,
+    definition: &'a Definition,
+    table: &mut BTreeMap<&'a str, bool>,
+    counted: &mut Counted<'a, '_>,
+) -> Result<Option<Broken>, AllocError>
+    requires { ZeroTable (definitions_of counted.old) table.old }
+    ensures same { LooksOn counted.old counted.new }
+    ensures answer { IfOk result (λ o. RuleAnswer (definitions_of counted.old) (shape_of definition.now) o) }
+    ensures table { OnOk result (ZeroTable (definitions_of counted.old) table.new) }
+    ensures marked { IfOk result (λ o. MatchOption o (ElementMarked (definitions_of counted.old) (shape_of definition.now) table.old table.new) (λ _. Unit {0})) }
+    ensures counts { ZeroCounted counted.old counted.new table.old table.new result }
+{
+    if let Some(broken) = broken_shape(definition) {
+        return Ok(Some(broken));
+    }
+    if let Some(element) = element_to_check(definition) {
+        if is_zero(alloc, element, table, counted)? {
+            return Ok(Some(Broken::ZeroSized));
+        }
+    }
+    Ok(None)
+}
+
+// The error that the name breaks the rule.
+fn error_of(alloc: Global, broken: Broken, name: &str) -> SchemaContainerValidateError
+    ensures { IsRulesError (rule_of broken) name.now result }
+{
+    let Ok(name) = String::from_str(alloc, name) else {
+        return SchemaContainerValidateError::OutOfMemory;
+    };
+    match broken {
+        Broken::ZeroSized => SchemaContainerValidateError::ZSTSequence(name),
+        Broken::Wide => SchemaContainerValidateError::TagTooWide(name),
+        Broken::Narrow => SchemaContainerValidateError::TagTooNarrow(name),
+        Broken::NotPowerOfTwo => SchemaContainerValidateError::TagNotPowerOfTwo(name),
+        Broken::Missing => SchemaContainerValidateError::MissingDefinition(name),
+        Broken::EmptyRange => SchemaContainerValidateError::EmptyLengthRange(name),
+    }
+}
+
+// Looks at a reached name for the first time: its rules are checked, and its mentions wait on the way.
+fn visit<'a>(
+    alloc: Global,
+    name: &'a str,
+    seen: &mut BTreeMap<&'a str, bool>,
+    way: &mut Vec<Spot<'a>>,
+    table: &mut BTreeMap<&'a str, bool>,
+    counted: &mut Counted<'a, '_>,
+) -> Result<(), SchemaContainerValidateError>
+    requires { ZeroTable (definitions_of counted.old) table.old }
+    ensures same { LooksOn counted.old counted.new }
+    ensures visited { (root : List ℕ) → RulesState (definitions_of counted.old) root (name.now ∷ []) seen.old way.old.items table.old → Reached (definitions_of counted.old) root name.now → zero_mark seen.old name.now ≡ None → IsVisited counted.old counted.new name.now seen.old seen.new way.old.items way.new.items table.old table.new root result }
+    ensures counts { (root : List ℕ) → RulesState (definitions_of counted.old) root (name.now ∷ []) seen.old way.old.items table.old → zero_mark seen.old name.now ≡ None → RulesCounted counted.old counted.new seen.old seen.new table.old table.new result }
+{
+    let Some(definition) = counted.look(Question::Rules, name) else {
+        return Err(error_of(alloc, Broken::Missing, name));
+    };
+    if let Some(broken) = broken_rule(alloc, definition, table, counted)? {
+        return Err(error_of(alloc, broken, name));
+    }
+    seen.insert(name, true)?;
+    way.push(Spot {
+        name,
+        definition,
+        next: 0,
+    })?;
+    Ok(())
+}
+
+/// Whether each name that is reached from the root, by any mention, is defined and keeps the rules.
+///
+/// A sequence of width 0 with one length keeps them. Of any other sequence the least length is at most
+/// the greatest, the width is 0, 1, 2, 4 or 8 and has room for the greatest length, and the elements
+/// aren't all without bytes. The tag of an enum has at most eight bytes. An error names a reached name
+/// and a rule that it breaks; where several are broken, the one that is met first on the way is answered.
+pub fn check_rules<'a>(
+    alloc: Global,
+    root: &'a str,
+    counted: &mut Counted<'a, '_>,
+) -> Result<(), SchemaContainerValidateError>
+    ensures same { LooksOn counted.old counted.new }
+    ensures answer { MatchResult result (λ _. IsValid (definitions_of counted.old) root.now) (λ e. RulesFault (definitions_of counted.old) root.now e) }
+    ensures due { IsRulesDue (definitions_of counted.old) root.now result }
+    ensures counts { OnOk result (RulesCountedOnYes counted.old counted.new root.now) }
+    ensures few { (j : ℕ) × (k : ℕ) × (j ≤ definition_count counted.old) × (k ≤ definition_count counted.old) × (counts_of counted.new ≡ raised_for Rules j (raised_for Zero k (counts_of counted.old))) }
+{
+    walk_rules(alloc, root, counted)
+}
+
+// The walk over the names that are reached. A name that was visited waits on the way until each of its
+// mentions was.
+fn walk_rules<'a>(
+    alloc: Global,
+    root: &'a str,
+    counted: &mut Counted<'a, '_>,
+) -> Result<(), SchemaContainerValidateError>
+    ensures same { LooksOn counted.old counted.new }
+    ensures answer { MatchResult result (λ _. IsValid (definitions_of counted.old) root.now) (λ e. RulesFault (definitions_of counted.old) root.now e) }
+    ensures counts { OnOk result (RulesCountedOnYes counted.old counted.new root.now) }
+    ensures few { (j : ℕ) × (k : ℕ) × (j ≤ definition_count counted.old) × (k ≤ definition_count counted.old) × (counts_of counted.new ≡ raised_for Rules j (raised_for Zero k (counts_of counted.old))) }
+{
+    let mut table: BTreeMap<&'a str, bool> = BTreeMap::new(alloc);
+    let mut seen: BTreeMap<&'a str, bool> = BTreeMap::new(alloc);
+    let mut way: Vec<Spot<'a>> = Vec::new(alloc);
+    visit(alloc, root, &mut seen, &mut way, &mut table, counted)?;
+    while let Some(spot) = way.pop() {
+        let Some(part) = mentioned_part(spot.definition, spot.next) else {
+            continue;
+        };
+        way.push(Spot {
+            name: spot.name,
+            definition: spot.definition,
+            next: spot.next + 1,
+        })?;
+        if !seen.contains_key(part) {
+            visit(alloc, part, &mut seen, &mut way, &mut table, counted)?;
+        }
+    }
+    Ok(())
+}

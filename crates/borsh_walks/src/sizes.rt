@@ -1,0 +1,156 @@
+// The greatest length of a name's encodings.
+ghost use Rattle.borsh_walks.specs.Counts.{counts_of, definition_count, definitions_of, LooksOn, raised_for};
+ghost use Rattle.borsh_walks.specs.Definitions.{shape_of};
+ghost use Rattle.borsh_walks.specs.SizeAnswer.{AreNeeded, HasSize, IsBound, IsCounted, IsDue, IsMissing, IsSizeAnswer};
+ghost use Rattle.borsh_walks.specs.SizeParts.{gathered_with, finished};
+ghost use Rattle.borsh_walks.specs.declared.counted.Question.TheVariants.{Size};
+ghost use Rattle.std.specs.Prelude.{◌^◌, ◌≡◌, ◌<◌, ◌≤◌, ℕ, MatchOption, IfOk, List, length};
+
+use crate::counted::{Counted, Question};
+use crate::definition::Definition;
+use crate::error::SchemaMaxSerializedSizeError;
+use crate::parts::needed_part;
+use std::alloc::Global;
+use std::collections::BTreeMap;
+
+// How far a name's size has come.
+#[derive(Clone, Copy)]
+pub enum Mark {
+    Open,
+    Finished(usize),
+}
+
+// A name on the way down, with what the sizes of its first `next` parts make.
+#[derive(Clone, Copy)]
+pub struct Frame<'a> {
+    name: &'a str,
+    definition: &'a Definition,
+    next: usize,
+    gathered: usize,
+}
+
+// What the sizes of the parts so far make, and the next part's.
+fn gather(definition: &Definition, gathered: usize, size: usize) -> Option<usize>
+    ensures { MatchOption result (2 ^ 64 ≤ gathered_with (shape_of definition.now) gathered size) (λ n. n ≡ gathered_with (shape_of definition.now) gathered size) }
+{
+    match definition {
+        Definition::Enum { .. } => Some(gathered.max(size)),
+        _ => gathered.checked_add(size),
+    }
+}
+
+// The size of a definition.
+fn finish(definition: &Definition, gathered: usize) -> Option<usize>
+    ensures { MatchOption result (2 ^ 64 ≤ finished (shape_of definition.now) gathered) (λ n. n ≡ finished (shape_of definition.now) gathered) }
+{
+    match definition {
+        Definition::Primitive(size) => Some(usize::from(*size)),
+        Definition::Sequence {
+            length_width,
+            length_range,
+            ..
+        } => {
+            let repeated = usize::try_from(length_range.end)
+                .ok()?
+                .checked_mul(gathered)?;
+            repeated.checked_add(usize::from(*length_width))
+        }
+        Definition::Enum { tag_width, .. } => gathered.checked_add(usize::from(*tag_width)),
+        Definition::Tuple { .. } | Definition::Struct { .. } => Some(gathered),
+    }
+}
+
+/// The greatest length of the root's encodings, as the definitions say it: a primitive is its size, a
+/// sequence its width and its end times its element, an enum its width and its greatest variant, a tuple
+/// or struct the sum of its parts. The element of a sequence with end 0 isn't looked at.
+///
+/// Refused are a size that doesn't fit (`Overflow`), a needed name that leads back to itself
+/// (`Recursive`) and a needed name without a definition (`MissingDefinition`). Where several of these
+/// stand, the one that is met first on the way is answered. After a refusal `counted` has counted the
+/// definitions that were looked into, as after an answer.
+pub fn root_size<'a>(
+    alloc: Global,
+    root: &'a str,
+    counted: &mut Counted<'a, '_>,
+) -> Result<usize, SchemaMaxSerializedSizeError>
+    ensures same { LooksOn counted.old counted.new }
+    ensures answer { IsSizeAnswer (definitions_of counted.old) root.now result }
+    ensures due { IsDue (definitions_of counted.old) root.now result }
+    ensures stands { HasSize (definitions_of counted.old) root.now }
+    ensures bound { IsBound (definitions_of counted.old) root.now result }
+    ensures counts { IfOk result (λ n. (xs : List (List ℕ)) × AreNeeded (definitions_of counted.old) root.now xs × (counts_of counted.new ≡ raised_for Size (length xs) (counts_of counted.old))) }
+    ensures few { (k : ℕ) × (k ≤ definition_count counted.old) × (counts_of counted.new ≡ raised_for Size k (counts_of counted.old)) }
+{
+    walk_sizes(alloc, root, counted)
+}
+
+// The walk for the size of the root. A name on the way down is `Open`, and one with a size is `Finished`.
+fn walk_sizes<'a>(
+    alloc: Global,
+    root: &'a str,
+    counted: &mut Counted<'a, '_>,
+) -> Result<usize, SchemaMaxSerializedSizeError>
+    ensures same { LooksOn counted.old counted.new }
+    ensures answer { IsSizeAnswer (definitions_of counted.old) root.now result }
+    ensures fits { IfOk result (λ n. n < 2 ^ 64) }
+    ensures counts { IsCounted (definitions_of counted.old) root.now counted.old counted.new result }
+{
+    let Some(definition) = counted.look(Question::Size, root) else {
+        return Err(missing(alloc, root));
+    };
+    let mut table: BTreeMap<&'a str, Mark> = BTreeMap::new(alloc);
+    let mut way: Vec<Frame<'a>> = Vec::new(alloc);
+    table.insert(root, Mark::Open)?;
+    let mut frame = Frame {
+        name: root,
+        definition,
+        next: 0,
+        gathered: 0,
+    };
+    loop {
+        match needed_part(frame.definition, frame.next) {
+            Some(part) => match table.get(part) {
+                Some(Mark::Finished(size)) => {
+                    let Some(gathered) = gather(frame.definition, frame.gathered, *size) else {
+                        return Err(SchemaMaxSerializedSizeError::Overflow);
+                    };
+                    frame.gathered = gathered;
+                    frame.next += 1;
+                }
+                Some(Mark::Open) => return Err(SchemaMaxSerializedSizeError::Recursive),
+                None => {
+                    let Some(definition) = counted.look(Question::Size, part) else {
+                        return Err(missing(alloc, part));
+                    };
+                    table.insert(part, Mark::Open)?;
+                    way.push(frame)?;
+                    frame = Frame {
+                        name: part,
+                        definition,
+                        next: 0,
+                        gathered: 0,
+                    };
+                }
+            },
+            None => {
+                let Some(size) = finish(frame.definition, frame.gathered) else {
+                    return Err(SchemaMaxSerializedSizeError::Overflow);
+                };
+                table.insert(frame.name, Mark::Finished(size))?;
+                match way.pop() {
+                    Some(above) => frame = above,
+                    None => return Ok(size),
+                }
+            }
+        }
+    }
+}
+
+fn missing(alloc: Global, name: &str) -> SchemaMaxSerializedSizeError
+    ensures { IsMissing name.now result }
+{
+    match String::from_str(alloc, name) {
+        Ok(name) => SchemaMaxSerializedSizeError::MissingDefinition(name),
+        Err(_) => SchemaMaxSerializedSizeError::OutOfMemory,
+    }
+}

@@ -1,0 +1,92 @@
+// Whether all encodings of a name are empty.
+ghost use Rattle.borsh_walks.specs.Container.{zero_asks, Zero};
+ghost use Rattle.borsh_walks.specs.Counts.{definitions_of, LooksOn};
+ghost use Rattle.borsh_walks.specs.Definitions.{shape_of};
+ghost use Rattle.borsh_walks.specs.ZeroAnswer.{ZeroCounted, ZeroMarked, ZeroTable};
+ghost use Rattle.std.specs.Prelude.{◌≡◌, Decides, IfOk, OnOk, is_none};
+
+use crate::counted::{Counted, Question};
+use crate::definition::Definition;
+use crate::parts::asked_part;
+use std::alloc::{AllocError, Global};
+use std::collections::BTreeMap;
+
+// A name on the way down; its first `next` parts are settled.
+#[derive(Clone, Copy)]
+pub struct Spot<'a> {
+    pub name: &'a str,
+    pub definition: &'a Definition,
+    pub next: usize,
+}
+
+// Whether the definition is never of zero size.
+fn never_zero(definition: &Definition) -> bool
+    ensures { result ≡ is_none (zero_asks (shape_of definition.now)) }
+{
+    match definition {
+        Definition::Primitive(size) => *size != 0,
+        Definition::Sequence { length_width, .. } => *length_width != 0,
+        Definition::Enum { tag_width, .. } => *tag_width != 0,
+        Definition::Tuple { .. } | Definition::Struct { .. } => false,
+    }
+}
+
+// Whether the name is of zero size. A name on the way down is marked `false`: met again, it is not of zero size,
+// and neither is any name above it; `true` is its mark once all its parts are of zero size.
+pub fn is_zero<'a>(
+    alloc: Global,
+    name: &'a str,
+    table: &mut BTreeMap<&'a str, bool>,
+    counted: &mut Counted<'a, '_>,
+) -> Result<bool, AllocError>
+    requires { ZeroTable (definitions_of counted.old) table.old }
+    ensures same { LooksOn counted.old counted.new }
+    ensures answer { IfOk result (λ b. Decides b (Zero (definitions_of counted.old) name.now)) }
+    ensures table { OnOk result (ZeroTable (definitions_of counted.old) table.new) }
+    ensures marked { OnOk result (ZeroMarked (definitions_of counted.old) name.now table.old table.new) }
+    ensures counts { ZeroCounted counted.old counted.new table.old table.new result }
+{
+    if let Some(zero) = table.get(name) {
+        return Ok(*zero);
+    }
+    let Some(definition) = counted.look(Question::Zero, name) else {
+        return Ok(false);
+    };
+    table.insert(name, false)?;
+    let mut way: Vec<Spot<'a>> = Vec::new(alloc);
+    let mut spot = Spot {
+        name,
+        definition,
+        next: 0,
+    };
+    loop {
+        if never_zero(spot.definition) {
+            return Ok(false);
+        }
+        match asked_part(spot.definition, spot.next) {
+            Some(part) => match table.get(part) {
+                Some(true) => spot.next += 1,
+                Some(false) => return Ok(false),
+                None => {
+                    let Some(definition) = counted.look(Question::Zero, part) else {
+                        return Ok(false);
+                    };
+                    table.insert(part, false)?;
+                    way.push(spot)?;
+                    spot = Spot {
+                        name: part,
+                        definition,
+                        next: 0,
+                    };
+                }
+            },
+            None => {
+                table.insert(spot.name, true)?;
+                match way.pop() {
+                    Some(above) => spot = above,
+                    None => return Ok(true),
+                }
+            }
+        }
+    }
+}

@@ -1,0 +1,4 @@
+pub mod Made
+pub mod Room
+pub mod Rows
+pub mod Calls
