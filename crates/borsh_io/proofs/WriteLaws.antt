@@ -1,11 +1,11 @@
 -- How writes follow one another.
-use Rattle.std.proofs.Common.{Result, Ok, Err, IfErr, IsOk, Bool, true, false, length-drop, ◌≡◌, ℕ, ◌+◌, ◌-◌, ◌^◌, ◌<◌, ◌≤◌, ◌⊎◌, inl, inr, IsTrue, List, [], ◌++◌, length, take, drop, refl, sym, ap, ◌∙◌, subst, arith, le_refl, append_assoc, append-nil, length-append, take-append-drop}
+use Rattle.std.proofs.Common.{Result, Ok, Err, IfErr, IsOk, true, false, length-drop, ◌≡◌, ℕ, ◌+◌, ◌-◌, ◌<◌, ◌≤◌, inl, inr, IsTrue, List, [], ◌++◌, length, take, drop, refl, sym, ap, ◌∙◌, subst, arith, le_refl, append_assoc, append-nil, length-append, take-append-drop}
 use Rattle.std.proofs.lemmas.List.{take_rest}
 use Rattle.std.proofs.lemmas.Bool.{eqb-true}
 use Rattle.borsh_io.specs.declared.error.ErrorKind.{ErrorKind}
-use Rattle.borsh_io.specs.declared.error.ErrorKind.TheVariants.{WriteZero, OutOfMemory}
+use Rattle.borsh_io.specs.declared.error.ErrorKind.TheVariants.{WriteZero}
 use Rattle.borsh_io.specs.Stream.{Rose}
-use Rattle.borsh_io.specs.Sink.{Sink, Writing, WritingLaws, Writes, WriterInterrupted, WriterFailed, WriterGaveUp, WriteFault, WriteRefused, overwriting}
+use Rattle.borsh_io.specs.Sink.{Writing, WritingLaws, Writes, WriterInterrupted, WriterFailed, WriterGaveUp, WriteFault, WriteRefused, overwriting}
 use Rattle.borsh_io.specs.declared.error.Error.{Error}
 use Rattle.borsh_io.specs.Errors.{error_kind}
 

@@ -1,7 +1,7 @@
 -- The bytes that `to_le_bytes` and `from_le_bytes` speak of are those of a number's encoding, at any width.
 use Rattle.std.proofs.Common.{◌≡◌, ℕ, zero, suc, ◌+◌, ◌*◌, ◌/◌, ◌%◌, ◌^◌, ◌<◌, ◌≤◌, List, [], ◌∷◌, length, get_or, Some, ℤ, negsuc, ◌-◌, to_z, of_z, SFits, ⊎_elim, refl, sym, ◌∙◌, ap, arith, pow-suc}
 use mir.Val.{bits, hbits}
-use Rattle.std.specs.Int.{Width, bytes_low_first, byte_at, byte_worth, sum_through}
+use Rattle.std.specs.Int.{Width, bytes_low_first, byte_worth, sum_through}
 use Rattle.std.proofs.lemmas.Int.{to_z_pos, to_z-of_z}
 use Rattle.std.proofs.lemmas.Bool.{cases_lt}
 use Rattle.std.proofs.Math.Facts.{to_z-neg}

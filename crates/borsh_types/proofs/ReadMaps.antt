@@ -1,5 +1,5 @@
 -- Maps and sets that are read: the whole list of entries first, then the order of the keys, then the map.
-use Rattle.std.proofs.Common.{◌≡◌, ℕ, Bool, true, false, cond, ◌||◌, List, [], ◌∷◌, ◌++◌, length, Option, Some, None, refl, sym, ◌∙◌, ap, subst}
+use Rattle.std.proofs.Common.{◌≡◌, ℕ, Bool, true, false, cond, ◌||◌, List, [], ◌∷◌, ◌++◌, Some, None, refl, sym, ◌∙◌, ap, subst}
 use Rattle.std.specs.Prelude.{if◌then◌else◌}
 use Rattle.std.specs.Bool.{⊤}
 use Rattle.std.specs.declared.cmp.Ordering.{Ordering}
@@ -8,7 +8,7 @@ use Rattle.std.specs.Cmp.{IsTotalOrder, IsEquivalence, eq_by_cmp_equiv}
 use Rattle.std.specs.BTreeMap.{is_at}
 use Rattle.std.specs.Map.{keys_of, lookup, update_all}
 use Rattle.std.specs.Set.{is_member}
-use Rattle.std.specs.List.{AllZip, list_any}
+use Rattle.std.specs.List.{list_any}
 use Rattle.std.specs.List.Sorted.{IsStrictlySortedBy}
 use Rattle.std.proofs.lemmas.Map.Made.{update_all_pairs}
 use Rattle.std.proofs.lemmas.List.{length-map}
@@ -17,8 +17,8 @@ use Rattle.indexmap.specs.IndexSet as index_set
 use Rattle.borsh_io.specs.declared.error.ErrorKind.{ErrorKind}
 use Rattle.borsh_io.specs.Stream.{Stream}
 use Rattle.borsh_types.specs.Codec.{Codec, HasReading, Lawful}
-use Rattle.borsh_types.specs.Shapes.{number_encoding, along, IsAllowed, refusing, InOrder, counted}
-use Rattle.borsh_types.specs.Maps.{LastValues, IsOutOfOrder, EntriesReading, entries, MapReading, sorted, OrderedReading, ordered, InsertedReading, gathered, inserted, bare_entries, alone}
+use Rattle.borsh_types.specs.Shapes.{number_encoding, refusing, InOrder, counted}
+use Rattle.borsh_types.specs.Maps.{LastValues, IsOutOfOrder, entries, sorted, ordered, gathered, inserted, bare_entries, alone}
 use Rattle.borsh_types.specs.Reading.{NoFront, IsRefusal, Reads, Denied}
 use Rattle.borsh_types.specs.Laws.Rows.{counted_fronts}
 use Rattle.borsh_types.specs.Laws.Maps.Sorted.{IsKeyed}

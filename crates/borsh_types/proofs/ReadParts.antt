@@ -1,10 +1,10 @@
 -- Values that are read part by part: views, pairs, tags, refused values.
-use Rattle.std.proofs.Common.{◌≡◌, ◌≢◌, ℕ, Bool, true, false, ◌||◌, List, [], ◌∷◌, ◌++◌, length, Option, Some, None, ◌⊎◌, refl, sym, ◌∙◌, ap, subst, inl, inr, append-nil, append_assoc, true≢false}
+use Rattle.std.proofs.Common.{◌≡◌, ℕ, Bool, true, false, List, [], ◌∷◌, ◌++◌, length, Option, Some, ◌⊎◌, refl, sym, ◌∙◌, ap, subst, inl, inr, append_assoc, true≢false}
 use Rattle.std.specs.Bool.{⊤}
 use Rattle.borsh_io.specs.declared.error.ErrorKind.{ErrorKind}
 use Rattle.borsh_io.specs.Stream.{Stream}
 use Rattle.borsh_types.specs.Codec.{Codec, HasReading, Lawful}
-use Rattle.borsh_types.specs.Shapes.{along, exact, unit, IsAllowed, refusing, passing, stored, InTwo, pair, nothing, variant}
+use Rattle.borsh_types.specs.Shapes.{along, exact, unit, refusing, passing, stored, pair, nothing, variant}
 use Rattle.borsh_types.specs.Laws.Lists.{same_front, free_readings, or_left, or_right}
 use Rattle.borsh_types.specs.Laws.Exact.{Respects}
 use Rattle.borsh_types.specs.Laws.Variants.{Avoids}

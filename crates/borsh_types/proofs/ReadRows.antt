@@ -1,12 +1,9 @@
 -- Elements that are read one after another, and behind a count.
-use Rattle.std.proofs.Common.{◌≡◌, ℕ, ◌+◌, ◌<◌, Bool, true, false, List, [], ◌∷◌, ◌++◌, length, Option, Some, None, refl, sym, ◌∙◌, ap, subst, append-nil, append_assoc, arith}
-use Rattle.std.specs.Bool.{⊤}
-use Rattle.std.specs.List.{AllZip}
+use Rattle.std.proofs.Common.{◌≡◌, ℕ, ◌<◌, Bool, true, List, [], ◌∷◌, ◌++◌, length, Some, refl, sym, ◌∙◌, ap, subst, append-nil, append_assoc, arith}
 use Rattle.borsh_io.specs.declared.error.ErrorKind.{ErrorKind}
-use Rattle.borsh_io.specs.declared.error.ErrorKind.TheVariants.{OutOfMemory}
 use Rattle.borsh_io.specs.Stream.{Stream}
 use Rattle.borsh_types.specs.Codec.{Codec, HasReading, Lawful}
-use Rattle.borsh_types.specs.Shapes.{number_encoding, number, InTwo, InOrder, IsRow, row, listed, counted}
+use Rattle.borsh_types.specs.Shapes.{number_encoding, number, InOrder, row, listed, counted}
 use Rattle.borsh_types.specs.Laws.Lists.{same_front, free_readings}
 use Rattle.borsh_types.specs.Laws.Numbers.{number-lawful, number_apart}
 use Rattle.borsh_types.specs.Reading.{Took, NoFront, Refused, Reads, Denied}

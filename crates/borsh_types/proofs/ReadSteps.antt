@@ -2,13 +2,13 @@
 use Rattle.std.proofs.Common.{◌≡◌, ◌≢◌, ℕ, ◌+◌, ◌<◌, ◌≤◌, Bool, true, false, List, [], ◌∷◌, ◌++◌, length, Option, Some, None, IfSome, ◌⊎◌, refl, sym, ◌∙◌, ap, subst, inl, inr, append-nil, append_assoc, arith, le_refl}
 use Rattle.std.specs.Bool.{⊤}
 use Rattle.std.specs.Io.KnownBytes.{Consumes}
-use Rattle.std.proofs.KnownBytes.{Consumes-nil, Consumes-trans}
+use Rattle.std.proofs.KnownBytes.{Consumes-trans}
 use Rattle.borsh_io.specs.declared.error.ErrorKind.{ErrorKind}
 use Rattle.borsh_io.specs.declared.error.ErrorKind.TheVariants.{InvalidData, OutOfMemory, Interrupted, UnexpectedEof}
-use Rattle.borsh_io.specs.Stream.{Stream, Rose, Takes, LeavesTail, IsShort, ExactRefused}
+use Rattle.borsh_io.specs.Stream.{Stream, LeavesTail, ExactRefused}
 use Rattle.borsh_io.proofs.ReadLaws.{Takes-none, Takes-trans}
 use Rattle.borsh_io.proofs.WriteLaws.{Rose-after}
-use Rattle.borsh_types.specs.Codec.{Codec, HasReading, Lawful}
+use Rattle.borsh_types.specs.Codec.{Codec, HasReading}
 use Rattle.borsh_types.specs.Shapes.{InTwo}
 use Rattle.borsh_types.specs.Laws.Lists.{some_same}
 use Rattle.borsh_types.specs.Reading.{Took, NoFront, IsRefusal, WhyRefused, Refused, Reads, Denied}

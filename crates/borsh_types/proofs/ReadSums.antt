@@ -1,9 +1,9 @@
 -- Values of two variants that are read.
-use Rattle.std.proofs.Common.{◌≡◌, ℕ, List, [], ◌∷◌, ◌⊎◌, refl, subst, inl, inr, arith}
+use Rattle.std.proofs.Common.{◌≡◌, ℕ, [], ◌∷◌, ◌⊎◌, refl, subst, inl, inr, arith}
 use Rattle.borsh_io.specs.declared.error.ErrorKind.{ErrorKind}
 use Rattle.borsh_io.specs.Stream.{Stream}
 use Rattle.borsh_types.specs.Codec.{Codec, Lawful}
-use Rattle.borsh_types.specs.Shapes.{unit, nothing, variant}
+use Rattle.borsh_types.specs.Shapes.{nothing, variant}
 use Rattle.borsh_types.specs.Types.Sums.{two, two-lawful}
 use Rattle.borsh_types.specs.Laws.Variants.{nothing_avoids, variant_avoids}
 use Rattle.borsh_types.specs.Reading.{Took, IsRefusal, Reads, Denied}

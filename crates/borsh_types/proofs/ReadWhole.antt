@@ -2,14 +2,14 @@
 use Rattle.std.proofs.Common.{◌≡◌, ◌≢◌, ℕ, ◌+◌, ◌<◌, Bool, true, false, List, [], ◌∷◌, ◌++◌, length, Option, Some, None, IfSome, OnSome, Result, Ok, Err, IfOk, IfErr, MatchResult, ◌⊎◌, refl, sym, ◌∙◌, ap, subst, inl, inr, append-nil, arith, eqb, eqb-true, eq-eqb, true≢false}
 use Rattle.std.specs.Io.KnownBytes.{Consumes, IsAtEnd}
 use Rattle.borsh_io.specs.declared.error.ErrorKind.{ErrorKind}
-use Rattle.borsh_io.specs.declared.error.ErrorKind.TheVariants.{InvalidData, OutOfMemory, Interrupted, UnexpectedEof}
+use Rattle.borsh_io.specs.declared.error.ErrorKind.TheVariants.{InvalidData, OutOfMemory}
 use Rattle.borsh_io.specs.declared.error.Error.{Error}
 use Rattle.borsh_io.specs.Errors.{error_kind}
 use Rattle.borsh_io.specs.Stream.{Stream, Rose, Takes, LeavesTail, ExactRefused, memory_stream}
 use Rattle.borsh_io.proofs.WriteLaws.{Rose-after}
 use Rattle.borsh_types.specs.Codec.{Codec, HasReading, Lawful}
 use Rattle.borsh_types.specs.Laws.Lists.{nil_of_length, nil_parts}
-use Rattle.borsh_types.specs.Reading.{Took, NoFront, IsRefusal, WhyRefused, Refused, Reads, Denied, WhyNotWhole, ReadsWhole, ReadsFront, ReadsAll, IsWhole, DeniedAll}
+use Rattle.borsh_types.specs.Reading.{NoFront, WhyRefused, Reads, Denied, WhyNotWhole, ReadsAll, IsWhole, DeniedAll}
 use Rattle.borsh_types.specs.Reading.WhyRefused.{no_reading, no_memory, reader_failed}
 use Rattle.borsh_types.specs.Reading.WhyNotWhole.{no_reading as not_reading, no_memory as not_memory}
 use Rattle.borsh_types.proofs.ReadSteps.{told_after, tail_after, refused_map}

@@ -1,5 +1,5 @@
 -- Elements that are written one after another.
-use Rattle.std.proofs.Common.{◌≡◌, ℕ, ◌+◌, ◌<◌, ◌≤◌, List, [], ◌∷◌, ◌++◌, length, get_or, drop, drop-cons, add-one, suc, Option, Some, None, refl, sym, ◌∙◌, ap, inl, arith}
+use Rattle.std.proofs.Common.{◌≡◌, ℕ, ◌+◌, ◌<◌, ◌≤◌, List, [], ◌∷◌, ◌++◌, length, get_or, drop, drop-cons, add-one, suc, Option, None, sym, ◌∙◌, ap, inl}
 use Rattle.borsh_types.specs.Codec.{Codec}
 use Rattle.borsh_types.specs.Shapes.{number_encoding, joined, all_joined, counted}
 use Rattle.borsh_types.specs.Laws.Lists.{joined_none, joined_nil, joined_assoc}

@@ -1,12 +1,11 @@
 -- Writes that follow one another, and refusals behind them.
-use Rattle.std.proofs.Common.{◌≡◌, ◌≢◌, ℕ, ◌+◌, ◌<◌, ◌≤◌, Bool, true, false, ◌||◌, IsTrue, List, [], ◌∷◌, ◌++◌, length, Option, Some, None, ◌⊎◌, refl, sym, ◌∙◌, ap, subst, inl, inr, append-nil, append_assoc, arith, le_refl, length-append}
+use Rattle.std.proofs.Common.{◌≡◌, ◌≢◌, ℕ, ◌<◌, Bool, true, List, [], ◌++◌, length, Option, Some, None, refl, sym, ◌∙◌, ap, subst, inl, inr, append_assoc, arith, le_refl, length-append}
 use Rattle.borsh_io.specs.declared.error.ErrorKind.{ErrorKind}
-use Rattle.borsh_io.specs.declared.error.ErrorKind.TheVariants.{InvalidData, OutOfMemory, WriteZero, Interrupted}
-use Rattle.borsh_io.specs.Stream.{Rose}
-use Rattle.borsh_io.specs.Sink.{Writing, WritingLaws, Writes, WriteRefused, WriterStopped, WriteFault}
+use Rattle.borsh_io.specs.declared.error.ErrorKind.TheVariants.{InvalidData, OutOfMemory, Interrupted}
+use Rattle.borsh_io.specs.Sink.{Writing, WritingLaws, Writes, WriteRefused, WriterStopped}
 use Rattle.borsh_io.proofs.WriteLaws.{Rose-after, Writes-none, Writes-trans}
 use Rattle.borsh_types.specs.Shapes.{joined}
-use Rattle.borsh_types.specs.Laws.Lists.{some_same, Joined, joined_some, joined_is, joined_none, joined_assoc, joined_nil, or_left, or_right, or_map}
+use Rattle.borsh_types.specs.Laws.Lists.{some_same, joined_some, joined_is, joined_none, joined_assoc, joined_nil, or_left, or_right, or_map}
 use Rattle.borsh_types.specs.Writing.{WritesAll, WhyUnwritten, WriteDenied}
 use Rattle.borsh_types.specs.Writing.WhyUnwritten.{no_encoding, no_memory, full, writer_failed}
 

@@ -7,3 +7,4 @@ pub mod Variants
 pub mod Rows
 pub mod Maps
 pub mod Keys
+pub mod AddressKeys

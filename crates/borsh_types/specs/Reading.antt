@@ -1,9 +1,9 @@
 -- What a call that reads takes from its reader, and why it is refused.
-use Rattle.std.specs.Prelude.{◌≡◌, ◌≢◌, ℕ, Bool, true, List, [], ◌∷◌, ◌++◌, length, Option, Some, IfSome, OnSome, ◌⊎◌}
+use Rattle.std.specs.Prelude.{◌≡◌, ◌≢◌, ℕ, Bool, true, List, ◌∷◌, ◌++◌, Some, IfSome, OnSome, ◌⊎◌}
 use Rattle.std.specs.Io.KnownBytes.{IsAtEnd}
 use Rattle.borsh_io.specs.declared.error.ErrorKind.{ErrorKind}
 use Rattle.borsh_io.specs.declared.error.ErrorKind.TheVariants.{InvalidData, OutOfMemory, Interrupted}
-use Rattle.borsh_io.specs.Stream.{Stream, Rose, Takes, LeavesTail, memory_stream}
+use Rattle.borsh_io.specs.Stream.{Stream, Rose, Takes, LeavesTail}
 use Rattle.borsh_types.specs.Codec.{Codec, HasReading}
 
 -- a front with P was taken, and no fault came

@@ -1,8 +1,8 @@
 -- How the meaning of a type comes from those of its parts.
-use Rattle.std.specs.Prelude.{◌≡◌, ℕ, zero, suc, ℤ, pos, negsuc, ◌-◌, ◌+◌, ◌*◌, ◌/◌, ◌%◌, ◌^◌, Bool, true, false, ◌&&◌, ◌||◌, List, [], ◌∷◌, ◌++◌, length, Option, Some, None, nat_lt, nat_eq, cond, ◌⊎◌, ⊤}
+use Rattle.std.specs.Prelude.{◌≡◌, ℕ, zero, suc, ℤ, pos, negsuc, ◌-◌, ◌/◌, ◌%◌, ◌^◌, Bool, true, false, ◌&&◌, ◌||◌, List, [], ◌∷◌, ◌++◌, length, Option, Some, None, nat_lt, nat_eq, cond, ◌⊎◌, ⊤}
 use Rattle.std.specs.List.{AllZip}
 use mathlib.Core.Logic.{inl, inr}
-use Rattle.borsh_types.specs.Codec.{Codec, HasReading}
+use Rattle.borsh_types.specs.Codec.{Codec}
 
 -- ---- a value seen as another one
 

@@ -1,24 +1,31 @@
 // Keys of maps and elements of sets: types whose `==` says whether two values are the same.
 ghost use Rattle.borsh_types.specs.Laws.Keys.{all_key, and_key, bare_key, bool_key, key_as, number_key, option_key, pair_key, result_key, signed_key, text_key, unit_key};
+ghost use Rattle.borsh_types.specs.Laws.AddressKeys.{ip_key, octets_key, segments_key};
 ghost use Rattle.borsh_types.specs.Maps.{KeyLaw};
 ghost use Rattle.borsh_types.specs.Shapes.{pair};
+ghost use Rattle.std.proofs.Common.{refl};
 ghost use Rattle.std.specs.Box.{boxed_slice_items, boxed_str_bytes};
 ghost use Rattle.std.specs.Cow.{cow_slice_items, cow_str_bytes};
 ghost use Rattle.std.specs.Int.NonZero.{non_zero_u8_get, non_zero_u16_get, non_zero_u32_get, non_zero_u64_get, non_zero_u128_get, non_zero_usize_get, non_zero_i8_get, non_zero_i16_get, non_zero_i32_get, non_zero_i64_get, non_zero_i128_get};
+ghost use Rattle.std.specs.Net.Addr.{ipv4_octets, ipv6_segments};
+ghost use Rattle.std.specs.Net.Socket.{v4_ip, v4_port};
 ghost use Rattle.std.specs.Rc.{rc_slice_items, rc_str_bytes};
 ghost use Rattle.std.specs.String.{string_bytes};
 
 use super::types::BorshType;
+use bytes::{Bytes, BytesMut};
 use std::borrow::{CowSlice, CowStr};
 use std::boxed::{BoxedSlice, BoxedStr};
 use std::collections::{BTreeMap, BTreeSet, LinkedList, VecDeque};
 use std::marker::PhantomData;
+use std::net::{IpAddr, Ipv4Addr, Ipv6Addr, SocketAddrV4};
 use std::num::{
     NonZeroI8, NonZeroI16, NonZeroI32, NonZeroI64, NonZeroI128, NonZeroU8, NonZeroU16, NonZeroU32,
     NonZeroU64, NonZeroU128, NonZeroUsize,
 };
-use std::ops::{Range, RangeFrom, RangeTo, RangeToInclusive};
+use std::ops::{Range, RangeFrom, RangeFull, RangeTo, RangeToInclusive};
 use std::rc::{Rc, RcSlice, RcStr};
+use uuid::Uuid;
 
 /// A type whose values can be keys of a map or elements of a set.
 ///
@@ -338,4 +345,36 @@ impl<K: BorshKey + Ord, V: BorshKey> BorshKey for BTreeMap<K, V> {
 
 impl<K: BorshKey + Ord> BorshKey for BTreeSet<K> {
     ghost key = { λ s t. bare_key K.codec K.key s.keys t.keys };
+}
+
+impl BorshKey for RangeFull {
+    ghost key = { λ a b. (λ e. refl, λ h. refl) };
+}
+
+impl BorshKey for Ipv4Addr {
+    ghost key = { λ a b. octets_key (ipv4_octets a) (ipv4_octets b) };
+}
+
+impl BorshKey for Ipv6Addr {
+    ghost key = { λ a b. segments_key (ipv6_segments a) (ipv6_segments b) };
+}
+
+impl BorshKey for Bytes {
+    ghost key = { octets_key };
+}
+
+impl BorshKey for BytesMut {
+    ghost key = { λ a b. octets_key a.items b.items };
+}
+
+impl BorshKey for Uuid {
+    ghost key = { octets_key };
+}
+
+impl BorshKey for IpAddr {
+    ghost key = { ip_key ⟦<IpAddr as PartialEq>⟧.eq (λ a b. refl) (λ a b. refl) (λ a b. (refl, refl)) };
+}
+
+impl BorshKey for SocketAddrV4 {
+    ghost key = { λ a b. and_key (octets_key (ipv4_octets (v4_ip a)) (ipv4_octets (v4_ip b))) (number_key 2 (v4_port a) (v4_port b)) };
 }

@@ -1,8 +1,8 @@
 -- The laws of a value seen as another one, of an encoding that is the only reading, and of refused values.
-use Rattle.std.proofs.Common.{◌≡◌, ℕ, zero, suc, Bool, true, false, cond, List, [], ◌∷◌, ◌++◌, length, Option, Some, None, refl, sym, ◌∙◌, ap, arith, true≢false, length-append}
+use Rattle.std.proofs.Common.{◌≡◌, ℕ, zero, suc, Bool, true, false, cond, List, [], ◌++◌, length, Option, Some, None, refl, sym, ◌∙◌, ap, arith, true≢false, length-append}
 use Rattle.std.specs.Bool.{⊤}
 use Rattle.borsh_types.specs.Codec.{Codec, Lawful}
-use Rattle.borsh_types.specs.Shapes.{is_zero, along, exact, unit, nothing, IsAllowed, refusing, passing, stored}
+use Rattle.borsh_types.specs.Shapes.{is_zero, along, exact, unit, nothing, refusing, passing, stored}
 use Rattle.borsh_types.specs.Laws.Lists.{nil_of_length}
 
 pub along-lawful : {A B : Type 0} (view : B → A) {c : Codec A} → Lawful A c → Lawful B (along view c)

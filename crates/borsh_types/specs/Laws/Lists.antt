@@ -1,5 +1,5 @@
 -- Lists of bytes, and how they are cut.
-use Rattle.std.proofs.Common.{◌≡◌, ℕ, ◌+◌, Bool, true, false, ◌&&◌, ◌||◌, List, [], ◌∷◌, ◌++◌, length, Option, Some, None, ◌⊎◌, refl, sym, ◌∙◌, ap, subst, inl, inr, append-nil, append_assoc, arith, true≢false}
+use Rattle.std.proofs.Common.{◌≡◌, ℕ, Bool, true, false, ◌&&◌, ◌||◌, List, [], ◌∷◌, ◌++◌, length, Option, Some, None, ◌⊎◌, refl, sym, ◌∙◌, ap, subst, inl, inr, append-nil, append_assoc, arith, true≢false}
 use Rattle.borsh_types.specs.Codec.{Codec, HasReading, Lawful}
 use Rattle.borsh_types.specs.Shapes.{joined}
 

@@ -1,5 +1,5 @@
 -- The laws of numbers of n bytes.
-use Rattle.std.proofs.Common.{◌≡◌, ℕ, zero, suc, ℤ, pos, negsuc, ◌+◌, ◌-◌, ◌*◌, ◌/◌, ◌%◌, ◌^◌, ◌<◌, ◌≤◌, cond, nat_lt, List, [], ◌∷◌, length, Option, Some, None, refl, sym, ◌∙◌, ap, arith, ltb-true, le-ltb, lt-ltb, pow-suc}
+use Rattle.std.proofs.Common.{◌≡◌, ℕ, zero, suc, ℤ, pos, negsuc, ◌-◌, ◌*◌, ◌/◌, ◌%◌, ◌^◌, ◌<◌, ◌≤◌, cond, nat_lt, List, length, Some, None, refl, sym, ◌∙◌, ap, arith, ltb-true, le-ltb, lt-ltb, pow-suc}
 use Rattle.std.proofs.lemmas.Option.{cond_some}
 use Rattle.borsh_types.specs.Codec.{Lawful}
 use Rattle.borsh_types.specs.Shapes.{little, number_encoding, number, half, signed_encoding, signed}

@@ -1,9 +1,9 @@
 -- The laws of elements in a row, and behind a count.
-use Rattle.std.proofs.Common.{◌≡◌, ℕ, zero, suc, ◌+◌, Bool, true, false, cond, ◌||◌, nat_eq, List, [], ◌∷◌, ◌++◌, length, Option, Some, None, ◌⊎◌, refl, sym, ◌∙◌, ap, subst, inl, inr, append-nil, append_assoc, length-append, ◌≤◌, arith, true≢false, eqb-true, eq-eqb}
+use Rattle.std.proofs.Common.{◌≡◌, ℕ, suc, ◌+◌, Bool, true, false, cond, nat_eq, List, [], ◌∷◌, ◌++◌, length, Option, Some, None, ◌⊎◌, refl, sym, ◌∙◌, ap, subst, inl, inr, append-nil, append_assoc, length-append, ◌≤◌, arith, true≢false, eqb-true, eq-eqb}
 use Rattle.std.specs.List.{AllZip}
 use Rattle.borsh_types.specs.Codec.{Codec, HasReading, Lawful}
-use Rattle.borsh_types.specs.Shapes.{is_zero, number_encoding, number, joined, InTwo, all_joined, InOrder, IsRow, row, listed, counted, elements}
-use Rattle.borsh_types.specs.Laws.Lists.{same_front, free_readings, nil_parts, or_true, or_false, Joined, joined_some, joined_is}
+use Rattle.borsh_types.specs.Shapes.{is_zero, number_encoding, number, joined, all_joined, InOrder, IsRow, row, listed, counted, elements}
+use Rattle.borsh_types.specs.Laws.Lists.{same_front, free_readings, nil_parts, or_true, or_false, joined_some, joined_is}
 use Rattle.borsh_types.specs.Laws.Exact.{zero_of, positive_of, refusing-lawful}
 use Rattle.borsh_types.specs.Laws.Numbers.{number-lawful, number_apart, length-number}
 

@@ -1,7 +1,7 @@
 -- The laws of a tag and a part.
-use Rattle.std.proofs.Common.{◌≡◌, ℕ, Bool, true, false, ◌&&◌, List, [], ◌∷◌, ◌++◌, Option, Some, None, ◌⊎◌, refl, sym, ◌∙◌, ap, subst, inl, inr, append-nil, arith, true≢false}
+use Rattle.std.proofs.Common.{◌≡◌, ℕ, Bool, true, false, ◌&&◌, List, [], ◌∷◌, ◌++◌, Option, Some, None, ◌⊎◌, refl, sym, ◌∙◌, ap, subst, inl, inr, append-nil, true≢false}
 use Rattle.borsh_types.specs.Codec.{Codec, Lawful}
-use Rattle.borsh_types.specs.Shapes.{nothing, behind, IsTagged, variant}
+use Rattle.borsh_types.specs.Shapes.{nothing, behind, variant}
 use Rattle.borsh_types.specs.Laws.Lists.{and_true}
 
 -- no reading begins with the tag

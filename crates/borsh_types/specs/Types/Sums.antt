@@ -1,11 +1,10 @@
 -- Values that are one of two kinds.
-use Rattle.std.specs.Prelude.{◌≡◌, ℕ, Bool, true, false, Option, Some, None, Result, Ok, Err, ◌⊎◌, ⊤}
+use Rattle.std.specs.Prelude.{Bool, true, false, Option, Some, None, Result, Ok, Err, ◌⊎◌, ⊤}
 use mathlib.Core.Logic.{inl, inr}
 use Rattle.std.proofs.Common.{arith, refl}
 use Rattle.borsh_types.specs.Codec.{Codec, Lawful}
-use Rattle.borsh_types.specs.Shapes.{along, number, unit, nothing, variant}
+use Rattle.borsh_types.specs.Shapes.{along, unit, nothing, variant}
 use Rattle.borsh_types.specs.Laws.Exact.{along-lawful, unit-lawful, nothing-lawful}
-use Rattle.borsh_types.specs.Laws.Numbers.{number-lawful}
 use Rattle.borsh_types.specs.Laws.Variants.{variant-lawful, variant_avoids, nothing_avoids}
 
 -- two variants that follow each other, tagged 0 and 1

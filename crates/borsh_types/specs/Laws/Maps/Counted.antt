@@ -1,5 +1,5 @@
 -- What the laws of entries say of counted lists of them.
-use Rattle.std.proofs.Common.{◌≡◌, ℕ, ◌+◌, ◌<◌, ◌≤◌, ◌^◌, Bool, true, false, List, [], ◌∷◌, ◌++◌, length, Option, Some, None, refl, sym, ◌∙◌, ap, append-nil, arith}
+use Rattle.std.proofs.Common.{◌≡◌, ℕ, ◌<◌, ◌^◌, Bool, true, List, [], ◌∷◌, ◌++◌, length, Some, refl, sym, append-nil}
 use Rattle.std.specs.List.{AllByRecursion, AllZip}
 use Rattle.borsh_types.specs.Codec.{Codec, Lawful}
 use Rattle.borsh_types.specs.Shapes.{number_encoding, little, all_joined, InOrder, counted}

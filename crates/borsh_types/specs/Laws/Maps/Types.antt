@@ -1,5 +1,5 @@
 -- The laws of maps and sets over those of keys and values.
-use Rattle.std.proofs.Common.{◌≡◌, ℕ, Bool, true, false, List, [], ◌∷◌, refl, sym, ◌∙◌}
+use Rattle.std.proofs.Common.{◌≡◌, Bool, List, refl, sym, ◌∙◌}
 use Rattle.std.specs.Bool.{Decides, ⊤}
 use Rattle.std.specs.declared.cmp.Ordering.{Ordering}
 use Rattle.std.specs.declared.cmp.Ordering.TheVariants.{Less, Equal, Greater}
@@ -12,7 +12,7 @@ use Rattle.borsh_types.specs.Laws.Exact.{along-lawful, refusing-lawful}
 use Rattle.borsh_types.specs.Laws.Pairs.{pair-lawful}
 use Rattle.borsh_types.specs.Laws.Maps.Sorted.{IsKeyed, sorted-lawful}
 use Rattle.borsh_types.specs.Laws.Maps.Ordered.{ordered-lawful}
-use Rattle.borsh_types.specs.Laws.Maps.Inserted.{IsKeyedBy, inserted-lawful}
+use Rattle.borsh_types.specs.Laws.Maps.Inserted.{inserted-lawful}
 
 -- `==` answers by the order
 abbrev pub MatchesEq : {K : Type 0} → (K → K → Bool) → (K → K → Ordering) → Type 0

@@ -1,4 +1,4 @@
-use Rattle.std.proofs.Common.{rules, ◌++◌, take, subst, sym}
+use Rattle.std.proofs.Common.{rules, subst, sym}
 use Rattle.borsh_io.specs.Stream.{Takes}
 use Rattle.borsh_io.proofs.ReadLaws.{Takes-trans, take-filled}
 use Rattle.borsh_io.proofs.read.Read.read_exact.Goals as goal
