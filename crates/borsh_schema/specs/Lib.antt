@@ -2,6 +2,7 @@ pub mod Described
 pub mod Joined
 pub mod Names
 pub mod Types
+pub mod Codecs
 pub mod Language
 pub mod Laws
 pub mod Containers

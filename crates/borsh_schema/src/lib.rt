@@ -2,6 +2,7 @@
 #![tactic(auto)]
 
 pub mod arrays;
+mod codec;
 pub mod container;
 pub mod definitions;
 pub mod lists;
@@ -21,5 +22,5 @@ pub mod units;
 
 pub use container::{BorshSchemaContainer, Definitions};
 pub use definitions::{SchemaBuildError, add_definition};
-pub use parts::{SchemaParts, add_with_parts, declared, field, variant};
+pub use parts::{Both, SchemaParts, add_with_parts, declared, field, named_variant, variant};
 pub use schema::BorshSchema;

@@ -1,0 +1,44 @@
+// Containers as bytes: the root's name, and then the definitions by ascending name.
+ghost use Rattle.borsh_schema.specs.Codecs.{container, container-lawful};
+
+use super::container::BorshSchemaContainer;
+use borsh_de::BorshDeserialize;
+use borsh_io::{Read, Result, Write};
+use borsh_ser::{BorshSerialize, write_two};
+use borsh_types::BorshType;
+use borsh_walks::{Declaration, Definition};
+use std::alloc::Global;
+use std::collections::BTreeMap;
+
+impl BorshType for BorshSchemaContainer {
+    ghost codec = { container };
+
+    ghost lawful = { container-lawful };
+
+    fn encodes_empty() -> bool {
+        false
+    }
+
+    fn element_size() -> usize {
+        size_of::<BorshSchemaContainer>()
+    }
+}
+
+impl BorshSerialize for BorshSchemaContainer {
+    fn serialize<W: Write>(&self, alloc: Global, writer: &mut W) -> Result<()> {
+        write_two(&self.declaration, &self.definitions, alloc, writer)
+    }
+}
+
+impl BorshDeserialize for BorshSchemaContainer {
+    fn deserialize_reader<R: Read>(alloc: Global, reader: &mut R) -> Result<BorshSchemaContainer> {
+        let (declaration, definitions) = <(
+            Declaration,
+            BTreeMap<Declaration, Definition>,
+        )>::deserialize_reader(alloc, reader)?;
+        Ok(BorshSchemaContainer {
+            declaration,
+            definitions,
+        })
+    }
+}
