@@ -1,4 +1,5 @@
 mod Lengths
+mod WithSchema
 -- the steps of readers and writers, for those above
 pub use Rattle.borsh_io.proofs.ReadLaws
 pub use Rattle.borsh_io.proofs.WriteLaws

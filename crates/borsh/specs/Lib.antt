@@ -1,5 +1,7 @@
 pub mod Counting
 pub mod Length
+pub mod Schema
+pub mod WithSchema
 -- what the crates below say, for those above
 pub use Rattle.borsh_io.specs.Errors
 pub use Rattle.borsh_io.specs.Stream

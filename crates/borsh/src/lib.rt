@@ -9,10 +9,16 @@ pub mod de;
 pub mod error;
 pub mod io;
 mod length;
+pub mod schema;
+pub mod schema_helpers;
 pub mod ser;
 
 pub use borsh_de::{BorshDeserialize, EnumExt};
+pub use borsh_schema::BorshSchema;
 pub use borsh_ser::BorshSerialize;
 pub use borsh_types::{BorshKey, BorshType};
 pub use de::{from_reader, from_slice, from_slice_unordered};
+pub use schema_helpers::{
+    max_serialized_size, schema_container_of, try_from_slice_with_schema, try_to_vec_with_schema,
+};
 pub use ser::{object_length, to_vec, to_writer};

@@ -1,0 +1,13 @@
+-- What the schema layer says, for the crates above.
+pub use Rattle.borsh_walks.specs.Container
+pub use Rattle.borsh_walks.specs.SizeAnswer
+pub use Rattle.borsh_walks.specs.RulesAnswer
+pub use Rattle.borsh_schema.specs.Described
+pub use Rattle.borsh_schema.specs.Joined
+pub use Rattle.borsh_schema.specs.Language
+pub use Rattle.borsh_schema.specs.Names
+pub use Rattle.borsh_schema.specs.Types
+pub use Rattle.borsh_schema.specs.Laws
+pub use Rattle.borsh_schema.specs.Containers
+pub use Rattle.borsh_schema.specs.Questions
+pub use Rattle.borsh_schema.specs.Sized

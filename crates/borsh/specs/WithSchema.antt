@@ -1,0 +1,102 @@
+-- Values that are sent behind the container of their type.
+use Rattle.std.specs.Prelude.{◌≡◌, ℕ, Bool, true, List, ◌++◌, Option, Some, None, MatchBool}
+use Rattle.borsh_io.specs.declared.error.ErrorKind.{ErrorKind}
+use Rattle.borsh_io.specs.declared.error.ErrorKind.TheVariants.{InvalidData, OutOfMemory}
+use Rattle.borsh_types.specs.Codec.{Codec, HasReading}
+use Rattle.borsh_types.specs.Shapes.{pair}
+use Rattle.borsh_types.specs.Reading.{IsRefusal}
+use Rattle.borsh_schema.specs.declared.container.BorshSchemaContainer.{BorshSchemaContainer}
+use Rattle.borsh_schema.specs.declared.definitions.SchemaBuildError.{SchemaBuildError}
+use Rattle.borsh_schema.specs.declared.definitions.SchemaBuildError.TheVariants.{Redefinition, OutOfMemory as NoMemory}
+use Rattle.borsh_schema.specs.Codecs.{container}
+use Rattle.borsh_schema.specs.Containers.{IsContainerOf}
+use Rattle.borsh_schema.specs.Described.{Parts, nothing_defined}
+use Rattle.borsh_schema.specs.Joined.{Clashes}
+
+-- the bytes are the encoding of the type's container, and then `rest`
+pub record IsBehindContainer (name : List ℕ) (parts : Parts) (rest bytes : List ℕ) : Type 0 where
+  pub own : BorshSchemaContainer
+  pub is : IsContainerOf name parts own
+  pub front : List ℕ
+  pub encoded : container.encoding own ≡ Some front
+  pub whole : bytes ≡ front ++ rest
+
+-- the bytes are the encoding of the type's container, and then that of the value
+pub record IsWithSchema (name : List ℕ) (parts : Parts) (encoding : Option (List ℕ)) (bytes : List ℕ) : Type 0 where
+  pub value : List ℕ
+  pub is : encoding ≡ Some value
+  pub sent : IsBehindContainer name parts value bytes
+
+-- the bytes are the encoding of the type's container, and then a reading of the value
+pub record IsReadWithSchema {A : Type 0} (name : List ℕ) (parts : Parts) (c : Codec A) (bytes : List ℕ) (v : A) : Type 0 where
+  pub rest : List ℕ
+  pub reading : c.reading true rest v
+  pub sent : IsBehindContainer name parts rest bytes
+
+-- a name of the type has two definitions
+pub record HasClash (parts : Parts) : Type 0 where
+  pub name : List ℕ
+  pub clash : Clashes nothing_defined parts name
+
+-- the type's container has no encoding
+pub record HasNoBytes (name : List ℕ) (parts : Parts) : Type 0 where
+  pub own : BorshSchemaContainer
+  pub is : IsContainerOf name parts own
+  pub none : container.encoding own ≡ None
+
+-- why container and value aren't written
+pub data WhyNotWritten (name : List ℕ) (parts : Parts) (encoding : Option (List ℕ)) (kind : ErrorKind) : Type 0 where
+  clashes : IsRefusal kind → HasClash parts → WhyNotWritten name parts encoding kind
+  no_container : kind ≡ InvalidData → HasNoBytes name parts → WhyNotWritten name parts encoding kind
+  no_encoding : kind ≡ InvalidData → encoding ≡ None → WhyNotWritten name parts encoding kind
+  no_memory : kind ≡ OutOfMemory → WhyNotWritten name parts encoding kind
+
+-- the container in front isn't the type's
+pub record IsOtherSchema (name : List ℕ) (parts : Parts) (bytes : List ℕ) : Type 0 where
+  pub own : BorshSchemaContainer
+  pub is : IsContainerOf name parts own
+  pub sent : BorshSchemaContainer
+  pub front : List ℕ
+  pub rest : List ℕ
+  pub encoded : container.encoding sent ≡ Some front
+  pub whole : bytes ≡ front ++ rest
+  pub other : container.encoding own ≡ Some front → ⊥
+
+-- why container and value aren't read: the bytes are no container and a value behind it, or the container isn't the type's
+pub data WhyNotRead {A : Type 0} (name : List ℕ) (parts : Parts) (c : Codec A) (bytes : List ℕ) (kind : ErrorKind) : Type 0 where
+  no_reading : IsRefusal kind → (HasReading (pair container c) true bytes → ⊥) → WhyNotRead name parts c bytes kind
+  other_schema : kind ≡ InvalidData → IsOtherSchema name parts bytes → WhyNotRead name parts c bytes kind
+  clashes : IsRefusal kind → HasClash parts → WhyNotRead name parts c bytes kind
+  no_memory : kind ≡ OutOfMemory → WhyNotRead name parts c bytes kind
+
+-- ---- the steps
+
+-- the kind of a refusal to build a container
+abbrev pub IsBuildKind : SchemaBuildError → ErrorKind → Type 0
+IsBuildKind (Redefinition m) kind = IsRefusal kind
+IsBuildKind NoMemory kind = kind ≡ OutOfMemory
+
+-- why the type's container isn't there
+pub data WhyNoContainer (parts : Parts) (kind : ErrorKind) : Type 0 where
+  clashing : IsRefusal kind → HasClash parts → WhyNoContainer parts kind
+  memory : kind ≡ OutOfMemory → WhyNoContainer parts kind
+
+-- two values were read, the first from its encoding
+pub record IsPairRead {A B : Type 0} (a : Codec A) (b : Codec B) (bytes : List ℕ) (v : A × B) : Type 0 where
+  pub front : List ℕ
+  pub rest : List ℕ
+  pub whole : bytes ≡ front ++ rest
+  pub first : a.encoding v.0 ≡ Some front
+  pub second : b.reading true rest v.1
+
+-- whether the type's container is written as these bytes
+pub record IsOwnSchema (name : List ℕ) (parts : Parts) (bytes : List ℕ) (yes : Bool) : Type 0 where
+  pub own : BorshSchemaContainer
+  pub is : IsContainerOf name parts own
+  pub says : MatchBool yes (container.encoding own ≡ Some bytes) (container.encoding own ≡ Some bytes → ⊥)
+
+-- why it isn't known whether it is; or the type's container has no encoding, and so isn't written as these bytes
+pub data WhyNotOwn (name : List ℕ) (parts : Parts) (bytes : List ℕ) (kind : ErrorKind) : Type 0 where
+  other : kind ≡ InvalidData → HasNoBytes name parts → WhyNotOwn name parts bytes kind
+  clashing_names : IsRefusal kind → HasClash parts → WhyNotOwn name parts bytes kind
+  want_of_memory : kind ≡ OutOfMemory → WhyNotOwn name parts bytes kind

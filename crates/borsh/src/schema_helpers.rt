@@ -1,0 +1,135 @@
+// Types with their containers, and values that are sent with them.
+ghost use Rattle.std.specs.Prelude.{◌≡◌, ℕ, List, true, Some, IfOk, IfErr};
+ghost use Rattle.borsh_io.specs.Errors.{error_kind};
+ghost use Rattle.borsh_types.specs.Reading.{WhyNotWhole};
+ghost use Rattle.borsh_types.specs.Shapes.{pair};
+ghost use Rattle.borsh_schema.specs.Codecs.{container as container_codec};
+ghost use Rattle.borsh_schema.specs.Containers.{IsContainerOf, DescribesRoot};
+ghost use Rattle.borsh_schema.specs.Described.{nothing_defined};
+ghost use Rattle.borsh_schema.specs.Joined.{BuildFault};
+ghost use Rattle.borsh_schema.specs.Sized.{IsTypeSize, BoundsEncodings};
+ghost use Rattle.borsh.specs.WithSchema.{IsWithSchema, IsReadWithSchema, IsPairRead, IsOwnSchema, IsBuildKind, WhyNoContainer, WhyNotOwn, WhyNotWritten, WhyNotRead};
+
+use super::de::from_slice;
+use super::ser::to_vec;
+use borsh_de::{BorshDeserialize, invalid_data};
+use borsh_io::{Error, ErrorKind};
+use borsh_schema::{BorshSchema, BorshSchemaContainer, SchemaBuildError};
+use borsh_ser::BorshSerialize;
+use borsh_walks::SchemaMaxSerializedSizeError;
+use std::alloc::Global;
+
+/// The container of a type. Where a name of the type has two different definitions the answer is
+/// `Redefinition` of such a name.
+pub fn schema_container_of<T: BorshSchema>(
+    alloc: Global,
+) -> Result<BorshSchemaContainer, SchemaBuildError>
+    ensures ok { IfOk result (λ c. IsContainerOf T.name T.parts c) }
+    ensures err { IfErr result (λ e. BuildFault nothing_defined T.parts e) }
+    ensures language { IfOk result (λ c. DescribesRoot T.codec c) }
+{
+    BorshSchemaContainer::for_type::<T>(alloc)
+}
+
+/// The greatest length of the encodings of a type, as its container tells it. No encoding is longer
+/// than an answered size.
+///
+/// Refused as [`BorshSchemaContainer::max_serialized_size`] is, and with `Redefinition` where a name
+/// of the type has two different definitions.
+pub fn max_serialized_size<T: BorshSchema>(
+    alloc: Global,
+) -> Result<usize, SchemaMaxSerializedSizeError>
+    ensures answer { IsTypeSize T.name T.parts result }
+    ensures bound { BoundsEncodings T.codec result }
+{
+    let container = schema_container_of::<T>(alloc)?;
+    container.max_serialized_size(alloc)
+}
+
+/// The encoding of the type's container, and behind it that of the value.
+///
+/// Refused with `InvalidData` where the value or the container has no encoding, or where a name of the
+/// type has two different definitions, and with `OutOfMemory` where memory was refused.
+pub fn try_to_vec_with_schema<T: BorshSerialize + BorshSchema>(
+    alloc: Global,
+    value: &T,
+) -> borsh_io::Result<Vec<u8>>
+    ensures ok { IfOk result (λ v. IsWithSchema T.name T.parts (T.codec.encoding value.now) v.items) }
+    ensures err { IfErr result (λ e. WhyNotWritten T.name T.parts (T.codec.encoding value.now) (error_kind e)) }
+{
+    let container = container_of::<T>(alloc)?;
+    let mut out = to_vec(alloc, &container)?;
+    value.serialize(alloc, &mut out)?;
+    Ok(out)
+}
+
+/// The value behind the encoding of its type's container, where all of the bytes are that.
+///
+/// Container and value are read first, so what [`from_slice`] refuses is refused as there. A container
+/// that isn't the type's is refused with `InvalidData`, "Borsh schema does not match", and so is a type
+/// a name of which has two different definitions.
+pub fn try_from_slice_with_schema<T: BorshDeserialize + BorshSchema>(
+    alloc: Global,
+    v: &[u8],
+) -> borsh_io::Result<T>
+    ensures ok { IfOk result (λ x. IsReadWithSchema T.name T.parts T.codec v.now x) }
+    ensures err { IfErr result (λ e. WhyNotRead T.name T.parts T.codec v.now (error_kind e)) }
+{
+    let sent: (BorshSchemaContainer, T) = pair_from(alloc, v)?;
+    if is_own::<T>(alloc, &sent.0)? {
+        Ok(sent.1)
+    } else {
+        Err(other_schema())
+    }
+}
+
+/// Two values, one behind the other, the first of a type that is read from its encodings alone.
+fn pair_from<S: BorshDeserialize, T: BorshDeserialize>(
+    alloc: Global,
+    v: &[u8],
+) -> borsh_io::Result<(S, T)>
+    ensures ok { S.codec.is_canonical ≡ true → IfOk result (λ p. IsPairRead S.codec T.codec v.now p) }
+    ensures err { IfErr result (λ e. WhyNotWhole (pair S.codec T.codec) true v.now (error_kind e)) }
+{
+    from_slice(alloc, v)
+}
+
+/// Whether a container is that of the type: each has one spelling.
+fn is_own<T: BorshSchema>(alloc: Global, sent: &BorshSchemaContainer) -> borsh_io::Result<bool>
+    ensures ok { (bytes : List ℕ) → container_codec.encoding sent.now ≡ Some bytes → IfOk result (λ yes. IsOwnSchema T.name T.parts bytes yes) }
+    ensures err { (bytes : List ℕ) → container_codec.encoding sent.now ≡ Some bytes → IfErr result (λ e. WhyNotOwn T.name T.parts bytes (error_kind e)) }
+{
+    let own = container_of::<T>(alloc)?;
+    let own_bytes = to_vec(alloc, &own)?;
+    let sent_bytes = to_vec(alloc, sent)?;
+    Ok(own_bytes == sent_bytes)
+}
+
+/// The container of a type.
+fn container_of<T: BorshSchema>(alloc: Global) -> borsh_io::Result<BorshSchemaContainer>
+    ensures ok { IfOk result (λ c. IsContainerOf T.name T.parts c) }
+    ensures err { IfErr result (λ e. WhyNoContainer T.parts (error_kind e)) }
+{
+    match schema_container_of::<T>(alloc) {
+        Ok(container) => Ok(container),
+        Err(e) => Err(not_built(alloc, e)),
+    }
+}
+
+/// A refusal to build a container.
+fn not_built(alloc: Global, error: SchemaBuildError) -> Error
+    ensures { IsBuildKind error (error_kind result) }
+{
+    match error {
+        SchemaBuildError::Redefinition(name) => invalid_data(format!(in alloc;
+            "Redefining type schema for {name}. Types with the same names are not supported."
+        )),
+        SchemaBuildError::OutOfMemory => Error::from(ErrorKind::OutOfMemory),
+    }
+}
+
+fn other_schema() -> Error
+    ensures { error_kind result ≡ ErrorKind.InvalidData }
+{
+    Error::new(ErrorKind::InvalidData, "Borsh schema does not match")
+}
