@@ -1,3 +1,4 @@
 pub mod MyEnum
 pub mod One
 pub mod OneOrZero
+pub mod Schemas

@@ -1,16 +1,19 @@
 //! Types as a user of the library writes them: their meaning, their laws, writing and reading, by the
-//! library's public contracts alone.
+//! library's public contracts alone; and the schemas of two of them.
 #![tactic(auto)]
 
 pub mod my_enum;
 pub mod my_struct;
+pub mod namesakes;
 pub mod octet;
 pub mod one;
 pub mod one_or_zero;
 pub mod readme;
+mod schemas;
 
 pub use my_enum::MyEnum;
 pub use my_struct::MyStruct;
+pub use namesakes::{LongA, ShortA};
 pub use octet::Octet;
 pub use one::One;
 pub use one_or_zero::OneOrZero;

@@ -1,0 +1,113 @@
+// Two types that go by one name: their schemas can't stand in one container.
+ghost use Rattle.std.specs.Prelude.{codes};
+ghost use Rattle.borsh.specs.Shapes.{along, number};
+ghost use Rattle.borsh.specs.Laws.Exact.{along-lawful};
+ghost use Rattle.borsh.specs.Laws.Numbers.{number-lawful};
+ghost use Rattle.borsh.specs.Schema.Laws.Members.{describes_along, describes_number};
+ghost use Rattle.borsh.specs.Schema.Types.{primitive_parts};
+
+use borsh::io::{Read, Result, Write};
+use borsh::schema::{Declaration, Definition, SchemaBuildError, add_with_parts, declared};
+use borsh::{BorshDeserialize, BorshSchema, BorshSerialize, BorshType};
+use std::alloc::Global;
+use std::collections::BTreeMap;
+
+/// One byte, declared as `A`.
+#[derive(Clone, Copy)]
+pub struct ShortA(pub u8);
+
+/// Two bytes, declared as `A`.
+#[derive(Clone, Copy)]
+pub struct LongA(pub u16);
+
+impl BorshType for ShortA {
+    ghost codec = { along (λ v. v.0) (number 1) };
+
+    ghost lawful = { along-lawful (λ v. v.0) (number-lawful 1) };
+
+    fn encodes_empty() -> bool {
+        false
+    }
+
+    fn element_size() -> usize {
+        1
+    }
+}
+
+impl BorshType for LongA {
+    ghost codec = { along (λ v. v.0) (number 2) };
+
+    ghost lawful = { along-lawful (λ v. v.0) (number-lawful 2) };
+
+    fn encodes_empty() -> bool {
+        false
+    }
+
+    fn element_size() -> usize {
+        2
+    }
+}
+
+impl BorshSerialize for ShortA {
+    fn serialize<W: Write>(&self, alloc: Global, writer: &mut W) -> Result<()> {
+        self.0.serialize(alloc, writer)
+    }
+}
+
+impl BorshSerialize for LongA {
+    fn serialize<W: Write>(&self, alloc: Global, writer: &mut W) -> Result<()> {
+        self.0.serialize(alloc, writer)
+    }
+}
+
+impl BorshDeserialize for ShortA {
+    fn deserialize_reader<R: Read>(alloc: Global, reader: &mut R) -> Result<ShortA> {
+        Ok(ShortA(u8::deserialize_reader(alloc, reader)?))
+    }
+}
+
+impl BorshDeserialize for LongA {
+    fn deserialize_reader<R: Read>(alloc: Global, reader: &mut R) -> Result<LongA> {
+        Ok(LongA(u16::deserialize_reader(alloc, reader)?))
+    }
+}
+
+impl BorshSchema for ShortA {
+    ghost name = { codes "A" };
+
+    ghost parts = { primitive_parts (codes "A") 1 };
+
+    fn declaration(alloc: Global) -> std::result::Result<Declaration, SchemaBuildError> {
+        declared(alloc, "A")
+    }
+
+    fn add_definitions_recursively(
+        alloc: Global,
+        definitions: &mut BTreeMap<Declaration, Definition>,
+    ) -> std::result::Result<(), SchemaBuildError> {
+        let name = Self::declaration(alloc)?;
+        add_with_parts::<()>(alloc, name, Definition::Primitive(1), definitions)
+    }
+
+    ghost describes = { λ C h. describes_along (λ v. v.0) (describes_number 1 h.0) };
+}
+
+impl BorshSchema for LongA {
+    ghost name = { codes "A" };
+
+    ghost parts = { primitive_parts (codes "A") 2 };
+
+    fn declaration(alloc: Global) -> std::result::Result<Declaration, SchemaBuildError> {
+        declared(alloc, "A")
+    }
+
+    fn add_definitions_recursively(
+        alloc: Global,
+        definitions: &mut BTreeMap<Declaration, Definition>,
+    ) -> std::result::Result<(), SchemaBuildError> {
+        let name = Self::declaration(alloc)?;
+        add_with_parts::<()>(alloc, name, Definition::Primitive(2), definitions)
+    }
+
+    ghost describes = { λ C h. describes_along (λ v. v.0) (describes_number 2 h.0) };
+}

@@ -1,0 +1,139 @@
+// The schemas of two of the types, as a user writes them.
+ghost use Rattle.std.specs.Prelude.{codes, refl};
+ghost use Rattle.borsh.specs.Schema.Container.{first_variant, later_variant};
+ghost use Rattle.borsh.specs.Schema.Laws.Members.{describes_along, describes_number, describes_text, describes_elements, describes_unit, describes_parts, describes_choice, all_none, all_one, all_more, choice_more, choice_none};
+ghost use Rattle.borsh_samples.specs.MyEnum.{my_enum_parts as my_enum_view};
+ghost use Rattle.borsh_samples.specs.Schemas.{readme_parts, zero_parts, one_parts, many_parts, my_enum_parts};
+ghost use Rattle.std.specs.String.{string_bytes};
+
+use super::my_enum::MyEnum;
+use super::readme::A;
+use borsh::BorshSchema;
+use borsh::schema::{
+    Both, Declaration, Definition, Fields, SchemaBuildError, SchemaParts, add_with_parts, declared,
+    field, named_variant,
+};
+use std::alloc::Global;
+use std::collections::BTreeMap;
+
+impl BorshSchema for A {
+    ghost name = { codes "A" };
+
+    ghost parts = { readme_parts };
+
+    fn declaration(alloc: Global) -> Result<Declaration, SchemaBuildError> {
+        declared(alloc, "A")
+    }
+
+    fn add_definitions_recursively(
+        alloc: Global,
+        definitions: &mut BTreeMap<Declaration, Definition>,
+    ) -> Result<(), SchemaBuildError> {
+        let fields = Fields::NamedFields(vec![in alloc;
+            field::<u64>(alloc, "x")?,
+            field::<String>(alloc, "y")?,
+        ]?);
+        add_with_parts::<(u64, (String, ()))>(
+            alloc,
+            Self::declaration(alloc)?,
+            Definition::Struct { fields },
+            definitions,
+        )
+    }
+
+    ghost describes = { λ C h. describes_along (λ v. (v.x, v.y)) (describes_parts h.0 (all_more (describes_number 8 h.1.0.0) (all_one (describes_along string_bytes (describes_text h.1.1.0.0 h.1.1.0.1.0.0))))) };
+}
+
+/// The definitions of the part of `MyEnum::Zero`, which has a name of its own.
+struct ZeroPart;
+
+impl SchemaParts for ZeroPart {
+    ghost all_parts = { zero_parts };
+
+    fn add_all(
+        alloc: Global,
+        definitions: &mut BTreeMap<Declaration, Definition>,
+    ) -> Result<(), SchemaBuildError> {
+        let definition = Definition::Struct {
+            fields: Fields::Empty,
+        };
+        add_with_parts::<()>(
+            alloc,
+            declared(alloc, "MyEnum__Zero")?,
+            definition,
+            definitions,
+        )
+    }
+}
+
+/// The same of `MyEnum::One`.
+struct OnePart;
+
+impl SchemaParts for OnePart {
+    ghost all_parts = { one_parts };
+
+    fn add_all(
+        alloc: Global,
+        definitions: &mut BTreeMap<Declaration, Definition>,
+    ) -> Result<(), SchemaBuildError> {
+        let fields = Fields::UnnamedFields(vec![in alloc; u8::declaration(alloc)?]?);
+        add_with_parts::<(u8, ())>(
+            alloc,
+            declared(alloc, "MyEnum__One")?,
+            Definition::Struct { fields },
+            definitions,
+        )
+    }
+}
+
+/// The same of `MyEnum::Many`.
+struct ManyPart;
+
+impl SchemaParts for ManyPart {
+    ghost all_parts = { many_parts };
+
+    fn add_all(
+        alloc: Global,
+        definitions: &mut BTreeMap<Declaration, Definition>,
+    ) -> Result<(), SchemaBuildError> {
+        let fields = Fields::UnnamedFields(vec![in alloc; Vec::<u8>::declaration(alloc)?]?);
+        add_with_parts::<(Vec<u8>, ())>(
+            alloc,
+            declared(alloc, "MyEnum__Many")?,
+            Definition::Struct { fields },
+            definitions,
+        )
+    }
+}
+
+impl BorshSchema for MyEnum {
+    ghost name = { codes "MyEnum" };
+
+    ghost parts = { my_enum_parts };
+
+    fn declaration(alloc: Global) -> Result<Declaration, SchemaBuildError> {
+        declared(alloc, "MyEnum")
+    }
+
+    fn add_definitions_recursively(
+        alloc: Global,
+        definitions: &mut BTreeMap<Declaration, Definition>,
+    ) -> Result<(), SchemaBuildError> {
+        let variants = vec![in alloc;
+            named_variant(alloc, 0, "Zero", "MyEnum__Zero")?,
+            named_variant(alloc, 1, "One", "MyEnum__One")?,
+            named_variant(alloc, 2, "Many", "MyEnum__Many")?,
+        ]?;
+        add_with_parts::<Both<ZeroPart, Both<OnePart, ManyPart>>>(
+            alloc,
+            Self::declaration(alloc)?,
+            Definition::Enum {
+                tag_width: 1,
+                variants,
+            },
+            definitions,
+        )
+    }
+
+    ghost describes = { λ C h. describes_along my_enum_view (describes_choice h.0 (choice_more first_variant refl (describes_parts h.1.0.0 all_none) (choice_more (later_variant first_variant) refl (describes_parts h.1.1.0.0 (all_one (describes_number 1 h.1.1.0.1.0.0))) (choice_more (later_variant (later_variant first_variant)) refl (describes_parts h.1.1.1.0 (all_one (describes_along (λ v. v.items) (describes_elements h.1.1.1.1.0.0 (describes_number 1 h.1.1.1.1.0.1.0.0))))) choice_none)))) };
+}
