@@ -1,18 +1,16 @@
 -- A definition is put into a map.
-use Rattle.std.proofs.Common.{◌≡◌, ℕ, Bool, true, false, cond, List, [], ◌∷◌, ◌++◌, map, Option, Some, None, ◌⊎◌, refl, sym, ◌∙◌, ap, subst, inl, inr, Decides, true≢false, Global, String, string_bytes, option_map}
+use Rattle.std.proofs.Common.{◌≡◌, ℕ, true, false, cond, List, Option, Some, None, ◌⊎◌, refl, sym, ◌∙◌, ap, inl, inr, true≢false, Global, String, string_bytes, option_map}
 use Rattle.std.specs.Str.{bytes_eq}
 use Rattle.std.specs.BTreeMap.{BTreeMap, get_by_text, UpdatesBy}
 use Rattle.std.specs.String.{string_cmp}
 use Rattle.std.specs.Ordering.{nat_cmp}
 use Rattle.std.specs.Cmp.Lexicographic.{slice_cmp}
-use Rattle.std.specs.Map.{update}
 use Rattle.std.proofs.lemmas.Slice.Eq.{bytes_eq-Decides}
 use Rattle.std.proofs.lemmas.Map.Text.{btree_map_updates_text}
 use Rattle.borsh_walks.specs.declared.definition.Definition.{Definition}
-use Rattle.borsh_schema.specs.declared.definitions.SchemaBuildError.{SchemaBuildError}
-use Rattle.borsh_schema.specs.declared.definitions.SchemaBuildError.TheVariants.{Redefinition, OutOfMemory}
-use Rattle.borsh_schema.specs.Described.{Described, described_of, Contents, contents_of, Parts, none, defined, IsPart}
-use Rattle.borsh_schema.specs.Joined.{IsGiven, IsJoined, IsPartlyJoined, Clashes, BuildFault, NotJoined}
+use Rattle.borsh_schema.specs.declared.definitions.SchemaBuildError.TheVariants.{Redefinition}
+use Rattle.borsh_schema.specs.Described.{Described, described_of, Contents, contents_of, none, defined, IsPart}
+use Rattle.borsh_schema.specs.Joined.{IsGiven, IsJoined, NotJoined}
 
 module _ (a : Contents) (n : List ℕ) (d : Described) (h : a n ≡ Some d) where
   known_part : (m : List ℕ) (e : Described) → IsPart m e (defined n d none) → a m ≡ Some e

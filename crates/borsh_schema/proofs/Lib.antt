@@ -1,3 +1,4 @@
 pub mod Adding
 pub mod Equality
 pub mod Containing
+pub mod Told

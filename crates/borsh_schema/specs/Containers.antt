@@ -1,16 +1,14 @@
 -- A container: a root's name and a map of definitions.
-use Rattle.std.specs.Prelude.{◌≡◌, ℕ, List, [], ◌∷◌, Option, Some, ◌⊎◌, ⊤, String, string_bytes, MatchResult, Result, option_map}
+use Rattle.std.specs.Prelude.{◌≡◌, ℕ, List, Option, Some, String, string_bytes}
 use Rattle.std.specs.Global.{Global}
 use Rattle.std.specs.BTreeMap.{BTreeMap}
-use Rattle.std.specs.Borrow.{Bor}
 use Rattle.borsh_types.specs.Codec.{Codec}
 use Rattle.borsh_walks.specs.Container.{Shape, Member}
 use Rattle.borsh_walks.specs.Definitions.{definitions_in}
 use Rattle.borsh_walks.specs.declared.definition.Definition.{Definition}
 use Rattle.borsh_schema.specs.declared.container.BorshSchemaContainer.{BorshSchemaContainer}
 use Rattle.borsh_schema.specs.declared.container.Definitions.{Definitions}
-use Rattle.borsh_schema.specs.declared.definitions.SchemaBuildError.{SchemaBuildError}
-use Rattle.borsh_schema.specs.Described.{Contents, contents_of, shapes_of, nothing_defined, Parts}
+use Rattle.borsh_schema.specs.Described.{Contents, contents_of, nothing_defined, Parts}
 use Rattle.borsh_schema.specs.Joined.{IsJoined}
 
 -- the root

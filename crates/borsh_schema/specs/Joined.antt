@@ -1,5 +1,5 @@
 -- Maps of definitions that are joined with those of a type.
-use Rattle.std.specs.Prelude.{◌≡◌, ℕ, List, [], ◌∷◌, ◌++◌, Option, Some, None, ◌⊎◌, ⊤, string_bytes, MatchResult, Result}
+use Rattle.std.specs.Prelude.{◌≡◌, ℕ, List, Some, ◌⊎◌, ⊤, string_bytes, MatchResult, Result}
 use Rattle.borsh_schema.specs.declared.definitions.SchemaBuildError.{SchemaBuildError}
 use Rattle.borsh_schema.specs.declared.definitions.SchemaBuildError.TheVariants.{Redefinition, OutOfMemory}
 use Rattle.borsh_schema.specs.Described.{Described, Contents, Parts, IsPart}

@@ -1,5 +1,5 @@
 -- When a name of a container describes the bytes of a type.
-use Rattle.std.specs.Prelude.{◌≡◌, ℕ, ℤ, List, [], ◌∷◌, ◌++◌, Option, Some, ⊤}
+use Rattle.std.specs.Prelude.{◌≡◌, ℕ, ℤ, List, ◌++◌, Option, Some, ⊤}
 use Rattle.borsh_types.specs.Codec.{Codec}
 use Rattle.borsh_walks.specs.Container.{Shape, Member, Members, Listed, tag}
 use Rattle.borsh_schema.specs.Described.{Parts, none, defined, both, shape}

@@ -2,3 +2,4 @@
 pub mod Members
 pub mod Joining
 pub mod Containers
+pub mod Own

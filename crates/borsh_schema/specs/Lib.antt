@@ -2,7 +2,10 @@ pub mod Described
 pub mod Joined
 pub mod Names
 pub mod Types
+pub mod Addresses
+pub mod Own
 pub mod Codecs
+pub mod Lending
 pub mod Language
 pub mod Laws
 pub mod Containers

@@ -1,6 +1,6 @@
 -- What the types of the standard library bring: their names and definitions.
-use Rattle.std.specs.Prelude.{ℕ, ℤ, pos, List, [], ◌∷◌, codes}
-use Rattle.borsh_schema.specs.Described.{Described, bytes, list, tuple, variants, named, no_fields, Parts, none, defined, both}
+use Rattle.std.specs.Prelude.{ℕ, pos, List, [], ◌∷◌, codes}
+use Rattle.borsh_schema.specs.Described.{Described, bytes, list, tuple, variants, named, Parts, none, defined, both}
 use Rattle.borsh_schema.specs.Names.{applied, applied_to_two, tuple_name}
 
 -- a name for so many bytes

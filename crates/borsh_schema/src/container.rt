@@ -1,11 +1,14 @@
 // Containers: a type's name and the definitions that it leads to.
 ghost use Rattle.std.specs.Prelude.{◌≡◌, List, ℕ, Some, None, OnOk, IfOk, IfErr, OnErr, MatchResult, IsSome, option_map, string_bytes};
+ghost use Rattle.std.specs.Borrow.{sem};
+ghost use Rattle.std.specs.Option.{option_copied_mut};
 ghost use Rattle.std.specs.Str.{bytes_eq};
 ghost use Rattle.std.specs.Map.{update};
 ghost use Rattle.std.specs.BTreeMap.{get_by_text, IsUnchanged};
 ghost use Rattle.borsh_schema.specs.Containers.{declaration_of, map_of, defined_in, left_of, IsContainerOf, DescribesRoot};
 ghost use Rattle.borsh_schema.specs.Described.{nothing_defined};
 ghost use Rattle.borsh_schema.specs.Joined.{BuildFault};
+ghost use Rattle.borsh_schema.specs.Lending.{LendsDefinition};
 
 use super::definitions::SchemaBuildError;
 use super::schema::BorshSchema;
@@ -68,6 +71,14 @@ impl BorshSchemaContainer {
         ensures { option_map (λ d. d.now) result ≡ get_by_text (map_of self.now) declaration.now }
     {
         self.definitions.get(declaration)
+    }
+
+    /// The definition of a name, to write.
+    pub fn get_mut_definition(&mut self, declaration: &str) -> Option<&mut Definition>
+        ensures* writes_back { sem 𝓛 (LendsDefinition self.entry declaration.now result) }
+        ensures value { option_copied_mut result ≡ get_by_text (map_of self.old) declaration.now }
+    {
+        self.definitions.get_mut(declaration)
     }
 
     /// Gives a name a definition, and answers the one that it had. Where memory is refused the

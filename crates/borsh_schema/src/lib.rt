@@ -1,6 +1,7 @@
 //! Which bytes a type has, told by named definitions.
 #![tactic(auto)]
 
+mod addresses;
 pub mod arrays;
 mod codec;
 pub mod container;
@@ -9,6 +10,7 @@ pub mod lists;
 pub mod maps;
 pub mod non_zeros;
 pub mod numbers;
+mod own;
 pub mod parts;
 mod places;
 pub mod pointers;

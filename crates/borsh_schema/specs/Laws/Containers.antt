@@ -1,5 +1,5 @@
 -- A container that holds a type's definitions describes the type.
-use Rattle.std.proofs.Common.{◌≡◌, ℕ, List, [], ◌∷◌, map, Option, Some, None, ◌⊎◌, refl, sym, ◌∙◌, ap, subst, inl, inr, String, Global, string_bytes, option_map}
+use Rattle.std.proofs.Common.{◌≡◌, ℕ, List, [], ◌∷◌, map, Option, Some, None, refl, sym, ◌∙◌, ap, subst, inl, inr, String, Global, string_bytes, option_map}
 use Rattle.std.specs.BTreeMap.{BTreeMap, get_by_text, is_at}
 use Rattle.std.specs.Map.{lookup}
 use Rattle.std.specs.Ordering.{nat_cmp}
@@ -7,11 +7,10 @@ use Rattle.std.specs.Cmp.Lexicographic.{slice_cmp}
 use Rattle.borsh_types.specs.Codec.{Codec}
 use Rattle.borsh_walks.specs.declared.definition.Definition.{Definition}
 use Rattle.borsh_walks.specs.declared.definition.Definition.TheVariants.{Primitive, Sequence, Tuple, Enum, Struct}
-use Rattle.borsh_walks.specs.declared.definition.Fields.{Fields}
 use Rattle.borsh_walks.specs.declared.definition.Fields.TheVariants.{NamedFields, UnnamedFields, Empty}
 use Rattle.borsh_walks.specs.Container.{Shape, parts, choice, Member}
 use Rattle.borsh_walks.specs.Definitions.{shape_of, definitions_in}
-use Rattle.borsh_schema.specs.Described.{Described, shape, described_of, Contents, contents_of, nothing_defined, Parts, none, defined, both, IsPart}
+use Rattle.borsh_schema.specs.Described.{Described, shape, described_of, contents_of, nothing_defined, Parts, none, defined, both, IsPart}
 use Rattle.borsh_schema.specs.Language.{Holds, Describes}
 use Rattle.borsh_schema.specs.declared.container.BorshSchemaContainer.{BorshSchemaContainer}
 use Rattle.borsh_schema.specs.Containers.{map_of, language_of, IsContainerOf, DescribesRoot}

@@ -1,9 +1,9 @@
 -- How joined definitions follow one after another.
-use Rattle.std.proofs.Common.{◌≡◌, ℕ, List, Option, Some, None, ◌⊎◌, inl, inr}
+use Rattle.std.proofs.Common.{◌≡◌, ℕ, List, Some, ◌⊎◌, inl, inr}
 use Rattle.borsh_schema.specs.declared.definitions.SchemaBuildError.{SchemaBuildError}
 use Rattle.borsh_schema.specs.declared.definitions.SchemaBuildError.TheVariants.{Redefinition, OutOfMemory}
 use Rattle.borsh_schema.specs.Described.{Described, Contents, Parts, none, defined, both, IsPart}
-use Rattle.borsh_schema.specs.Joined.{IsGiven, IsJoined, IsPartlyJoined, Clashes, BuildFault, NotJoined}
+use Rattle.borsh_schema.specs.Joined.{IsGiven, IsJoined, BuildFault, NotJoined}
 
 -- ---- what is given
 

@@ -1,9 +1,9 @@
 -- How the encodings of a shape are described, proved once for every part.
-use Rattle.std.proofs.Common.{◌≡◌, ℕ, zero, suc, ℤ, pos, negsuc, ◌-◌, ◌/◌, ◌%◌, ◌^◌, ◌<◌, ◌≤◌, cond, nat_lt, nat_eq, eqb-true, ltb-true, Bool, true, false, List, [], ◌∷◌, ◌++◌, length, replicate, Option, Some, None, ◌⊎◌, refl, sym, ◌∙◌, ap, subst, inl, inr, append-nil, arith}
+use Rattle.std.proofs.Common.{◌≡◌, ℕ, zero, suc, ℤ, pos, negsuc, ◌-◌, ◌/◌, ◌%◌, ◌^◌, ◌<◌, cond, nat_lt, nat_eq, eqb-true, ltb-true, Bool, true, false, List, [], ◌∷◌, ◌++◌, length, replicate, Option, Some, None, ◌⊎◌, refl, sym, ◌∙◌, ap, subst, inl, inr, append-nil, arith}
 use Rattle.std.specs.Prelude.{All, ⊤}
 use Rattle.std.proofs.lemmas.Option.{cond_some}
 use Rattle.borsh_types.specs.Codec.{Codec}
-use Rattle.borsh_types.specs.Shapes.{along, little, number_encoding, number, half, signed_encoding, signed, unit, nothing, joined, pair, variant, all_joined, row, counted, elements, refusing, passing, stored}
+use Rattle.borsh_types.specs.Shapes.{along, little, number_encoding, number, half, signed_encoding, signed, unit, nothing, pair, variant, all_joined, row, counted, elements, refusing, passing, stored}
 use Rattle.borsh_types.specs.Maps.{by_key, ascends, ordered, sorted}
 use Rattle.std.specs.declared.cmp.Ordering.{Ordering}
 use Rattle.std.specs.Map.{keys_of}
@@ -12,7 +12,7 @@ use Rattle.borsh_types.specs.Types.Texts.{text}
 use Rattle.std.specs.Str.{is_utf8}
 use Rattle.borsh_types.specs.Laws.Exact.{allowed_some, passed_some}
 use Rattle.borsh_types.specs.Laws.Lists.{some_same, joined_some}
-use Rattle.borsh_types.specs.Laws.Numbers.{number_some, length-number, length-signed, length-little}
+use Rattle.borsh_types.specs.Laws.Numbers.{number_some, length-little}
 use Rattle.borsh_types.specs.Laws.Variants.{behind_some}
 use Rattle.borsh_walks.specs.Container.{Shape, primitive, sequence, parts, choice, Member, of_primitive, of_sequence, of_parts, of_choice, Members, no_members, more_members, Listed, low_bytes, tag}
 use Rattle.borsh_schema.specs.Language.{Describes, DescribesAll, IsVariant, DescribesChoice}

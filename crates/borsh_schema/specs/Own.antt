@@ -1,0 +1,100 @@
+-- The schema of schemas: what definitions and containers bring.
+use Rattle.std.specs.Prelude.{ℕ, pos, List, [], ◌∷◌, codes}
+use Rattle.borsh_schema.specs.Described.{Described, variants, named, unnamed, no_fields, Parts, none, defined, both}
+use Rattle.borsh_schema.specs.Names.{applied, applied_to_two, tuple_name}
+use Rattle.borsh_schema.specs.Types.{primitive_parts, list_parts, map_parts, text_parts, tuple_parts, range_of}
+
+abbrev byte_parts : Parts
+byte_parts = primitive_parts (codes "u8") 1
+
+-- ---- lengths
+
+abbrev pub length_range_name : List ℕ
+length_range_name = applied (codes "RangeInclusive<") (codes "u64")
+
+abbrev pub length_range_parts : Parts
+length_range_parts = defined length_range_name (range_of (codes "u64")) (both (primitive_parts (codes "u64") 8) none)
+
+-- ---- fields
+
+abbrev pub texts_name : List ℕ
+texts_name = applied (codes "Vec<") (codes "String")
+
+abbrev pub texts_parts : Parts
+texts_parts = list_parts (codes "Vec<") (codes "String") text_parts
+
+-- a field's name and type
+abbrev two_texts : List (List ℕ)
+two_texts = codes "String" ∷ codes "String" ∷ []
+
+abbrev pub named_fields_name : List ℕ
+named_fields_name = applied (codes "Vec<") (tuple_name two_texts)
+
+abbrev pub named_fields_parts : Parts
+named_fields_parts = list_parts (codes "Vec<") (tuple_name two_texts) (tuple_parts two_texts (both text_parts (both text_parts none)))
+
+abbrev pub named_fields_variant : Parts
+named_fields_variant = defined (codes "Fields__NamedFields") (unnamed (named_fields_name ∷ [])) (both named_fields_parts none)
+
+abbrev pub unnamed_fields_variant : Parts
+unnamed_fields_variant = defined (codes "Fields__UnnamedFields") (unnamed (texts_name ∷ [])) (both texts_parts none)
+
+abbrev pub empty_variant : Parts
+empty_variant = defined (codes "Fields__Empty") no_fields none
+
+abbrev pub fields_variants : Described
+fields_variants = variants 1
+    ((pos 0, codes "NamedFields", codes "Fields__NamedFields") ∷ (pos 1, codes "UnnamedFields", codes "Fields__UnnamedFields") ∷ (pos 2, codes "Empty", codes "Fields__Empty") ∷ [])
+
+abbrev pub fields_parts : Parts
+fields_parts = defined (codes "Fields") fields_variants (both named_fields_variant (both unnamed_fields_variant empty_variant))
+
+-- ---- definitions
+
+-- a variant's discriminant, name and type
+abbrev number_and_two_texts : List (List ℕ)
+number_and_two_texts = codes "i64" ∷ codes "String" ∷ codes "String" ∷ []
+
+abbrev pub variants_name : List ℕ
+variants_name = applied (codes "Vec<") (tuple_name number_and_two_texts)
+
+abbrev pub variants_parts : Parts
+variants_parts = list_parts (codes "Vec<") (tuple_name number_and_two_texts) (tuple_parts number_and_two_texts (both (primitive_parts (codes "i64") 8) (both text_parts (both text_parts none))))
+
+abbrev pub primitive_variant : Parts
+primitive_variant = defined (codes "Definition__Primitive") (unnamed (codes "u8" ∷ [])) (both byte_parts none)
+
+abbrev pub sequence_variant : Parts
+sequence_variant =
+    defined (codes "Definition__Sequence") (named ((codes "length_width", codes "u8") ∷ (codes "length_range", length_range_name) ∷ (codes "elements", codes "String") ∷ []))
+    (both byte_parts (both length_range_parts (both text_parts none)))
+
+abbrev pub tuple_variant : Parts
+tuple_variant = defined (codes "Definition__Tuple") (named ((codes "elements", texts_name) ∷ [])) (both texts_parts none)
+
+abbrev pub enum_variant : Parts
+enum_variant = defined (codes "Definition__Enum") (named ((codes "tag_width", codes "u8") ∷ (codes "variants", variants_name) ∷ [])) (both byte_parts (both variants_parts none))
+
+abbrev pub struct_variant : Parts
+struct_variant = defined (codes "Definition__Struct") (named ((codes "fields", codes "Fields") ∷ [])) (both fields_parts none)
+
+abbrev pub definition_variants : Described
+definition_variants = variants 1
+    ((pos 0, codes "Primitive", codes "Definition__Primitive") ∷ (pos 1, codes "Sequence", codes "Definition__Sequence") ∷ (pos 2, codes "Tuple", codes "Definition__Tuple")
+    ∷ (pos 3, codes "Enum", codes "Definition__Enum") ∷ (pos 4, codes "Struct", codes "Definition__Struct") ∷ [])
+
+abbrev pub definition_parts : Parts
+definition_parts = defined (codes "Definition") definition_variants (both primitive_variant (both sequence_variant (both tuple_variant (both enum_variant struct_variant))))
+
+-- ---- containers
+
+abbrev pub map_name : List ℕ
+map_name = applied_to_two (codes "BTreeMap<") (codes "String") (codes "Definition")
+
+abbrev pub definition_map_parts : Parts
+definition_map_parts = map_parts (codes "BTreeMap<") (codes "String") (codes "Definition") text_parts definition_parts
+
+abbrev pub container_parts : Parts
+container_parts =
+    defined (codes "BorshSchemaContainer") (named ((codes "declaration", codes "String") ∷ (codes "definitions", map_name) ∷ []))
+    (both text_parts (both definition_map_parts none))
