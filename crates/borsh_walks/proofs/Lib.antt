@@ -1,11 +1,14 @@
 pub mod Laws
 pub mod Variants
+pub mod Names
+pub mod Tables
+pub mod Measure
 pub mod SizeWalk
-pub mod SizeMeasure
+pub mod Counting
+pub mod SizeExits
 pub mod SizeDue
 pub mod SizeStands
 pub mod ZeroWalk
-pub mod SpotMeasure
 pub mod ZeroGlue
 pub mod RulesLaws
 pub mod RulesDue

@@ -11,24 +11,20 @@ use Rattle.borsh_walks.specs.Container.{Shape, Among, first, later, Rule, Breaks
 use Rattle.borsh_walks.specs.Definitions.{shape_of}
 use Rattle.borsh_walks.specs.Counts.{raised_for}
 use Rattle.borsh_walks.specs.SizeAnswer.{distinct_none, distinct_more}
-use Rattle.borsh_walks.specs.ZeroAnswer.{zero_mark, ZeroTable}
+use Rattle.borsh_walks.specs.ZeroAnswer.{ZeroTable}
+use Rattle.borsh_walks.specs.Tables.{mark_of}
 use Rattle.borsh_walks.specs.RulesAnswer.{checked_element, ElementMarked}
 use Rattle.borsh_walks.specs.RulesState.{RulesState, AllSpots, spot_shape, waiting}
 use Rattle.borsh_walks.specs.declared.counted.Question.TheVariants.{Zero as ZeroQuestion, Rules}
 use Rattle.borsh_walks.specs.declared.counted.Expansions.{Expansions}
 use Rattle.borsh_walks.specs.declared.zero.Spot.{Spot}
 use Rattle.borsh_walks.proofs.Laws.{one_definition}
-use Rattle.borsh_walks.proofs.SizeMeasure.{raised-more, next_below}
-use Rattle.borsh_walks.proofs.SizeWalk.{name_cases, among_left, among_append, among_get, among_one}
-use Rattle.borsh_walks.proofs.ZeroWalk.{Changed, still}
-use Rattle.borsh_walks.proofs.ZeroGlue.{has_mark}
+use Rattle.borsh_walks.proofs.Names.{next_below, among_get, among_append, among_left, among_right, among_one, name_cases}
+use Rattle.borsh_walks.proofs.Tables.{Updated, still, marks_none, has_mark}
+use Rattle.borsh_walks.proofs.Counting.{raised-more}
 
 pub both_more : (j k : ℕ) (a b e : Expansions) → a ≡ raised_for Rules j (raised_for ZeroQuestion k e) → b ≡ raised_for Rules 1 a → b ≡ raised_for ZeroQuestion k (raised_for Rules (suc j) e)
 both_more j k a b e p q = q ∙ ap (λ s. raised_for Rules 1 s) p ∙ ap (λ s. raised_for ZeroQuestion k (record e { rules = s })) (raised-more e.rules j)
-
-among_right : {x : List ℕ} (xs ys : List (List ℕ)) → Among x ys → Among x (xs ++ ys)
-among_right [] ys a = a
-among_right (y ∷ xs) ys a = later (among_right xs ys a)
 
 waiting_old : {x : List ℕ} (fs : List Spot) (g : Spot) → Among x (waiting fs) → Among x (waiting (fs ++ g ∷ []))
 waiting_old [] g a = elim a [ ]
@@ -47,7 +43,7 @@ module _ (C : List ℕ → Option Shape) (root : List ℕ) where
   spots_snoc (f ∷ fs) g a h = (a.0, spots_snoc fs g a.1 h)
 
   -- a name is seen: it is reached, has a definition and keeps its rules
-  pub rules_visit : {name : List ℕ} {seen sn : BTreeMap (Bor (List ℕ)) Bool} {way wn : List Spot} {zeros zn : BTreeMap (Bor (List ℕ)) Bool} (g : Spot) → RulesState C root (name ∷ []) seen way zeros → Reached C root name → zero_mark seen name ≡ None → C name ≡ Some (spot_shape g) → ((r : Rule) → Breaks C r name → ⊥) → ZeroTable C zn → ElementMarked C (spot_shape g) zeros zn → Changed C (zero_mark seen) (zero_mark sn) name true → btree_map_len sn ≡ suc (btree_map_len seen) → g.name.now ≡ name → g.next ≡ 0 → wn ≡ way ++ g ∷ [] → RulesState C root [] sn wn zn
+  pub rules_visit : {name : List ℕ} {seen sn : BTreeMap (Bor (List ℕ)) Bool} {way wn : List Spot} {zeros zn : BTreeMap (Bor (List ℕ)) Bool} (g : Spot) → RulesState C root (name ∷ []) seen way zeros → Reached C root name → mark_of seen name ≡ None → C name ≡ Some (spot_shape g) → ((r : Rule) → Breaks C r name → ⊥) → ZeroTable C zn → ElementMarked C (spot_shape g) zeros zn → Updated (mark_of seen) (mark_of sn) name true → btree_map_len sn ≡ suc (btree_map_len seen) → g.name.now ≡ name → g.next ≡ 0 → wn ≡ way ++ g ∷ [] → RulesState C root [] sn wn zn
   rules_visit {name} {seen} {sn} {way} {wn} {zeros} {zn} g s reached none c keeps table marks u len at next pushed =
       record {
         names = name ∷ s.names;
@@ -61,9 +57,9 @@ module _ (C : List ℕ → Option Shape) (root : List ℕ) where
         elements = λ x d e a q k f. elements_new x d e a q k f;
       }
     where
-      looked_new : (x : List ℕ) → Among x (name ∷ s.names) → (zero_mark sn x ≡ None → ⊥) × Reached C root x × ((r : Rule) → Breaks C r x → ⊥) × ((d : Shape) × (C x ≡ Some d))
+      looked_new : (x : List ℕ) → Among x (name ∷ s.names) → (mark_of sn x ≡ None → ⊥) × Reached C root x × ((r : Rule) → Breaks C r x → ⊥) × ((d : Shape) × (C x ≡ Some d))
       looked_new x first = ((λ h. let a = u.here in cc), reached, keeps, (spot_shape g, c))
-      looked_new x (later a) = let k = s.looked x a in (still C u x k.0, k.1, k.2, k.3)
+      looked_new x (later a) = let k = s.looked x a in (still u x k.0, k.1, k.2, k.3)
 
       closed_new : (x : List ℕ) (d : Shape) (y : List ℕ) → Among x (name ∷ s.names) → C x ≡ Some d → Among y (mentions d) → Among y (name ∷ s.names) ⊎ Among y [] ⊎ Among y (waiting (way ++ g ∷ []))
       closed_new x d y first e m = inr (inr (waiting_new way g (subst (λ k. Among y (drop k (mentions (spot_shape g)))) (sym next) (subst (λ h. Among y (mentions h)) (one_definition e c) m))))
@@ -73,7 +69,7 @@ module _ (C : List ℕ → Option Shape) (root : List ℕ) where
           at_one first = first
           at_one (later h) = elim h [ ]
 
-      elements_new : (x : List ℕ) (d : Shape) (e : List ℕ) → Among x (name ∷ s.names) → C x ≡ Some d → checked_element d ≡ Some e → (C e ≡ None → ⊥) → zero_mark zn e ≡ None → ⊥
+      elements_new : (x : List ℕ) (d : Shape) (e : List ℕ) → Among x (name ∷ s.names) → C x ≡ Some d → checked_element d ≡ Some e → (C e ≡ None → ⊥) → mark_of zn e ≡ None → ⊥
       elements_new x d e first q k f = marks.1 e (ap checked_element (sym (one_definition q c)) ∙ k) f
       elements_new x d e (later a) q k f = marks.0 e (s.elements x d e a q k f)
 
@@ -99,9 +95,6 @@ drop_some (x ∷ xs) (suc i) e = drop_some xs i e
 
 no_one : {z : List ℕ} → Among z [] → ⊥
 no_one b = elim b [ ]
-
-pub marks_none : (m : BTreeMap (Bor (List ℕ)) Bool) → m.entries ≡ [] → (x : List ℕ) → zero_mark m x ≡ None
-marks_none m e x = ap (λ es. lookup (λ k. is_eq (slice_cmp nat_cmp x k.now)) es) e
 
 pub empty_table : (C : List ℕ → Option Shape) (m : BTreeMap (Bor (List ℕ)) Bool) → m.entries ≡ [] → ZeroTable C m
 empty_table C m e = record {
@@ -185,7 +178,7 @@ module _ (C : List ℕ → Option Shape) (root : List ℕ) where
       ]
 
   -- a mention that was seen before
-  pub rules_seen : {seen zeros : BTreeMap (Bor (List ℕ)) Bool} {way : List Spot} (p : List ℕ) → RulesState C root (p ∷ []) seen way zeros → (zero_mark seen p ≡ None → ⊥) → RulesState C root [] seen way zeros
+  pub rules_seen : {seen zeros : BTreeMap (Bor (List ℕ)) Bool} {way : List Spot} (p : List ℕ) → RulesState C root (p ∷ []) seen way zeros → (mark_of seen p ≡ None → ⊥) → RulesState C root [] seen way zeros
   rules_seen {seen} {zeros} {way} p s f = record {
     names = s.names;
     distinct = s.distinct;
@@ -193,7 +186,7 @@ module _ (C : List ℕ → Option Shape) (root : List ℕ) where
     looked = s.looked;
     len = s.len;
     spots = s.spots;
-    closed = λ x d y a q m. elim (s.closed x d y a q m) [ inl b ↦ inl b | inr b ↦ (elim b [ inl c ↦ inl (subst (λ z. Among z s.names) (sym (among_one c)) (s.marked p (has_mark (zero_mark seen p) f).0 (has_mark (zero_mark seen p) f).1)) | inr c ↦ inr (inr c) ]) ];
+    closed = λ x d y a q m. elim (s.closed x d y a q m) [ inl b ↦ inl b | inr b ↦ (elim b [ inl c ↦ inl (subst (λ z. Among z s.names) (sym (among_one c)) (s.marked p (has_mark (mark_of seen p) f).0 (has_mark (mark_of seen p) f).1)) | inr c ↦ inr (inr c) ]) ];
     zero = s.zero;
     elements = s.elements;
   }
@@ -212,8 +205,8 @@ module _ (C : List ℕ → Option Shape) (root : List ℕ) where
     elements = λ x d k a. elim a [ ];
   }
 
-  pub rules_all : {seen zeros : BTreeMap (Bor (List ℕ)) Bool} (way : List Spot) (s : RulesState C root [] seen way zeros) → way ≡ [] → (zero_mark seen root ≡ None → ⊥) → {x : List ℕ} → Reached C root x → Among x s.names
-  rules_all {seen} way s w f stays = s.marked root (has_mark (zero_mark seen root) f).0 (has_mark (zero_mark seen root) f).1
+  pub rules_all : {seen zeros : BTreeMap (Bor (List ℕ)) Bool} (way : List Spot) (s : RulesState C root [] seen way zeros) → way ≡ [] → (mark_of seen root ≡ None → ⊥) → {x : List ℕ} → Reached C root x → Among x s.names
+  rules_all {seen} way s w f stays = s.marked root (has_mark (mark_of seen root) f).0 (has_mark (mark_of seen root) f).1
   rules_all way s w f (onward {y = y} {z = z} d l q a) =
       let go : Among z s.names ⊎ Among z [] ⊎ Among z (waiting way) → Among z s.names =
       elim [ inl b ↦ b | inr b ↦ (elim b [ inl c ↦ absurd (no_one c) | inr c ↦ absurd (no_one (subst (λ l. Among z (waiting l)) w c)) ]) ] in

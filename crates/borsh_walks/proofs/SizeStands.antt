@@ -6,7 +6,7 @@ use Rattle.borsh_walks.specs.declared.definition.Definition.{Definition}
 use Rattle.borsh_walks.specs.Container.{Shape, Among, first, later, needs, PlainSize, sized, PlainSizes, no_sizes, more_sizes, total, Leads, stays, onward, IsOnCycle, Needed, NeededBack}
 use Rattle.borsh_walks.specs.Definitions.{definitions_in}
 use Rattle.borsh_walks.specs.SizeAnswer.{Distinct, distinct_none, distinct_more, HasSize}
-use Rattle.borsh_walks.proofs.SizeMeasure.{distinct_within, key_names, found_among, shape_some}
+use Rattle.borsh_walks.proofs.Names.{distinct_within, key_names, found_among, shape_some}
 
 defined : (o : Option Shape) → (o ≡ None → ⊥) → (d : Shape) × (o ≡ Some d)
 defined None f = absurd (f refl)

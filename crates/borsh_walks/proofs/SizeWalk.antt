@@ -11,9 +11,14 @@ use Rattle.borsh_walks.specs.declared.sizes.Frame.{Frame}
 use Rattle.borsh_walks.specs.declared.sizes.Mark.{Mark}
 use Rattle.borsh_walks.specs.declared.sizes.Mark.TheVariants.{Open, Finished}
 use Rattle.borsh_walks.proofs.Laws.{one_definition, sizes_among, no_cycle, size_partial, sizes_partial, lead_in}
+use Rattle.borsh_walks.proofs.Names.{at_place, at_end, among_get, among_append, among_left, among_one, other_one, name_cases}
+use Rattle.borsh_walks.proofs.Tables.{Updated, still}
 
 abbrev pub shape : Frame → Shape
 shape f = shape_of f.definition.now
+
+abbrev pub next_of : Frame → ℕ
+next_of f = f.next
 
 -- ---- sizes one after another
 pub total_is : (d : Shape) (ns : List ℕ) → total d ns ≡ finished d (gathered_of d ns)
@@ -64,56 +69,11 @@ gathered-zeros (sequence w lo hi e) ns k = sum-zeros ns k
 gathered-zeros (parts ps) ns k = sum-zeros ns k
 gathered-zeros (choice w vs) ns k = greatest-zeros ns k
 
--- ---- places in a list
-pub at_place : (bs cs : List (List ℕ)) {p : List ℕ} → slice_get (bs ++ cs) (length bs) ≡ Some p → (ds : List (List ℕ)) × (cs ≡ p ∷ ds)
-at_place [] [] e = cc
-at_place [] (c ∷ cs) {p} e = let q : c ≡ p = cc in (cs, ap (λ x. x ∷ cs) q)
-at_place (b ∷ bs) cs e = at_place bs cs e
-
-pub at_end : (bs cs : List (List ℕ)) → slice_get (bs ++ cs) (length bs) ≡ None → cs ≡ []
-at_end [] [] e = refl
-at_end [] (c ∷ cs) e = cc
-at_end (b ∷ bs) cs e = at_end bs cs e
-
-pub among_get : {p : List ℕ} (xs : List (List ℕ)) (i : ℕ) → slice_get xs i ≡ Some p → Among p xs
-among_get [] i e = cc
-among_get {p} (x ∷ xs) zero e = let q : p ≡ x = cc in subst (λ y. Among p (y ∷ xs)) q first
-among_get (x ∷ xs) (suc i) e = later (among_get xs i e)
-
-pub among_append : {x : List ℕ} (xs ys : List (List ℕ)) → Among x (xs ++ ys) → Among x xs ⊎ Among x ys
-among_append [] ys a = inr a
-among_append (y ∷ xs) ys first = inl first
-among_append {x} (y ∷ xs) ys (later a) =
-    let go : Among x xs ⊎ Among x ys → Among x (y ∷ xs) ⊎ Among x ys = elim [ inl b ↦ inl (later b) | inr b ↦ inr b ] in go (among_append xs ys a)
-
-pub among_one : {x y : List ℕ} → Among x (y ∷ []) → x ≡ y
-among_one first = refl
-among_one (later a) = elim a [ ]
-
-pub among_left : {x : List ℕ} (xs ys : List (List ℕ)) → Among x xs → Among x (xs ++ ys)
-among_left (y ∷ xs) ys first = first
-among_left (y ∷ xs) ys (later a) = later (among_left xs ys a)
-among_left [] ys a = elim a [ ]
-
-pub name_cases : (x y : List ℕ) → (x ≡ y) ⊎ (x ≡ y → ⊥)
-name_cases [] [] = inl refl
-name_cases [] (b ∷ y) = inr (λ e. cc)
-name_cases (a ∷ x) [] = inr (λ e. cc)
-name_cases (a ∷ x) (b ∷ y) =
-    let Goal : Type 0 = (a ∷ x ≡ b ∷ y) ⊎ (a ∷ x ≡ b ∷ y → ⊥) in
-    let go : (x ≡ y) ⊎ (x ≡ y → ⊥) → (a ≡ b) ⊎ (a ≡ b → ⊥) → Goal = λ h k.
-    elim k [ inl e ↦ elim h [ inl f ↦ inl cc | inr g ↦ inr (λ q. g cc) ] | inr g ↦ inr (λ q. g cc) ] in
-    go (name_cases x y) (cases_eq a b)
-
 pub gathered-none : (d : Shape) → gathered_of d [] ≡ 0
 gathered-none (primitive n) = refl
 gathered-none (sequence w lo hi e) = refl
 gathered-none (parts ps) = refl
 gathered-none (choice w vs) = refl
-
-pub other_one : {x y : List ℕ} {ys : List (List ℕ)} → (x ≡ y → ⊥) → Among x (y ∷ ys) → Among x ys
-other_one f first = absurd (f refl)
-other_one f (later a) = a
 
 -- ---- the walk
 module _ (C : List ℕ → Option Shape) where
@@ -268,10 +228,6 @@ module _ (C : List ℕ → Option Shape) where
     pub marked : (x : List ℕ) (m : Mark) → T x ≡ Some m → Among x L
     pub looked : (x : List ℕ) → Among x L → (T x ≡ None → ⊥) × Needed C root x × ((d : Shape) × (C x ≡ Some d))
 
-  pub record Updated (T U : List ℕ → Option Mark) (p : List ℕ) (m : Mark) : Type 0 where
-    pub here : U p ≡ Some m
-    pub others : (x : List ℕ) → (x ≡ p → ⊥) → U x ≡ T x
-
   -- the next part is finished
   pub step_add : {root : List ℕ} {T : List ℕ → Option Mark} {fs : List Frame} {f g : Frame} {L : List (List ℕ)} (p : List ℕ) (n : ℕ) → State root T fs f L → slice_get (needs (shape f)) f.next ≡ Some p → T p ≡ Some (Finished n) → g.name ≡ f.name → g.definition ≡ f.definition → g.next ≡ f.next + 1 → g.gathered ≡ gathered_with (shape f) f.gathered n → State root T fs g L
   step_add {root} {T} {fs} {f} {g} {L} p n s e t same_name same_definition next made =
@@ -322,12 +278,9 @@ module _ (C : List ℕ → Option Shape) where
   push_marked : {T U : List ℕ → Option Mark} {p : List ℕ} {m : Mark} {L : List (List ℕ)} → Updated T U p m → ((x : List ℕ) (k : Mark) → T x ≡ Some k → Among x L) → (x : List ℕ) (k : Mark) → U x ≡ Some k → Among x (p ∷ L)
   push_marked {p = p} {L = L} u o x k h = elim (name_cases x p) [ inl q ↦ subst (λ y. Among y (p ∷ L)) (sym q) first | inr q ↦ later (o x k (sym (u.others x q) ∙ h)) ]
 
-  still_marked : {T U : List ℕ → Option Mark} {p : List ℕ} {m : Mark} → Updated T U p m → (x : List ℕ) → (T x ≡ None → ⊥) → U x ≡ None → ⊥
-  still_marked {T} {U} {p} u x f h = elim (name_cases x p) [ inl q ↦ (let a = u.here in let b = ap U q in cc) | inr q ↦ f (sym (u.others x q) ∙ h) ]
-
   push_looked : {T U : List ℕ → Option Mark} {p : List ℕ} {m : Mark} {root : List ℕ} {L : List (List ℕ)} → Updated T U p m → Needed C root p → ((d : Shape) × (C p ≡ Some d)) → ((x : List ℕ) → Among x L → (T x ≡ None → ⊥) × Needed C root x × ((d : Shape) × (C x ≡ Some d))) → (x : List ℕ) → Among x (p ∷ L) → (U x ≡ None → ⊥) × Needed C root x × ((d : Shape) × (C x ≡ Some d))
   push_looked u r c o x first = ((λ h. let a = u.here in cc), r, c)
-  push_looked u r c o x (later a) = let k = o x a in (still_marked u x k.0, k.1, k.2)
+  push_looked u r c o x (later a) = let k = o x a in (still u x k.0, k.1, k.2)
 
   -- the next part is new
   pub step_push : {root : List ℕ} {T U : List ℕ → Option Mark} {fs : List Frame} {f g : Frame} {L : List (List ℕ)} (p : List ℕ) → State root T fs f L → slice_get (needs (shape f)) f.next ≡ Some p → T p ≡ None → C p ≡ Some (shape g) → Updated T U p Open → g.name.now ≡ p → g.next ≡ 0 → g.gathered ≡ 0 → State root U (fs ++ f ∷ []) g (p ∷ L)
@@ -396,7 +349,7 @@ module _ (C : List ℕ → Option Shape) where
           | inr r ↦ keeps y (s.closed x k d (sym (u.others x r) ∙ h) p y a)
         ];
         marked = λ x m h. elim (name_cases x f.name.now) [ inl r ↦ s.marked x Open (ap T r ∙ open_now) | inr r ↦ s.marked x m (sym (u.others x r) ∙ h) ];
-        looked = λ x a. let k = s.looked x a in (still_marked u x k.0, k.1, k.2);
+        looked = λ x a. let k = s.looked x a in (still u x k.0, k.1, k.2);
       }
 
   -- the name above goes on

@@ -8,7 +8,8 @@ use Rattle.borsh_walks.specs.SizeAnswer.{Distinct, distinct_more}
 use Rattle.borsh_walks.specs.ZeroAnswer.{asked}
 use Rattle.borsh_walks.specs.declared.zero.Spot.{Spot}
 use Rattle.borsh_walks.proofs.Laws.{one_definition}
-use Rattle.borsh_walks.proofs.SizeWalk.{name_cases, among_get, among_append, among_one, other_one, at_place, at_end}
+use Rattle.borsh_walks.proofs.Names.{at_place, at_end, among_get, among_append, among_one, other_one, name_cases}
+use Rattle.borsh_walks.proofs.Tables.{Updated, still}
 
 abbrev pub shape : Spot → Shape
 shape f = shape_of f.definition.now
@@ -122,10 +123,6 @@ module _ (C : List ℕ → Option Shape) where
       turn (later first) g = first
       turn (later (later b)) g = later (g (later b))
 
-  pub record Changed (T U : List ℕ → Option Bool) (p : List ℕ) (b : Bool) : Type 0 where
-    pub here : U p ≡ Some b
-    pub others : (x : List ℕ) → (x ≡ p → ⊥) → U x ≡ T x
-
   -- ---- what the loop keeps: T marks the names, fs is the way down from `name` and f its last, L the names looked at
   pub record ZeroState (name : List ℕ) (T : List ℕ → Option Bool) (fs : List Spot) (f : Spot) (L : List (List ℕ)) : Type 0 where
     pub chain : ZeroChain name fs f.name.now
@@ -141,10 +138,7 @@ module _ (C : List ℕ → Option Shape) where
   in_push {x} {L = L} first q g = subst (λ z. Among x (z ∷ L)) q first
   in_push (later a) q g = later (g a)
 
-  pub still : {T U : List ℕ → Option Bool} {p : List ℕ} {b : Bool} → Changed T U p b → (x : List ℕ) → (T x ≡ None → ⊥) → U x ≡ None → ⊥
-  still {T} {U} {p} u x f h = elim (name_cases x p) [ inl q ↦ (let a = u.here in let b = ap U q in cc) | inr q ↦ f (sym (u.others x q) ∙ h) ]
-
-  pub zero_start : {name : List ℕ} {T U : List ℕ → Option Bool} {f : Spot} {L : List (List ℕ)} → Distinct L → ((x : List ℕ) (b : Bool) → T x ≡ Some b → Among x L) → ((x : List ℕ) → Among x L → (T x ≡ None → ⊥) × ((d : Shape) × (C x ≡ Some d))) → ((x : List ℕ) → T x ≡ Some true → Zero C x) → ((x : List ℕ) → T x ≡ Some false → Zero C x → ⊥) → T name ≡ None → Changed T U name false → C name ≡ Some (shape f) → f.name.now ≡ name → f.next ≡ 0 → ZeroState name U [] f (name ∷ L)
+  pub zero_start : {name : List ℕ} {T U : List ℕ → Option Bool} {f : Spot} {L : List (List ℕ)} → Distinct L → ((x : List ℕ) (b : Bool) → T x ≡ Some b → Among x L) → ((x : List ℕ) → Among x L → (T x ≡ None → ⊥) × ((d : Shape) × (C x ≡ Some d))) → ((x : List ℕ) → T x ≡ Some true → Zero C x) → ((x : List ℕ) → T x ≡ Some false → Zero C x → ⊥) → T name ≡ None → Updated T U name false → C name ≡ Some (shape f) → f.name.now ≡ name → f.next ≡ 0 → ZeroState name U [] f (name ∷ L)
   zero_start {name} {T} {U} {f} {L} distinct marked looked zero_is not_zero t u c at next = record {
     chain = sym at;
     ok = record { defined = ap C at ∙ c; before = []; after = asked (shape f); split = refl; place = next; done = λ x a. elim a [ ] };
@@ -156,7 +150,7 @@ module _ (C : List ℕ → Option Shape) where
     looked = λ x a. looked_new u (shape f, c) looked x a;
   }
     where
-      looked_new : {T U : List ℕ → Option Bool} {p : List ℕ} {b : Bool} {L : List (List ℕ)} → Changed T U p b → ((d : Shape) × (C p ≡ Some d)) → ((x : List ℕ) → Among x L → (T x ≡ None → ⊥) × ((d : Shape) × (C x ≡ Some d))) → (x : List ℕ) → Among x (p ∷ L) → (U x ≡ None → ⊥) × ((d : Shape) × (C x ≡ Some d))
+      looked_new : {T U : List ℕ → Option Bool} {p : List ℕ} {b : Bool} {L : List (List ℕ)} → Updated T U p b → ((d : Shape) × (C p ≡ Some d)) → ((x : List ℕ) → Among x L → (T x ≡ None → ⊥) × ((d : Shape) × (C x ≡ Some d))) → (x : List ℕ) → Among x (p ∷ L) → (U x ≡ None → ⊥) × ((d : Shape) × (C x ≡ Some d))
       looked_new u c o x first = ((λ h. let a = u.here in cc), c)
       looked_new u c o x (later a) = let k = o x a in (still u x k.0, k.1)
 
@@ -191,7 +185,7 @@ module _ (C : List ℕ → Option Shape) where
       last_or_done o p z x (inr a) = subst (λ y. Zero C y) (sym (among_one a)) z
 
   -- the next part is new
-  pub zero_push : {name : List ℕ} {T U : List ℕ → Option Bool} {fs : List Spot} {f g : Spot} {L : List (List ℕ)} (p : List ℕ) → ZeroState name T fs f L → slice_get (asked (shape f)) f.next ≡ Some p → T p ≡ None → C p ≡ Some (shape g) → Changed T U p false → g.name.now ≡ p → g.next ≡ 0 → ZeroState name U (fs ++ f ∷ []) g (p ∷ L)
+  pub zero_push : {name : List ℕ} {T U : List ℕ → Option Bool} {fs : List Spot} {f g : Spot} {L : List (List ℕ)} (p : List ℕ) → ZeroState name T fs f L → slice_get (asked (shape f)) f.next ≡ Some p → T p ≡ None → C p ≡ Some (shape g) → Updated T U p false → g.name.now ≡ p → g.next ≡ 0 → ZeroState name U (fs ++ f ∷ []) g (p ∷ L)
   zero_push {name} {T} {U} {fs} {f} {g} {L} p s e t c u at next = record {
     chain = subst (λ x. ZeroChain name (fs ++ f ∷ []) x) (sym at) (zchain_snoc name fs f p s.chain s.ok e);
     ok = record { defined = ap C at ∙ c; before = []; after = asked (shape g); split = refl; place = next; done = λ x a. elim a [ ] };
@@ -206,7 +200,7 @@ module _ (C : List ℕ → Option Shape) where
     looked = λ x a. looked_new u (shape g, c) s.looked x a;
   }
     where
-      looked_new : {T U : List ℕ → Option Bool} {p : List ℕ} {b : Bool} {L : List (List ℕ)} → Changed T U p b → ((d : Shape) × (C p ≡ Some d)) → ((x : List ℕ) → Among x L → (T x ≡ None → ⊥) × ((d : Shape) × (C x ≡ Some d))) → (x : List ℕ) → Among x (p ∷ L) → (U x ≡ None → ⊥) × ((d : Shape) × (C x ≡ Some d))
+      looked_new : {T U : List ℕ → Option Bool} {p : List ℕ} {b : Bool} {L : List (List ℕ)} → Updated T U p b → ((d : Shape) × (C p ≡ Some d)) → ((x : List ℕ) → Among x L → (T x ≡ None → ⊥) × ((d : Shape) × (C x ≡ Some d))) → (x : List ℕ) → Among x (p ∷ L) → (U x ≡ None → ⊥) × ((d : Shape) × (C x ≡ Some d))
       looked_new u c o x first = ((λ h. let a = u.here in cc), c)
       looked_new u c o x (later a) = let k = o x a in (still u x k.0, k.1)
 
@@ -217,7 +211,7 @@ module _ (C : List ℕ → Option Shape) where
       zeroed (shape f) (asked (shape f)) o.defined (asks_or (zero_asks (shape f)) some) (λ p a. o.done p (subst (λ l. Among p l) whole a))
 
   -- the last name is of zero size, and the one above goes on
-  pub zero_pop : {name : List ℕ} {T U : List ℕ → Option Bool} {fs : List Spot} {f h : Spot} {L : List (List ℕ)} → ZeroState name T (fs ++ h ∷ []) f L → (zero_asks (shape f) ≡ None → ⊥) → slice_get (asked (shape f)) f.next ≡ None → Changed T U f.name.now true → ZeroState name U fs h L
+  pub zero_pop : {name : List ℕ} {T U : List ℕ → Option Bool} {fs : List Spot} {f h : Spot} {L : List (List ℕ)} → ZeroState name T (fs ++ h ∷ []) f L → (zero_asks (shape f) ≡ None → ⊥) → slice_get (asked (shape f)) f.next ≡ None → Updated T U f.name.now true → ZeroState name U fs h L
   zero_pop {name} {T} {U} {fs} {f} {h} {L} s some e u =
       let r = zchain_unsnoc name fs h f.name.now s.chain in
       let z = spot_zero s.ok some e in
@@ -262,7 +256,7 @@ module _ (C : List ℕ → Option Shape) where
   zero_part_missing {f = f} p s e c z = undefined_is c (zero_part (shape f) s.ok.defined (among_get (asked (shape f)) f.next e) z)
 
   -- the name asked for is of zero size
-  pub zero_end : {name : List ℕ} {T U : List ℕ → Option Bool} {f : Spot} {L : List (List ℕ)} → ZeroState name T [] f L → (zero_asks (shape f) ≡ None → ⊥) → slice_get (asked (shape f)) f.next ≡ None → Changed T U f.name.now true → Zero C name × ((x : List ℕ) → U x ≡ Some true → Zero C x) × ((x : List ℕ) → U x ≡ Some false → Zero C x → ⊥) × ((x : List ℕ) (b : Bool) → U x ≡ Some b → Among x L) × ((x : List ℕ) → Among x L → (U x ≡ None → ⊥) × ((d : Shape) × (C x ≡ Some d)))
+  pub zero_end : {name : List ℕ} {T U : List ℕ → Option Bool} {f : Spot} {L : List (List ℕ)} → ZeroState name T [] f L → (zero_asks (shape f) ≡ None → ⊥) → slice_get (asked (shape f)) f.next ≡ None → Updated T U f.name.now true → Zero C name × ((x : List ℕ) → U x ≡ Some true → Zero C x) × ((x : List ℕ) → U x ≡ Some false → Zero C x → ⊥) × ((x : List ℕ) (b : Bool) → U x ≡ Some b → Among x L) × ((x : List ℕ) → Among x L → (U x ≡ None → ⊥) × ((d : Shape) × (C x ≡ Some d)))
   zero_end {name} {T} {U} {f} {L} s some e u =
       let z = spot_zero s.ok some e in (
         subst (λ y. Zero C y) (sym s.chain) z,

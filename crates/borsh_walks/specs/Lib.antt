@@ -3,6 +3,7 @@ pub mod Definitions
 pub mod Counts
 pub mod Codecs
 pub mod Errors
+pub mod Tables
 pub mod SizeParts
 pub mod SizeAnswer
 pub mod ZeroAnswer

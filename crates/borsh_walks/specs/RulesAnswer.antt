@@ -2,7 +2,7 @@
 use Rattle.std.specs.Prelude.{◌≡◌, ℕ, ◌<◌, ◌≤◌, ◌⊎◌, List, Option, Some, None, string_bytes, ⊤, eqb, ◌&&◌, cond, MatchOption, MatchResult, Result, Bool}
 use Rattle.std.specs.Borrow.{Bor}
 use Rattle.std.specs.BTreeMap.{BTreeMap}
-use Rattle.borsh_walks.specs.ZeroAnswer.{zero_mark}
+use Rattle.borsh_walks.specs.Tables.{mark_of}
 use Rattle.borsh_walks.specs.declared.rules.Broken.{Broken}
 use Rattle.borsh_walks.specs.declared.rules.Broken.TheVariants.{ZeroSized, Wide, Narrow, NotPowerOfTwo, Missing, EmptyRange}
 use Rattle.borsh_walks.specs.declared.error.SchemaContainerValidateError.{SchemaContainerValidateError}
@@ -73,7 +73,7 @@ module _ (C : List ℕ → Option Shape) where
 
   -- what was marked stays marked, and so is an element that was checked, if it is defined
   abbrev pub ElementMarked : Shape → BTreeMap (Bor (List ℕ)) Bool → BTreeMap (Bor (List ℕ)) Bool → Type 0
-  ElementMarked d t u = ((x : List ℕ) → (zero_mark t x ≡ None → ⊥) → zero_mark u x ≡ None → ⊥) × ((e : List ℕ) → checked_element d ≡ Some e → (C e ≡ None → ⊥) → zero_mark u e ≡ None → ⊥)
+  ElementMarked d t u = ((x : List ℕ) → (mark_of t x ≡ None → ⊥) → mark_of u x ≡ None → ⊥) × ((e : List ℕ) → checked_element d ≡ Some e → (C e ≡ None → ⊥) → mark_of u e ≡ None → ⊥)
 
   module _ (root : List ℕ) where
     -- the error names a reached name and a rule that it breaks

@@ -6,7 +6,8 @@ use Rattle.borsh_walks.specs.Container.{Shape, Among, Rule, Breaks, Reached, men
 use Rattle.borsh_walks.specs.Definitions.{shape_of}
 use Rattle.borsh_walks.specs.Counts.{counts_of, definition_at, definition_count, definitions_of, raised_for}
 use Rattle.borsh_walks.specs.SizeAnswer.{Distinct}
-use Rattle.borsh_walks.specs.ZeroAnswer.{zero_mark, ZeroTable}
+use Rattle.borsh_walks.specs.ZeroAnswer.{ZeroTable}
+use Rattle.borsh_walks.specs.Tables.{mark_of}
 use Rattle.borsh_walks.specs.RulesAnswer.{RulesFault, checked_element}
 use Rattle.borsh_walks.specs.declared.counted.Counted.{Counted}
 use Rattle.borsh_walks.specs.declared.counted.Expansions.{Expansions}
@@ -16,6 +17,9 @@ use Rattle.borsh_walks.specs.declared.error.SchemaContainerValidateError.{Schema
 
 abbrev pub spot_shape : Spot → Shape
 spot_shape f = shape_of f.definition.now
+
+abbrev pub spot_next : Spot → ℕ
+spot_next f = f.next
 
 -- the mentions that wait on the way
 abbrev pub waiting : List Spot → List (List ℕ)
@@ -31,13 +35,13 @@ module _ (C : List ℕ → Option Shape) (root : List ℕ) where
   pub record RulesState (extra : List (List ℕ)) (seen : BTreeMap (Bor (List ℕ)) Bool) (way : List Spot) (zeros : BTreeMap (Bor (List ℕ)) Bool) : Type 0 where
     pub names : List (List ℕ)
     pub distinct : Distinct names
-    pub marked : (x : List ℕ) (b : Bool) → zero_mark seen x ≡ Some b → Among x names
-    pub looked : (x : List ℕ) → Among x names → (zero_mark seen x ≡ None → ⊥) × Reached C root x × ((r : Rule) → Breaks C r x → ⊥) × ((d : Shape) × (C x ≡ Some d))
+    pub marked : (x : List ℕ) (b : Bool) → mark_of seen x ≡ Some b → Among x names
+    pub looked : (x : List ℕ) → Among x names → (mark_of seen x ≡ None → ⊥) × Reached C root x × ((r : Rule) → Breaks C r x → ⊥) × ((d : Shape) × (C x ≡ Some d))
     pub len : btree_map_len seen ≡ length names
     pub spots : AllSpots way
     pub closed : (x : List ℕ) (d : Shape) (y : List ℕ) → Among x names → C x ≡ Some d → Among y (mentions d) → Among y names ⊎ Among y extra ⊎ Among y (waiting way)
     pub zero : ZeroTable C zeros
-    pub elements : (x : List ℕ) (d : Shape) (e : List ℕ) → Among x names → C x ≡ Some d → checked_element d ≡ Some e → (C e ≡ None → ⊥) → zero_mark zeros e ≡ None → ⊥
+    pub elements : (x : List ℕ) (d : Shape) (e : List ℕ) → Among x names → C x ≡ Some d → checked_element d ≡ Some e → (C e ≡ None → ⊥) → mark_of zeros e ≡ None → ⊥
 
 -- `rules` and `zero` have counted j and k names
 abbrev pub IsBothCount : Counted → ℕ → ℕ → Expansions → Type 0
@@ -48,7 +52,7 @@ RulesCounted old new s t u v r = (base : Expansions) → IsBothCount old (btree_
 
 -- the name is seen from now on, and what was seen still is
 abbrev pub HasSeen : List ℕ → BTreeMap (Bor (List ℕ)) Bool → BTreeMap (Bor (List ℕ)) Bool → Type 0
-HasSeen name s t = ((x : List ℕ) → (zero_mark s x ≡ None → ⊥) → zero_mark t x ≡ None → ⊥) × (zero_mark t name ≡ None → ⊥) × (btree_map_len t ≡ btree_map_len s + 1)
+HasSeen name s t = ((x : List ℕ) → (mark_of s x ≡ None → ⊥) → mark_of t x ≡ None → ⊥) × (mark_of t name ≡ None → ⊥) × (btree_map_len t ≡ btree_map_len s + 1)
 
 -- the name was put on the way
 abbrev pub HasPushed : Counted → List Spot → List Spot → List ℕ → Type 0

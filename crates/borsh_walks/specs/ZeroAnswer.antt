@@ -5,28 +5,24 @@ use Rattle.borsh_walks.specs.declared.counted.Expansions.{Expansions}
 use Rattle.borsh_walks.specs.declared.counted.Question.TheVariants.{Zero as ZeroQuestion}
 use Rattle.borsh_walks.specs.Counts.{counts_of, definition_count, raised_for}
 use Rattle.std.specs.Borrow.{Bor}
-use Rattle.std.specs.BTreeMap.{BTreeMap, get_by, btree_map_len}
-use Rattle.std.specs.Cmp.Lexicographic.{slice_cmp}
-use Rattle.std.specs.Ordering.{nat_cmp}
+use Rattle.std.specs.BTreeMap.{BTreeMap, btree_map_len}
 use Rattle.borsh_walks.specs.Container.{Shape, Among, Zero, zero_asks}
 use Rattle.borsh_walks.specs.SizeAnswer.{Distinct}
+use Rattle.borsh_walks.specs.Tables.{mark_of}
 
 -- the parts that a definition asks for, none where it is never of zero size
 abbrev pub asked : Shape → List (List ℕ)
 asked d = unwrap_or (zero_asks d) []
 
-abbrev pub zero_mark : BTreeMap (Bor (List ℕ)) Bool → List ℕ → Option Bool
-zero_mark m x = get_by (λ k. slice_cmp nat_cmp x k.now) m
-
 -- what a table of zero size keeps between two walks: `true` marks a name of zero size, `false` one that is not; the names of its keys are defined
 pub record ZeroTable (C : List ℕ → Option Shape) (t : BTreeMap (Bor (List ℕ)) Bool) : Type 0 where
   pub names : List (List ℕ)
   pub distinct : Distinct names
-  pub marked : (x : List ℕ) (b : Bool) → zero_mark t x ≡ Some b → Among x names
-  pub looked : (x : List ℕ) → Among x names → (zero_mark t x ≡ None → ⊥) × ((d : Shape) × (C x ≡ Some d))
+  pub marked : (x : List ℕ) (b : Bool) → mark_of t x ≡ Some b → Among x names
+  pub looked : (x : List ℕ) → Among x names → (mark_of t x ≡ None → ⊥) × ((d : Shape) × (C x ≡ Some d))
   pub len : btree_map_len t ≡ length names
-  pub zero_is : (x : List ℕ) → zero_mark t x ≡ Some true → Zero C x
-  pub not_zero_is : (x : List ℕ) → zero_mark t x ≡ Some false → Zero C x → ⊥
+  pub zero_is : (x : List ℕ) → mark_of t x ≡ Some true → Zero C x
+  pub not_zero_is : (x : List ℕ) → mark_of t x ≡ Some false → Zero C x → ⊥
 
 -- `zero` has counted the names of the table, beside the counts `base`
 abbrev pub IsZeroCount : Counted → ℕ → Expansions → Type 0
@@ -38,4 +34,4 @@ ZeroCounted old new t u r = (base : Expansions) → IsZeroCount old (btree_map_l
 
 -- what was marked stays marked, and so is the name from now on, if it is defined
 abbrev pub ZeroMarked : (List ℕ → Option Shape) → List ℕ → BTreeMap (Bor (List ℕ)) Bool → BTreeMap (Bor (List ℕ)) Bool → Type 0
-ZeroMarked C name t u = ((x : List ℕ) → (zero_mark t x ≡ None → ⊥) → zero_mark u x ≡ None → ⊥) × ((C name ≡ None → ⊥) → zero_mark u name ≡ None → ⊥)
+ZeroMarked C name t u = ((x : List ℕ) → (mark_of t x ≡ None → ⊥) → mark_of u x ≡ None → ⊥) × ((C name ≡ None → ⊥) → mark_of u name ≡ None → ⊥)

@@ -3,7 +3,8 @@ ghost use Rattle.borsh_walks.specs.Container.{IsValid, Reached};
 ghost use Rattle.borsh_walks.specs.Counts.{counts_of, definition_count, definitions_of, LooksOn, raised_for};
 ghost use Rattle.borsh_walks.specs.RulesAnswer.{IsRulesDue, IsRulesError, RulesFault, IsWidth, KeepsWidths, BreaksShape, BreaksWidth, ElementMarked, RuleAnswer, rule_of, checked_element};
 ghost use Rattle.borsh_walks.specs.Definitions.{shape_of};
-ghost use Rattle.borsh_walks.specs.ZeroAnswer.{zero_mark, ZeroCounted, ZeroTable};
+ghost use Rattle.borsh_walks.specs.ZeroAnswer.{ZeroCounted, ZeroTable};
+ghost use Rattle.borsh_walks.specs.Tables.{mark_of};
 ghost use Rattle.borsh_walks.specs.RulesState.{IsVisited, RulesCounted, RulesCountedOnYes, RulesState};
 ghost use Rattle.borsh_walks.specs.declared.counted.Question.TheVariants.{Rules, Zero};
 ghost use Rattle.std.specs.Prelude.{◌≡◌, ◌∷◌, [], List, None, ℕ, ◌≤◌, IfOk, MatchResult, MatchOption, OnOk, option_map};
@@ -157,8 +158,8 @@ fn visit<'a>(
 ) -> Result<(), SchemaContainerValidateError>
     requires { ZeroTable (definitions_of counted.old) table.old }
     ensures same { LooksOn counted.old counted.new }
-    ensures visited { (root : List ℕ) → RulesState (definitions_of counted.old) root (name.now ∷ []) seen.old way.old.items table.old → Reached (definitions_of counted.old) root name.now → zero_mark seen.old name.now ≡ None → IsVisited counted.old counted.new name.now seen.old seen.new way.old.items way.new.items table.old table.new root result }
-    ensures counts { (root : List ℕ) → RulesState (definitions_of counted.old) root (name.now ∷ []) seen.old way.old.items table.old → zero_mark seen.old name.now ≡ None → RulesCounted counted.old counted.new seen.old seen.new table.old table.new result }
+    ensures visited { (root : List ℕ) → RulesState (definitions_of counted.old) root (name.now ∷ []) seen.old way.old.items table.old → Reached (definitions_of counted.old) root name.now → mark_of seen.old name.now ≡ None → IsVisited counted.old counted.new name.now seen.old seen.new way.old.items way.new.items table.old table.new root result }
+    ensures counts { (root : List ℕ) → RulesState (definitions_of counted.old) root (name.now ∷ []) seen.old way.old.items table.old → mark_of seen.old name.now ≡ None → RulesCounted counted.old counted.new seen.old seen.new table.old table.new result }
 {
     let Some(definition) = counted.look(Question::Rules, name) else {
         return Err(error_of(alloc, Broken::Missing, name));

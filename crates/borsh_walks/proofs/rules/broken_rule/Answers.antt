@@ -3,8 +3,8 @@ use Rattle.std.specs.BTreeMap.{btree_map_len}
 use Rattle.borsh_walks.specs.Counts.{definitions_of}
 use Rattle.borsh_walks.specs.Container.{Zero}
 use Rattle.borsh_walks.specs.Definitions.{definitions_in, shape_of}
-use Rattle.borsh_walks.proofs.SizeMeasure.{names_within}
 use Rattle.borsh_walks.proofs.RulesLaws.{breaks, breaks_zero, keeps_all}
+use Rattle.borsh_walks.proofs.Names.{names_within}
 use Rattle.borsh_walks.proofs.rules.broken_rule.Goals as goal
 
 pub returns-in-Some-clause-answer : goal.returns-in-Some-clause-answer

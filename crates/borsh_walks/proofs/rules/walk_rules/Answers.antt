@@ -4,17 +4,18 @@ use Rattle.std.specs.BTreeMap.{btree_map_len, get_by_text}
 use Rattle.borsh_walks.specs.Container.{Among, Reached, stays, onward, mentions, IsValid}
 use Rattle.borsh_walks.specs.Counts.{counts_of, definitions_of, raised_for}
 use Rattle.borsh_walks.specs.Definitions.{definitions_in, shape_of}
-use Rattle.borsh_walks.specs.ZeroAnswer.{ZeroTable, zero_mark}
+use Rattle.borsh_walks.specs.ZeroAnswer.{ZeroTable}
+use Rattle.borsh_walks.specs.Tables.{mark_of}
 use Rattle.borsh_walks.specs.RulesAnswer.{RulesFault}
-use Rattle.borsh_walks.specs.RulesState.{RulesState}
+use Rattle.borsh_walks.specs.RulesState.{RulesState, spot_shape, spot_next}
 use Rattle.borsh_walks.specs.declared.counted.Question.TheVariants.{Rules, Zero}
 use Rattle.borsh_walks.specs.declared.counted.Expansions.{Expansions}
 use Rattle.borsh_walks.specs.declared.zero.Spot.{Spot}
-use Rattle.borsh_walks.proofs.SizeMeasure.{names_within}
-use Rattle.borsh_walks.proofs.SpotMeasure.{way_pop, way_take, way_visit, spot_work, spots_rest, spot_work_at}
-use Rattle.borsh_walks.proofs.RulesGlue.{rules_start, rules_pop, rules_take, rules_seen, rules_all, rules_reached, rules_low, empty_table, marks_none}
 use Rattle.borsh_walks.proofs.RulesLaws.{checked_mentioned}
-use Rattle.borsh_walks.proofs.ZeroGlue.{no_items, more_names, has_mark}
+use Rattle.borsh_walks.proofs.Names.{names_within}
+use Rattle.borsh_walks.proofs.Tables.{marks_none, has_mark, no_items, more_names}
+use Rattle.borsh_walks.proofs.Measure.{work, work_at, rests, way_pop, way_take, way_visit}
+use Rattle.borsh_walks.proofs.RulesGlue.{rules_start, rules_pop, rules_take, rules_seen, rules_all, rules_reached, rules_low, empty_table}
 use Rattle.borsh_walks.proofs.rules.walk_rules.Goals as goal
 
 err_is : {E : Type 0} (P : Unit {0} → Type 0) (Q : E → Type 0) (r : Result (Unit {0}) E) (e : E) → IsErr r → IsErrAnd r (λ x. x ≡ e) → Q e → MatchResult r P Q
@@ -71,7 +72,7 @@ loop-spot-smaller-in_default-mentioned_part c =
     let C = definitions_of c.args.counted.now in
     let items : c.loop-spot.way.items ≡ c.pop.new.self.items ++ c.in-Some.spot ∷ [] = c.in-Some.ensures.items in
     let s = subst (λ l. RulesState C c.args.root.now [] c.loop-spot.seen l c.loop-spot.table) items i.state in
-    way_pop mentions _ c.pop.new.self.items c.loop-spot.way.items c.in-Some.spot items (rules_low C c.args.root.now c.pop.new.self.items c.in-Some.spot s)
+    way_pop mentions spot_shape spot_next _ c.pop.new.self.items c.loop-spot.way.items c.in-Some.spot items (rules_low C c.args.root.now c.pop.new.self.items c.in-Some.spot s)
 
 pub loop-spot-preserved-in_default-mentioned_part : goal.loop-spot-preserved-in_default-mentioned_part
 loop-spot-preserved-in_default-mentioned_part c =
@@ -89,7 +90,7 @@ pub loop-spot-smaller : goal.loop-spot-smaller
 loop-spot-smaller c =
     let items : c.loop-spot.way.items ≡ c.pop.new.self.items ++ c.in-Some.spot ∷ [] = c.in-Some.ensures.items in
     let g : Spot = record { name = c.in-Some.spot.name; definition = c.in-Some.spot.definition; next = c.in-Some.spot.next + 1 } in
-    way_take mentions _ c.pop.new.self.items c.loop-spot.way.items c.push.new.self.items c.in-Some.spot g c.in-Some-mentioned_part.part.now items c.in_ok-push.ensures.items (sym c.in-Some-mentioned_part.ensures.part) refl refl
+    way_take mentions spot_shape spot_next _ c.pop.new.self.items c.loop-spot.way.items c.push.new.self.items c.in-Some.spot g c.in-Some-mentioned_part.part.now items c.in_ok-push.ensures.items (sym c.in-Some-mentioned_part.ensures.part) refl refl
 
 pub loop-spot-preserved : goal.loop-spot-preserved
 loop-spot-preserved c =
@@ -119,12 +120,12 @@ loop-spot-smaller-in-Continue-branch-3 c =
     let v = c.in_ok-visit-2.ensures.visited root t' r' n in
     let f = v.2.0 in
     let e : C p ≡ Some (shape_of f.definition.now) = ap (λ m. option_map shape_of (get_by_text m.now p)) (sym i.same.0) ∙ ap (λ o. option_map shape_of o) v.2.3 in
-    let l = more_names C {T = zero_mark c.loop-spot.seen} p _ i.state.distinct (λ x a. let k = i.state.looked x a in (k.0, k.3)) n e in
+    let l = more_names C {T = mark_of c.loop-spot.seen} p _ i.state.distinct (λ x a. let k = i.state.looked x a in (k.0, k.3)) n e in
     let few = names_within c.args.counted.now.map.now (p ∷ i.state.names) l.0 l.1 in
     let room : suc (btree_map_len c.loop-spot.seen) ≤ btree_map_len c.loop-spot.counted.map.now = omega (arith, few, i.state.len, ap (λ m. btree_map_len m.now) i.same.0) in
-    let small = spot_work_at mentions p c.loop-spot.counted.map.now.entries f.definition.now v.2.3 in
-    let step = way_visit mentions (btree_map_len c.loop-spot.counted.map.now) (btree_map_len c.loop-spot.seen) (spot_work mentions c.loop-spot.counted.map.now.entries) (btree_map_len c.visit-then-not-contains_key.new.seen) c.pop.new.self.items c.loop-spot.way.items c.push.new.self.items c.visit-then-not-contains_key.new.way.items c.in-Some.spot g f p items c.in_ok-push.ensures.items v.2.1 (sym c.in-Some-mentioned_part.ensures.part) refl refl v.1.2 room small v.2.2 in
-    subst (λ m. (btree_map_len m.now - btree_map_len c.visit-then-not-contains_key.new.seen) * (2 + spot_work mentions m.now.entries) + spots_rest mentions c.visit-then-not-contains_key.new.way.items < (btree_map_len c.loop-spot.counted.map.now - btree_map_len c.loop-spot.seen) * (2 + spot_work mentions c.loop-spot.counted.map.now.entries) + spots_rest mentions c.loop-spot.way.items) (sym c.in_ok-visit-2.ensures.same.0) step
+    let small = work_at mentions p c.loop-spot.counted.map.now.entries f.definition.now v.2.3 in
+    let step = way_visit mentions spot_shape spot_next (btree_map_len c.loop-spot.counted.map.now) (btree_map_len c.loop-spot.seen) (work mentions c.loop-spot.counted.map.now.entries) (btree_map_len c.visit-then-not-contains_key.new.seen) c.pop.new.self.items c.loop-spot.way.items c.push.new.self.items c.visit-then-not-contains_key.new.way.items c.in-Some.spot g f p items c.in_ok-push.ensures.items v.2.1 (sym c.in-Some-mentioned_part.ensures.part) refl refl v.1.2 room small v.2.2 in
+    subst (λ m. (btree_map_len m.now - btree_map_len c.visit-then-not-contains_key.new.seen) * (2 + work mentions m.now.entries) + rests mentions spot_shape spot_next c.visit-then-not-contains_key.new.way.items < (btree_map_len c.loop-spot.counted.map.now - btree_map_len c.loop-spot.seen) * (2 + work mentions c.loop-spot.counted.map.now.entries) + rests mentions spot_shape spot_next c.loop-spot.way.items) (sym c.in_ok-visit-2.ensures.same.0) step
 
 pub loop-spot-preserved-in-Continue-branch-3 : goal.loop-spot-preserved-in-Continue-branch-3
 loop-spot-preserved-in-Continue-branch-3 c =
@@ -213,7 +214,7 @@ returns-clause-counts c =
       st.zero.distinct,
       (λ x. ((λ a. (st.looked x a).1), all x)),
       (λ x d e r q k. let known = (st.looked e (all e (onward d r q (checked_mentioned d e k)))).3 in
-          let mark = has_mark (zero_mark c.loop-spot.table e) (st.elements x d e (all x r) q k (λ h. let g = known.1 in cc)) in
+          let mark = has_mark (mark_of c.loop-spot.table e) (st.elements x d e (all x r) q k (λ h. let g = known.1 in cc)) in
           st.zero.marked e mark.0 mark.1),
       both_at _ _ _ _ (counts_of c.loop-spot.counted) (counts_of c.args.counted.now) i.looks st.len st.zero.len,
     )

@@ -2,18 +2,18 @@ use Rattle.std.proofs.Common.{◌+◌, ◌-◌, ◌*◌, ◌≡◌, [], None}
 use Rattle.std.specs.BTreeMap.{btree_map_len}
 use Rattle.borsh_walks.specs.Container.{mentions}
 use Rattle.borsh_walks.specs.Counts.{counts_of, definitions_of, LooksOn}
-use Rattle.borsh_walks.specs.ZeroAnswer.{zero_mark}
-use Rattle.borsh_walks.specs.RulesState.{RulesState, IsBothCount}
-use Rattle.borsh_walks.proofs.SpotMeasure.{spots_rest, spot_work}
+use Rattle.borsh_walks.specs.Tables.{mark_of}
+use Rattle.borsh_walks.specs.RulesState.{RulesState, IsBothCount, spot_shape, spot_next}
+use Rattle.borsh_walks.proofs.Measure.{work, rests}
 use Rattle.borsh_walks.proofs.rules.walk_rules.Given as goal
 
 abbrev pub invariant-loop-spot : goal.invariant-loop-spot
 invariant-loop-spot l = record {
   state : RulesState (definitions_of l.fn.counted) l.root [] l.seen l.way.items l.table;
-  root_seen : zero_mark l.seen l.root ≡ None → ⊥;
+  root_seen : mark_of l.seen l.root ≡ None → ⊥;
   looks : IsBothCount l.counted (btree_map_len l.seen) (btree_map_len l.table) (counts_of l.fn.counted);
   same : LooksOn l.fn.counted l.counted;
 }
 
 abbrev pub decreases-loop-spot : goal.decreases-loop-spot
-decreases-loop-spot l = (btree_map_len l.counted.map.now - btree_map_len l.seen) * (2 + spot_work mentions l.counted.map.now.entries) + spots_rest mentions l.way.items
+decreases-loop-spot l = (btree_map_len l.counted.map.now - btree_map_len l.seen) * (2 + work mentions l.counted.map.now.entries) + rests mentions spot_shape spot_next l.way.items

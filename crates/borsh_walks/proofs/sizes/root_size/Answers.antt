@@ -5,7 +5,7 @@ use Rattle.borsh_walks.specs.declared.counted.Question.TheVariants.{Size}
 use Rattle.borsh_walks.specs.SizeAnswer.{AreNeeded}
 use Rattle.borsh_walks.proofs.SizeDue.{due, bound}
 use Rattle.borsh_walks.proofs.SizeStands.{has_size}
-use Rattle.borsh_walks.proofs.SizeMeasure.{names_within}
+use Rattle.borsh_walks.proofs.Names.{names_within}
 use Rattle.borsh_walks.proofs.sizes.root_size.Goals as goal
 
 fits : {E : Type 0} (r : Result ℕ E) → IfOk r (λ n. n < 2 ^ 64) → (n : ℕ) → r ≡ Ok n → n < 2 ^ 64
