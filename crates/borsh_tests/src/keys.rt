@@ -1,10 +1,14 @@
 // Maps and sets: the order of keys, and keys that come more than once.
 use super::spelling::{is_refused, is_spelling, is_written};
 use borsh::{BorshDeserialize, BorshSerialize, from_slice_unordered, to_vec};
+use bytes::Bytes;
 use indexmap::{IndexMap, IndexSet};
 use std::alloc::Global;
 use std::collections::{BTreeMap, BTreeSet, HashMap, HashSet};
+use std::hash::RandomState;
+use std::net::{IpAddr, Ipv4Addr, SocketAddrV4};
 use std::test::Fail;
+use uuid::Uuid;
 
 const OUT_OF_ORDER: &str = "keys were not serialized in ascending order";
 
@@ -30,6 +34,19 @@ fn hashed_and_inserted(alloc: Global) -> Result<bool, Fail> {
     )
 }
 
+fn keys_of_octets(alloc: Global) -> Result<bool, Fail> {
+    Ok(
+        is_spelling::<BTreeMap<Ipv4Addr, u8>>(alloc, b"\x02\0\0\0\x0a\0\0\x01\x05\x0a\0\0\x02\x04")?
+            && is_spelling::<BTreeSet<IpAddr>>(
+                alloc,
+                b"\x02\0\0\0\0\x0a\0\0\x01\x010123456789abcdef",
+            )?
+            && is_spelling::<HashSet<SocketAddrV4>>(alloc, b"\x01\0\0\0\x0a\0\0\x01\x50\0")?
+            && is_spelling::<IndexMap<Uuid, ()>>(alloc, b"\x01\0\0\00123456789abcdef")?
+            && is_spelling::<BTreeSet<Bytes>>(alloc, b"\x02\0\0\0\0\0\0\0\x01\0\0\0a")?,
+    )
+}
+
 fn out_of_order(alloc: Global) -> bool {
     is_refused::<BTreeSet<u8>>(alloc, b"\x02\0\0\0\x01\x01", OUT_OF_ORDER)
         && is_refused::<HashSet<u8>>(alloc, b"\x02\0\0\0\x02\x01", OUT_OF_ORDER)
@@ -44,6 +61,7 @@ fn maps_and_sets_have_one_spelling(rt: HostRuntime) -> Result<(), Fail> {
     let alloc = rt.alloc();
     assert!(rt; ordered(alloc)?);
     assert!(rt; hashed_and_inserted(alloc)?);
+    assert!(rt; keys_of_octets(alloc)?);
     assert!(rt; out_of_order(alloc));
     Ok(())
 }
@@ -99,7 +117,7 @@ fn old_bytes_are_written_in_order(rt: HostRuntime) -> Result<(), Fail> {
 fn a_hashed_map_has_the_bytes_of_its_entries(rt: HostRuntime) -> Result<(), Fail> {
     let alloc = rt.alloc();
     let mut one = HashMap::new(alloc);
-    let mut other = HashMap::new(alloc);
+    let mut other = HashMap::with_hasher(alloc, RandomState::new(&rt)?);
     for n in 0u8..100 {
         one.insert(n, n)?;
         other.insert(99 - n, 99 - n)?;

@@ -13,6 +13,10 @@ mod keys;
 #[cfg(test)]
 mod lines;
 #[cfg(test)]
+mod long;
+#[cfg(test)]
+mod old_lines;
+#[cfg(test)]
 mod refusals;
 #[cfg(test)]
 mod spelling;
