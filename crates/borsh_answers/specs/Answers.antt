@@ -1,29 +1,22 @@
 -- What answers a line.
-use Rattle.std.specs.Prelude.{◌≡◌, ◌≢◌, ℕ, Bool, true, List, ◌++◌, Some, MatchOption, codes}
-use Rattle.std.specs.List.{All}
+use Rattle.std.specs.Prelude.{◌≡◌, ℕ, Bool, List, ◌++◌, Some, MatchOption, codes}
 use Rattle.borsh.specs.Codec.{Codec, HasReading}
 use Rattle.borsh_answers.specs.declared.words.Word.{Word}
 use Rattle.borsh.specs.Shapes.{number, signed, unit, elements}
 use Rattle.borsh.specs.Types.Addresses.{ip, octets, socket, socket_v6}
 use Rattle.borsh.specs.Types.Sums.{bool, option, result_of}
-use Rattle.borsh_answers.specs.declared.words.Word.TheVariants.{U8, U32, U64, Bool as BoolWord, OptionU8, String as StringWord, ListU8, U128, Isize, NonZeroI16, Unit, ResultU8, Ranges, ListString, ListOption, ListUnit, ListBoxUnit, DequeU8, LinkedU8, SetU8, HashSetU8, MapU8, HashMapU8, MapSet, MapUnit, Ip, BoxU8, RcString, Readme, MyEnum as MyEnumWord, IndexMapU8, IndexSetU8, Bytes as BytesWord, Uuid as UuidWord, Socket, SocketV6, MyStruct as MyStructWord, OneOrZero as OneOrZeroWord, ListOne}
+use Rattle.borsh_answers.specs.declared.words.Word.TheVariants.{U8, U32, U64, Bool as BoolWord, OptionU8, String as StringWord, ListU8, U128, Isize, NonZeroI16, Unit, ResultU8, Ranges, ListString, ListOption, ListUnit, ListBoxUnit, DequeU8, LinkedU8, SetU8, HashSetU8, MapU8, HashMapU8, MapSet, MapUnit, Ip, BoxU8, RcString, Container as ContainerWord, Readme, MyEnum as MyEnumWord, IndexMapU8, IndexSetU8, Bytes as BytesWord, Uuid as UuidWord, Socket, SocketV6, MyStruct as MyStructWord, OneOrZero as OneOrZeroWord, ListOne}
 use Rattle.borsh_samples.specs.MyEnum.{my_enum}
 use Rattle.borsh_samples.specs.One.{one}
 use Rattle.borsh_samples.specs.OneOrZero.{one_or_zero}
 use Rattle.borsh_answers.specs.Meanings.{hash_map_u8, hash_set_u8, index_map_u8, index_set_u8, map_by_byte, map_unit, non_zero_i16, ranges, set_u8, stored_in_box, string, shared_text, list, deque, boxed, readme, my_struct}
 use Rattle.borsh_answers.specs.Digits.{digits_of}
+use Rattle.borsh_schema.specs.Codecs.{container}
+use Rattle.borsh_answers.specs.Lines.{IsErrorLine}
 use Rattle.borsh_answers.specs.Requests.{Asked, asked}
-use Rattle.borsh_answers.specs.Requests.Asked.{value}
-
--- bytes without a line feed
-abbrev pub IsLine : List ℕ → Type 0
-IsLine line = All (λ b. b ≢ 10) line
-
--- one line that tells an error
-pub record IsErrorLine (out : List ℕ) : Type 0 where
-  pub text : List ℕ
-  pub is : out ≡ codes "error " ++ text
-  pub line : IsLine text
+use Rattle.borsh_answers.specs.Requests.Asked.{value, schema, about}
+use Rattle.borsh_answers.specs.Schemas.{AnswersSchema}
+use Rattle.borsh_answers.specs.Containers.{AnswersInquiry}
 
 -- what answers bytes that are to be a reading of some value: `ok` and the value's encoding, or an error
 pub data AnswersValue {A : Type 0} (c : Codec A) (strict : Bool) (bytes out : List ℕ) : Type 0 where
@@ -60,6 +53,7 @@ AnswersWord MapUnit strict bytes out = AnswersValue map_unit strict bytes out
 AnswersWord Ip strict bytes out = AnswersValue ip strict bytes out
 AnswersWord BoxU8 strict bytes out = AnswersValue (boxed (number 1)) strict bytes out
 AnswersWord RcString strict bytes out = AnswersValue shared_text strict bytes out
+AnswersWord ContainerWord strict bytes out = AnswersValue container strict bytes out
 AnswersWord Readme strict bytes out = AnswersValue readme strict bytes out
 AnswersWord MyEnumWord strict bytes out = AnswersValue my_enum strict bytes out
 AnswersWord IndexMapU8 strict bytes out = AnswersValue index_map_u8 strict bytes out
@@ -74,6 +68,8 @@ AnswersWord ListOne strict bytes out = AnswersValue (list one) strict bytes out
 
 abbrev pub AnswersAsked : Asked → List ℕ → Type 0
 AnswersAsked (value word strict bytes) out = AnswersWord word strict bytes out
+AnswersAsked (schema word) out = AnswersSchema word out
+AnswersAsked (about inquiry bytes) out = AnswersInquiry inquiry bytes out
 
 -- what answers a line; a line that is no command is answered `error line`
 abbrev pub Answers : List ℕ → List ℕ → Type 0

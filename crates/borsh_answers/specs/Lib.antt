@@ -1,5 +1,9 @@
+pub mod Lines
 pub mod Words
 pub mod Digits
 pub mod Requests
 pub mod Meanings
+pub mod Schemas
+pub mod Containers
+pub mod Telling
 pub mod Answers

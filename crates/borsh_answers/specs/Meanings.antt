@@ -1,5 +1,5 @@
 -- The meanings of types that words name.
-use Rattle.std.specs.Prelude.{ℕ, ℤ, ⊤, List, Vec, Box, nat_eq}
+use Rattle.std.specs.Prelude.{ℕ, ℤ, ⊤, Vec, Box, nat_eq}
 use Rattle.std.specs.Global.{Global}
 use Rattle.core.specs.declared.num.nonzero.NonZeroI16.{NonZeroI16}
 use Rattle.core.specs.declared.iter.ranges.Range.{Range}
@@ -31,7 +31,6 @@ use Rattle.borsh.specs.Codec.{Codec}
 use Rattle.borsh.specs.Shapes.{along, number, signed, unit, pair, stored, elements}
 use Rattle.borsh.specs.Maps.{inserted_map, inserted_set, ordered_map, ordered_set, sorted_map, sorted_set}
 use Rattle.borsh.specs.Types.Texts.{text}
-use Rattle.borsh_samples.specs.MyEnum.{list_u8}
 use Rattle.borsh_samples.specs.declared.my_struct.MyStruct.{MyStruct}
 use Rattle.borsh_samples.specs.declared.readme.A.{A}
 

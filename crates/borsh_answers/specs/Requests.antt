@@ -3,8 +3,10 @@ use Rattle.std.specs.Prelude.{ℕ, ◌+◌, ◌==◌, Bool, true, false, List, t
 use Rattle.std.specs.Option.{option_map}
 use Rattle.std.specs.Cmp.Lexicographic.{pointwise}
 use Rattle.borsh_answers.specs.declared.words.Word.{Word}
+use Rattle.borsh_answers.specs.declared.requests.Inquiry.{Inquiry}
+use Rattle.borsh_answers.specs.declared.requests.Inquiry.TheVariants.{Check, Size, Counts}
 use Rattle.borsh_answers.specs.declared.requests.Request.{Request}
-use Rattle.borsh_answers.specs.declared.requests.Request.TheVariants.{Value}
+use Rattle.borsh_answers.specs.declared.requests.Request.TheVariants.{Value, Schema, About}
 use Rattle.borsh_answers.specs.Words.{word_named}
 use Rattle.borsh_answers.specs.Digits.{bytes_written}
 
@@ -17,9 +19,15 @@ o >>= f = option_and_then f o
 pub data Asked : Type 0 where
   -- that bytes are read as a value of a type, in the strict mode or not
   value : Word → Bool → List ℕ → Asked
+  -- the container of a type
+  schema : Word → Asked
+  -- something about the container whose encoding the bytes are
+  about : Inquiry → List ℕ → Asked
 
 abbrev pub asked_by : Request → Asked
 asked_by (Value word strict bytes) = value word strict bytes.items
+asked_by (Schema word) = schema word
+asked_by (About inquiry bytes) = about inquiry bytes.items
 
 -- the part before the first space, and the part behind it
 abbrev pub cut : List ℕ → Option (List ℕ × List ℕ)
@@ -33,10 +41,25 @@ asked_value strict text = do
   bytes ← bytes_written parts.1
   Some (value word strict bytes)
 
+-- `TYPE`
+abbrev pub asked_schema : List ℕ → Option Asked
+asked_schema text = do
+  word ← word_named text
+  Some (schema word)
+
+-- `HEX`
+abbrev pub asked_about : Inquiry → List ℕ → Option Asked
+asked_about inquiry text = do
+  bytes ← bytes_written text
+  Some (about inquiry bytes)
+
+abbrev is : List ℕ → List ℕ → Bool
+is command name = pointwise nat_eq command name
+
 -- a command and what stands behind its space
 abbrev pub asked_command : List ℕ → List ℕ → Option Asked
 asked_command command text =
-    if pointwise nat_eq command (codes "read") then asked_value true text else (if pointwise nat_eq command (codes "canon") then asked_value false text else None)
+    if is command (codes "read") then asked_value true text else (if is command (codes "canon") then asked_value false text else (if is command (codes "schema") then asked_schema text else (if is command (codes "check") then asked_about Check text else (if is command (codes "size") then asked_about Size text else (if is command (codes "counts") then asked_about Counts text else None)))))
 
 -- what a line asks for; nothing where it is no command
 abbrev pub asked : List ℕ → Option Asked

@@ -2,7 +2,7 @@
 use Rattle.std.specs.Prelude.{ℕ, List, [], ◌∷◌, Option, codes, find, nat_eq}
 use Rattle.std.specs.Cmp.Lexicographic.{pointwise}
 use Rattle.borsh_answers.specs.declared.words.Word.{Word}
-use Rattle.borsh_answers.specs.declared.words.Word.TheVariants.{U8, U32, U64, Bool, OptionU8, String, ListU8, U128, Isize, NonZeroI16, Unit, ResultU8, Ranges, ListString, ListOption, ListUnit, ListBoxUnit, DequeU8, LinkedU8, SetU8, HashSetU8, MapU8, HashMapU8, MapSet, MapUnit, Ip, BoxU8, RcString, Readme, MyEnum, IndexMapU8, IndexSetU8, Bytes, Uuid, Socket, SocketV6, MyStruct, OneOrZero, ListOne}
+use Rattle.borsh_answers.specs.declared.words.Word.TheVariants.{U8, U32, U64, Bool, OptionU8, String, ListU8, U128, Isize, NonZeroI16, Unit, ResultU8, Ranges, ListString, ListOption, ListUnit, ListBoxUnit, DequeU8, LinkedU8, SetU8, HashSetU8, MapU8, HashMapU8, MapSet, MapUnit, Ip, BoxU8, RcString, Container, Readme, MyEnum, IndexMapU8, IndexSetU8, Bytes, Uuid, Socket, SocketV6, MyStruct, OneOrZero, ListOne}
 
 -- how a type is written
 abbrev pub word_text : Word → List ℕ
@@ -34,6 +34,7 @@ word_text MapUnit = codes "map-unit"
 word_text Ip = codes "ip"
 word_text BoxU8 = codes "box-u8"
 word_text RcString = codes "rc-string"
+word_text Container = codes "container"
 word_text Readme = codes "readme"
 word_text MyEnum = codes "myenum"
 word_text IndexMapU8 = codes "imap-u8"
@@ -47,7 +48,7 @@ word_text OneOrZero = codes "oneorzero"
 word_text ListOne = codes "list-one"
 
 abbrev pub all_words : List Word
-all_words = U8 ∷ U32 ∷ U64 ∷ Bool ∷ OptionU8 ∷ String ∷ ListU8 ∷ U128 ∷ Isize ∷ NonZeroI16 ∷ Unit ∷ ResultU8 ∷ Ranges ∷ ListString ∷ ListOption ∷ ListUnit ∷ ListBoxUnit ∷ DequeU8 ∷ LinkedU8 ∷ SetU8 ∷ HashSetU8 ∷ MapU8 ∷ HashMapU8 ∷ MapSet ∷ MapUnit ∷ Ip ∷ BoxU8 ∷ RcString ∷ Readme ∷ MyEnum ∷ IndexMapU8 ∷ IndexSetU8 ∷ Bytes ∷ Uuid ∷ Socket ∷ SocketV6 ∷ MyStruct ∷ OneOrZero ∷ ListOne ∷ []
+all_words = U8 ∷ U32 ∷ U64 ∷ Bool ∷ OptionU8 ∷ String ∷ ListU8 ∷ U128 ∷ Isize ∷ NonZeroI16 ∷ Unit ∷ ResultU8 ∷ Ranges ∷ ListString ∷ ListOption ∷ ListUnit ∷ ListBoxUnit ∷ DequeU8 ∷ LinkedU8 ∷ SetU8 ∷ HashSetU8 ∷ MapU8 ∷ HashMapU8 ∷ MapSet ∷ MapUnit ∷ Ip ∷ BoxU8 ∷ RcString ∷ Container ∷ Readme ∷ MyEnum ∷ IndexMapU8 ∷ IndexSetU8 ∷ Bytes ∷ Uuid ∷ Socket ∷ SocketV6 ∷ MyStruct ∷ OneOrZero ∷ ListOne ∷ []
 
 -- the word that is written so
 abbrev pub word_named : List ℕ → Option Word

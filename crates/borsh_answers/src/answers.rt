@@ -1,11 +1,16 @@
 // The answer to a line.
 ghost use Rattle.std.specs.Prelude.{◌≡◌, true, codes, IfOk};
 ghost use Rattle.borsh_answers.specs.Requests.{asked_by};
-ghost use Rattle.borsh_answers.specs.Answers.{IsLine, Answers, AnswersAsked, AnswersWord};
+ghost use Rattle.borsh_answers.specs.Answers.{Answers, AnswersAsked, AnswersWord};
+ghost use Rattle.borsh_answers.specs.Lines.{IsLine};
 
+use super::containers::container_answer;
+use super::lines::line_of;
 use super::requests::Request;
+use super::schemas::schema_answer;
 use super::values::value_answer;
 use super::words::Word;
+use borsh::schema::BorshSchemaContainer;
 use borsh_samples::{A, MyEnum, MyStruct, One, OneOrZero};
 use bytes::Bytes;
 use indexmap::{IndexMap, IndexSet};
@@ -34,9 +39,7 @@ fn line_error(alloc: Global) -> Result<Vec<u8>, AllocError>
     ensures is { IfOk result (λ out. out.items ≡ codes "error line") }
     ensures line { IfOk result (λ out. IsLine out.items) }
 {
-    let mut out = Vec::new(alloc);
-    out.extend_from_slice(b"error line")?;
-    Ok(out)
+    line_of(alloc, b"error line")
 }
 
 /// The answer to a command.
@@ -50,6 +53,8 @@ fn request_answer(alloc: Global, request: &Request) -> Result<Vec<u8>, AllocErro
             strict,
             bytes,
         } => word_answer(alloc, *word, *strict, bytes),
+        Request::Schema { word } => schema_answer(alloc, *word),
+        Request::About { inquiry, bytes } => container_answer(alloc, *inquiry, bytes),
     }
 }
 
@@ -96,6 +101,7 @@ fn word_answer(alloc: Global, word: Word, strict: bool, bytes: &[u8]) -> Result<
         Word::Ip => value_answer::<IpAddr>(alloc, strict, bytes),
         Word::BoxU8 => value_answer::<BoxedSlice<u8>>(alloc, strict, bytes),
         Word::RcString => value_answer::<RcStr>(alloc, strict, bytes),
+        Word::Container => value_answer::<BorshSchemaContainer>(alloc, strict, bytes),
         Word::Readme => value_answer::<A>(alloc, strict, bytes),
         Word::MyEnum => value_answer::<MyEnum>(alloc, strict, bytes),
         Word::IndexMapU8 => value_answer::<IndexMap<u8, u8>>(alloc, strict, bytes),

@@ -2,8 +2,11 @@
 #![tactic(auto)]
 
 pub mod answers;
+mod containers;
 pub mod digits;
+mod lines;
 pub mod requests;
+mod schemas;
 pub mod values;
 pub mod words;
 

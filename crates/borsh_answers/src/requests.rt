@@ -1,10 +1,21 @@
 // What a line asks for.
 ghost use Rattle.std.specs.Prelude.{◌≡◌, ◌==◌, ◌<◌, length, position, IfOk, IfSome, MatchOption, None, Some};
-ghost use Rattle.borsh_answers.specs.Requests.{cut, asked_by, asked_value, asked};
+ghost use Rattle.borsh_answers.specs.Requests.{cut, asked_by, asked_value, asked_schema, asked_about, asked};
 
 use super::digits::bytes_from;
 use super::words::Word;
 use std::alloc::{AllocError, Global};
+
+/// What can be asked about a container.
+#[derive(Clone, Copy, Debug, PartialEq, Eq)]
+pub enum Inquiry {
+    /// Whether it keeps the rules.
+    Check,
+    /// How long the encodings that it describes may be.
+    Size,
+    /// How many of its definitions both answers look into.
+    Counts,
+}
 
 /// What a line asks for.
 #[derive(Drop)]
@@ -14,6 +25,15 @@ pub enum Request {
     Value {
         word: Word,
         strict: bool,
+        bytes: Vec<u8>,
+    },
+    /// The container of the type is to be written.
+    Schema {
+        word: Word,
+    },
+    /// The container whose encoding the bytes are is asked about.
+    About {
+        inquiry: Inquiry,
         bytes: Vec<u8>,
     },
 }
@@ -48,6 +68,16 @@ impl Request {
             Some((command, text)) if command == b"canon".as_slice() => {
                 Request::value(alloc, false, text)
             }
+            Some((command, text)) if command == b"schema".as_slice() => Ok(Request::schema(text)),
+            Some((command, text)) if command == b"check".as_slice() => {
+                Request::about(alloc, Inquiry::Check, text)
+            }
+            Some((command, text)) if command == b"size".as_slice() => {
+                Request::about(alloc, Inquiry::Size, text)
+            }
+            Some((command, text)) if command == b"counts".as_slice() => {
+                Request::about(alloc, Inquiry::Counts, text)
+            }
             _ => Ok(None),
         }
     }
@@ -70,5 +100,25 @@ impl Request {
             strict,
             bytes,
         }))
+    }
+
+    /// The request behind `schema`.
+    fn schema(text: &[u8]) -> Option<Request>
+        ensures { MatchOption result (asked_schema text.now ≡ None) (λ request. asked_schema text.now ≡ Some (asked_by request)) }
+    {
+        match Word::named(text) {
+            Some(word) => Some(Request::Schema { word }),
+            None => None,
+        }
+    }
+
+    /// The request behind `check`, `size` and `counts`.
+    fn about(alloc: Global, inquiry: Inquiry, text: &[u8]) -> Result<Option<Request>, AllocError>
+        ensures { IfOk result (λ o. MatchOption o (asked_about inquiry text.now ≡ None) (λ request. asked_about inquiry text.now ≡ Some (asked_by request))) }
+    {
+        match bytes_from(alloc, text)? {
+            Some(bytes) => Ok(Some(Request::About { inquiry, bytes })),
+            None => Ok(None),
+        }
     }
 }

@@ -3,8 +3,10 @@ ghost use Rattle.std.specs.Prelude.{◌≡◌, ◌≢◌, ◌++◌, true, codes,
 ghost use Rattle.borsh.specs.Errors.{error_kind};
 ghost use Rattle.borsh.specs.Reading.{WhyNotWhole};
 ghost use Rattle.borsh_answers.specs.Digits.{digits_of};
-ghost use Rattle.borsh_answers.specs.Answers.{IsLine, IsErrorLine, AnswersValue};
+ghost use Rattle.borsh_answers.specs.Answers.{AnswersValue};
+ghost use Rattle.borsh_answers.specs.Lines.{IsLine, IsErrorLine};
 
+use super::lines::push_digits;
 use borsh::io::{Error, ErrorKind};
 use borsh::{BorshDeserialize, BorshSerialize, from_slice, from_slice_unordered, to_vec};
 use std::alloc::{AllocError, Global};
@@ -46,12 +48,7 @@ pub fn ok_answer(alloc: Global, bytes: &[u8]) -> Result<Vec<u8>, AllocError>
 {
     let mut out = Vec::new(alloc);
     out.extend_from_slice(b"ok ")?;
-    if bytes.is_empty() {
-        out.push(b'-')?;
-        return Ok(out);
-    }
-    let digits = hex::encode(alloc, bytes)?;
-    out.extend_from_slice(digits.as_bytes())?;
+    push_digits(alloc, bytes, &mut out)?;
     Ok(out)
 }
 

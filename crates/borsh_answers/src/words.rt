@@ -33,6 +33,7 @@ pub enum Word {
     Ip,
     BoxU8,
     RcString,
+    Container,
     Readme,
     MyEnum,
     IndexMapU8,
@@ -47,7 +48,7 @@ pub enum Word {
 }
 
 /// Every word.
-const WORDS: [Word; 39] = [
+const WORDS: [Word; 40] = [
     Word::U8,
     Word::U32,
     Word::U64,
@@ -76,6 +77,7 @@ const WORDS: [Word; 39] = [
     Word::Ip,
     Word::BoxU8,
     Word::RcString,
+    Word::Container,
     Word::Readme,
     Word::MyEnum,
     Word::IndexMapU8,
@@ -123,6 +125,7 @@ impl Word {
             Word::Ip => "ip",
             Word::BoxU8 => "box-u8",
             Word::RcString => "rc-string",
+            Word::Container => "container",
             Word::Readme => "readme",
             Word::MyEnum => "myenum",
             Word::IndexMapU8 => "imap-u8",

@@ -7,7 +7,7 @@ use Rattle.std.proofs.lemmas.Grind.{flat_map-append, common_steps}
 use Rattle.std.proofs.lemmas.Bool.{ne_eqb}
 use Rattle.std.proofs.lemmas.List.{take_more, map-append}
 use Rattle.borsh_lines.specs.Runs.{spaced}
-use Rattle.borsh_answers.specs.Answers.{IsLine}
+use Rattle.borsh_answers.specs.Lines.{IsLine}
 use Rattle.borsh_lines.specs.Lines.{with_feeds, onto_first, lines_of, ended_lines, OutputOf, BeginsOutput, Answered, Continues, Replies}
 
 -- a test that a length is 0, which failed

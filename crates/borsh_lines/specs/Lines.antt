@@ -1,7 +1,7 @@
 -- The lines of a list of bytes, and the output that answers them.
 use Rattle.std.specs.Prelude.{◌≡◌, ℕ, ◌==◌, cond, List, [], ◌∷◌, ◌++◌}
 use Rattle.std.specs.List.{All, AllZip, flat_map}
-use Rattle.borsh_answers.specs.Answers.{IsLine}
+use Rattle.borsh_answers.specs.Lines.{IsLine}
 
 -- each of these with a line feed behind it
 abbrev pub with_feeds : List (List ℕ) → List ℕ

@@ -1,6 +1,7 @@
 // Answers to the lines of a piece of input.
 ghost use Rattle.std.specs.Prelude.{◌≡◌, ◌++◌, ◌∷◌, [], List, IfOk};
-ghost use Rattle.borsh_answers.specs.Answers.{IsLine, Answers};
+ghost use Rattle.borsh_answers.specs.Answers.{Answers};
+ghost use Rattle.borsh_answers.specs.Lines.{IsLine};
 ghost use Rattle.borsh_lines.specs.Lines.{Continues, Replies};
 
 use borsh_answers::answer;

@@ -1,5 +1,5 @@
 -- What is written so far is a line that tells an error.
-use Rattle.borsh_answers.specs.Answers.{IsErrorLine}
+use Rattle.borsh_answers.specs.Lines.{IsErrorLine}
 use Rattle.borsh_answers.proofs.values.error_answer.Given as goal
 
 abbrev pub invariant-loop-byte : goal.invariant-loop-byte

@@ -3,7 +3,8 @@ use Rattle.std.proofs.lemmas.Result.{err_from_is_err_and, on_ok_weaker, IfErr-we
 use Rattle.std.specs.Io.KnownBytes.{IsAtEnd}
 use Rattle.borsh.specs.Stream.{Takes}
 use Rattle.borsh_lines.specs.Lines.{Continues, Replies}
-use Rattle.borsh_answers.specs.Answers.{IsLine, Answers}
+use Rattle.borsh_answers.specs.Answers.{Answers}
+use Rattle.borsh_answers.specs.Lines.{IsLine}
 use Rattle.borsh_lines.specs.Runs.{Ran, Stopped}
 use Rattle.borsh_lines.proofs.Turns.{SoFar, starts, goes_on, stops-first, stops-memory, stops-reader, stops-writer, stops-last, ran-at_end, ran-at_last}
 use Rattle.borsh_lines.proofs.LineSteps.{not_empty, front-filled}
