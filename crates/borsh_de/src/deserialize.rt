@@ -1,8 +1,8 @@
 // What is read.
-ghost use Rattle.std.specs.Prelude.{◌≡◌, List, true, IfOk, IfErr, MatchOption};
+ghost use Rattle.std.specs.Prelude.{◌≡◌, List, length, true, IfOk, IfErr, MatchBool, MatchOption};
 ghost use Rattle.borsh_io.specs.Errors.{error_kind};
 ghost use Rattle.borsh_io.specs.Stream.{memory_stream};
-ghost use Rattle.borsh_types.specs.Shapes.{listed};
+ghost use Rattle.borsh_types.specs.Shapes.{row, listed};
 ghost use Rattle.borsh_types.specs.Reading.{Reads, Denied, ReadsBehind, DeniedBehind, ReadsAll, DeniedAll, WhyNotWhole};
 
 use super::refusals::not_all_bytes_read;
@@ -36,6 +36,20 @@ pub trait BorshDeserialize: BorshType + Sized + Drop {
         ensures err { IfErr result (λ e. Denied (List Self) (listed _len Self.codec) (R.stream _reader.old) (R.stream _reader.new) (error_kind e)) }
     {
         Ok(None)
+    }
+
+    /// Any value, to be written over by [`fill_slice`](BorshDeserialize::fill_slice): only `u8` has one.
+    fn blank() -> Option<Self> {
+        None
+    }
+
+    /// Writes the next values over those of the slice, where the type has a way to read them at once:
+    /// only `u8` has one. Where the answer is `false` nothing was read. No memory is taken.
+    fn fill_slice<R: Read>(_items: &mut [Self], _reader: &mut R) -> Result<bool>
+        ensures ok { IfOk result (λ filled. MatchBool filled (Reads (List Self) (row (length _items.old) Self.codec) (R.stream _reader.old) (R.stream _reader.new) _items.new) (_reader.new ≡ _reader.old)) }
+        ensures err { IfErr result (λ e. Denied (List Self) (row (length _items.old) Self.codec) (R.stream _reader.old) (R.stream _reader.new) (error_kind e)) }
+    {
+        Ok(false)
     }
 
     /// Reads a value from the front of the slice, which becomes what is left.

@@ -2,6 +2,7 @@
 #![tactic(auto)]
 
 pub mod addresses;
+pub mod arrays;
 pub mod deserialize;
 mod entries;
 pub mod hint;

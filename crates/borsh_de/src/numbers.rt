@@ -6,7 +6,7 @@ ghost use Rattle.borsh_types.specs.Shapes.{number_encoding, signed_encoding, num
 ghost use Rattle.borsh_types.specs.Reading.{Took, Reads, Denied};
 
 use super::deserialize::BorshDeserialize;
-use super::raw_bytes::{read_bytes, read_vec};
+use super::raw_bytes::{fill, read_bytes, read_vec};
 use borsh_io::{Read, Result};
 use std::alloc::Global;
 
@@ -103,6 +103,17 @@ impl BorshDeserialize for u8 {
         ensures err { IfErr result (λ e. Denied (List ℕ) (listed len (number 1)) (R.stream reader.old) (R.stream reader.new) (error_kind e)) }
     {
         Ok(Some(read_vec(alloc, len as usize, reader)?))
+    }
+
+    #[inline]
+    fn blank() -> Option<u8> {
+        Some(0)
+    }
+
+    #[inline]
+    fn fill_slice<R: Read>(items: &mut [u8], reader: &mut R) -> Result<bool> {
+        fill(reader, items)?;
+        Ok(true)
     }
 }
 

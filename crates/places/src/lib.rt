@@ -13,6 +13,9 @@ use std::error::Error;
 use std::fmt;
 
 mod row;
+mod tried;
+
+pub use tried::{Held, TryMaker, release, try_array_from};
 
 /// Makes values one after another, and may give up.
 ///

@@ -1,5 +1,5 @@
 -- As many elements were read as the list has.
-use Rattle.std.proofs.Common.{◌≡◌, length, List}
+use Rattle.std.proofs.Common.{◌≡◌, length}
 use Rattle.borsh_types.proofs.ReadRows.{RowSoFar}
 use Rattle.borsh_de.proofs.lists.read_elements.Given as goal
 

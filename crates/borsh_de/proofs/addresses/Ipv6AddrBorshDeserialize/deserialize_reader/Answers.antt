@@ -1,7 +1,6 @@
-use Rattle.std.proofs.Common.{rules, ◌≡◌, ◌<◌, ℕ, length, get_or, ap, sym, ◌∙◌, subst}
+use Rattle.std.proofs.Common.{rules, ◌≡◌, ◌<◌, ℕ, length, get_or, ap, ◌∙◌}
 use Rattle.std.specs.Net.Addr.{octets_of, ipv6_octets}
 use Rattle.borsh_types.specs.Types.Addresses.{octets}
-use Rattle.borsh_types.specs.Reading.{Reads}
 use Rattle.borsh_types.proofs.ReadParts.{reads_along}
 use Rattle.borsh_de.proofs.Octets.{octets_of-segments_of}
 use Rattle.borsh_de.proofs.addresses.Ipv6AddrBorshDeserialize.deserialize_reader.Goals as goal

@@ -1,0 +1,97 @@
+// Arrays: their elements in order, with no count. Reading one takes no memory of its own.
+ghost use Rattle.std.specs.Prelude.{◌≡◌, List, ⊤, IfOk, IfErr, MatchOption};
+ghost use Rattle.borsh_io.specs.Errors.{error_kind};
+ghost use Rattle.borsh_types.specs.Shapes.{row};
+ghost use Rattle.borsh_types.specs.Reading.{Reads, Denied};
+
+use super::deserialize::BorshDeserialize;
+use borsh_io::{Error, Read, Result};
+use places::{Held, Maker, TryMaker, array_from, release, try_array_from};
+use std::alloc::Global;
+
+// Makes the elements of an array by reading them.
+#[derive(Drop)]
+struct Elements<'a, R> {
+    reader: &'a mut R,
+    alloc: Global,
+}
+
+impl<'a, T: BorshDeserialize, R: Read> TryMaker<T> for Elements<'a, R> {
+    type Error = Error;
+
+    ghost makes = { λ s x t. (t.reader.ghost_name ≡ s.reader.ghost_name) × Reads T T.codec (R.stream s.reader.now) (R.stream t.reader.now) x };
+
+    ghost fails = { λ s e t. (t.reader.ghost_name ≡ s.reader.ghost_name) × Denied T T.codec (R.stream s.reader.now) (R.stream t.reader.now) (error_kind e) };
+
+    #[inline]
+    fn try_make(&mut self) -> Result<T> {
+        T::deserialize_reader(self.alloc, self.reader)
+    }
+}
+
+// Reads the elements one after another.
+#[inline]
+fn read_each<T: BorshDeserialize, R: Read, const N: usize>(
+    elements: &mut Elements<R>,
+) -> Result<Held<[T; N]>>
+    ensures same_reader { elements.new.reader.ghost_name ≡ elements.old.reader.ghost_name }
+    ensures ok { IfOk result (λ held. Reads (List T) (row N T.codec) (R.stream elements.old.reader.now) (R.stream elements.new.reader.now) held.0) }
+    ensures err { IfErr result (λ e. Denied (List T) (row N T.codec) (R.stream elements.old.reader.now) (R.stream elements.new.reader.now) (error_kind e)) }
+{
+    try_array_from(elements)
+}
+
+// Makes values that are to be written over, where the type has one.
+#[derive(Drop)]
+struct Blanks;
+
+impl<T: BorshDeserialize> Maker<T> for Blanks {
+    ghost makes = { λ _ _ _. ⊤ };
+
+    ghost gives_up = { λ _ _. ⊤ };
+
+    #[inline]
+    fn make(&mut self) -> Option<T> {
+        T::blank()
+    }
+}
+
+// Reads the elements at once, where their bytes lie in memory as they are; else nothing is read.
+#[inline]
+fn read_at_once<T: BorshDeserialize, R: Read, const N: usize>(
+    reader: &mut R,
+) -> Result<Option<[T; N]>>
+    ensures ok { IfOk result (λ o. MatchOption o (reader.new ≡ reader.old) (λ v. Reads (List T) (row N T.codec) (R.stream reader.old) (R.stream reader.new) v)) }
+    ensures err { IfErr result (λ e. Denied (List T) (row N T.codec) (R.stream reader.old) (R.stream reader.new) (error_kind e)) }
+{
+    let Ok(mut items) = array_from::<T, Blanks, N>(&mut Blanks) else {
+        return Ok(None);
+    };
+    if T::fill_slice(&mut items, reader)? {
+        Ok(Some(items))
+    } else {
+        Ok(None)
+    }
+}
+
+// Reads the array, and answers it in a struct of its own.
+#[inline]
+fn read_row<T: BorshDeserialize, const N: usize, R: Read>(
+    alloc: Global,
+    reader: &mut R,
+) -> Result<Held<[T; N]>>
+    ensures ok { IfOk result (λ held. Reads (List T) (row N T.codec) (R.stream reader.old) (R.stream reader.new) held.0) }
+    ensures err { IfErr result (λ e. Denied (List T) (row N T.codec) (R.stream reader.old) (R.stream reader.new) (error_kind e)) }
+{
+    if let Some(items) = read_at_once(reader)? {
+        return Ok(Held(items));
+    }
+    read_each(&mut Elements { reader, alloc })
+}
+
+impl<T: BorshDeserialize, const N: usize> BorshDeserialize for [T; N] {
+    #[inline]
+    fn deserialize_reader<R: Read>(alloc: Global, reader: &mut R) -> Result<[T; N]> {
+        release(read_row(alloc, reader))
+    }
+}
