@@ -2,10 +2,10 @@
 use Rattle.std.specs.Prelude.{◌≡◌, ℕ, Bool, List, ◌++◌, Some, MatchOption, codes}
 use Rattle.borsh.specs.Codec.{Codec, HasReading}
 use Rattle.borsh_answers.specs.declared.words.Word.{Word}
-use Rattle.borsh.specs.Shapes.{number, signed, unit, elements}
+use Rattle.borsh.specs.Shapes.{number, signed, unit, pair, row, elements}
 use Rattle.borsh.specs.Types.Addresses.{ip, octets, socket, socket_v6}
 use Rattle.borsh.specs.Types.Sums.{bool, option, result_of}
-use Rattle.borsh_answers.specs.declared.words.Word.TheVariants.{U8, U32, U64, Bool as BoolWord, OptionU8, String as StringWord, ListU8, U128, Isize, NonZeroI16, Unit, ResultU8, Ranges, ListString, ListOption, ListUnit, ListBoxUnit, DequeU8, LinkedU8, SetU8, HashSetU8, MapU8, HashMapU8, MapSet, MapUnit, Ip, BoxU8, RcString, Container as ContainerWord, Readme, MyEnum as MyEnumWord, IndexMapU8, IndexSetU8, Bytes as BytesWord, Uuid as UuidWord, Socket, SocketV6, MyStruct as MyStructWord, OneOrZero as OneOrZeroWord, ListOne}
+use Rattle.borsh_answers.specs.declared.words.Word.TheVariants.{U8, U32, U64, Bool as BoolWord, OptionU8, String as StringWord, ListU8, U128, Isize, NonZeroI16, Unit, ResultU8, ArrayOption, Ranges, ListString, ListOption, ListUnit, ListBoxUnit, ListZero, DequeU8, LinkedU8, SetU8, HashSetU8, MapU8, HashMapU8, MapSet, MapUnit, Ip, BoxU8, RcString, Container as ContainerWord, Readme, MyEnum as MyEnumWord, IndexMapU8, IndexSetU8, Bytes as BytesWord, Uuid as UuidWord, Socket, SocketV6, MyStruct as MyStructWord, OneOrZero as OneOrZeroWord, ListOne}
 use Rattle.borsh_samples.specs.MyEnum.{my_enum}
 use Rattle.borsh_samples.specs.One.{one}
 use Rattle.borsh_samples.specs.OneOrZero.{one_or_zero}
@@ -37,11 +37,13 @@ AnswersWord Isize strict bytes out = AnswersValue (signed 8) strict bytes out
 AnswersWord NonZeroI16 strict bytes out = AnswersValue non_zero_i16 strict bytes out
 AnswersWord Unit strict bytes out = AnswersValue unit strict bytes out
 AnswersWord ResultU8 strict bytes out = AnswersValue (result_of (number 1) (number 1)) strict bytes out
+AnswersWord ArrayOption strict bytes out = AnswersValue (row 10 (option (number 1))) strict bytes out
 AnswersWord Ranges strict bytes out = AnswersValue ranges strict bytes out
 AnswersWord ListString strict bytes out = AnswersValue (list string) strict bytes out
 AnswersWord ListOption strict bytes out = AnswersValue (list (option (number 1))) strict bytes out
 AnswersWord ListUnit strict bytes out = AnswersValue (list unit) strict bytes out
 AnswersWord ListBoxUnit strict bytes out = AnswersValue (list (stored_in_box unit)) strict bytes out
+AnswersWord ListZero strict bytes out = AnswersValue (list (pair (row 0 (number 1)) (row 0 (number 1)))) strict bytes out
 AnswersWord DequeU8 strict bytes out = AnswersValue (deque (number 1)) strict bytes out
 AnswersWord LinkedU8 strict bytes out = AnswersValue (elements (number 1)) strict bytes out
 AnswersWord SetU8 strict bytes out = AnswersValue set_u8 strict bytes out

@@ -4,14 +4,14 @@ use Rattle.borsh_schema.specs.declared.container.BorshSchemaContainer.{BorshSche
 use Rattle.borsh_schema.specs.Addresses.{ip_address_parts}
 use Rattle.borsh_schema.specs.Codecs.{container}
 use Rattle.borsh_schema.specs.Containers.{IsContainerOf}
-use Rattle.borsh_schema.specs.Described.{no_fields, Parts, none, defined, both, nothing_defined}
+use Rattle.borsh_schema.specs.Described.{list as sequence, no_fields, Parts, none, defined, both, nothing_defined}
 use Rattle.borsh_schema.specs.Joined.{Clashes}
-use Rattle.borsh_schema.specs.Names.{applied, applied_to_two, tuple_name}
+use Rattle.borsh_schema.specs.Names.{applied, applied_to_two, array_name, tuple_name}
 use Rattle.borsh_schema.specs.Own.{container_parts}
 use Rattle.borsh_schema.specs.Types.{list_parts, map_parts, option_of, primitive_parts, range_of, range_from as range_from_of, range_to as range_to_of, result_of, text_parts, tuple_parts, unit_parts}
 use Rattle.borsh_samples.specs.Schemas.{readme_parts, my_enum_parts}
 use Rattle.borsh_answers.specs.declared.words.Word.{Word}
-use Rattle.borsh_answers.specs.declared.words.Word.TheVariants.{U8, U32, U64, Bool, OptionU8, String, ListU8, U128, Isize, NonZeroI16, Unit, ResultU8, Ranges, ListString, ListOption, ListUnit, ListBoxUnit, DequeU8, LinkedU8, SetU8, HashSetU8, MapU8, HashMapU8, MapSet, MapUnit, Ip, BoxU8, RcString, Container, Readme, MyEnum, IndexMapU8, IndexSetU8, Bytes, Uuid, Socket, SocketV6, MyStruct, OneOrZero, ListOne}
+use Rattle.borsh_answers.specs.declared.words.Word.TheVariants.{U8, U32, U64, Bool, OptionU8, String, ListU8, U128, Isize, NonZeroI16, Unit, ResultU8, ArrayOption, Ranges, ListString, ListOption, ListUnit, ListBoxUnit, ListZero, DequeU8, LinkedU8, SetU8, HashSetU8, MapU8, HashMapU8, MapSet, MapUnit, Ip, BoxU8, RcString, Container, Readme, MyEnum, IndexMapU8, IndexSetU8, Bytes, Uuid, Socket, SocketV6, MyStruct, OneOrZero, ListOne}
 use Rattle.borsh_answers.specs.Digits.{digits_of}
 use Rattle.borsh_answers.specs.Lines.{IsErrorLine}
 
@@ -73,6 +73,9 @@ ranges =
 
 -- ---- lists and maps, by the beginnings of their names
 
+abbrev array : Schema → ℕ → Schema
+array s n = (array_name s.0 n, defined (array_name s.0 n) (sequence 0 n n s.0) (both s.1 none))
+
 abbrev list : List ℕ → Schema → Schema
 list head s = (applied head s.0, list_parts head s.0 s.1)
 
@@ -95,11 +98,13 @@ schema_of Isize = Some (primitive (codes "i64") 8)
 schema_of NonZeroI16 = Some (primitive (codes "NonZeroI16") 2)
 schema_of Unit = Some unit
 schema_of ResultU8 = Some (result u8 u8)
+schema_of ArrayOption = Some (array (option u8) 10)
 schema_of Ranges = Some ranges
 schema_of ListString = Some (list (codes "Vec<") string)
 schema_of ListOption = Some (list (codes "Vec<") (option u8))
 schema_of ListUnit = Some (list (codes "Vec<") unit)
 schema_of ListBoxUnit = Some (list (codes "Vec<") unit)
+schema_of ListZero = Some (list (codes "Vec<") (tuple (array u8 0 ∷ array u8 0 ∷ [])))
 schema_of DequeU8 = Some (list (codes "VecDeque<") u8)
 schema_of LinkedU8 = Some (list (codes "LinkedList<") u8)
 schema_of SetU8 = Some (list (codes "BTreeSet<") u8)

@@ -2,7 +2,7 @@
 use Rattle.std.specs.Prelude.{ℕ, List, [], ◌∷◌, Option, codes, find, nat_eq}
 use Rattle.std.specs.Cmp.Lexicographic.{pointwise}
 use Rattle.borsh_answers.specs.declared.words.Word.{Word}
-use Rattle.borsh_answers.specs.declared.words.Word.TheVariants.{U8, U32, U64, Bool, OptionU8, String, ListU8, U128, Isize, NonZeroI16, Unit, ResultU8, Ranges, ListString, ListOption, ListUnit, ListBoxUnit, DequeU8, LinkedU8, SetU8, HashSetU8, MapU8, HashMapU8, MapSet, MapUnit, Ip, BoxU8, RcString, Container, Readme, MyEnum, IndexMapU8, IndexSetU8, Bytes, Uuid, Socket, SocketV6, MyStruct, OneOrZero, ListOne}
+use Rattle.borsh_answers.specs.declared.words.Word.TheVariants.{U8, U32, U64, Bool, OptionU8, String, ListU8, U128, Isize, NonZeroI16, Unit, ResultU8, ArrayOption, Ranges, ListString, ListOption, ListUnit, ListBoxUnit, ListZero, DequeU8, LinkedU8, SetU8, HashSetU8, MapU8, HashMapU8, MapSet, MapUnit, Ip, BoxU8, RcString, Container, Readme, MyEnum, IndexMapU8, IndexSetU8, Bytes, Uuid, Socket, SocketV6, MyStruct, OneOrZero, ListOne}
 
 -- how a type is written
 abbrev pub word_text : Word → List ℕ
@@ -18,11 +18,13 @@ word_text Isize = codes "isize"
 word_text NonZeroI16 = codes "nz-i16"
 word_text Unit = codes "unit"
 word_text ResultU8 = codes "res-u8"
+word_text ArrayOption = codes "arr-opt"
 word_text Ranges = codes "ranges"
 word_text ListString = codes "list-string"
 word_text ListOption = codes "list-opt"
 word_text ListUnit = codes "list-unit"
 word_text ListBoxUnit = codes "list-boxunit"
+word_text ListZero = codes "list-zero"
 word_text DequeU8 = codes "deque-u8"
 word_text LinkedU8 = codes "linked-u8"
 word_text SetU8 = codes "set-u8"
@@ -48,7 +50,7 @@ word_text OneOrZero = codes "oneorzero"
 word_text ListOne = codes "list-one"
 
 abbrev pub all_words : List Word
-all_words = U8 ∷ U32 ∷ U64 ∷ Bool ∷ OptionU8 ∷ String ∷ ListU8 ∷ U128 ∷ Isize ∷ NonZeroI16 ∷ Unit ∷ ResultU8 ∷ Ranges ∷ ListString ∷ ListOption ∷ ListUnit ∷ ListBoxUnit ∷ DequeU8 ∷ LinkedU8 ∷ SetU8 ∷ HashSetU8 ∷ MapU8 ∷ HashMapU8 ∷ MapSet ∷ MapUnit ∷ Ip ∷ BoxU8 ∷ RcString ∷ Container ∷ Readme ∷ MyEnum ∷ IndexMapU8 ∷ IndexSetU8 ∷ Bytes ∷ Uuid ∷ Socket ∷ SocketV6 ∷ MyStruct ∷ OneOrZero ∷ ListOne ∷ []
+all_words = U8 ∷ U32 ∷ U64 ∷ Bool ∷ OptionU8 ∷ String ∷ ListU8 ∷ U128 ∷ Isize ∷ NonZeroI16 ∷ Unit ∷ ResultU8 ∷ ArrayOption ∷ Ranges ∷ ListString ∷ ListOption ∷ ListUnit ∷ ListBoxUnit ∷ ListZero ∷ DequeU8 ∷ LinkedU8 ∷ SetU8 ∷ HashSetU8 ∷ MapU8 ∷ HashMapU8 ∷ MapSet ∷ MapUnit ∷ Ip ∷ BoxU8 ∷ RcString ∷ Container ∷ Readme ∷ MyEnum ∷ IndexMapU8 ∷ IndexSetU8 ∷ Bytes ∷ Uuid ∷ Socket ∷ SocketV6 ∷ MyStruct ∷ OneOrZero ∷ ListOne ∷ []
 
 -- the word that is written so
 abbrev pub word_named : List ℕ → Option Word

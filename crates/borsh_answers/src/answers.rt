@@ -76,6 +76,7 @@ fn word_answer(alloc: Global, word: Word, strict: bool, bytes: &[u8]) -> Result<
         Word::NonZeroI16 => value_answer::<NonZeroI16>(alloc, strict, bytes),
         Word::Unit => value_answer::<()>(alloc, strict, bytes),
         Word::ResultU8 => value_answer::<Result<u8, u8>>(alloc, strict, bytes),
+        Word::ArrayOption => value_answer::<[Option<u8>; 10]>(alloc, strict, bytes),
         Word::Ranges => value_answer::<
             (
                 Range<i32>,
@@ -90,6 +91,7 @@ fn word_answer(alloc: Global, word: Word, strict: bool, bytes: &[u8]) -> Result<
         Word::ListOption => value_answer::<Vec<Option<u8>>>(alloc, strict, bytes),
         Word::ListUnit => value_answer::<Vec<()>>(alloc, strict, bytes),
         Word::ListBoxUnit => value_answer::<Vec<Box<()>>>(alloc, strict, bytes),
+        Word::ListZero => value_answer::<Vec<([u8; 0], [u8; 0])>>(alloc, strict, bytes),
         Word::DequeU8 => value_answer::<VecDeque<u8>>(alloc, strict, bytes),
         Word::LinkedU8 => value_answer::<LinkedList<u8>>(alloc, strict, bytes),
         Word::SetU8 => value_answer::<BTreeSet<u8>>(alloc, strict, bytes),

@@ -35,6 +35,7 @@ pub(crate) fn schema_answer(alloc: Global, word: Word) -> Result<Vec<u8>, AllocE
         Word::NonZeroI16 => container_of::<NonZeroI16>(alloc),
         Word::Unit => container_of::<()>(alloc),
         Word::ResultU8 => container_of::<Result<u8, u8>>(alloc),
+        Word::ArrayOption => container_of::<[Option<u8>; 10]>(alloc),
         Word::Ranges => container_of::<
             (
                 Range<i32>,
@@ -49,6 +50,7 @@ pub(crate) fn schema_answer(alloc: Global, word: Word) -> Result<Vec<u8>, AllocE
         Word::ListOption => container_of::<Vec<Option<u8>>>(alloc),
         Word::ListUnit => container_of::<Vec<()>>(alloc),
         Word::ListBoxUnit => container_of::<Vec<Box<()>>>(alloc),
+        Word::ListZero => container_of::<Vec<([u8; 0], [u8; 0])>>(alloc),
         Word::DequeU8 => container_of::<VecDeque<u8>>(alloc),
         Word::LinkedU8 => container_of::<LinkedList<u8>>(alloc),
         Word::SetU8 => container_of::<BTreeSet<u8>>(alloc),
