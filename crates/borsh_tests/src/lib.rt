@@ -7,6 +7,8 @@
 #[cfg(test)]
 mod addresses;
 #[cfg(test)]
+mod containers;
+#[cfg(test)]
 mod hooks;
 #[cfg(test)]
 mod keys;
@@ -18,6 +20,8 @@ mod long;
 mod old_lines;
 #[cfg(test)]
 mod refusals;
+#[cfg(test)]
+mod schemas;
 #[cfg(test)]
 mod spelling;
 #[cfg(test)]
