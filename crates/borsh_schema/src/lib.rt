@@ -12,13 +12,13 @@ pub mod non_zeros;
 pub mod numbers;
 mod own;
 pub mod parts;
-mod places;
 pub mod pointers;
 pub mod questions;
 pub mod ranges;
 pub mod schema;
 pub mod sums;
 pub mod texts;
+mod tuple_parts;
 pub mod tuples;
 pub mod units;
 

@@ -6,8 +6,8 @@ ghost use Rattle.borsh_schema.specs.Names.{tuple_name};
 ghost use Rattle.borsh_schema.specs.Types.{tuple_parts};
 
 use super::definitions::SchemaBuildError;
-use super::places::{add_tuple, tuple_declaration};
 use super::schema::BorshSchema;
+use super::tuple_parts::{add_tuple, tuple_declaration};
 use borsh_walks::{Declaration, Definition};
 use std::alloc::Global;
 use std::collections::BTreeMap;
