@@ -9,6 +9,8 @@ mod addresses;
 #[cfg(test)]
 mod containers;
 #[cfg(test)]
+mod declared;
+#[cfg(test)]
 mod hooks;
 #[cfg(test)]
 mod keys;
