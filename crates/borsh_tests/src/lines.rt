@@ -8,7 +8,7 @@ use std::test::Fail;
 const NO_BYTES: &str =
     "error Collections of zero-sized types are not allowed due to deny-of-service concerns on deserialization.";
 
-const ROWS: [(&str, &str); 66] = [
+const ROWS: [(&str, &str); 68] = [
     ("read u64 0c00000000000000", "ok 0c00000000000000"),
     ("read u64 0C00000000000000", "ok 0c00000000000000"),
     ("read bool 02", "error Invalid bool representation: 2"),
@@ -36,8 +36,13 @@ const ROWS: [(&str, &str); 66] = [
         "read res-u8 0207",
         "error Invalid Result representation: 2. The first byte must be 0 or 1",
     ),
+    (
+        "read arr-opt 0001070000000000000000",
+        "ok 0001070000000000000000",
+    ),
     ("read list-unit 00000000", NO_BYTES),
     ("read list-boxunit 00000000", NO_BYTES),
+    ("read list-zero 00000000", NO_BYTES),
     ("read list-opt 02000000000105", "ok 02000000000105"),
     (
         "read ranges 01000000020000000300000004000000050000000600000007000000",

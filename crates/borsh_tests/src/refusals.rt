@@ -43,6 +43,8 @@ fn too_many_bytes_or_too_few(alloc: Global) -> bool {
     is_refused::<u8>(alloc, b"\x01\x02", "Not all bytes read")
         && is_refused::<u8>(alloc, b"", SHORT)
         && is_refused::<NonZeroI16>(alloc, b"\0", SHORT)
+        && is_refused::<[u8; 2]>(alloc, b"\x01\x02\x03", "Not all bytes read")
+        && is_refused::<[bool; 2]>(alloc, b"\x01", SHORT)
 }
 
 fn bytes_that_are_no_text(alloc: Global) -> bool {

@@ -116,6 +116,26 @@ fn lists(alloc: Global) -> Result<bool, Fail> {
     )
 }
 
+fn arrays_of_bytes(alloc: Global) -> Result<bool, Fail> {
+    Ok(
+        is_spelling::<[u8; 0]>(alloc, b"")?
+            && is_spelling::<[u8; 1]>(alloc, b"\x64")?
+            && is_spelling::<[u8; 8]>(alloc, b"\x01\x02\x03\x04\x05\x06\x07\x08")?
+            && is_spelling::<[u8; 65]>(alloc, &[100u8; 65])?,
+    )
+}
+
+fn arrays(alloc: Global) -> Result<bool, Fail> {
+    Ok(
+        is_spelling::<[u16; 3]>(alloc, b"\x01\x02\x03\x04\x05\x06")?
+            && is_spelling::<[Option<u8>; 3]>(alloc, b"\0\x01\x07\0")?
+            && is_spelling::<[[u8; 2]; 2]>(alloc, b"\x01\x02\x03\x04")?
+            && is_spelling::<[(); 3]>(alloc, b"")?
+            && is_spelling::<[String; 2]>(alloc, b"\x01\0\0\0a\0\0\0\0")?
+            && is_spelling::<[One; 2]>(alloc, b"\0\0")?,
+    )
+}
+
 fn pointers(alloc: Global) -> Result<bool, Fail> {
     Ok(
         is_spelling::<Box<u16>>(alloc, b"\x08\x09")?
@@ -162,6 +182,14 @@ fn texts_lists_and_user_types_have_one_spelling(rt: HostRuntime) -> Result<(), F
     assert!(rt; pointers(alloc)?);
     assert!(rt; user_types(alloc)?);
     assert!(rt; my_enum(alloc)?);
+    Ok(())
+}
+
+#[test]
+fn arrays_have_one_spelling(rt: HostRuntime) -> Result<(), Fail> {
+    let alloc = rt.alloc();
+    assert!(rt; arrays_of_bytes(alloc)?);
+    assert!(rt; arrays(alloc)?);
     Ok(())
 }
 
