@@ -12,3 +12,5 @@ pub use Rattle.borsh_types.proofs.ReadWhole
 pub use Rattle.borsh_types.proofs.WriteSteps
 pub use Rattle.borsh_types.proofs.WriteRows
 pub use Rattle.borsh_types.proofs.NumberBytes
+-- what definitions that are put together say
+pub use Rattle.borsh_schema.proofs.Told

@@ -53,14 +53,12 @@ pub data WhyNotWritten (name : List ℕ) (parts : Parts) (encoding : Option (Lis
 
 -- the container in front isn't the type's
 pub record IsOtherSchema (name : List ℕ) (parts : Parts) (bytes : List ℕ) : Type 0 where
-  pub own : BorshSchemaContainer
-  pub is : IsContainerOf name parts own
   pub sent : BorshSchemaContainer
   pub front : List ℕ
   pub rest : List ℕ
   pub encoded : container.encoding sent ≡ Some front
   pub whole : bytes ≡ front ++ rest
-  pub other : container.encoding own ≡ Some front → ⊥
+  pub other : IsContainerOf name parts sent → ⊥
 
 -- why container and value aren't read: the bytes are no container and a value behind it, or the container isn't the type's
 pub data WhyNotRead {A : Type 0} (name : List ℕ) (parts : Parts) (c : Codec A) (bytes : List ℕ) (kind : ErrorKind) : Type 0 where
@@ -88,15 +86,3 @@ pub record IsPairRead {A B : Type 0} (a : Codec A) (b : Codec B) (bytes : List �
   pub whole : bytes ≡ front ++ rest
   pub first : a.encoding v.0 ≡ Some front
   pub second : b.reading true rest v.1
-
--- whether the type's container is written as these bytes
-pub record IsOwnSchema (name : List ℕ) (parts : Parts) (bytes : List ℕ) (yes : Bool) : Type 0 where
-  pub own : BorshSchemaContainer
-  pub is : IsContainerOf name parts own
-  pub says : MatchBool yes (container.encoding own ≡ Some bytes) (container.encoding own ≡ Some bytes → ⊥)
-
--- why it isn't known whether it is; or the type's container has no encoding, and so isn't written as these bytes
-pub data WhyNotOwn (name : List ℕ) (parts : Parts) (bytes : List ℕ) (kind : ErrorKind) : Type 0 where
-  other : kind ≡ InvalidData → HasNoBytes name parts → WhyNotOwn name parts bytes kind
-  clashing_names : IsRefusal kind → HasClash parts → WhyNotOwn name parts bytes kind
-  want_of_memory : kind ≡ OutOfMemory → WhyNotOwn name parts bytes kind

@@ -1,14 +1,13 @@
 // Types with their containers, and values that are sent with them.
-ghost use Rattle.std.specs.Prelude.{◌≡◌, ℕ, List, true, Some, IfOk, IfErr};
+ghost use Rattle.std.specs.Prelude.{◌≡◌, Decides, true, IfOk, IfErr, MatchResult};
 ghost use Rattle.borsh_io.specs.Errors.{error_kind};
 ghost use Rattle.borsh_types.specs.Reading.{WhyNotWhole};
 ghost use Rattle.borsh_types.specs.Shapes.{pair};
-ghost use Rattle.borsh_schema.specs.Codecs.{container as container_codec};
 ghost use Rattle.borsh_schema.specs.Containers.{IsContainerOf, DescribesRoot};
 ghost use Rattle.borsh_schema.specs.Described.{nothing_defined};
 ghost use Rattle.borsh_schema.specs.Joined.{BuildFault};
 ghost use Rattle.borsh_schema.specs.Sized.{IsTypeSize, BoundsEncodings};
-ghost use Rattle.borsh.specs.WithSchema.{IsWithSchema, IsReadWithSchema, IsPairRead, IsOwnSchema, IsBuildKind, WhyNoContainer, WhyNotOwn, WhyNotWritten, WhyNotRead};
+ghost use Rattle.borsh.specs.WithSchema.{IsWithSchema, IsReadWithSchema, IsPairRead, IsBuildKind, WhyNoContainer, WhyNotWritten, WhyNotRead};
 
 use super::de::from_slice;
 use super::ser::to_vec;
@@ -67,13 +66,15 @@ pub fn try_to_vec_with_schema<T: BorshSerialize + BorshSchema>(
 ///
 /// Container and value are read first, so what [`from_slice`] refuses is refused as there. A container
 /// that isn't the type's is refused with `InvalidData`, "Borsh schema does not match", and so is a type
-/// a name of which has two different definitions.
+/// a name of which has two different definitions. So a value is answered, up to sameness, exactly if the
+/// bytes are the encoding of the type's container and then a reading of it, memory aside.
 pub fn try_from_slice_with_schema<T: BorshDeserialize + BorshSchema>(
     alloc: Global,
     v: &[u8],
 ) -> borsh_io::Result<T>
     ensures ok { IfOk result (λ x. IsReadWithSchema T.name T.parts T.codec v.now x) }
     ensures err { IfErr result (λ e. WhyNotRead T.name T.parts T.codec v.now (error_kind e)) }
+    ensures exact { (x : T) → IsReadWithSchema T.name T.parts T.codec v.now x → MatchResult result (λ y. T.codec.same y x) (λ e. error_kind e ≡ ErrorKind.OutOfMemory) }
 {
     let sent: (BorshSchemaContainer, T) = pair_from(alloc, v)?;
     if is_own::<T>(alloc, &sent.0)? {
@@ -94,15 +95,15 @@ fn pair_from<S: BorshDeserialize, T: BorshDeserialize>(
     from_slice(alloc, v)
 }
 
-/// Whether a container is that of the type: each has one spelling.
+/// Whether a container is that of the type.
 fn is_own<T: BorshSchema>(alloc: Global, sent: &BorshSchemaContainer) -> borsh_io::Result<bool>
-    ensures ok { (bytes : List ℕ) → container_codec.encoding sent.now ≡ Some bytes → IfOk result (λ yes. IsOwnSchema T.name T.parts bytes yes) }
-    ensures err { (bytes : List ℕ) → container_codec.encoding sent.now ≡ Some bytes → IfErr result (λ e. WhyNotOwn T.name T.parts bytes (error_kind e)) }
+    ensures ok { IfOk result (λ yes. Decides yes (IsContainerOf T.name T.parts sent.now)) }
+    ensures err { IfErr result (λ e. WhyNoContainer T.parts (error_kind e)) }
 {
-    let own = container_of::<T>(alloc)?;
-    let own_bytes = to_vec(alloc, &own)?;
-    let sent_bytes = to_vec(alloc, sent)?;
-    Ok(own_bytes == sent_bytes)
+    match sent.is_of_type::<T>(alloc) {
+        Ok(yes) => Ok(yes),
+        Err(e) => Err(not_built(alloc, e)),
+    }
 }
 
 /// The container of a type.

@@ -1,11 +1,14 @@
 -- The container of a type, from the answers of its calls.
-use Rattle.std.proofs.Common.{◌≡◌, ℕ, List, subst, ◌∙◌, sym, ap, String, Global, string_bytes}
-use Rattle.std.specs.BTreeMap.{BTreeMap}
+use Rattle.std.proofs.Common.{◌≡◌, ℕ, Bool, List, length, subst, ◌∙◌, sym, ap, Decides, String, Global, string_bytes}
+use Rattle.std.specs.BTreeMap.{BTreeMap, IsOrdered, btree_map_len}
+use Rattle.std.specs.String.{string_cmp}
+use Rattle.std.proofs.lemmas.List.{length-map}
 use Rattle.borsh_walks.specs.declared.definition.Definition.{Definition}
 use Rattle.borsh_schema.specs.declared.container.BorshSchemaContainer.{BorshSchemaContainer}
 use Rattle.borsh_schema.specs.Described.{Parts, contents_of, nothing_defined}
 use Rattle.borsh_schema.specs.Joined.{IsJoined}
 use Rattle.borsh_schema.specs.Containers.{declaration_of, map_of, IsContainerOf}
+use Rattle.borsh_schema.specs.Laws.Sameness.{said_entry, SayTheSame, container_as, container_once}
 
 pub container_made : {name : List ℕ} {ps : Parts} (m n : BTreeMap (String Global) Definition) {d : String Global} (c : BorshSchemaContainer)
     → contents_of m ≡ nothing_defined → IsJoined (contents_of m) ps (contents_of n) → string_bytes d ≡ name → declaration_of c ≡ d → map_of c ≡ n → IsContainerOf name ps c
@@ -13,3 +16,12 @@ container_made {ps = ps} m n c e j f g h = record {
   root = ap string_bytes g ∙ f;
   definitions = subst (λ a. IsJoined a ps (contents_of (map_of c))) e (subst (λ k. IsJoined (contents_of m) ps (contents_of k)) (sym h) j);
 }
+
+-- two containers by ascending name are compared, first by how many definitions they have
+module _ {name : List ℕ} {ps : Parts} (own sent : BorshSchemaContainer) (is : IsContainerOf name ps own) (o : IsOrdered string_cmp (map_of own)) (s : IsOrdered string_cmp (map_of sent)) where
+  pub compared_long : (b : Bool) → Decides b (SayTheSame sent own) → Decides b (IsContainerOf name ps sent)
+  compared_long b d = (λ e. container_as sent own (d.0 e) is, λ h. d.1 (container_once sent own s o h is))
+
+  pub compared_short : (btree_map_len (map_of sent) ≡ btree_map_len (map_of own) → ⊥) → IsContainerOf name ps sent → ⊥
+  compared_short f h =
+      f (sym (length-map (map_of sent).entries said_entry) ∙ ap length (container_once sent own s o h is).1 ∙ length-map (map_of own).entries said_entry)

@@ -10,7 +10,11 @@ use Rattle.borsh_walks.specs.declared.definition.Definition.TheVariants.{Primiti
 use Rattle.borsh_walks.specs.declared.definition.Fields.{Fields}
 use Rattle.borsh_walks.specs.declared.definition.Fields.TheVariants.{NamedFields, UnnamedFields, Empty}
 use Rattle.borsh_walks.specs.contracts.definition.DefinitionPartialEq.TheImpl as of_definitions
-use Rattle.borsh_schema.specs.Described.{Described, bytes, list, tuple, variants, named, unnamed, no_fields, described_fields, described_of}
+use Rattle.borsh_schema.specs.declared.container.BorshSchemaContainer.{BorshSchemaContainer}
+use Rattle.borsh_schema.specs.contracts.container.BorshSchemaContainerPartialEq.TheImpl as of_containers
+use Rattle.borsh_schema.specs.Containers.{map_of}
+use Rattle.borsh_schema.specs.Laws.Sameness.{Entry, said_entry, SayTheSame}
+use Rattle.borsh_schema.specs.Described.{Described, field_bytes, variant_bytes, bytes, list, tuple, variants, named, unnamed, no_fields, described_fields, described_of}
 
 -- `==` of definitions
 abbrev same : Definition → Definition → Bool
@@ -27,17 +31,9 @@ each-Decides E f each (x ∷ xs) (y ∷ ys) =
 text-Decides : (a b : String Global) → Decides (string_eq a b) (string_bytes a ≡ string_bytes b)
 text-Decides a b = bytes_eq-Decides (string_bytes a) (string_bytes b)
 
--- a field's name and type
-abbrev field_bytes : String Global × String Global → List ℕ × List ℕ
-field_bytes f = (string_bytes f.0, string_bytes f.1)
-
 field-Decides : (a b : String Global × String Global) → Decides (string_eq a.0 b.0 && string_eq a.1 b.1) (field_bytes a ≡ field_bytes b)
 field-Decides a b =
     Decides-like _ (λ p. let h = p.0 in let t = p.1 in cc) (λ e. (ap (λ q. q.0) e, ap (λ q. q.1) e)) (Decides-and _ _ (text-Decides a.0 b.0) (text-Decides a.1 b.1))
-
--- a variant's discriminant, name and type
-abbrev variant_bytes : ℤ × String Global × String Global → ℤ × List ℕ × List ℕ
-variant_bytes v = (v.0, string_bytes v.1, string_bytes v.2)
 
 variant-Decides : (a b : ℤ × String Global × String Global) → Decides (int_eq a.0 b.0 && string_eq a.1 b.1 && string_eq a.2 b.2) (variant_bytes a ≡ variant_bytes b)
 variant-Decides a b =
@@ -100,3 +96,18 @@ definition-Decides (Struct (UnnamedFields a)) (Struct Empty) = (λ t. absurd (tr
 definition-Decides (Struct Empty) (Struct (NamedFields b)) = (λ t. absurd (true≢false (sym t)), λ p. absurd (cc))
 definition-Decides (Struct Empty) (Struct (UnnamedFields b)) = (λ t. absurd (true≢false (sym t)), λ p. absurd (cc))
 definition-Decides (Struct Empty) (Struct Empty) = (λ e. refl, λ e. refl)
+
+-- ---- containers
+
+-- `==` of containers
+abbrev same_containers : BorshSchemaContainer → BorshSchemaContainer → Bool
+same_containers = (of_containers.ghosts).eq
+
+entry-Decides : (a b : Entry) → Decides (string_eq a.0 b.0 && same a.1 b.1) (said_entry a ≡ said_entry b)
+entry-Decides a b =
+    Decides-like _ (λ p. let h = p.0 in let t = p.1 in cc) (λ e. (ap (λ q. q.0) e, ap (λ q. q.1) e)) (Decides-and _ _ (text-Decides a.0 b.0) (definition-Decides a.1 b.1))
+
+-- `==` of containers is that both say the same
+pub container-Decides : (a b : BorshSchemaContainer) → Decides (same_containers a b) (SayTheSame a b)
+container-Decides a b =
+    Decides-and _ _ (text-Decides a.declaration b.declaration) (each-Decides (λ p q. string_eq p.0 q.0 && same p.1 q.1) said_entry entry-Decides (map_of a).entries (map_of b).entries)

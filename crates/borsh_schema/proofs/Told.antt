@@ -4,7 +4,7 @@ use Rattle.std.specs.Prelude.{⊤, OnOk, IfErr, Result, map}
 use Rattle.borsh_walks.specs.declared.definition.Fields.TheVariants.{NamedFields, UnnamedFields}
 use Rattle.borsh_walks.specs.declared.definition.Definition.TheVariants.{Enum}
 use Rattle.borsh_schema.specs.declared.definitions.SchemaBuildError.{SchemaBuildError}
-use Rattle.borsh_schema.specs.Described.{Described, Contents, Parts, defined, variants, named, unnamed, described_fields, described_of}
+use Rattle.borsh_schema.specs.Described.{Described, field_bytes, variant_bytes, Contents, Parts, defined, variants, named, unnamed, described_fields, described_of}
 use Rattle.borsh_schema.specs.Joined.{IsJoined, NotJoined}
 
 module _ (r : Result (Unit {0}) SchemaBuildError) (old new : Contents) (ps : Parts) {n m : List ℕ} {d e : Described} (f : n ≡ m) (g : d ≡ e) where
@@ -23,9 +23,6 @@ Field = String Global × String Global
 -- the field spells this name and this type
 abbrev pub Spells : Field → List ℕ → List ℕ → Type 0
 Spells f a b = (string_bytes f.0 ≡ a) × (string_bytes f.1 ≡ b)
-
-abbrev field_bytes : Field → List ℕ × List ℕ
-field_bytes f = (string_bytes f.0, string_bytes f.1)
 
 spelled : (f : Field) {a b : List ℕ} → Spells f a b → ◌≡◌ {A = List ℕ × List ℕ} (field_bytes f) (a, b)
 spelled f s = rw (s.0, s.1) refl
@@ -57,9 +54,6 @@ Variant = ℤ × String Global × String Global
 -- a variant as it is described
 abbrev Told : Type 0
 Told = ℤ × List ℕ × List ℕ
-
-abbrev variant_bytes : Variant → Told
-variant_bytes v = (v.0, string_bytes v.1, string_bytes v.2)
 
 -- the variant spells these
 abbrev pub Tells : Variant → Told → Type 0

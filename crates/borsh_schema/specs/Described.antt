@@ -1,5 +1,6 @@
 -- What a definition says, and the named definitions of a type and of a map.
 use Rattle.std.specs.Prelude.{◌≡◌, ℕ, ℤ, List, [], map, Option, None, option_map, string_bytes, String, ◌⊎◌}
+use Rattle.std.specs.Global.{Global}
 use Rattle.std.specs.BTreeMap.{BTreeMap, get_by_text}
 use Rattle.borsh_walks.specs.declared.definition.Definition.{Definition}
 use Rattle.borsh_walks.specs.declared.definition.Definition.TheVariants.{Primitive, Sequence, Tuple, Enum, Struct}
@@ -33,8 +34,17 @@ shape (named fs) = parts (map (λ f. f.1) fs)
 shape (unnamed ns) = parts ns
 shape no_fields = parts []
 
+-- a field's name and type
+abbrev pub field_bytes : String Global × String Global → List ℕ × List ℕ
+field_bytes f = (string_bytes f.0, string_bytes f.1)
+
+-- a variant's discriminant, name and type
+abbrev pub variant_bytes : ℤ × String Global × String Global → ℤ × List ℕ × List ℕ
+variant_bytes v = (v.0, string_bytes v.1, string_bytes v.2)
+
+-- what the fields of a struct say
 abbrev pub described_fields : Fields → Described
-described_fields (NamedFields fs) = named (map (λ f. (string_bytes f.0, string_bytes f.1)) fs.items)
+described_fields (NamedFields fs) = named (map field_bytes fs.items)
 described_fields (UnnamedFields fs) = unnamed (map (λ f. string_bytes f) fs.items)
 described_fields Empty = no_fields
 
@@ -43,7 +53,7 @@ abbrev pub described_of : Definition → Described
 described_of (Primitive n) = bytes n
 described_of (Sequence w r e) = list w r.start r.end (string_bytes e)
 described_of (Tuple es) = tuple (map (λ e. string_bytes e) es.items)
-described_of (Enum w vs) = variants w (map (λ v. (v.0, string_bytes v.1, string_bytes v.2)) vs.items)
+described_of (Enum w vs) = variants w (map variant_bytes vs.items)
 described_of (Struct fs) = described_fields fs
 
 -- named definitions, as a function of the name

@@ -3,3 +3,4 @@ pub mod Members
 pub mod Joining
 pub mod Containers
 pub mod Own
+pub mod Sameness

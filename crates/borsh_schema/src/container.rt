@@ -1,10 +1,11 @@
 // Containers: a type's name and the definitions that it leads to.
-ghost use Rattle.std.specs.Prelude.{◌≡◌, List, ℕ, Some, None, OnOk, IfOk, IfErr, OnErr, MatchResult, IsSome, option_map, string_bytes};
+ghost use Rattle.std.specs.Prelude.{◌≡◌, Decides, List, ℕ, Some, None, OnOk, IfOk, IfErr, OnErr, MatchResult, IsSome, option_map, string_bytes};
 ghost use Rattle.std.specs.Borrow.{sem};
 ghost use Rattle.std.specs.Option.{option_copied_mut};
 ghost use Rattle.std.specs.Str.{bytes_eq};
+ghost use Rattle.std.specs.String.{string_cmp};
 ghost use Rattle.std.specs.Map.{update};
-ghost use Rattle.std.specs.BTreeMap.{get_by_text, IsUnchanged};
+ghost use Rattle.std.specs.BTreeMap.{get_by_text, IsOrdered, IsUnchanged};
 ghost use Rattle.borsh_schema.specs.Containers.{declaration_of, map_of, defined_in, left_of, IsContainerOf, DescribesRoot};
 ghost use Rattle.borsh_schema.specs.Described.{nothing_defined};
 ghost use Rattle.borsh_schema.specs.Joined.{BuildFault};
@@ -50,6 +51,16 @@ impl BorshSchemaContainer {
         Ok(BorshSchemaContainer::new(T::declaration(alloc)?, definitions))
     }
 
+    /// Whether this is the container of a type. Where a name of the type has two different definitions
+    /// the answer is `Redefinition` of such a name.
+    pub fn is_of_type<T: BorshSchema>(&self, alloc: Global) -> Result<bool, SchemaBuildError>
+        ensures ok { IfOk result (λ yes. Decides yes (IsContainerOf T.name T.parts self.now)) }
+        ensures err { IfErr result (λ e. BuildFault nothing_defined T.parts e) }
+    {
+        let own = BorshSchemaContainer::for_type::<T>(alloc)?;
+        Ok(self.definitions.len() == own.definitions.len() && *self == own)
+    }
+
     /// The type's name.
     pub fn declaration(&self) -> &Declaration
         ensures { result.now ≡ declaration_of self.now }
@@ -59,7 +70,8 @@ impl BorshSchemaContainer {
 
     /// The names with their definitions, by ascending name.
     pub fn definitions(&self) -> Definitions<'_>
-        ensures { left_of result ≡ (map_of self.now).entries }
+        ensures entries { left_of result ≡ (map_of self.now).entries }
+        ensures ascending { IsOrdered string_cmp (map_of self.now) }
     {
         Definitions {
             entries: self.definitions.iter(),

@@ -1,4 +1,4 @@
-use Rattle.borsh_samples.proofs.Told.{unnamed_one, joined_told, not_joined_told}
+use Rattle.borsh.proofs.Told.{unnamed_one, joined_told, not_joined_told}
 use Rattle.borsh_samples.proofs.schemas.ManyPartSchemaParts.add_all.Goals as goal
 
 pub returns-clause-ok : goal.returns-clause-ok

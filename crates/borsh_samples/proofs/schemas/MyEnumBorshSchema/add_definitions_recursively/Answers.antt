@@ -1,4 +1,4 @@
-use Rattle.borsh_samples.proofs.Told.{variants_told, joined_told}
+use Rattle.borsh.proofs.Told.{variants_told, joined_told}
 use Rattle.borsh_samples.proofs.schemas.MyEnumBorshSchema.add_definitions_recursively.Goals as goal
 
 pub returns-clause-ok : goal.returns-clause-ok

@@ -1,5 +1,5 @@
 use Rattle.std.proofs.Common.{refl}
-use Rattle.borsh_samples.proofs.Told.{joined_told, not_joined_told}
+use Rattle.borsh.proofs.Told.{joined_told, not_joined_told}
 use Rattle.borsh_samples.proofs.schemas.ZeroPartSchemaParts.add_all.Goals as goal
 
 pub returns-clause-ok : goal.returns-clause-ok
