@@ -1,5 +1,5 @@
 -- Counts that are raised one by one.
-use Rattle.std.proofs.Common.{◌≡◌, ℕ, suc, zero, ◌+◌, refl, ◌∙◌, ap, arith}
+use Rattle.std.proofs.Common.{◌≡◌, ℕ, suc, zero, ◌+◌, ◌∙◌, ap, arith}
 use Rattle.std.specs.Prelude.{min, Result, Ok, Err, OnOk, IsErr}
 use Rattle.borsh_walks.specs.Counts.{raised, raised_for}
 use Rattle.borsh_walks.specs.declared.counted.Question.{Question}

@@ -1,6 +1,6 @@
 -- Names in lists, and the names of a map's definitions.
 use Rattle.std.proofs.Common.{◌≡◌, ℕ, suc, zero, ◌<◌, ◌≤◌, List, [], ◌∷◌, ◌++◌, length, refl, sym, ◌∙◌, ap, subst, arith, Some, None, true, false, Bool, ◌⊎◌, inl, inr}
-use Rattle.std.specs.Prelude.{String, Option, option_map, string_bytes, cond, slice_get, bytes_eq}
+use Rattle.std.specs.Prelude.{String, Option, option_map, string_bytes, cond, slice_get}
 use Rattle.std.specs.Map.{lookup}
 use Rattle.std.specs.BTreeMap.{BTreeMap, get_by_text, btree_map_len}
 use Rattle.std.specs.Borrow.{Bor}
@@ -11,20 +11,10 @@ use Rattle.std.proofs.lemmas.Map.Text.{is_eq-slice_cmp}
 use Rattle.std.proofs.lemmas.Slice.Eq.{bytes_eq-Decides}
 use Rattle.borsh_walks.specs.declared.definition.Definition.{Definition}
 use Rattle.borsh_walks.specs.Container.{Shape, Among, first, later}
-use Rattle.borsh_walks.specs.Definitions.{definitions_in, shape_of}
+use Rattle.borsh_walks.specs.Definitions.{shape_of}
 use Rattle.borsh_walks.specs.SizeAnswer.{Distinct, distinct_more}
 
 -- ---- places in a list
-pub at_place : (bs cs : List (List ℕ)) {p : List ℕ} → slice_get (bs ++ cs) (length bs) ≡ Some p → (ds : List (List ℕ)) × (cs ≡ p ∷ ds)
-at_place [] [] e = cc
-at_place [] (c ∷ cs) {p} e = let q : c ≡ p = cc in (cs, ap (λ x. x ∷ cs) q)
-at_place (b ∷ bs) cs e = at_place bs cs e
-
-pub at_end : (bs cs : List (List ℕ)) → slice_get (bs ++ cs) (length bs) ≡ None → cs ≡ []
-at_end [] [] e = refl
-at_end [] (c ∷ cs) e = cc
-at_end (b ∷ bs) cs e = at_end bs cs e
-
 pub next_below : {X : Type 0} (xs : List X) (i : ℕ) (x : X) → slice_get xs i ≡ Some x → i < length xs
 next_below [] i x h = cc
 next_below (y ∷ xs) zero x h = omega arith

@@ -1,6 +1,6 @@
 -- That a valid container is not refused.
-use Rattle.std.proofs.Common.{◌≡◌, ℕ, List, refl}
-use Rattle.std.specs.Prelude.{Option, Result, Ok, Err, MatchResult, ⊤}
+use Rattle.std.proofs.Common.{ℕ, List, refl}
+use Rattle.std.specs.Prelude.{Option, Result, Ok, Err, MatchResult}
 use Rattle.borsh_walks.specs.Container.{Shape, IsValid, zst_sequence, tag_too_wide, tag_too_narrow, tag_not_power_of_two, missing_definition, empty_length_range}
 use Rattle.borsh_walks.specs.RulesAnswer.{IsRulesDue, RulesFault}
 use Rattle.borsh_walks.specs.declared.error.SchemaContainerValidateError.{SchemaContainerValidateError}

@@ -1,9 +1,9 @@
 -- That a size stands where nothing that is needed is missing or leads back to itself.
-use Rattle.std.proofs.Common.{◌≡◌, ℕ, suc, zero, ◌+◌, ◌≤◌, List, [], ◌∷◌, length, Some, None, refl, arith, subst}
+use Rattle.std.proofs.Common.{◌≡◌, ℕ, suc, zero, ◌+◌, ◌≤◌, List, [], ◌∷◌, length, Some, None, refl, arith}
 use Rattle.std.specs.Prelude.{Option, String}
 use Rattle.std.specs.BTreeMap.{BTreeMap, get_by_text}
 use Rattle.borsh_walks.specs.declared.definition.Definition.{Definition}
-use Rattle.borsh_walks.specs.Container.{Shape, Among, first, later, needs, PlainSize, sized, PlainSizes, no_sizes, more_sizes, total, Leads, stays, onward, IsOnCycle, Needed, NeededBack}
+use Rattle.borsh_walks.specs.Container.{Shape, Among, first, later, needs, PlainSize, sized, PlainSizes, no_sizes, more_sizes, total, Leads, stays, onward, Needed, NeededBack}
 use Rattle.borsh_walks.specs.Definitions.{definitions_in}
 use Rattle.borsh_walks.specs.SizeAnswer.{Distinct, distinct_none, distinct_more, HasSize}
 use Rattle.borsh_walks.proofs.Names.{distinct_within, key_names, found_among, shape_some}

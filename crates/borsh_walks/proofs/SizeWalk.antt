@@ -1,24 +1,33 @@
 -- The walk for a size: what its loop keeps, and each of its steps.
-use Rattle.std.proofs.Common.{◌≡◌, ℕ, suc, zero, ◌+◌, ◌*◌, ◌<◌, ◌≤◌, List, [], ◌∷◌, ◌++◌, length, replicate, Some, None, refl, sym, ◌∙◌, ap, subst, arith, length-append, append_assoc, ◌⊎◌, inl, inr}
-use Rattle.std.specs.Prelude.{Option, max, slice_get}
-use Rattle.std.proofs.lemmas.List.{append-nil}
-use Rattle.std.proofs.lemmas.Bool.{cases_eq}
+use Rattle.std.proofs.Common.{◌≡◌, ℕ, suc, zero, ◌+◌, ◌*◌, ◌<◌, ◌≤◌, List, [], ◌∷◌, ◌++◌, length, replicate, take, drop, take-append-drop, Some, None, refl, sym, ◌∙◌, ap, subst, arith, inl, inr}
+use Rattle.std.specs.Prelude.{Option, max, slice_get, ⊤}
 use Rattle.borsh_walks.specs.Container.{Shape, primitive, sequence, parts, choice, Among, first, later, needs, sum_of, greatest, total, PlainSize, sized, PlainSizes, no_sizes, more_sizes, PartialSize, left_out, taken, PartialSizes, no_partial, more_partial, Leads, stays, onward, Needed, NeededBack}
-use Rattle.borsh_walks.specs.Definitions.{shape_of}
+use Rattle.borsh_walks.specs.Definitions.{spot_shape}
 use Rattle.borsh_walks.specs.SizeParts.{gathered_of, gathered_with, finished}
 use Rattle.borsh_walks.specs.SizeAnswer.{Distinct, distinct_none, distinct_more, AreNeeded}
+use Rattle.borsh_walks.specs.Tables.{IsDefined, Marks}
 use Rattle.borsh_walks.specs.declared.sizes.Frame.{Frame}
 use Rattle.borsh_walks.specs.declared.sizes.Mark.{Mark}
 use Rattle.borsh_walks.specs.declared.sizes.Mark.TheVariants.{Open, Finished}
-use Rattle.borsh_walks.proofs.Laws.{one_definition, sizes_among, no_cycle, size_partial, sizes_partial, lead_in}
-use Rattle.borsh_walks.proofs.Names.{at_place, at_end, among_get, among_append, among_left, among_one, other_one, name_cases}
-use Rattle.borsh_walks.proofs.Tables.{Updated, still}
+use Rattle.borsh_walks.specs.declared.way.Spot.{Spot}
+use Rattle.borsh_walks.proofs.Laws.{one_definition, sizes_among, no_cycle, size_partial, sizes_partial}
+use Rattle.borsh_walks.proofs.Names.{among_get, among_left, among_one, other_one, name_cases}
+use Rattle.borsh_walks.proofs.Tables.{Updated, marks_more, marks_again, marks_start}
+use Rattle.borsh_walks.proofs.Spots.{moved, names_of, take_more, take_whole, SpotOk, spot_new, spot_moved, spot_kept, all_settled, Chain, chain_leads, chain_kept, path_leads}
 
 abbrev pub shape : Frame → Shape
-shape f = shape_of f.definition.now
+shape f = spot_shape f.spot
 
-abbrev pub next_of : Frame → ℕ
-next_of f = f.next
+abbrev pub spots_of : List Frame → List Spot
+spots_of [] = []
+spots_of (f ∷ fs) = f.spot ∷ spots_of fs
+
+abbrev pub path_of : Frame → List Frame → List (List ℕ)
+path_of f fs = names_of (spots_of (f ∷ fs))
+
+-- the frame with one more part, where the parts make n
+abbrev pub gathered_more : Frame → ℕ → Frame
+gathered_more f n = record { spot = moved f.spot; gathered = n }
 
 -- ---- sizes one after another
 pub total_is : (d : Shape) (ns : List ℕ) → total d ns ≡ finished d (gathered_of d ns)
@@ -35,11 +44,11 @@ greatest-more : (ns : List ℕ) (n : ℕ) → greatest (ns ++ n ∷ []) ≡ max 
 greatest-more [] n = omega arith
 greatest-more (m ∷ ns) n = let h = greatest-more ns n in omega arith
 
-pub gathered-more : (d : Shape) (ns : List ℕ) (n : ℕ) → gathered_of d (ns ++ n ∷ []) ≡ gathered_with d (gathered_of d ns) n
-gathered-more (primitive k) ns n = sum-more ns n
-gathered-more (sequence w lo hi e) ns n = sum-more ns n
-gathered-more (parts ps) ns n = sum-more ns n
-gathered-more (choice w vs) ns n = greatest-more ns n
+pub gathered-one_more : (d : Shape) (ns : List ℕ) (n : ℕ) → gathered_of d (ns ++ n ∷ []) ≡ gathered_with d (gathered_of d ns) n
+gathered-one_more (primitive k) ns n = sum-more ns n
+gathered-one_more (sequence w lo hi e) ns n = sum-more ns n
+gathered-one_more (parts ps) ns n = sum-more ns n
+gathered-one_more (choice w vs) ns n = greatest-more ns n
 
 sum-zeros : (ns : List ℕ) (k : ℕ) → sum_of (ns ++ replicate k 0) ≡ sum_of ns
 sum-zeros [] zero = refl
@@ -93,104 +102,47 @@ module _ (C : List ℕ → Option Shape) where
     abbrev pub IsFinished : List ℕ → Type 0
     IsFinished x = (n : ℕ) × (T x ≡ Some (Finished n))
 
-    -- what a name on the way keeps: the first `next` parts are finished, and `gathered` is what they make
-    pub record FrameOk (f : Frame) : Type 0 where
-      pub defined : C f.name.now ≡ Some (shape f)
-      pub before : List (List ℕ)
-      pub after : List (List ℕ)
-      pub split : needs (shape f) ≡ before ++ after
-      pub place : f.next ≡ length before
-      pub sizes : List ℕ
-      pub are : PlainSizes C before sizes
-      pub made : f.gathered ≡ gathered_of (shape f) sizes
-      pub done : (x : List ℕ) → Among x before → IsFinished x
+  -- what the settled parts of a frame make
+  pub record Made (f : Frame) : Type 0 where
+    pub sizes : List ℕ
+    pub are : PlainSizes C (take f.spot.next (needs (shape f))) sizes
+    pub made : f.gathered ≡ gathered_of (shape f) sizes
 
-    -- from x, below the names of `way`, the frames lead to y, each by the part at its `next`
-    abbrev pub Chain : List (List ℕ) → List ℕ → List Frame → List ℕ → Type 0
-    Chain way x [] y = x ≡ y
-    Chain way x (f ∷ fs) y = (f.name.now ≡ x) × FrameOk f × (p : List ℕ) × (slice_get (needs (shape f)) f.next ≡ Some p) × (Among x way → ⊥) × Chain (x ∷ way) p fs y
+  abbrev pub AllMade : List Frame → Type 0
+  AllMade [] = ⊤
+  AllMade (f ∷ fs) = Made f × AllMade fs
 
-  abbrev pub way_of : List (List ℕ) → List Frame → List (List ℕ)
-  way_of way [] = way
-  way_of way (f ∷ fs) = way_of (f.name.now ∷ way) fs
+  made_none : {f : Frame} → f.spot.next ≡ 0 → f.gathered ≡ 0 → Made f
+  made_none {f} next made = record { sizes = []; are = subst (λ i. PlainSizes C (take i (needs (shape f))) []) (sym next) no_sizes; made = made ∙ sym (gathered-none (shape f)) }
 
   needed_finished : {U : List ℕ → Option Mark} (root : List ℕ) → IsFinished U root → ((x : List ℕ) (n : ℕ) (d : Shape) → U x ≡ Some (Finished n) → C x ≡ Some d → (y : List ℕ) → Among y (needs d) → IsFinished U y) → {x : List ℕ} → Needed C root x → IsFinished U x
   needed_finished root r closed stays = r
   needed_finished root r closed (onward {y = y} {z = z} d l p a) = let k = needed_finished root r closed l in closed y k.0 d k.1 p z a
 
-  -- what a step changes stays finished
-  frame_kept : {T U : List ℕ → Option Mark} → ((x : List ℕ) → IsFinished T x → IsFinished U x) → {f : Frame} → FrameOk T f → FrameOk U f
-  frame_kept keeps o = record { defined = o.defined; before = o.before; after = o.after; split = o.split; place = o.place; sizes = o.sizes; are = o.are; made = o.made; done = λ x a. keeps x (o.done x a) }
-
-  chain_kept : {T U : List ℕ → Option Mark} → ((x : List ℕ) → IsFinished T x → IsFinished U x) → (way : List (List ℕ)) (x : List ℕ) (fs : List Frame) (y : List ℕ) → Chain T way x fs y → Chain U way x fs y
-  chain_kept keeps way x [] y c = c
-  chain_kept keeps way x (f ∷ fs) y c = (c.0, frame_kept keeps c.1, c.2, c.3, c.4, chain_kept keeps (x ∷ way) c.2 fs y c.5)
-
-  chain_snoc : {T : List ℕ → Option Mark} (way : List (List ℕ)) (x : List ℕ) (fs : List Frame) (f : Frame) (p : List ℕ) → Chain T way x fs f.name.now → FrameOk T f → slice_get (needs (shape f)) f.next ≡ Some p → (Among f.name.now (way_of way fs) → ⊥) → Chain T way x (fs ++ f ∷ []) p
-  chain_snoc way x [] f p c o e far = (sym c, o, p, e, subst (λ y. Among y way → ⊥) (sym c) far, refl)
-  chain_snoc {T} way x (g ∷ gs) f p c o e far = (c.0, c.1, c.2, c.3, c.4, chain_snoc (x ∷ way) c.2 gs f p c.5 o e (subst (λ y. Among f.name.now (way_of (y ∷ way) gs) → ⊥) c.0 far))
-
-  chain_unsnoc : {T : List ℕ → Option Mark} (way : List (List ℕ)) (x : List ℕ) (fs : List Frame) (f : Frame) (p : List ℕ) → Chain T way x (fs ++ f ∷ []) p → Chain T way x fs f.name.now × FrameOk T f × (slice_get (needs (shape f)) f.next ≡ Some p) × (Among f.name.now (way_of way fs) → ⊥)
-  chain_unsnoc way x [] f p c = (sym c.0, c.1, c.3 ∙ ap Some c.5, subst (λ y. Among y way → ⊥) (sym c.0) c.4)
-  chain_unsnoc {T} way x (g ∷ gs) f p c =
-      let r = chain_unsnoc (x ∷ way) c.2 gs f p c.5 in
-      ((c.0, c.1, c.2, c.3, c.4, r.0), r.1, r.2, subst (λ y. Among f.name.now (way_of (y ∷ way) gs) → ⊥) (sym c.0) r.3)
-
-  way_snoc : (way : List (List ℕ)) (fs : List Frame) (f : Frame) → way_of way (fs ++ f ∷ []) ≡ f.name.now ∷ way_of way fs
-  way_snoc way [] f = refl
-  way_snoc way (g ∷ gs) f = way_snoc (g.name.now ∷ way) gs f
-
-  -- the chain leads from its start to its end
-  chain_leads : (T : List ℕ → Option Mark) (way : List (List ℕ)) (x : List ℕ) (fs : List Frame) (y : List ℕ) → Chain T way x fs y → Leads C needs x y
-  chain_leads T way x [] y c = subst (λ z. Leads C needs x z) c stays
-  chain_leads T way x (f ∷ fs) y c = lead_in C (shape f) (ap C (sym c.0) ∙ c.1.defined) (among_get (needs (shape f)) f.next c.3) (chain_leads T (x ∷ way) c.2 fs y c.5)
-
-  -- a name on the way is reached from the start, or stood before it, and leads to the end
-  chain_through : (T : List ℕ → Option Mark) (way : List (List ℕ)) (x : List ℕ) (fs : List Frame) (y z : List ℕ) → Chain T way x fs y → Among z (way_of way fs) → Among z way ⊎ (Leads C needs x z × Leads C needs z y)
-  chain_through T way x [] y z c a = inl a
-  chain_through T way x (f ∷ fs) y z c a =
-      let p = ap C (sym c.0) ∙ c.1.defined in
-      let b = among_get (needs (shape f)) f.next c.3 in
-      let back : Among z (x ∷ way) → Among z way ⊎ (Leads C needs x z × Leads C needs z y) = λ h. on_way h (chain_leads T way x (f ∷ fs) y c) in
-      let go : Among z (x ∷ way) ⊎ (Leads C needs c.2 z × Leads C needs z y) → Among z way ⊎ (Leads C needs x z × Leads C needs z y) =
-      elim [ inl h ↦ back h | inr r ↦ inr (lead_in C (shape f) p b r.0, r.1) ] in
-      go (chain_through T (x ∷ way) c.2 fs y z c.5 (subst (λ u. Among z (way_of (u ∷ way) fs)) c.0 a))
-    where
-      on_way : {x y z : List ℕ} {way : List (List ℕ)} → Among z (x ∷ way) → Leads C needs x y → Among z way ⊎ (Leads C needs x z × Leads C needs z y)
-      on_way first l = inr (stays, l)
-      on_way (later h) l = inl h
-
   lead_trans : {x y z : List ℕ} → Leads C needs x y → Leads C needs y z → Leads C needs x z
   lead_trans l stays = l
   lead_trans l (onward d m p a) = onward d (lead_trans l m) p a
 
-  among-needs : {T : List ℕ → Option Mark} {f : Frame} (o : FrameOk T f) (y : List ℕ) → Among y o.before → Among y (needs (shape f))
-  among-needs o y a = subst (λ l. Among y l) (sym o.split) (among_left o.before o.after a)
-
   -- the finished parts of a frame do not lead back to the way
-  frame_apart : {T : List ℕ → Option Mark} {f : Frame} (o : FrameOk T f) (way : List (List ℕ)) → ((z : List ℕ) → Among z way → Leads C needs z f.name.now) → (y : List ℕ) → Among y o.before → (z : List ℕ) → Leads C needs y z → Among z (f.name.now ∷ way) → ⊥
-  frame_apart {T} {f} o way ups y a z l b =
-      let s = sizes_among C a o.are in
-      let m : Leads C needs z f.name.now = up_all ups b in
-      no_cycle C s.1 (f.name.now, shape f, lead_trans l m, o.defined, among-needs o y a)
-    where
-      up_all : {x z : List ℕ} {way : List (List ℕ)} → ((z : List ℕ) → Among z way → Leads C needs z x) → Among z (x ∷ way) → Leads C needs z x
-      up_all ups first = stays
-      up_all ups (later b) = ups _ b
+  frame_apart : {f : Frame} (m : Made f) (way : List (List ℕ)) → C f.spot.name.now ≡ Some (shape f) → ((z : List ℕ) → Among z (f.spot.name.now ∷ way) → Leads C needs z f.spot.name.now) → (y : List ℕ) → Among y (take f.spot.next (needs (shape f))) → (z : List ℕ) → Leads C needs y z → Among z (f.spot.name.now ∷ way) → ⊥
+  frame_apart {f} m way defined ups y a z l b =
+      let s = sizes_among C a m.are in
+      let in_needs = subst (λ l. Among y l) (take-append-drop f.spot.next (needs (shape f))) (among_left (take f.spot.next (needs (shape f))) (drop f.spot.next (needs (shape f))) a) in
+      no_cycle C s.1 (f.spot.name.now, shape f, lead_trans l (ups z b), defined, in_needs)
 
   -- a partial size of a frame's name, from one of its next part
-  frame_partial : {T : List ℕ → Option Mark} {f : Frame} (o : FrameOk T f) (limit : ℕ) (way : List (List ℕ)) (p : List ℕ) (k : ℕ) → ((z : List ℕ) → Among z way → Leads C needs z f.name.now) → (Among f.name.now way → ⊥) → slice_get (needs (shape f)) f.next ≡ Some p → PartialSize C (f.name.now ∷ way) p k → limit ≤ gathered_of (shape f) (o.sizes ++ k ∷ []) → (n : ℕ) × PartialSize C way f.name.now n × (limit ≤ n)
-  frame_partial {T} {f} o limit way p k ups far e s low =
-      let cut = at_place o.before o.after (subst (λ u. slice_get u (length o.before) ≡ Some p) o.split (subst (λ i. slice_get (needs (shape f)) i ≡ Some p) o.place e)) in
-      let zeros = replicate (length cut.0) 0 in
-      let ns = (o.sizes ++ k ∷ []) ++ zeros in
-      let whole : needs (shape f) ≡ (o.before ++ p ∷ []) ++ cut.0 = o.split ∙ ap (λ u. o.before ++ u) cut.1 ∙ sym (append_assoc o.before (p ∷ []) cut.0) in
-      let front = sizes_partial C (f.name.now ∷ way) o.are (frame_apart o way ups) in
-      let all = partial_append (partial_append front (more_partial s no_partial)) (partial_zeros (f.name.now ∷ way) cut.0) in
-      let among = among_get (needs (shape f)) f.next e in
-      let large = gathered-le_total (shape f) ns among in
-      let same = gathered-zeros (shape f) (o.sizes ++ k ∷ []) (length cut.0) in
-      (total (shape f) ns, taken (shape f) far o.defined (subst (λ u. PartialSizes C (f.name.now ∷ way) u ns) (sym whole) all), omega (arith, large, same, low))
+  frame_partial : {f : Frame} (m : Made f) (limit : ℕ) (way : List (List ℕ)) (p : List ℕ) (k : ℕ) → C f.spot.name.now ≡ Some (shape f) → ((z : List ℕ) → Among z (f.spot.name.now ∷ way) → Leads C needs z f.spot.name.now) → (Among f.spot.name.now way → ⊥) → slice_get (needs (shape f)) f.spot.next ≡ Some p → PartialSize C (f.spot.name.now ∷ way) p k → limit ≤ gathered_of (shape f) (m.sizes ++ k ∷ []) → (n : ℕ) × PartialSize C way f.spot.name.now n × (limit ≤ n)
+  frame_partial {f} m limit way p k defined ups far e s low =
+      let i = f.spot.next in
+      let ps = needs (shape f) in
+      let rest = drop (i + 1) ps in
+      let ns = (m.sizes ++ k ∷ []) ++ replicate (length rest) 0 in
+      let whole : ps ≡ (take i ps ++ p ∷ []) ++ rest = sym (take-append-drop (i + 1) ps) ∙ ap (λ u. u ++ rest) (take_more ps i e) in
+      let front = sizes_partial C (f.spot.name.now ∷ way) m.are (frame_apart m way defined ups) in
+      let all = partial_append (partial_append front (more_partial s no_partial)) (partial_zeros (f.spot.name.now ∷ way) rest) in
+      let large = gathered-le_total (shape f) ns (among_get ps i e) in
+      let same = gathered-zeros (shape f) (m.sizes ++ k ∷ []) (length rest) in
+      (total (shape f) ns, taken (shape f) far defined (subst (λ u. PartialSizes C (f.spot.name.now ∷ way) u ns) (sym whole) all), omega (arith, large, same, low))
 
   part_large : (d : Shape) (ms : List ℕ) (k : ℕ) → k ≤ gathered_of d (ms ++ k ∷ [])
   part_large (primitive n) ms k = rw sum-more (omega arith)
@@ -198,71 +150,51 @@ module _ (C : List ℕ → Option Shape) where
   part_large (parts ps) ms k = rw sum-more (omega arith)
   part_large (choice w vs) ms k = rw greatest-more (omega arith)
 
-  -- a partial size of the end lifts to one of the start
-  chain_lifts : (T : List ℕ → Option Mark) (limit : ℕ) (way : List (List ℕ)) (x : List ℕ) (fs : List Frame) (y : List ℕ) → ((z : List ℕ) → Among z way → Leads C needs z x) → Chain T way x fs y → ((k : ℕ) × PartialSize C (way_of way fs) y k × (limit ≤ k)) → (k : ℕ) × PartialSize C way x k × (limit ≤ k)
-  chain_lifts T limit way x [] y ups c s = (s.0, subst (λ z. PartialSize C way z s.0) (sym c) s.1, s.2)
-  chain_lifts T limit way x (f ∷ fs) y ups c s =
-      let o = c.1 in
-      let p = ap C (sym c.0) ∙ o.defined in
-      let b = among_get (needs (shape f)) f.next c.3 in
-      let ups' : (z : List ℕ) → Among z (x ∷ way) → Leads C needs z c.2 = λ z a. ups_more (shape f) p b ups a in
-      let part = chain_lifts T limit (x ∷ way) c.2 fs y ups' c.5 (s.0, subst (λ u. PartialSize C (way_of (u ∷ way) fs) y s.0) c.0 s.1, s.2) in
-      let large = part_large (shape f) o.sizes part.0 in
-      let r = frame_partial o limit way c.2 part.0 (λ z a. subst (λ u. Leads C needs z u) (sym c.0) (ups z a)) (subst (λ u. Among u way → ⊥) (sym c.0) c.4) c.3 (subst (λ u. PartialSize C (u ∷ way) c.2 part.0) (sym c.0) part.1) (omega (arith, large, part.2)) in
-      (r.0, subst (λ u. PartialSize C way u r.0) c.0 r.1, r.2)
-    where
-      ups_more : {x q z : List ℕ} {way : List (List ℕ)} (d : Shape) → C x ≡ Some d → Among q (needs d) → ((z : List ℕ) → Among z way → Leads C needs z x) → Among z (x ∷ way) → Leads C needs z q
-      ups_more d p b ups first = onward d stays p b
-      ups_more d p b ups (later a) = onward d (ups _ a) p b
+  far_from : {x : List ℕ} {xs : List (List ℕ)} → Distinct (x ∷ xs) → (Among x xs → ⊥) × Distinct xs
+  far_from (distinct_more n d) = (n, d)
 
-  -- ---- what the loop keeps: T marks the names, fs is the way down and f its last name, L the names looked at
+  -- a partial size of the end lifts to one of the root
+  lifted : (S : List ℕ → Type 0) {root : List ℕ} (y : List ℕ) (limit : ℕ) (fs : List Frame) → Chain C needs S root (spots_of fs) y → AllMade fs → Distinct (names_of (spots_of fs)) → ((k : ℕ) × PartialSize C (names_of (spots_of fs)) y k × (limit ≤ k)) → (k : ℕ) × PartialSize C [] root k × (limit ≤ k)
+  lifted S y limit [] c m apart s = (s.0, subst (λ z. PartialSize C [] z s.0) (sym c) s.1, s.2)
+  lifted S y limit (f ∷ fs) c m apart s =
+      let large = part_large (shape f) m.0.sizes s.0 in
+      let far = far_from apart in
+      lifted S f.spot.name.now limit fs c.2 m.1 far.1 (frame_partial m.0 limit (names_of (spots_of fs)) y s.0 c.0.defined (λ z a. (path_leads C needs S (spots_of fs) c.2 a).1) far.0 c.1 s.1 (omega (arith, large, s.2)))
+
+  -- ---- what the loop keeps: T marks the names, fs is the way down and f its last frame, L the names looked at
   pub record State (root : List ℕ) (T : List ℕ → Option Mark) (fs : List Frame) (f : Frame) (L : List (List ℕ)) : Type 0 where
-    pub chain : Chain T [] root fs f.name.now
-    pub ok : FrameOk T f
-    pub apart : Among f.name.now (way_of [] fs) → ⊥
-    pub opened : (x : List ℕ) → Among x (f.name.now ∷ way_of [] fs) → T x ≡ Some Open
-    pub open_is : (x : List ℕ) → T x ≡ Some Open → Among x (f.name.now ∷ way_of [] fs)
+    pub chain : Chain C needs (IsFinished T) root (spots_of fs) f.spot.name.now
+    pub ok : SpotOk C needs (IsFinished T) f.spot
+    pub made : AllMade (f ∷ fs)
+    pub apart : Distinct (path_of f fs)
+    pub opened : (x : List ℕ) → Among x (path_of f fs) → T x ≡ Some Open
+    pub open_is : (x : List ℕ) → T x ≡ Some Open → Among x (path_of f fs)
     pub size_is : (x : List ℕ) (n : ℕ) → T x ≡ Some (Finished n) → PlainSize C x n
     pub closed : (x : List ℕ) (n : ℕ) (d : Shape) → T x ≡ Some (Finished n) → C x ≡ Some d → (y : List ℕ) → Among y (needs d) → IsFinished T y
-    pub distinct : Distinct L
-    pub marked : (x : List ℕ) (m : Mark) → T x ≡ Some m → Among x L
-    pub looked : (x : List ℕ) → Among x L → (T x ≡ None → ⊥) × Needed C root x × ((d : Shape) × (C x ≡ Some d))
+    pub marks : Marks (λ x. Needed C root x × IsDefined C x) T L
 
   -- the next part is finished
-  pub step_add : {root : List ℕ} {T : List ℕ → Option Mark} {fs : List Frame} {f g : Frame} {L : List (List ℕ)} (p : List ℕ) (n : ℕ) → State root T fs f L → slice_get (needs (shape f)) f.next ≡ Some p → T p ≡ Some (Finished n) → g.name ≡ f.name → g.definition ≡ f.definition → g.next ≡ f.next + 1 → g.gathered ≡ gathered_with (shape f) f.gathered n → State root T fs g L
-  step_add {root} {T} {fs} {f} {g} {L} p n s e t same_name same_definition next made =
-      let o = s.ok in
-      let cut = at_place o.before o.after (subst (λ u. slice_get u (length o.before) ≡ Some p) o.split (subst (λ i. slice_get (needs (shape f)) i ≡ Some p) o.place e)) in
-      let name : g.name.now ≡ f.name.now = ap (λ b. b.now) same_name in
-      let def : shape g ≡ shape f = ap (λ b. shape_of b.now) same_definition in
-      let whole : needs (shape f) ≡ (o.before ++ p ∷ []) ++ cut.0 = o.split ∙ ap (λ u. o.before ++ u) cut.1 ∙ sym (append_assoc o.before (p ∷ []) cut.0) in
-      let ok : FrameOk T g = record {
-        defined = ap C name ∙ o.defined ∙ ap Some (sym def);
-        before = o.before ++ p ∷ [];
-        after = cut.0;
-        split = ap needs def ∙ whole;
-        place = simp length-append (omega (arith, next, o.place));
-        sizes = o.sizes ++ n ∷ [];
-        are = sizes_snoc o.are (s.size_is p n t);
-        made = made ∙ ap (λ a. gathered_with (shape f) a n) o.made ∙ sym (gathered-more (shape f) o.sizes n) ∙ ap (λ d. gathered_of d (o.sizes ++ n ∷ [])) (sym def);
-        done = λ x a. last_or_done o p n t x (among_append o.before (p ∷ []) a);
-      } in
+  pub step_add : {root : List ℕ} {T : List ℕ → Option Mark} {fs : List Frame} {f : Frame} {L : List (List ℕ)} (p : List ℕ) (n m : ℕ) → State root T fs f L → slice_get (needs (shape f)) f.spot.next ≡ Some p → T p ≡ Some (Finished n) → m ≡ gathered_with (shape f) f.gathered n → State root T fs (gathered_more f m) L
+  step_add {root} {T} {fs} {f} {L} p n m s e t made =
+      let o = s.made.0 in
       record {
-        chain = subst (λ x. Chain T [] root fs x) (sym name) s.chain;
-        ok = ok;
-        apart = subst (λ x. Among x (way_of [] fs) → ⊥) (sym name) s.apart;
-        opened = subst (λ y. (x : List ℕ) → Among x (y ∷ way_of [] fs) → T x ≡ Some Open) (sym name) s.opened;
-        open_is = subst (λ y. (x : List ℕ) → T x ≡ Some Open → Among x (y ∷ way_of [] fs)) (sym name) s.open_is;
+        chain = s.chain;
+        ok = spot_moved C needs s.ok e (n, t);
+        made = (
+          record {
+            sizes = o.sizes ++ n ∷ [];
+            are = subst (λ l. PlainSizes C l (o.sizes ++ n ∷ [])) (sym (take_more (needs (shape f)) f.spot.next e)) (sizes_snoc o.are (s.size_is p n t));
+            made = made ∙ ap (λ a. gathered_with (shape f) a n) o.made ∙ sym (gathered-one_more (shape f) o.sizes n);
+          },
+          s.made.1,
+        );
+        apart = s.apart;
+        opened = s.opened;
+        open_is = s.open_is;
         size_is = s.size_is;
         closed = s.closed;
-        distinct = s.distinct;
-        marked = s.marked;
-        looked = s.looked;
+        marks = s.marks;
       }
-    where
-      last_or_done : {f : Frame} {T : List ℕ → Option Mark} (o : FrameOk T f) (p : List ℕ) (n : ℕ) → T p ≡ Some (Finished n) → (x : List ℕ) → Among x o.before ⊎ Among x (p ∷ []) → IsFinished T x
-      last_or_done o p n t x (inl a) = o.done x a
-      last_or_done {T = T} o p n t x (inr a) = (n, ap T (among_one a) ∙ t)
 
   updated_finished : {T U : List ℕ → Option Mark} {p : List ℕ} → Updated T U p Open → (x : List ℕ) (n : ℕ) → U x ≡ Some (Finished n) → T x ≡ Some (Finished n)
   updated_finished {T} {U} {p} u x n h =
@@ -275,45 +207,22 @@ module _ (C : List ℕ → Option Shape) where
   push_open_is : {T U : List ℕ → Option Mark} {p : List ℕ} {path : List (List ℕ)} → Updated T U p Open → ((x : List ℕ) → T x ≡ Some Open → Among x path) → (x : List ℕ) → U x ≡ Some Open → Among x (p ∷ path)
   push_open_is {p = p} {path = path} u o x h = elim (name_cases x p) [ inl q ↦ subst (λ y. Among y (p ∷ path)) (sym q) first | inr q ↦ later (o x (sym (u.others x q) ∙ h)) ]
 
-  push_marked : {T U : List ℕ → Option Mark} {p : List ℕ} {m : Mark} {L : List (List ℕ)} → Updated T U p m → ((x : List ℕ) (k : Mark) → T x ≡ Some k → Among x L) → (x : List ℕ) (k : Mark) → U x ≡ Some k → Among x (p ∷ L)
-  push_marked {p = p} {L = L} u o x k h = elim (name_cases x p) [ inl q ↦ subst (λ y. Among y (p ∷ L)) (sym q) first | inr q ↦ later (o x k (sym (u.others x q) ∙ h)) ]
-
-  push_looked : {T U : List ℕ → Option Mark} {p : List ℕ} {m : Mark} {root : List ℕ} {L : List (List ℕ)} → Updated T U p m → Needed C root p → ((d : Shape) × (C p ≡ Some d)) → ((x : List ℕ) → Among x L → (T x ≡ None → ⊥) × Needed C root x × ((d : Shape) × (C x ≡ Some d))) → (x : List ℕ) → Among x (p ∷ L) → (U x ≡ None → ⊥) × Needed C root x × ((d : Shape) × (C x ≡ Some d))
-  push_looked u r c o x first = ((λ h. let a = u.here in cc), r, c)
-  push_looked u r c o x (later a) = let k = o x a in (still u x k.0, k.1, k.2)
-
   -- the next part is new
-  pub step_push : {root : List ℕ} {T U : List ℕ → Option Mark} {fs : List Frame} {f g : Frame} {L : List (List ℕ)} (p : List ℕ) → State root T fs f L → slice_get (needs (shape f)) f.next ≡ Some p → T p ≡ None → C p ≡ Some (shape g) → Updated T U p Open → g.name.now ≡ p → g.next ≡ 0 → g.gathered ≡ 0 → State root U (fs ++ f ∷ []) g (p ∷ L)
-  step_push {root} {T} {U} {fs} {f} {g} {L} p s e t c u name next made =
+  pub step_push : {root : List ℕ} {T U : List ℕ → Option Mark} {fs : List Frame} {f g : Frame} {L : List (List ℕ)} → State root T fs f L → slice_get (needs (shape f)) f.spot.next ≡ Some g.spot.name.now → T g.spot.name.now ≡ None → C g.spot.name.now ≡ Some (shape g) → Updated T U g.spot.name.now Open → g.spot.next ≡ 0 → g.gathered ≡ 0 → State root U (f ∷ fs) g (g.spot.name.now ∷ L)
+  step_push {root} {T} {U} {fs} {f} {g} {L} s e t c u next made =
+      let p = g.spot.name.now in
       let keeps : (x : List ℕ) → IsFinished T x → IsFinished U x = λ x h. (h.0, u.others x (λ q. let a = h.1 in let b = ap T q in cc) ∙ h.1) in
-      let chain = chain_snoc [] root fs f p (chain_kept keeps [] root fs f.name.now s.chain) (frame_kept keeps s.ok) e s.apart in
-      let names = way_snoc [] fs f in
-      let path : List (List ℕ) = f.name.now ∷ way_of [] fs in
-      let same : g.name.now ∷ way_of [] (fs ++ f ∷ []) ≡ p ∷ path = ap (λ y. y ∷ way_of [] (fs ++ f ∷ [])) name ∙ ap (λ l. p ∷ l) names in
-      let part_needed : Needed C root p = onward (shape f) (chain_leads T [] root fs f.name.now s.chain) s.ok.defined (among_get (needs (shape f)) f.next e) in
-      let ok : FrameOk U g = record {
-        defined = ap C name ∙ c;
-        before = [];
-        after = needs (shape g);
-        split = refl;
-        place = next;
-        sizes = [];
-        are = no_sizes;
-        made = made ∙ sym (gathered-none (shape g));
-        done = λ x a. elim a [ ];
-      } in
-      let off : Among p path → ⊥ = λ a. let b = s.opened p a in cc in
+      let needed : Needed C root p = onward (shape f) (chain_leads C needs (IsFinished T) (spots_of fs) s.chain) s.ok.defined (among_get (needs (shape f)) f.spot.next e) in
       record {
-        chain = subst (λ x. Chain U [] root (fs ++ f ∷ []) x) (sym name) chain;
-        ok = ok;
-        apart = λ a. off (subst (λ y. Among y path) name (subst (λ l. Among g.name.now l) names a));
-        opened = λ x a. push_opened u t s.opened x (subst (λ l. Among x l) same a);
-        open_is = λ x h. subst (λ l. Among x l) (sym same) (push_open_is u s.open_is x h);
+        chain = (spot_kept C needs keeps s.ok, e, chain_kept C needs keeps root f.spot.name.now (spots_of fs) s.chain);
+        ok = spot_new C needs c next;
+        made = (made_none next made, s.made);
+        apart = distinct_more (λ a. let b = s.opened p a in cc) s.apart;
+        opened = λ x a. push_opened u t s.opened x a;
+        open_is = λ x h. push_open_is u s.open_is x h;
         size_is = λ x n h. s.size_is x n (updated_finished u x n h);
         closed = λ x n d h q y a. keeps y (s.closed x n d (updated_finished u x n h) q y a);
-        distinct = distinct_more (λ a. (s.looked p a).0 t) s.distinct;
-        marked = push_marked u s.marked;
-        looked = push_looked u part_needed (shape g, c) s.looked;
+        marks = marks_more s.marks u t (needed, (shape g, c));
       }
 
   -- the last name has all its parts
@@ -321,119 +230,97 @@ module _ (C : List ℕ → Option Shape) where
     pub keeps : (x : List ℕ) → IsFinished T x → IsFinished U x
     pub size_is : (x : List ℕ) (n : ℕ) → U x ≡ Some (Finished n) → PlainSize C x n
     pub closed : (x : List ℕ) (n : ℕ) (d : Shape) → U x ≡ Some (Finished n) → C x ≡ Some d → (y : List ℕ) → Among y (needs d) → IsFinished U y
-    pub marked : (x : List ℕ) (m : Mark) → U x ≡ Some m → Among x L
-    pub looked : (x : List ℕ) → Among x L → (U x ≡ None → ⊥) × Needed C root x × ((d : Shape) × (C x ≡ Some d))
+    pub marks : Marks (λ x. Needed C root x × IsDefined C x) U L
 
-  frame_whole : {T : List ℕ → Option Mark} {f : Frame} (o : FrameOk T f) → slice_get (needs (shape f)) f.next ≡ None → needs (shape f) ≡ o.before
-  frame_whole {T} {f} o e =
-      let cut = at_end o.before o.after (subst (λ u. slice_get u (length o.before) ≡ None) o.split (subst (λ i. slice_get (needs (shape f)) i ≡ None) o.place e)) in
-      o.split ∙ ap (λ u. o.before ++ u) cut ∙ append-nil o.before
+  frame_whole : {f : Frame} (m : Made f) → slice_get (needs (shape f)) f.spot.next ≡ None → PlainSizes C (needs (shape f)) m.sizes
+  frame_whole {f} m e = subst (λ l. PlainSizes C l m.sizes) (take_whole (needs (shape f)) f.spot.next e) m.are
 
-  frame_size : {T : List ℕ → Option Mark} {f : Frame} (o : FrameOk T f) (n : ℕ) → slice_get (needs (shape f)) f.next ≡ None → n ≡ finished (shape f) f.gathered → PlainSize C f.name.now n
-  frame_size {T} {f} o n e q =
-      let whole = frame_whole o e in
-      let same : total (shape f) o.sizes ≡ n = total_is (shape f) o.sizes ∙ ap (λ g. finished (shape f) g) (sym o.made) ∙ sym q in
-      subst (λ k. PlainSize C f.name.now k) same (sized (shape f) o.defined (subst (λ l. PlainSizes C l o.sizes) (sym whole) o.are))
+  frame_total : {f : Frame} (m : Made f) → total (shape f) m.sizes ≡ finished (shape f) f.gathered
+  frame_total {f} m = total_is (shape f) m.sizes ∙ ap (λ g. finished (shape f) g) (sym m.made)
 
-  pub step_whole : {root : List ℕ} {T U : List ℕ → Option Mark} {fs : List Frame} {f : Frame} {L : List (List ℕ)} (n : ℕ) → State root T fs f L → slice_get (needs (shape f)) f.next ≡ None → n ≡ finished (shape f) f.gathered → Updated T U f.name.now (Finished n) → Whole root T U L
+  frame_size : {f : Frame} (m : Made f) (n : ℕ) → C f.spot.name.now ≡ Some (shape f) → slice_get (needs (shape f)) f.spot.next ≡ None → n ≡ finished (shape f) f.gathered → PlainSize C f.spot.name.now n
+  frame_size {f} m n defined e q = subst (λ k. PlainSize C f.spot.name.now k) (frame_total m ∙ sym q) (sized (shape f) defined (frame_whole m e))
+
+  step_whole : {root : List ℕ} {T U : List ℕ → Option Mark} {fs : List Frame} {f : Frame} {L : List (List ℕ)} (n : ℕ) → State root T fs f L → slice_get (needs (shape f)) f.spot.next ≡ None → n ≡ finished (shape f) f.gathered → Updated T U f.spot.name.now (Finished n) → Whole root T U L
   step_whole {root} {T} {U} {fs} {f} {L} n s e q u =
-      let open_now : T f.name.now ≡ Some Open = s.opened f.name.now first in
+      let name = f.spot.name.now in
+      let open_now : T name ≡ Some Open = s.opened name first in
       let keeps : (x : List ℕ) → IsFinished T x → IsFinished U x = λ x h. (h.0, u.others x (λ q. let a = h.1 in let b = ap T q in cc) ∙ h.1) in
-      let o = s.ok in
-      let size = frame_size o n e q in
+      let size = frame_size s.made.0 n s.ok.defined e q in
       record {
         keeps = keeps;
-        size_is = λ x k h. elim (name_cases x f.name.now) [ inl r ↦ (let m : n ≡ k = (let a = u.here in let b = ap U r in cc) in subst (λ k. PlainSize C x k) m (subst (λ y. PlainSize C y n) (sym r) size)) | inr r ↦ s.size_is x k (sym (u.others x r) ∙ h) ];
-        closed = λ x k d h p y a. elim (name_cases x f.name.now) [
-          | inl r ↦ (let same : d ≡ shape f = one_definition p (ap C r ∙ o.defined) in keeps y (o.done y (subst (λ l. Among y l) (frame_whole o e) (subst (λ c. Among y (needs c)) same a))))
+        size_is = λ x k h. elim (name_cases x name) [ inl r ↦ (let m : n ≡ k = (let a = u.here in let b = ap U r in cc) in subst (λ k. PlainSize C x k) m (subst (λ y. PlainSize C y n) (sym r) size)) | inr r ↦ s.size_is x k (sym (u.others x r) ∙ h) ];
+        closed = λ x k d h p y a. elim (name_cases x name) [
+          | inl r ↦ (let same : d ≡ shape f = one_definition p (ap C r ∙ s.ok.defined) in keeps y (all_settled C needs s.ok e y (subst (λ c. Among y (needs c)) same a)))
           | inr r ↦ keeps y (s.closed x k d (sym (u.others x r) ∙ h) p y a)
         ];
-        marked = λ x m h. elim (name_cases x f.name.now) [ inl r ↦ s.marked x Open (ap T r ∙ open_now) | inr r ↦ s.marked x m (sym (u.others x r) ∙ h) ];
-        looked = λ x a. let k = s.looked x a in (still u x k.0, k.1, k.2);
+        marks = marks_again s.marks u (s.marks.marked name Open open_now);
       }
 
   -- the name above goes on
-  pub step_pop : {root : List ℕ} {T U : List ℕ → Option Mark} {fs : List Frame} {f h : Frame} {L : List (List ℕ)} (n : ℕ) → State root T (fs ++ h ∷ []) f L → slice_get (needs (shape f)) f.next ≡ None → n ≡ finished (shape f) f.gathered → Updated T U f.name.now (Finished n) → State root U fs h L
+  pub step_pop : {root : List ℕ} {T U : List ℕ → Option Mark} {fs : List Frame} {f h : Frame} {L : List (List ℕ)} (n : ℕ) → State root T (h ∷ fs) f L → slice_get (needs (shape f)) f.spot.next ≡ None → n ≡ finished (shape f) f.gathered → Updated T U f.spot.name.now (Finished n) → State root U fs h L
   step_pop {root} {T} {U} {fs} {f} {h} {L} n s e q u =
       let w = step_whole n s e q u in
-      let r = chain_unsnoc [] root fs h f.name.now s.chain in
-      let names : way_of [] (fs ++ h ∷ []) ≡ h.name.now ∷ way_of [] fs = way_snoc [] fs h in
-      let path : List (List ℕ) = h.name.now ∷ way_of [] fs in
-      let off : Among f.name.now path → ⊥ = λ a. s.apart (subst (λ l. Among f.name.now l) (sym names) a) in
-      let old : (x : List ℕ) → Among x path → T x ≡ Some Open = λ x a. s.opened x (later (subst (λ l. Among x l) (sym names) a)) in
-      let old_is : (x : List ℕ) → T x ≡ Some Open → Among x (f.name.now ∷ path) = λ x a. subst (λ l. Among x (f.name.now ∷ l)) names (s.open_is x a) in
+      let far = far_from s.apart in
       record {
-        chain = chain_kept w.keeps [] root fs h.name.now r.0;
-        ok = frame_kept w.keeps r.1;
-        apart = r.3;
-        opened = λ x a. u.others x (λ q. off (subst (λ y. Among y path) q a)) ∙ old x a;
-        open_is = λ x a. elim (name_cases x f.name.now) [ inl r ↦ (let b = u.here in let c = ap U r in cc) | inr r ↦ other_one r (old_is x (sym (u.others x r) ∙ a)) ];
+        chain = chain_kept C needs w.keeps root h.spot.name.now (spots_of fs) s.chain.2;
+        ok = spot_kept C needs w.keeps s.chain.0;
+        made = s.made.1;
+        apart = far.1;
+        opened = λ x a. u.others x (λ q. far.0 (subst (λ y. Among y (path_of h fs)) q a)) ∙ s.opened x (later a);
+        open_is = λ x a. elim (name_cases x f.spot.name.now) [ inl r ↦ (let b = u.here in let c = ap U r in cc) | inr r ↦ other_one r (s.open_is x (sym (u.others x r) ∙ a)) ];
         size_is = w.size_is;
         closed = w.closed;
-        distinct = s.distinct;
-        marked = w.marked;
-        looked = w.looked;
+        marks = w.marks;
       }
 
   -- the root is finished
-  pub step_end : {root : List ℕ} {T U : List ℕ → Option Mark} {f : Frame} {L : List (List ℕ)} (n : ℕ) → State root T [] f L → slice_get (needs (shape f)) f.next ≡ None → n ≡ finished (shape f) f.gathered → Updated T U f.name.now (Finished n) → PlainSize C root n × AreNeeded C root L
+  pub step_end : {root : List ℕ} {T U : List ℕ → Option Mark} {f : Frame} {L : List (List ℕ)} (n : ℕ) → State root T [] f L → slice_get (needs (shape f)) f.spot.next ≡ None → n ≡ finished (shape f) f.gathered → Updated T U f.spot.name.now (Finished n) → PlainSize C root n × AreNeeded C root L
   step_end {root} {T} {U} {f} {L} n s e q u =
       let w = step_whole n s e q u in
       let at_root : IsFinished U root = (n, ap U s.chain ∙ u.here) in
-      let all : (x : List ℕ) → Needed C root x → Among x L = λ x l. let k = needed_finished root at_root w.closed l in w.marked x (Finished k.0) k.1 in
-      (subst (λ x. PlainSize C x n) (sym s.chain) (frame_size s.ok n e q), (s.distinct, λ x. ((λ a. (w.looked x a).1), all x)))
+      let all : (x : List ℕ) → Needed C root x → Among x L = λ x l. let k = needed_finished root at_root w.closed l in w.marks.marked x (Finished k.0) k.1 in
+      (subst (λ x. PlainSize C x n) (sym s.chain) (frame_size s.made.0 n s.ok.defined e q), (w.marks.distinct, λ x. ((λ a. (w.marks.looked x a).1.0), all x)))
 
   -- ---- the answers
-  way_up : {root : List ℕ} {T : List ℕ → Option Mark} {fs : List Frame} {f : Frame} {L : List (List ℕ)} → State root T fs f L → (z : List ℕ) → Among z (way_of [] fs) → Leads C needs root z × Leads C needs z f.name.now
-  way_up {root} {T} {fs} {f} s z a = elim (chain_through T [] root fs f.name.now z s.chain a) [ inl b ↦ absurd (no_one b) | inr r ↦ r ]
-    where
-      no_one : {z : List ℕ} → Among z [] → ⊥
-      no_one b = elim b [ ]
-
-  path_up : {root : List ℕ} {T : List ℕ → Option Mark} {fs : List Frame} {f : Frame} {L : List (List ℕ)} → State root T fs f L → {z : List ℕ} → Among z (f.name.now ∷ way_of [] fs) → Leads C needs root z × Leads C needs z f.name.now
-  path_up {root} {T} {fs} {f} s first = (chain_leads T [] root fs f.name.now s.chain, stays)
-  path_up s (later a) = way_up s _ a
-
-  lifted : {root : List ℕ} {T : List ℕ → Option Mark} {fs : List Frame} {f : Frame} {L : List (List ℕ)} (limit : ℕ) → State root T fs f L → ((k : ℕ) × PartialSize C (way_of [] fs) f.name.now k × (limit ≤ k)) → (k : ℕ) × PartialSize C [] root k × (limit ≤ k)
-  lifted {root} {T} {fs} {f} limit s r = chain_lifts T limit [] root fs f.name.now (λ z a. elim a [ ]) s.chain r
-
-  pub fault_gather : {root : List ℕ} {T : List ℕ → Option Mark} {fs : List Frame} {f : Frame} {L : List (List ℕ)} (limit : ℕ) (p : List ℕ) (n : ℕ) → State root T fs f L → slice_get (needs (shape f)) f.next ≡ Some p → T p ≡ Some (Finished n) → limit ≤ gathered_with (shape f) f.gathered n → (k : ℕ) × PartialSize C [] root k × (limit ≤ k)
+  pub fault_gather : {root : List ℕ} {T : List ℕ → Option Mark} {fs : List Frame} {f : Frame} {L : List (List ℕ)} (limit : ℕ) (p : List ℕ) (n : ℕ) → State root T fs f L → slice_get (needs (shape f)) f.spot.next ≡ Some p → T p ≡ Some (Finished n) → limit ≤ gathered_with (shape f) f.gathered n → (k : ℕ) × PartialSize C [] root k × (limit ≤ k)
   fault_gather {root} {T} {fs} {f} limit p n s e t low =
-      let o = s.ok in
+      let m = s.made.0 in
+      let far = far_from s.apart in
       let size = s.size_is p n t in
-      let apart : (z : List ℕ) → Leads C needs p z → Among z (f.name.now ∷ way_of [] fs) → ⊥ = λ z l a. no_cycle C size (f.name.now, shape f, lead_trans l (path_up s a).1, o.defined, among_get (needs (shape f)) f.next e) in
-      let part = size_partial C (f.name.now ∷ way_of [] fs) size apart in
-      let same : gathered_of (shape f) (o.sizes ++ n ∷ []) ≡ gathered_with (shape f) f.gathered n = gathered-more (shape f) o.sizes n ∙ ap (λ g. gathered_with (shape f) g n) (sym o.made) in
-      lifted limit s (frame_partial o limit (way_of [] fs) p n (λ z a. (way_up s z a).1) s.apart e part (omega (arith, same, low)))
+      let back : (z : List ℕ) → Leads C needs p z → Among z (path_of f fs) → ⊥ = λ z l a. no_cycle C size (f.spot.name.now, shape f, lead_trans l (path_leads C needs (IsFinished T) (spots_of fs) s.chain a).1, s.ok.defined, among_get (needs (shape f)) f.spot.next e) in
+      let same : gathered_of (shape f) (m.sizes ++ n ∷ []) ≡ gathered_with (shape f) f.gathered n = gathered-one_more (shape f) m.sizes n ∙ ap (λ g. gathered_with (shape f) g n) (sym m.made) in
+      lifted (IsFinished T) f.spot.name.now limit fs s.chain s.made.1 far.1 (frame_partial m limit (names_of (spots_of fs)) p n s.ok.defined (λ z a. (path_leads C needs (IsFinished T) (spots_of fs) s.chain a).1) far.0 e (size_partial C (path_of f fs) size back) (omega (arith, same, low)))
 
-  pub fault_finish : {root : List ℕ} {T : List ℕ → Option Mark} {fs : List Frame} {f : Frame} {L : List (List ℕ)} (limit : ℕ) → State root T fs f L → slice_get (needs (shape f)) f.next ≡ None → limit ≤ finished (shape f) f.gathered → (k : ℕ) × PartialSize C [] root k × (limit ≤ k)
+  pub fault_finish : {root : List ℕ} {T : List ℕ → Option Mark} {fs : List Frame} {f : Frame} {L : List (List ℕ)} (limit : ℕ) → State root T fs f L → slice_get (needs (shape f)) f.spot.next ≡ None → limit ≤ finished (shape f) f.gathered → (k : ℕ) × PartialSize C [] root k × (limit ≤ k)
   fault_finish {root} {T} {fs} {f} limit s e low =
-      let o = s.ok in
-      let parts = sizes_partial C (f.name.now ∷ way_of [] fs) o.are (frame_apart o (way_of [] fs) (λ z a. (way_up s z a).1)) in
-      let same : total (shape f) o.sizes ≡ finished (shape f) f.gathered = total_is (shape f) o.sizes ∙ ap (λ g. finished (shape f) g) (sym o.made) in
-      lifted limit s (total (shape f) o.sizes, taken (shape f) s.apart o.defined (subst (λ l. PartialSizes C (f.name.now ∷ way_of [] fs) l o.sizes) (sym (frame_whole o e)) parts), omega (arith, same, low))
+      let m = s.made.0 in
+      let far = far_from s.apart in
+      let ups : (z : List ℕ) → Among z (path_of f fs) → Leads C needs z f.spot.name.now = λ z a. (path_leads C needs (IsFinished T) (spots_of fs) s.chain a).1 in
+      let settled = take_whole (needs (shape f)) f.spot.next e in
+      let parts = subst (λ l. PartialSizes C (path_of f fs) l m.sizes) settled (sizes_partial C (path_of f fs) m.are (frame_apart m (names_of (spots_of fs)) s.ok.defined ups)) in
+      lifted (IsFinished T) f.spot.name.now limit fs s.chain s.made.1 far.1 (total (shape f) m.sizes, taken (shape f) far.0 s.ok.defined parts, omega (arith, frame_total m, low))
 
-  pub part_needed : {root : List ℕ} {T : List ℕ → Option Mark} {fs : List Frame} {f : Frame} {L : List (List ℕ)} (p : List ℕ) → State root T fs f L → slice_get (needs (shape f)) f.next ≡ Some p → Needed C root p
-  part_needed {root} {T} {fs} {f} p s e = onward (shape f) (chain_leads T [] root fs f.name.now s.chain) s.ok.defined (among_get (needs (shape f)) f.next e)
+  pub part_needed : {root : List ℕ} {T : List ℕ → Option Mark} {fs : List Frame} {f : Frame} {L : List (List ℕ)} (p : List ℕ) → State root T fs f L → slice_get (needs (shape f)) f.spot.next ≡ Some p → Needed C root p
+  part_needed {T = T} {fs = fs} {f = f} p s e = onward (shape f) (chain_leads C needs (IsFinished T) (spots_of fs) s.chain) s.ok.defined (among_get (needs (shape f)) f.spot.next e)
 
-  pub fault_cycle : {root : List ℕ} {T : List ℕ → Option Mark} {fs : List Frame} {f : Frame} {L : List (List ℕ)} (p : List ℕ) → State root T fs f L → slice_get (needs (shape f)) f.next ≡ Some p → T p ≡ Some Open → NeededBack C root
-  fault_cycle {root} {T} {fs} {f} p s e t =
-      let r = path_up s (s.open_is p t) in
-      (p, r.0, (f.name.now, shape f, r.1, s.ok.defined, among_get (needs (shape f)) f.next e))
+  pub fault_cycle : {root : List ℕ} {T : List ℕ → Option Mark} {fs : List Frame} {f : Frame} {L : List (List ℕ)} (p : List ℕ) → State root T fs f L → slice_get (needs (shape f)) f.spot.next ≡ Some p → T p ≡ Some Open → NeededBack C root
+  fault_cycle {T = T} {fs = fs} {f = f} p s e t =
+      let r = path_leads C needs (IsFinished T) (spots_of fs) s.chain (s.open_is p t) in
+      (p, r.0, (f.spot.name.now, shape f, r.1, s.ok.defined, among_get (needs (shape f)) f.spot.next e))
 
   -- the walk begins at the root
-  pub step_start : {root : List ℕ} {T U : List ℕ → Option Mark} {f : Frame} → ((x : List ℕ) → T x ≡ None) → Updated T U root Open → C root ≡ Some (shape f) → f.name.now ≡ root → f.next ≡ 0 → f.gathered ≡ 0 → State root U [] f (root ∷ [])
-  step_start {root} {T} {U} {f} empty u c name next made =
+  pub step_start : {T U : List ℕ → Option Mark} {f : Frame} → ((x : List ℕ) → T x ≡ None) → Updated T U f.spot.name.now Open → C f.spot.name.now ≡ Some (shape f) → f.spot.next ≡ 0 → f.gathered ≡ 0 → State f.spot.name.now U [] f (f.spot.name.now ∷ [])
+  step_start {T} {U} {f} empty u c next made =
       let no_finished : (x : List ℕ) (n : ℕ) → U x ≡ Some (Finished n) → ⊥ = λ x n h. let a = updated_finished u x n h in let b = empty x in cc in
       record {
-        chain = sym name;
-        ok = record { defined = ap C name ∙ c; before = []; after = needs (shape f); split = refl; place = next; sizes = []; are = no_sizes; made = made ∙ sym (gathered-none (shape f)); done = λ x a. elim a [ ] };
-        apart = λ a. elim a [ ];
-        opened = λ x a. ap U (among_one a ∙ name) ∙ u.here;
-        open_is = λ x h. elim (name_cases x root) [ inl q ↦ subst (λ y. Among y (f.name.now ∷ [])) (name ∙ sym q) first | inr q ↦ (let a = u.others x q in let b = empty x in cc) ];
+        chain = refl;
+        ok = spot_new C needs c next;
+        made = (made_none next made, tt);
+        apart = distinct_more (λ a. elim a [ ]) distinct_none;
+        opened = λ x a. ap U (among_one a) ∙ u.here;
+        open_is = λ x h. push_open_is {T = T} u (λ x h. let b = empty x in cc) x h;
         size_is = λ x n h. absurd (no_finished x n h);
         closed = λ x n d h. absurd (no_finished x n h);
-        distinct = distinct_more (λ a. elim a [ ]) distinct_none;
-        marked = push_marked u (λ x m h. let b = empty x in cc);
-        looked = push_looked u stays (shape f, c) (λ x a. elim a [ ]);
+        marks = marks_more (marks_start empty) u (empty f.spot.name.now) (stays, (shape f, c));
       }

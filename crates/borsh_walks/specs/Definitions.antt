@@ -5,6 +5,7 @@ use Rattle.borsh_walks.specs.declared.definition.Definition.{Definition}
 use Rattle.borsh_walks.specs.declared.definition.Definition.TheVariants.{Primitive, Sequence, Tuple, Enum, Struct}
 use Rattle.borsh_walks.specs.declared.definition.Fields.{Fields}
 use Rattle.borsh_walks.specs.declared.definition.Fields.TheVariants.{NamedFields, UnnamedFields, Empty}
+use Rattle.borsh_walks.specs.declared.way.Spot.{Spot}
 use Rattle.borsh_walks.specs.Container.{Shape, primitive, sequence, parts, choice}
 
 -- the names of the fields' types, in order
@@ -20,6 +21,9 @@ shape_of (Sequence w r e) = sequence w r.start r.end (string_bytes e)
 shape_of (Tuple es) = parts (map (λ e. string_bytes e) es.items)
 shape_of (Enum w vs) = choice w (map (λ v. (v.0, string_bytes v.2)) vs.items)
 shape_of (Struct fs) = parts (names_of_fields fs)
+
+abbrev pub spot_shape : Spot → Shape
+spot_shape f = shape_of f.definition.now
 
 -- the definitions of a map, by the bytes of a name
 abbrev pub definitions_in : {A : Type 0} → BTreeMap (String A) Definition → List ℕ → Option Shape

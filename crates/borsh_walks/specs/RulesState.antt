@@ -1,27 +1,21 @@
 -- What the walk over the reached names keeps.
 use Rattle.std.specs.Prelude.{◌≡◌, ℕ, ◌+◌, ◌≤◌, ◌↔◌, ◌⊎◌, ◌++◌, List, [], ◌∷◌, length, drop, Option, Some, None, Bool, Result, OnOk, Ok, Err, ⊤}
 use Rattle.std.specs.Borrow.{Bor}
-use Rattle.std.specs.BTreeMap.{BTreeMap, btree_map_len, get_by_text}
+use Rattle.std.specs.BTreeMap.{BTreeMap, btree_map_len}
 use Rattle.borsh_walks.specs.Container.{Shape, Among, Rule, Breaks, Reached, mentions}
-use Rattle.borsh_walks.specs.Definitions.{shape_of}
+use Rattle.borsh_walks.specs.Definitions.{spot_shape}
 use Rattle.borsh_walks.specs.Counts.{counts_of, definition_at, definition_count, definitions_of, raised_for}
 use Rattle.borsh_walks.specs.SizeAnswer.{Distinct}
 use Rattle.borsh_walks.specs.ZeroAnswer.{ZeroTable}
-use Rattle.borsh_walks.specs.Tables.{mark_of}
+use Rattle.borsh_walks.specs.Tables.{mark_of, IsDefined, Marks}
 use Rattle.borsh_walks.specs.RulesAnswer.{RulesFault, checked_element}
 use Rattle.borsh_walks.specs.declared.counted.Counted.{Counted}
 use Rattle.borsh_walks.specs.declared.counted.Expansions.{Expansions}
 use Rattle.borsh_walks.specs.declared.counted.Question.TheVariants.{Zero, Rules}
-use Rattle.borsh_walks.specs.declared.zero.Spot.{Spot}
+use Rattle.borsh_walks.specs.declared.way.Spot.{Spot}
 use Rattle.borsh_walks.specs.declared.error.SchemaContainerValidateError.{SchemaContainerValidateError}
 
-abbrev pub spot_shape : Spot → Shape
-spot_shape f = shape_of f.definition.now
-
-abbrev pub spot_next : Spot → ℕ
-spot_next f = f.next
-
--- the mentions that wait on the way
+-- the mentions that wait on the way, whose last spot comes first
 abbrev pub waiting : List Spot → List (List ℕ)
 waiting [] = []
 waiting (f ∷ fs) = drop f.next (mentions (spot_shape f)) ++ waiting fs
@@ -34,9 +28,7 @@ module _ (C : List ℕ → Option Shape) (root : List ℕ) where
   -- the names seen are reached and keep their rules, and what they mention is seen, waits on the way, or is among `extra`
   pub record RulesState (extra : List (List ℕ)) (seen : BTreeMap (Bor (List ℕ)) Bool) (way : List Spot) (zeros : BTreeMap (Bor (List ℕ)) Bool) : Type 0 where
     pub names : List (List ℕ)
-    pub distinct : Distinct names
-    pub marked : (x : List ℕ) (b : Bool) → mark_of seen x ≡ Some b → Among x names
-    pub looked : (x : List ℕ) → Among x names → (mark_of seen x ≡ None → ⊥) × Reached C root x × ((r : Rule) → Breaks C r x → ⊥) × ((d : Shape) × (C x ≡ Some d))
+    pub marks : Marks (λ x. Reached C root x × ((r : Rule) → Breaks C r x → ⊥) × IsDefined C x) (mark_of seen) names
     pub len : btree_map_len seen ≡ length names
     pub spots : AllSpots way
     pub closed : (x : List ℕ) (d : Shape) (y : List ℕ) → Among x names → C x ≡ Some d → Among y (mentions d) → Among y names ⊎ Among y extra ⊎ Among y (waiting way)
@@ -56,7 +48,7 @@ HasSeen name s t = ((x : List ℕ) → (mark_of s x ≡ None → ⊥) → mark_o
 
 -- the name was put on the way
 abbrev pub HasPushed : Counted → List Spot → List Spot → List ℕ → Type 0
-HasPushed c old new name = (f : Spot) × (new ≡ old ++ f ∷ []) × (f.next ≡ 0) × (definition_at c name ≡ Some f.definition.now)
+HasPushed c old new name = (f : Spot) × (new ≡ f ∷ old) × (f.next ≡ 0) × (definition_at c name ≡ Some f.definition.now)
 
 -- what a visit makes of the state
 abbrev pub IsVisited : Counted → Counted → List ℕ → BTreeMap (Bor (List ℕ)) Bool → BTreeMap (Bor (List ℕ)) Bool → List Spot → List Spot → BTreeMap (Bor (List ℕ)) Bool → BTreeMap (Bor (List ℕ)) Bool → List ℕ → Result (Unit {0}) SchemaContainerValidateError → Type 0

@@ -6,9 +6,8 @@ use Rattle.borsh_walks.specs.declared.counted.Question.TheVariants.{Zero as Zero
 use Rattle.borsh_walks.specs.Counts.{counts_of, definition_count, raised_for}
 use Rattle.std.specs.Borrow.{Bor}
 use Rattle.std.specs.BTreeMap.{BTreeMap, btree_map_len}
-use Rattle.borsh_walks.specs.Container.{Shape, Among, Zero, zero_asks}
-use Rattle.borsh_walks.specs.SizeAnswer.{Distinct}
-use Rattle.borsh_walks.specs.Tables.{mark_of}
+use Rattle.borsh_walks.specs.Container.{Shape, Zero, zero_asks}
+use Rattle.borsh_walks.specs.Tables.{mark_of, IsDefined, Marks}
 
 -- the parts that a definition asks for, none where it is never of zero size
 abbrev pub asked : Shape → List (List ℕ)
@@ -17,9 +16,7 @@ asked d = unwrap_or (zero_asks d) []
 -- what a table of zero size keeps between two walks: `true` marks a name of zero size, `false` one that is not; the names of its keys are defined
 pub record ZeroTable (C : List ℕ → Option Shape) (t : BTreeMap (Bor (List ℕ)) Bool) : Type 0 where
   pub names : List (List ℕ)
-  pub distinct : Distinct names
-  pub marked : (x : List ℕ) (b : Bool) → mark_of t x ≡ Some b → Among x names
-  pub looked : (x : List ℕ) → Among x names → (mark_of t x ≡ None → ⊥) × ((d : Shape) × (C x ≡ Some d))
+  pub marks : Marks (IsDefined C) (mark_of t) names
   pub len : btree_map_len t ≡ length names
   pub zero_is : (x : List ℕ) → mark_of t x ≡ Some true → Zero C x
   pub not_zero_is : (x : List ℕ) → mark_of t x ≡ Some false → Zero C x → ⊥

@@ -12,6 +12,7 @@ pub mod error;
 mod parts;
 pub mod rules;
 pub mod sizes;
+mod way;
 mod zero;
 
 pub use counted::{Counted, Expansions, Question};

@@ -7,13 +7,14 @@ ghost use Rattle.borsh_walks.specs.ZeroAnswer.{ZeroCounted, ZeroTable};
 ghost use Rattle.borsh_walks.specs.Tables.{mark_of};
 ghost use Rattle.borsh_walks.specs.RulesState.{IsVisited, RulesCounted, RulesCountedOnYes, RulesState};
 ghost use Rattle.borsh_walks.specs.declared.counted.Question.TheVariants.{Rules, Zero};
-ghost use Rattle.std.specs.Prelude.{◌≡◌, ◌∷◌, [], List, None, ℕ, ◌≤◌, IfOk, MatchResult, MatchOption, OnOk, option_map};
+ghost use Rattle.std.specs.Prelude.{◌≡◌, ◌∷◌, [], List, None, ℕ, ◌≤◌, IfOk, MatchResult, MatchOption, OnOk, option_map, reverse};
 
 use crate::counted::{Counted, Question};
 use crate::definition::Definition;
 use crate::error::SchemaContainerValidateError;
 use crate::parts::mentioned_part;
-use crate::zero::{Spot, is_zero};
+use crate::way::Spot;
+use crate::zero::is_zero;
 use std::alloc::{AllocError, Global};
 use std::collections::BTreeMap;
 
@@ -158,8 +159,8 @@ fn visit<'a>(
 ) -> Result<(), SchemaContainerValidateError>
     requires { ZeroTable (definitions_of counted.old) table.old }
     ensures same { LooksOn counted.old counted.new }
-    ensures visited { (root : List ℕ) → RulesState (definitions_of counted.old) root (name.now ∷ []) seen.old way.old.items table.old → Reached (definitions_of counted.old) root name.now → mark_of seen.old name.now ≡ None → IsVisited counted.old counted.new name.now seen.old seen.new way.old.items way.new.items table.old table.new root result }
-    ensures counts { (root : List ℕ) → RulesState (definitions_of counted.old) root (name.now ∷ []) seen.old way.old.items table.old → mark_of seen.old name.now ≡ None → RulesCounted counted.old counted.new seen.old seen.new table.old table.new result }
+    ensures visited { (root : List ℕ) → RulesState (definitions_of counted.old) root (name.now ∷ []) seen.old (reverse way.old.items) table.old → Reached (definitions_of counted.old) root name.now → mark_of seen.old name.now ≡ None → IsVisited counted.old counted.new name.now seen.old seen.new (reverse way.old.items) (reverse way.new.items) table.old table.new root result }
+    ensures counts { (root : List ℕ) → RulesState (definitions_of counted.old) root (name.now ∷ []) seen.old (reverse way.old.items) table.old → mark_of seen.old name.now ≡ None → RulesCounted counted.old counted.new seen.old seen.new table.old table.new result }
 {
     let Some(definition) = counted.look(Question::Rules, name) else {
         return Err(error_of(alloc, Broken::Missing, name));
@@ -168,11 +169,7 @@ fn visit<'a>(
         return Err(error_of(alloc, broken, name));
     }
     seen.insert(name, true)?;
-    way.push(Spot {
-        name,
-        definition,
-        next: 0,
-    })?;
+    way.push(Spot::at(name, definition))?;
     Ok(())
 }
 
@@ -212,15 +209,12 @@ fn walk_rules<'a>(
     let mut seen: BTreeMap<&'a str, bool> = BTreeMap::new(alloc);
     let mut way: Vec<Spot<'a>> = Vec::new(alloc);
     visit(alloc, root, &mut seen, &mut way, &mut table, counted)?;
-    while let Some(spot) = way.pop() {
+    while let Some(mut spot) = way.pop() {
         let Some(part) = mentioned_part(spot.definition, spot.next) else {
             continue;
         };
-        way.push(Spot {
-            name: spot.name,
-            definition: spot.definition,
-            next: spot.next + 1,
-        })?;
+        spot.next += 1;
+        way.push(spot)?;
         if !seen.contains_key(part) {
             visit(alloc, part, &mut seen, &mut way, &mut table, counted)?;
         }

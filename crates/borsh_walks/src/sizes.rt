@@ -10,6 +10,7 @@ use crate::counted::{Counted, Question};
 use crate::definition::Definition;
 use crate::error::SchemaMaxSerializedSizeError;
 use crate::parts::needed_part;
+use crate::way::Spot;
 use std::alloc::Global;
 use std::collections::BTreeMap;
 
@@ -20,12 +21,10 @@ pub enum Mark {
     Finished(usize),
 }
 
-// A name on the way down, with what the sizes of its first `next` parts make.
+// A spot, with what the sizes of its settled parts make.
 #[derive(Clone, Copy)]
 pub struct Frame<'a> {
-    name: &'a str,
-    definition: &'a Definition,
-    next: usize,
+    spot: Spot<'a>,
     gathered: usize,
 }
 
@@ -102,20 +101,18 @@ fn walk_sizes<'a>(
     let mut way: Vec<Frame<'a>> = Vec::new(alloc);
     table.insert(root, Mark::Open)?;
     let mut frame = Frame {
-        name: root,
-        definition,
-        next: 0,
+        spot: Spot::at(root, definition),
         gathered: 0,
     };
     loop {
-        match needed_part(frame.definition, frame.next) {
+        match needed_part(frame.spot.definition, frame.spot.next) {
             Some(part) => match table.get(part) {
                 Some(Mark::Finished(size)) => {
-                    let Some(gathered) = gather(frame.definition, frame.gathered, *size) else {
+                    let Some(gathered) = gather(frame.spot.definition, frame.gathered, *size) else {
                         return Err(SchemaMaxSerializedSizeError::Overflow);
                     };
                     frame.gathered = gathered;
-                    frame.next += 1;
+                    frame.spot.next += 1;
                 }
                 Some(Mark::Open) => return Err(SchemaMaxSerializedSizeError::Recursive),
                 None => {
@@ -125,18 +122,16 @@ fn walk_sizes<'a>(
                     table.insert(part, Mark::Open)?;
                     way.push(frame)?;
                     frame = Frame {
-                        name: part,
-                        definition,
-                        next: 0,
+                        spot: Spot::at(part, definition),
                         gathered: 0,
                     };
                 }
             },
             None => {
-                let Some(size) = finish(frame.definition, frame.gathered) else {
+                let Some(size) = finish(frame.spot.definition, frame.gathered) else {
                     return Err(SchemaMaxSerializedSizeError::Overflow);
                 };
-                table.insert(frame.name, Mark::Finished(size))?;
+                table.insert(frame.spot.name, Mark::Finished(size))?;
                 match way.pop() {
                     Some(above) => frame = above,
                     None => return Ok(size),

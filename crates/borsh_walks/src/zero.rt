@@ -8,16 +8,9 @@ ghost use Rattle.std.specs.Prelude.{◌≡◌, Decides, IfOk, OnOk, is_none};
 use crate::counted::{Counted, Question};
 use crate::definition::Definition;
 use crate::parts::asked_part;
+use crate::way::Spot;
 use std::alloc::{AllocError, Global};
 use std::collections::BTreeMap;
-
-// A name on the way down; its first `next` parts are settled.
-#[derive(Clone, Copy)]
-pub struct Spot<'a> {
-    pub name: &'a str,
-    pub definition: &'a Definition,
-    pub next: usize,
-}
 
 // Whether the definition is never of zero size.
 fn never_zero(definition: &Definition) -> bool
@@ -54,11 +47,7 @@ pub fn is_zero<'a>(
     };
     table.insert(name, false)?;
     let mut way: Vec<Spot<'a>> = Vec::new(alloc);
-    let mut spot = Spot {
-        name,
-        definition,
-        next: 0,
-    };
+    let mut spot = Spot::at(name, definition);
     loop {
         if never_zero(spot.definition) {
             return Ok(false);
@@ -73,11 +62,7 @@ pub fn is_zero<'a>(
                     };
                     table.insert(part, false)?;
                     way.push(spot)?;
-                    spot = Spot {
-                        name: part,
-                        definition,
-                        next: 0,
-                    };
+                    spot = Spot::at(part, definition);
                 }
             },
             None => {

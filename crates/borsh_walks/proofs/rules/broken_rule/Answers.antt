@@ -2,9 +2,9 @@ use Rattle.std.proofs.Common.{◌≡◌, refl, sym, subst, arith}
 use Rattle.std.specs.BTreeMap.{btree_map_len}
 use Rattle.borsh_walks.specs.Counts.{definitions_of}
 use Rattle.borsh_walks.specs.Container.{Zero}
-use Rattle.borsh_walks.specs.Definitions.{definitions_in, shape_of}
+use Rattle.borsh_walks.specs.Definitions.{shape_of}
 use Rattle.borsh_walks.proofs.RulesLaws.{breaks, breaks_zero, keeps_all}
-use Rattle.borsh_walks.proofs.Names.{names_within}
+use Rattle.borsh_walks.proofs.Tables.{few_names}
 use Rattle.borsh_walks.proofs.rules.broken_rule.Goals as goal
 
 pub returns-in-Some-clause-answer : goal.returns-in-Some-clause-answer
@@ -13,7 +13,7 @@ returns-in-Some-clause-answer c = λ x e. breaks (definitions_of c.args.counted.
 pub returns-in-Some-clause-counts : goal.returns-in-Some-clause-counts
 returns-in-Some-clause-counts c = λ base h.
     let r = c.requires in
-    let few = names_within c.args.counted.now.map.now r.names r.distinct (λ x a. (r.looked x a).1) in
+    let few = few_names c.args.counted.now.map.now (λ x k. k) r.marks in
     (btree_map_len c.args.table.now, omega (arith, few, r.len), h, refl)
 
 pub returns-then-branch-clause-answer : goal.returns-then-branch-clause-answer
@@ -28,5 +28,5 @@ returns-else-branch-clause-answer c = λ x e r b.
 pub returns-in_default-element_to_check-clause-counts : goal.returns-in_default-element_to_check-clause-counts
 returns-in_default-element_to_check-clause-counts c = λ base h.
     let r = c.requires in
-    let few = names_within c.args.counted.now.map.now r.names r.distinct (λ x a. (r.looked x a).1) in
+    let few = few_names c.args.counted.now.map.now (λ x k. k) r.marks in
     (btree_map_len c.args.table.now, omega (arith, few, r.len), h, refl)

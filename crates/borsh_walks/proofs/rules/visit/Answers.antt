@@ -1,17 +1,17 @@
-use Rattle.std.proofs.Common.{◌≡◌, suc, ◌≤◌, ◌∷◌, Some, None, refl, sym, ◌∙◌, subst, arith, true}
-use Rattle.std.specs.Prelude.{Option, option_map, MatchOption}
-use Rattle.std.specs.BTreeMap.{btree_map_len, get_by_text}
+use Rattle.std.proofs.Common.{◌≡◌, suc, ◌≤◌, ◌∷◌, reverse, Some, None, refl, sym, ◌∙◌, ap, subst, arith, true}
+use Rattle.std.specs.Prelude.{Option, MatchOption}
+use Rattle.std.specs.BTreeMap.{btree_map_len}
 use Rattle.borsh_walks.specs.Container.{is_missing, missing_definition}
 use Rattle.borsh_walks.specs.Counts.{counts_of, definitions_of, raised_for}
 use Rattle.borsh_walks.specs.Definitions.{definitions_in, shape_of}
 use Rattle.borsh_walks.specs.declared.counted.Question.TheVariants.{Rules}
 use Rattle.borsh_walks.specs.ZeroAnswer.{ZeroTable}
-use Rattle.borsh_walks.specs.Tables.{mark_of}
 use Rattle.borsh_walks.specs.RulesAnswer.{RuleAnswer, ElementMarked, rule_of}
-use Rattle.borsh_walks.specs.declared.zero.Spot.{Spot}
+use Rattle.borsh_walks.specs.declared.way.Spot.{Spot}
 use Rattle.borsh_walks.proofs.RulesLaws.{rules_fault}
-use Rattle.borsh_walks.proofs.Names.{names_within, found_shape, found_none}
-use Rattle.borsh_walks.proofs.Tables.{updated_by, still, grown, more_names}
+use Rattle.borsh_walks.proofs.Names.{found_shape, found_none}
+use Rattle.borsh_walks.proofs.Tables.{updated_by, still, grown, few_names, few_more}
+use Rattle.borsh_walks.proofs.Spots.{last_first}
 use Rattle.borsh_walks.proofs.Counting.{on_err}
 use Rattle.borsh_walks.proofs.RulesGlue.{both_more, rules_visit}
 use Rattle.borsh_walks.proofs.rules.visit.Goals as goal
@@ -23,8 +23,8 @@ returns-in_default-clause-visited c = λ root s r n.
 pub returns-in_default-clause-counts : goal.returns-in_default-clause-counts
 returns-in_default-clause-counts c = λ root s n base h.
     let r = c.requires in
-    let zeros = names_within c.args.counted.now.map.now r.names r.distinct (λ x a. (r.looked x a).1) in
-    let few = names_within c.args.counted.now.map.now s.names s.distinct (λ x a. (s.looked x a).3) in
+    let zeros = few_names c.args.counted.now.map.now (λ x k. k) r.marks in
+    let few = few_names c.args.counted.now.map.now (λ x k. k.2) s.marks in
     (btree_map_len c.args.seen.now, btree_map_len c.args.table.now, omega (arith, few, s.len), omega (arith, zeros, r.len), c.in_default.ensures.counts ∙ h, tt)
 
 pub broken_rule-requires : goal.broken_rule-requires
@@ -34,8 +34,7 @@ pub returns-in_err-broken-clause-counts : goal.returns-in_err-broken-clause-coun
 returns-in_err-broken-clause-counts c = λ root s n base h.
     let C = definitions_of c.args.counted.now in
     let e = found_shape c.args.counted.now.map c.args.counted.now.map c.args.name.now c.in-Some.definition.now refl c.in-Some.ensures.found in
-    let l = more_names C {T = mark_of c.args.seen.now} c.args.name.now _ s.distinct (λ x a. let k = s.looked x a in (k.0, k.3)) n e in
-    let few = names_within c.args.counted.now.map.now (c.args.name.now ∷ s.names) l.0 l.1 in
+    let few = few_more c.args.counted.now.map.now (λ x k. k.2) s.marks n e in
     let k = c.in_err-broken.ensures.counts (raised_for Rules (suc (btree_map_len c.args.seen.now)) base) (both_more (btree_map_len c.args.seen.now) (btree_map_len c.args.table.now) (counts_of c.args.counted.now) (counts_of c.look.new.self) base h c.in-Some.ensures.counts) in
     (suc (btree_map_len c.args.seen.now), k.0, omega (arith, few, s.len), subst (λ m. k.0 ≤ btree_map_len m.now) c.in-Some.ensures.same.0 k.1, k.2, on_err _ c.from_residual.result c.from_residual.ensures.0)
 
@@ -51,8 +50,7 @@ pub returns-in-Some-2-clause-counts : goal.returns-in-Some-2-clause-counts
 returns-in-Some-2-clause-counts c = λ root s n base h.
     let C = definitions_of c.args.counted.now in
     let e = found_shape c.args.counted.now.map c.args.counted.now.map c.args.name.now c.in-Some.definition.now refl c.in-Some.ensures.found in
-    let l = more_names C {T = mark_of c.args.seen.now} c.args.name.now _ s.distinct (λ x a. let k = s.looked x a in (k.0, k.3)) n e in
-    let few = names_within c.args.counted.now.map.now (c.args.name.now ∷ s.names) l.0 l.1 in
+    let few = few_more c.args.counted.now.map.now (λ x k. k.2) s.marks n e in
     let k = c.in_ok-broken.ensures.counts (raised_for Rules (suc (btree_map_len c.args.seen.now)) base) (both_more (btree_map_len c.args.seen.now) (btree_map_len c.args.table.now) (counts_of c.args.counted.now) (counts_of c.look.new.self) base h c.in-Some.ensures.counts) in
     (suc (btree_map_len c.args.seen.now), k.0, omega (arith, few, s.len), subst (λ m. k.0 ≤ btree_map_len m.now) c.in-Some.ensures.same.0 k.1, k.2, tt)
 
@@ -60,8 +58,7 @@ pub returns-in_err-insert-clause-counts : goal.returns-in_err-insert-clause-coun
 returns-in_err-insert-clause-counts c = λ root s n base h.
     let C = definitions_of c.args.counted.now in
     let e = found_shape c.args.counted.now.map c.args.counted.now.map c.args.name.now c.in-Some.definition.now refl c.in-Some.ensures.found in
-    let l = more_names C {T = mark_of c.args.seen.now} c.args.name.now _ s.distinct (λ x a. let k = s.looked x a in (k.0, k.3)) n e in
-    let few = names_within c.args.counted.now.map.now (c.args.name.now ∷ s.names) l.0 l.1 in
+    let few = few_more c.args.counted.now.map.now (λ x k. k.2) s.marks n e in
     let k = c.in_ok-broken.ensures.counts (raised_for Rules (suc (btree_map_len c.args.seen.now)) base) (both_more (btree_map_len c.args.seen.now) (btree_map_len c.args.table.now) (counts_of c.args.counted.now) (counts_of c.look.new.self) base h c.in-Some.ensures.counts) in
     (suc (btree_map_len c.args.seen.now), k.0, omega (arith, few, s.len), subst (λ m. k.0 ≤ btree_map_len m.now) c.in-Some.ensures.same.0 k.1, k.2, on_err _ c.from_residual-in_err-insert.result c.from_residual-in_err-insert.ensures.0)
 
@@ -69,8 +66,7 @@ pub returns-in_err-push-clause-counts : goal.returns-in_err-push-clause-counts
 returns-in_err-push-clause-counts c = λ root s n base h.
     let C = definitions_of c.args.counted.now in
     let e = found_shape c.args.counted.now.map c.args.counted.now.map c.args.name.now c.in-Some.definition.now refl c.in-Some.ensures.found in
-    let l = more_names C {T = mark_of c.args.seen.now} c.args.name.now _ s.distinct (λ x a. let k = s.looked x a in (k.0, k.3)) n e in
-    let few = names_within c.args.counted.now.map.now (c.args.name.now ∷ s.names) l.0 l.1 in
+    let few = few_more c.args.counted.now.map.now (λ x k. k.2) s.marks n e in
     let k = c.in_ok-broken.ensures.counts (raised_for Rules (suc (btree_map_len c.args.seen.now)) base) (both_more (btree_map_len c.args.seen.now) (btree_map_len c.args.table.now) (counts_of c.args.counted.now) (counts_of c.look.new.self) base h c.in-Some.ensures.counts) in
     (suc (btree_map_len c.args.seen.now), k.0, omega (arith, few, s.len), subst (λ m. k.0 ≤ btree_map_len m.now) c.in-Some.ensures.same.0 k.1, k.2, on_err _ c.from_residual-in_err-push.result c.from_residual-in_err-push.ensures.0)
 
@@ -91,18 +87,18 @@ returns-clause-visited c = λ root s r n.
     let marks = subst (λ o. MatchOption o (ElementMarked C d c.args.table.now c.broken_rule.new.table) (λ _. Unit {0})) none k in
     let u = updated_by c.args.name.now c.args.seen.now c.insert.new.self true c.in_ok-insert.ensures.updates in
     let len = grown c.in_ok-insert.field-0 c.in_ok-insert.ensures.len (c.in_ok-insert.ensures.old ∙ n) in
-    let g : Spot = record { name = c.args.name; definition = c.in-Some.definition; next = 0 } in (
-      rules_visit C root g s r n e (keeps c.args.name.now e) t marks u len refl refl c.in_ok-push.ensures.items,
+    let g : Spot = record { name = c.args.name; definition = c.in-Some.definition; next = 0 } in
+    let items = last_first c.args.way.now.items c.push.new.self.items c.at.result c.in_ok-push.ensures.items ∙ ap (λ f. f ∷ reverse c.args.way.now.items) c.at.ensures in (
+      rules_visit C root g s r n e (keeps c.args.name.now e) t marks u len refl items,
       (still u, (λ h. let b = u.here in cc), omega (arith, len)),
-      (g, c.in_ok-push.ensures.items, refl, sym c.in-Some.ensures.found),
+      (g, items, refl, sym c.in-Some.ensures.found),
     )
 
 pub returns-clause-counts : goal.returns-clause-counts
 returns-clause-counts c = λ root s n base h.
     let C = definitions_of c.args.counted.now in
     let e = found_shape c.args.counted.now.map c.args.counted.now.map c.args.name.now c.in-Some.definition.now refl c.in-Some.ensures.found in
-    let l = more_names C {T = mark_of c.args.seen.now} c.args.name.now _ s.distinct (λ x a. let k = s.looked x a in (k.0, k.3)) n e in
-    let few = names_within c.args.counted.now.map.now (c.args.name.now ∷ s.names) l.0 l.1 in
+    let few = few_more c.args.counted.now.map.now (λ x k. k.2) s.marks n e in
     let k = c.in_ok-broken.ensures.counts (raised_for Rules (suc (btree_map_len c.args.seen.now)) base) (both_more (btree_map_len c.args.seen.now) (btree_map_len c.args.table.now) (counts_of c.args.counted.now) (counts_of c.look.new.self) base h c.in-Some.ensures.counts) in
     let len = grown c.in_ok-insert.field-0 c.in_ok-insert.ensures.len (c.in_ok-insert.ensures.old ∙ n) in
     (suc (btree_map_len c.args.seen.now), k.0, omega (arith, few, s.len), subst (λ m. k.0 ≤ btree_map_len m.now) c.in-Some.ensures.same.0 k.1, k.2, (sym len, k.3))

@@ -1,4 +1,4 @@
-use Rattle.std.proofs.Common.{◌≡◌, ℕ, suc, ◌+◌, ◌-◌, ◌*◌, ◌<◌, ◌≤◌, List, [], ◌∷◌, ◌++◌, Some, None, refl, sym, ◌∙◌, ap, subst, arith, true, false}
+use Rattle.std.proofs.Common.{◌≡◌, ℕ, suc, ◌+◌, ◌-◌, ◌*◌, ◌≤◌, List, [], ◌∷◌, reverse, add-one, Some, None, refl, sym, ◌∙◌, ap, subst, arith, true, false}
 use Rattle.std.specs.Prelude.{Option, is_some, Result, Ok, Err, IsErr, IsErrAnd, MatchResult, option_map}
 use Rattle.std.specs.BTreeMap.{btree_map_len, get_by_text}
 use Rattle.borsh_walks.specs.Container.{Among, Reached, stays, onward, mentions, IsValid}
@@ -7,15 +7,14 @@ use Rattle.borsh_walks.specs.Definitions.{definitions_in, shape_of}
 use Rattle.borsh_walks.specs.ZeroAnswer.{ZeroTable}
 use Rattle.borsh_walks.specs.Tables.{mark_of}
 use Rattle.borsh_walks.specs.RulesAnswer.{RulesFault}
-use Rattle.borsh_walks.specs.RulesState.{RulesState, spot_shape, spot_next}
+use Rattle.borsh_walks.specs.RulesState.{RulesState}
 use Rattle.borsh_walks.specs.declared.counted.Question.TheVariants.{Rules, Zero}
 use Rattle.borsh_walks.specs.declared.counted.Expansions.{Expansions}
-use Rattle.borsh_walks.specs.declared.zero.Spot.{Spot}
 use Rattle.borsh_walks.proofs.RulesLaws.{checked_mentioned}
-use Rattle.borsh_walks.proofs.Names.{names_within}
-use Rattle.borsh_walks.proofs.Tables.{marks_none, has_mark, no_items, more_names}
-use Rattle.borsh_walks.proofs.Measure.{work, work_at, rests, way_pop, way_take, way_visit}
-use Rattle.borsh_walks.proofs.RulesGlue.{rules_start, rules_pop, rules_take, rules_seen, rules_all, rules_reached, rules_low, empty_table}
+use Rattle.borsh_walks.proofs.Tables.{marks_none, has_mark, no_items, few_names, few_more}
+use Rattle.borsh_walks.proofs.Spots.{moved, last_first}
+use Rattle.borsh_walks.proofs.Measure.{work, rests, rests_moved, left_popped, left_pushed}
+use Rattle.borsh_walks.proofs.RulesGlue.{rules_start, rules_pop, rules_take, rules_seen, rules_all, rules_reached, empty_table}
 use Rattle.borsh_walks.proofs.rules.walk_rules.Goals as goal
 
 err_is : {E : Type 0} (P : Unit {0} → Type 0) (Q : E → Type 0) (r : Result (Unit {0}) E) (e : E) → IsErr r → IsErrAnd r (λ x. x ≡ e) → Q e → MatchResult r P Q
@@ -43,7 +42,7 @@ pub loop-spot-init : goal.loop-spot-init
 loop-spot-init c =
     let C = definitions_of c.args.counted.now in
     let root = c.args.root.now in
-    let s = rules_start C root c.new-seen.result c.new-table.result c.new-way.result.items c.new-seen.ensures.empty c.new-table.ensures.empty c.new-way.ensures.items in
+    let s = rules_start C root c.new-seen.result c.new-table.result (reverse c.new-way.result.items) c.new-seen.ensures.empty c.new-table.ensures.empty (ap (λ l. reverse l) c.new-way.ensures.items) in
     let n = marks_none c.new-seen.result c.new-seen.ensures.empty root in
     let v = c.in_ok-visit.ensures.visited root s stays n in
     let k = c.in_ok-visit.ensures.counts root s n (counts_of c.args.counted.now) (both_none (btree_map_len c.new-seen.result) (btree_map_len c.new-table.result) (counts_of c.args.counted.now) c.new-seen.ensures.len c.new-table.ensures.len) in
@@ -53,7 +52,7 @@ pub returns-in_err-visit-clause-answer : goal.returns-in_err-visit-clause-answer
 returns-in_err-visit-clause-answer c =
     let C = definitions_of c.args.counted.now in
     let root = c.args.root.now in
-    let s = rules_start C root c.new-seen.result c.new-table.result c.new-way.result.items c.new-seen.ensures.empty c.new-table.ensures.empty c.new-way.ensures.items in
+    let s = rules_start C root c.new-seen.result c.new-table.result (reverse c.new-way.result.items) c.new-seen.ensures.empty c.new-table.ensures.empty (ap (λ l. reverse l) c.new-way.ensures.items) in
     let n = marks_none c.new-seen.result c.new-seen.ensures.empty root in
     err_is (λ x. IsValid C root) (RulesFault C root) c.from_residual.result c.in_err-visit.field-0.0 c.from_residual.ensures.0 c.from_residual.ensures.1 (c.in_err-visit.ensures.visited root s stays n)
 
@@ -61,7 +60,7 @@ pub returns-in_err-visit-clause-few : goal.returns-in_err-visit-clause-few
 returns-in_err-visit-clause-few c =
     let C = definitions_of c.args.counted.now in
     let root = c.args.root.now in
-    let s = rules_start C root c.new-seen.result c.new-table.result c.new-way.result.items c.new-seen.ensures.empty c.new-table.ensures.empty c.new-way.ensures.items in
+    let s = rules_start C root c.new-seen.result c.new-table.result (reverse c.new-way.result.items) c.new-seen.ensures.empty c.new-table.ensures.empty (ap (λ l. reverse l) c.new-way.ensures.items) in
     let n = marks_none c.new-seen.result c.new-seen.ensures.empty root in
     let k = c.in_err-visit.ensures.counts root s n (counts_of c.args.counted.now) (both_none (btree_map_len c.new-seen.result) (btree_map_len c.new-table.result) (counts_of c.args.counted.now) c.new-seen.ensures.len c.new-table.ensures.len) in
     (k.0, k.1, k.2, k.3, k.4)
@@ -70,17 +69,17 @@ pub loop-spot-smaller-in_default-mentioned_part : goal.loop-spot-smaller-in_defa
 loop-spot-smaller-in_default-mentioned_part c =
     let i = c.loop-spot.invariant in
     let C = definitions_of c.args.counted.now in
-    let items : c.loop-spot.way.items ≡ c.pop.new.self.items ++ c.in-Some.spot ∷ [] = c.in-Some.ensures.items in
+    let items = last_first c.pop.new.self.items c.loop-spot.way.items c.in-Some.spot c.in-Some.ensures.items in
     let s = subst (λ l. RulesState C c.args.root.now [] c.loop-spot.seen l c.loop-spot.table) items i.state in
-    way_pop mentions spot_shape spot_next _ c.pop.new.self.items c.loop-spot.way.items c.in-Some.spot items (rules_low C c.args.root.now c.pop.new.self.items c.in-Some.spot s)
+    left_popped mentions c.loop-spot.counted.map.now (btree_map_len c.loop-spot.seen) (btree_map_len c.loop-spot.seen) c.in-Some.spot (reverse c.pop.new.self.items) (reverse c.loop-spot.way.items) refl items s.spots.0.2
 
 pub loop-spot-preserved-in_default-mentioned_part : goal.loop-spot-preserved-in_default-mentioned_part
 loop-spot-preserved-in_default-mentioned_part c =
     let i = c.loop-spot.invariant in
     let C = definitions_of c.args.counted.now in
-    let items : c.loop-spot.way.items ≡ c.pop.new.self.items ++ c.in-Some.spot ∷ [] = c.in-Some.ensures.items in
+    let items = last_first c.pop.new.self.items c.loop-spot.way.items c.in-Some.spot c.in-Some.ensures.items in
     let s = subst (λ l. RulesState C c.args.root.now [] c.loop-spot.seen l c.loop-spot.table) items i.state in
-    record { state = rules_pop C c.args.root.now c.pop.new.self.items c.in-Some.spot s (sym c.in_default-mentioned_part.ensures.part); root_seen = i.root_seen; looks = i.looks; same = (i.same.0, i.same.1) }
+    record { state = rules_pop C c.args.root.now (reverse c.pop.new.self.items) c.in-Some.spot s (sym c.in_default-mentioned_part.ensures.part); root_seen = i.root_seen; looks = i.looks; same = (i.same.0, i.same.1) }
 
 pub visit-requires-then-not-contains_key : goal.visit-requires-then-not-contains_key
 visit-requires-then-not-contains_key c = let i = c.loop-spot.invariant in
@@ -88,19 +87,20 @@ visit-requires-then-not-contains_key c = let i = c.loop-spot.invariant in
 
 pub loop-spot-smaller : goal.loop-spot-smaller
 loop-spot-smaller c =
-    let items : c.loop-spot.way.items ≡ c.pop.new.self.items ++ c.in-Some.spot ∷ [] = c.in-Some.ensures.items in
-    let g : Spot = record { name = c.in-Some.spot.name; definition = c.in-Some.spot.definition; next = c.in-Some.spot.next + 1 } in
-    way_take mentions spot_shape spot_next _ c.pop.new.self.items c.loop-spot.way.items c.push.new.self.items c.in-Some.spot g c.in-Some-mentioned_part.part.now items c.in_ok-push.ensures.items (sym c.in-Some-mentioned_part.ensures.part) refl refl
+    let items = last_first c.pop.new.self.items c.loop-spot.way.items c.in-Some.spot c.in-Some.ensures.items in
+    let back = last_first c.pop.new.self.items c.push.new.self.items (moved c.in-Some.spot) c.in_ok-push.ensures.items in
+    let step = rests_moved mentions ((btree_map_len c.loop-spot.counted.map.now - btree_map_len c.loop-spot.seen) * (2 + work mentions c.loop-spot.counted.map.now.entries)) c.in-Some.spot (reverse c.pop.new.self.items) c.in-Some-mentioned_part.part.now (sym c.in-Some-mentioned_part.ensures.part) in
+    omega (arith, step, ap (λ l. rests mentions l) items, ap (λ l. rests mentions l) back)
 
 pub loop-spot-preserved : goal.loop-spot-preserved
 loop-spot-preserved c =
     let i = c.loop-spot.invariant in
     let C = definitions_of c.args.counted.now in
     let p = c.in-Some-mentioned_part.part.now in
-    let items : c.loop-spot.way.items ≡ c.pop.new.self.items ++ c.in-Some.spot ∷ [] = c.in-Some.ensures.items in
+    let items = last_first c.pop.new.self.items c.loop-spot.way.items c.in-Some.spot c.in-Some.ensures.items in
     let s = subst (λ l. RulesState C c.args.root.now [] c.loop-spot.seen l c.loop-spot.table) items i.state in
-    let g : Spot = record { name = c.in-Some.spot.name; definition = c.in-Some.spot.definition; next = c.in-Some.spot.next + 1 } in
-    let t = rules_take C c.args.root.now c.pop.new.self.items c.push.new.self.items c.in-Some.spot g p s (sym c.in-Some-mentioned_part.ensures.part) refl refl refl c.in_ok-push.ensures.items in
+    let back = last_first c.pop.new.self.items c.push.new.self.items (moved c.in-Some.spot) c.in_ok-push.ensures.items in
+    let t = rules_take C c.args.root.now (reverse c.pop.new.self.items) (reverse c.push.new.self.items) c.in-Some.spot p s (sym c.in-Some-mentioned_part.ensures.part) back in
     record { state = rules_seen C c.args.root.now p t (seen_some _ c.if-not-contains_key.ensures); root_seen = i.root_seen; looks = i.looks; same = (i.same.0, i.same.1) }
 
 pub loop-spot-smaller-in-Continue-branch-3 : goal.loop-spot-smaller-in-Continue-branch-3
@@ -109,23 +109,22 @@ loop-spot-smaller-in-Continue-branch-3 c =
     let C = definitions_of c.args.counted.now in
     let root = c.args.root.now in
     let p = c.in-Some-mentioned_part.part.now in
-    let items : c.loop-spot.way.items ≡ c.pop.new.self.items ++ c.in-Some.spot ∷ [] = c.in-Some.ensures.items in
+    let items = last_first c.pop.new.self.items c.loop-spot.way.items c.in-Some.spot c.in-Some.ensures.items in
     let s = subst (λ l. RulesState C root [] c.loop-spot.seen l c.loop-spot.table) items i.state in
-    let g : Spot = record { name = c.in-Some.spot.name; definition = c.in-Some.spot.definition; next = c.in-Some.spot.next + 1 } in
-    let t = rules_take C root c.pop.new.self.items c.push.new.self.items c.in-Some.spot g p s (sym c.in-Some-mentioned_part.ensures.part) refl refl refl c.in_ok-push.ensures.items in
-    let r = rules_reached C root c.pop.new.self.items c.in-Some.spot p s (sym c.in-Some-mentioned_part.ensures.part) in
-    let t' = subst (λ m. RulesState (definitions_in m.now) root (p ∷ []) c.loop-spot.seen c.push.new.self.items c.loop-spot.table) (sym i.same.0) t in
+    let back = last_first c.pop.new.self.items c.push.new.self.items (moved c.in-Some.spot) c.in_ok-push.ensures.items in
+    let t = rules_take C root (reverse c.pop.new.self.items) (reverse c.push.new.self.items) c.in-Some.spot p s (sym c.in-Some-mentioned_part.ensures.part) back in
+    let r = rules_reached C root (reverse c.pop.new.self.items) c.in-Some.spot p s (sym c.in-Some-mentioned_part.ensures.part) in
+    let t' = subst (λ m. RulesState (definitions_in m.now) root (p ∷ []) c.loop-spot.seen (reverse c.push.new.self.items) c.loop-spot.table) (sym i.same.0) t in
     let r' = subst (λ m. Reached (definitions_in m.now) root p) (sym i.same.0) r in
     let n = seen_none _ c.if-not-contains_key.ensures in
     let v = c.in_ok-visit-2.ensures.visited root t' r' n in
     let f = v.2.0 in
     let e : C p ≡ Some (shape_of f.definition.now) = ap (λ m. option_map shape_of (get_by_text m.now p)) (sym i.same.0) ∙ ap (λ o. option_map shape_of o) v.2.3 in
-    let l = more_names C {T = mark_of c.loop-spot.seen} p _ i.state.distinct (λ x a. let k = i.state.looked x a in (k.0, k.3)) n e in
-    let few = names_within c.args.counted.now.map.now (p ∷ i.state.names) l.0 l.1 in
+    let few = few_more c.args.counted.now.map.now (λ x k. k.2) i.state.marks n e in
     let room : suc (btree_map_len c.loop-spot.seen) ≤ btree_map_len c.loop-spot.counted.map.now = omega (arith, few, i.state.len, ap (λ m. btree_map_len m.now) i.same.0) in
-    let small = work_at mentions p c.loop-spot.counted.map.now.entries f.definition.now v.2.3 in
-    let step = way_visit mentions spot_shape spot_next (btree_map_len c.loop-spot.counted.map.now) (btree_map_len c.loop-spot.seen) (work mentions c.loop-spot.counted.map.now.entries) (btree_map_len c.visit-then-not-contains_key.new.seen) c.pop.new.self.items c.loop-spot.way.items c.push.new.self.items c.visit-then-not-contains_key.new.way.items c.in-Some.spot g f p items c.in_ok-push.ensures.items v.2.1 (sym c.in-Some-mentioned_part.ensures.part) refl refl v.1.2 room small v.2.2 in
-    subst (λ m. (btree_map_len m.now - btree_map_len c.visit-then-not-contains_key.new.seen) * (2 + work mentions m.now.entries) + rests mentions spot_shape spot_next c.visit-then-not-contains_key.new.way.items < (btree_map_len c.loop-spot.counted.map.now - btree_map_len c.loop-spot.seen) * (2 + work mentions c.loop-spot.counted.map.now.entries) + rests mentions spot_shape spot_next c.loop-spot.way.items) (sym c.in_ok-visit-2.ensures.same.0) step
+    let moves = rests_moved mentions 0 c.in-Some.spot (reverse c.pop.new.self.items) p (sym c.in-Some-mentioned_part.ensures.part) in
+    let fewer : rests mentions (reverse c.push.new.self.items) ≤ rests mentions (reverse c.loop-spot.way.items) = omega (arith, moves, ap (λ l. rests mentions l) items, ap (λ l. rests mentions l) back) in
+    left_pushed mentions c.loop-spot.counted.map.now c.visit-then-not-contains_key.new.counted.map.now p (btree_map_len c.loop-spot.seen) (btree_map_len c.visit-then-not-contains_key.new.seen) f (reverse c.loop-spot.way.items) (reverse c.push.new.self.items) (reverse c.visit-then-not-contains_key.new.way.items) (ap (λ m. m.now) c.in_ok-visit-2.ensures.same.0) (v.1.2 ∙ add-one _) room v.2.3 v.2.2 fewer v.2.1
 
 pub loop-spot-preserved-in-Continue-branch-3 : goal.loop-spot-preserved-in-Continue-branch-3
 loop-spot-preserved-in-Continue-branch-3 c =
@@ -133,17 +132,17 @@ loop-spot-preserved-in-Continue-branch-3 c =
     let C = definitions_of c.args.counted.now in
     let root = c.args.root.now in
     let p = c.in-Some-mentioned_part.part.now in
-    let items : c.loop-spot.way.items ≡ c.pop.new.self.items ++ c.in-Some.spot ∷ [] = c.in-Some.ensures.items in
+    let items = last_first c.pop.new.self.items c.loop-spot.way.items c.in-Some.spot c.in-Some.ensures.items in
     let s = subst (λ l. RulesState C root [] c.loop-spot.seen l c.loop-spot.table) items i.state in
-    let g : Spot = record { name = c.in-Some.spot.name; definition = c.in-Some.spot.definition; next = c.in-Some.spot.next + 1 } in
-    let t = rules_take C root c.pop.new.self.items c.push.new.self.items c.in-Some.spot g p s (sym c.in-Some-mentioned_part.ensures.part) refl refl refl c.in_ok-push.ensures.items in
-    let r = rules_reached C root c.pop.new.self.items c.in-Some.spot p s (sym c.in-Some-mentioned_part.ensures.part) in
-    let t' = subst (λ m. RulesState (definitions_in m.now) root (p ∷ []) c.loop-spot.seen c.push.new.self.items c.loop-spot.table) (sym i.same.0) t in
+    let back = last_first c.pop.new.self.items c.push.new.self.items (moved c.in-Some.spot) c.in_ok-push.ensures.items in
+    let t = rules_take C root (reverse c.pop.new.self.items) (reverse c.push.new.self.items) c.in-Some.spot p s (sym c.in-Some-mentioned_part.ensures.part) back in
+    let r = rules_reached C root (reverse c.pop.new.self.items) c.in-Some.spot p s (sym c.in-Some-mentioned_part.ensures.part) in
+    let t' = subst (λ m. RulesState (definitions_in m.now) root (p ∷ []) c.loop-spot.seen (reverse c.push.new.self.items) c.loop-spot.table) (sym i.same.0) t in
     let r' = subst (λ m. Reached (definitions_in m.now) root p) (sym i.same.0) r in
     let n = seen_none _ c.if-not-contains_key.ensures in
     let v = c.in_ok-visit-2.ensures.visited root t' r' n in
     let k = c.in_ok-visit-2.ensures.counts root t' n (counts_of c.args.counted.now) i.looks in
-    let b = subst (λ m. RulesState (definitions_in m.now) root [] c.visit-then-not-contains_key.new.seen c.visit-then-not-contains_key.new.way.items c.visit-then-not-contains_key.new.table) i.same.0 v.0 in
+    let b = subst (λ m. RulesState (definitions_in m.now) root [] c.visit-then-not-contains_key.new.seen (reverse c.visit-then-not-contains_key.new.way.items) c.visit-then-not-contains_key.new.table) i.same.0 v.0 in
     record {
       state = b;
       root_seen = v.1.0 root i.root_seen;
@@ -157,12 +156,12 @@ returns-in_err-visit-2-clause-answer c =
     let C = definitions_of c.args.counted.now in
     let root = c.args.root.now in
     let p = c.in-Some-mentioned_part.part.now in
-    let items : c.loop-spot.way.items ≡ c.pop.new.self.items ++ c.in-Some.spot ∷ [] = c.in-Some.ensures.items in
+    let items = last_first c.pop.new.self.items c.loop-spot.way.items c.in-Some.spot c.in-Some.ensures.items in
     let s = subst (λ l. RulesState C root [] c.loop-spot.seen l c.loop-spot.table) items i.state in
-    let g : Spot = record { name = c.in-Some.spot.name; definition = c.in-Some.spot.definition; next = c.in-Some.spot.next + 1 } in
-    let t = rules_take C root c.pop.new.self.items c.push.new.self.items c.in-Some.spot g p s (sym c.in-Some-mentioned_part.ensures.part) refl refl refl c.in_ok-push.ensures.items in
-    let r = rules_reached C root c.pop.new.self.items c.in-Some.spot p s (sym c.in-Some-mentioned_part.ensures.part) in
-    let t' = subst (λ m. RulesState (definitions_in m.now) root (p ∷ []) c.loop-spot.seen c.push.new.self.items c.loop-spot.table) (sym i.same.0) t in
+    let back = last_first c.pop.new.self.items c.push.new.self.items (moved c.in-Some.spot) c.in_ok-push.ensures.items in
+    let t = rules_take C root (reverse c.pop.new.self.items) (reverse c.push.new.self.items) c.in-Some.spot p s (sym c.in-Some-mentioned_part.ensures.part) back in
+    let r = rules_reached C root (reverse c.pop.new.self.items) c.in-Some.spot p s (sym c.in-Some-mentioned_part.ensures.part) in
+    let t' = subst (λ m. RulesState (definitions_in m.now) root (p ∷ []) c.loop-spot.seen (reverse c.push.new.self.items) c.loop-spot.table) (sym i.same.0) t in
     let r' = subst (λ m. Reached (definitions_in m.now) root p) (sym i.same.0) r in
     let n = seen_none _ c.if-not-contains_key.ensures in
     let fault = c.in_err-visit-2.ensures.visited root t' r' n in
@@ -175,12 +174,12 @@ returns-in_err-visit-2-clause-few c =
     let C = definitions_of c.args.counted.now in
     let root = c.args.root.now in
     let p = c.in-Some-mentioned_part.part.now in
-    let items : c.loop-spot.way.items ≡ c.pop.new.self.items ++ c.in-Some.spot ∷ [] = c.in-Some.ensures.items in
+    let items = last_first c.pop.new.self.items c.loop-spot.way.items c.in-Some.spot c.in-Some.ensures.items in
     let s = subst (λ l. RulesState C root [] c.loop-spot.seen l c.loop-spot.table) items i.state in
-    let g : Spot = record { name = c.in-Some.spot.name; definition = c.in-Some.spot.definition; next = c.in-Some.spot.next + 1 } in
-    let t = rules_take C root c.pop.new.self.items c.push.new.self.items c.in-Some.spot g p s (sym c.in-Some-mentioned_part.ensures.part) refl refl refl c.in_ok-push.ensures.items in
-    let r = rules_reached C root c.pop.new.self.items c.in-Some.spot p s (sym c.in-Some-mentioned_part.ensures.part) in
-    let t' = subst (λ m. RulesState (definitions_in m.now) root (p ∷ []) c.loop-spot.seen c.push.new.self.items c.loop-spot.table) (sym i.same.0) t in
+    let back = last_first c.pop.new.self.items c.push.new.self.items (moved c.in-Some.spot) c.in_ok-push.ensures.items in
+    let t = rules_take C root (reverse c.pop.new.self.items) (reverse c.push.new.self.items) c.in-Some.spot p s (sym c.in-Some-mentioned_part.ensures.part) back in
+    let r = rules_reached C root (reverse c.pop.new.self.items) c.in-Some.spot p s (sym c.in-Some-mentioned_part.ensures.part) in
+    let t' = subst (λ m. RulesState (definitions_in m.now) root (p ∷ []) c.loop-spot.seen (reverse c.push.new.self.items) c.loop-spot.table) (sym i.same.0) t in
     let r' = subst (λ m. Reached (definitions_in m.now) root p) (sym i.same.0) r in
     let n = seen_none _ c.if-not-contains_key.ensures in
     let k = c.in_err-visit-2.ensures.counts root t' n (counts_of c.args.counted.now) i.looks in
@@ -190,15 +189,15 @@ pub returns-clause-answer : goal.returns-clause-answer
 returns-clause-answer c =
     let i = c.loop-spot.invariant in
     let C = definitions_of c.args.counted.now in
-    let none = no_items c.loop-spot.way.items (omega (arith, c.in_default.ensures.cases.0, c.loop-spot.way.ok.0)) in
-    λ x r. (i.state.looked x (rules_all C c.args.root.now c.loop-spot.way.items i.state none i.root_seen r)).2
+    let none = ap (λ l. reverse l) (no_items c.loop-spot.way.items (omega (arith, c.in_default.ensures.cases.0, c.loop-spot.way.ok.0))) in
+    λ x r. (i.state.marks.looked x (rules_all C c.args.root.now (reverse c.loop-spot.way.items) i.state none i.root_seen r)).1.1
 
 pub returns-clause-few : goal.returns-clause-few
 returns-clause-few c =
     let i = c.loop-spot.invariant in
     let st = i.state in
-    let few = names_within c.args.counted.now.map.now st.names st.distinct (λ x a. (st.looked x a).3) in
-    let zeros = names_within c.args.counted.now.map.now st.zero.names st.zero.distinct (λ x a. (st.zero.looked x a).1) in
+    let few = few_names c.args.counted.now.map.now (λ x k. k.2) st.marks in
+    let zeros = few_names c.args.counted.now.map.now (λ x k. k) st.zero.marks in
     (btree_map_len c.loop-spot.seen, btree_map_len c.loop-spot.table, omega (arith, few, st.len), omega (arith, zeros, st.zero.len), i.looks)
 
 pub returns-clause-counts : goal.returns-clause-counts
@@ -206,15 +205,15 @@ returns-clause-counts c =
     let i = c.loop-spot.invariant in
     let st = i.state in
     let C = definitions_of c.args.counted.now in
-    let none = no_items c.loop-spot.way.items (omega (arith, c.in_default.ensures.cases.0, c.loop-spot.way.ok.0)) in
-    let all : (x : List ℕ) → Reached C c.args.root.now x → Among x st.names = λ x r. rules_all C c.args.root.now c.loop-spot.way.items st none i.root_seen r in (
+    let none = ap (λ l. reverse l) (no_items c.loop-spot.way.items (omega (arith, c.in_default.ensures.cases.0, c.loop-spot.way.ok.0))) in
+    let all : (x : List ℕ) → Reached C c.args.root.now x → Among x st.names = λ x r. rules_all C c.args.root.now (reverse c.loop-spot.way.items) st none i.root_seen r in (
       st.names,
       st.zero.names,
-      st.distinct,
-      st.zero.distinct,
-      (λ x. ((λ a. (st.looked x a).1), all x)),
-      (λ x d e r q k. let known = (st.looked e (all e (onward d r q (checked_mentioned d e k)))).3 in
+      st.marks.distinct,
+      st.zero.marks.distinct,
+      (λ x. ((λ a. (st.marks.looked x a).1.0), all x)),
+      (λ x d e r q k. let known = (st.marks.looked e (all e (onward d r q (checked_mentioned d e k)))).1.2 in
           let mark = has_mark (mark_of c.loop-spot.table e) (st.elements x d e (all x r) q k (λ h. let g = known.1 in cc)) in
-          st.zero.marked e mark.0 mark.1),
+          st.zero.marks.marked e mark.0 mark.1),
       both_at _ _ _ _ (counts_of c.loop-spot.counted) (counts_of c.args.counted.now) i.looks st.len st.zero.len,
     )

@@ -1,19 +1,19 @@
-use Rattle.std.proofs.Common.{◌+◌, ◌-◌, ◌*◌, ◌≡◌, [], None}
+use Rattle.std.proofs.Common.{◌≡◌, [], reverse, None}
 use Rattle.std.specs.BTreeMap.{btree_map_len}
 use Rattle.borsh_walks.specs.Container.{mentions}
 use Rattle.borsh_walks.specs.Counts.{counts_of, definitions_of, LooksOn}
 use Rattle.borsh_walks.specs.Tables.{mark_of}
-use Rattle.borsh_walks.specs.RulesState.{RulesState, IsBothCount, spot_shape, spot_next}
-use Rattle.borsh_walks.proofs.Measure.{work, rests}
+use Rattle.borsh_walks.specs.RulesState.{RulesState, IsBothCount}
+use Rattle.borsh_walks.proofs.Measure.{left}
 use Rattle.borsh_walks.proofs.rules.walk_rules.Given as goal
 
 abbrev pub invariant-loop-spot : goal.invariant-loop-spot
 invariant-loop-spot l = record {
-  state : RulesState (definitions_of l.fn.counted) l.root [] l.seen l.way.items l.table;
+  state : RulesState (definitions_of l.fn.counted) l.root [] l.seen (reverse l.way.items) l.table;
   root_seen : mark_of l.seen l.root ≡ None → ⊥;
   looks : IsBothCount l.counted (btree_map_len l.seen) (btree_map_len l.table) (counts_of l.fn.counted);
   same : LooksOn l.fn.counted l.counted;
 }
 
 abbrev pub decreases-loop-spot : goal.decreases-loop-spot
-decreases-loop-spot l = (btree_map_len l.counted.map.now - btree_map_len l.seen) * (2 + work mentions l.counted.map.now.entries) + rests mentions spot_shape spot_next l.way.items
+decreases-loop-spot l = left mentions l.counted.map.now (btree_map_len l.seen) (reverse l.way.items)

@@ -1,21 +1,21 @@
-use Rattle.std.proofs.Common.{◌+◌, ◌-◌, ◌*◌, ◌≡◌, ℕ, List, length}
+use Rattle.std.proofs.Common.{◌≡◌, ℕ, List, ◌∷◌, length, reverse}
 use Rattle.std.specs.BTreeMap.{btree_map_len}
 use Rattle.borsh_walks.specs.Counts.{counts_of, definitions_of, LooksOn, raised_for}
 use Rattle.borsh_walks.specs.declared.counted.Question.TheVariants.{Size}
 use Rattle.borsh_walks.specs.Container.{needs}
 use Rattle.borsh_walks.specs.Tables.{mark_of}
-use Rattle.borsh_walks.proofs.Measure.{work, rest, rests}
-use Rattle.borsh_walks.proofs.SizeWalk.{shape, next_of, State}
+use Rattle.borsh_walks.proofs.Measure.{left}
+use Rattle.borsh_walks.proofs.SizeWalk.{spots_of, State}
 use Rattle.borsh_walks.proofs.sizes.walk_sizes.Given as goal
 
 abbrev pub invariant-loop-part : goal.invariant-loop-part
 invariant-loop-part l = record {
   names : List (List ℕ);
-  state : State (definitions_of l.fn.counted) l.root (mark_of l.table) l.way.items l.frame names;
+  state : State (definitions_of l.fn.counted) l.root (mark_of l.table) (reverse l.way.items) l.frame names;
   looks : counts_of l.counted ≡ raised_for Size (length names) (counts_of l.fn.counted);
   same : LooksOn l.fn.counted l.counted;
   table_len : btree_map_len l.table ≡ length names;
 }
 
 abbrev pub decreases-loop-part : goal.decreases-loop-part
-decreases-loop-part l = (btree_map_len l.counted.map.now - btree_map_len l.table) * (2 + work needs l.counted.map.now.entries) + (rests needs shape next_of l.way.items + rest needs shape next_of l.frame)
+decreases-loop-part l = left needs l.counted.map.now (btree_map_len l.table) (spots_of (l.frame ∷ reverse l.way.items))

@@ -1,30 +1,30 @@
-use Rattle.std.proofs.Common.{◌≡◌, suc, ◌+◌, ◌-◌, ◌*◌, ◌<◌, ◌≤◌, [], ◌∷◌, ◌++◌, length, refl, sym, ◌∙◌, ap, subst, arith, Some, true, false}
+use Rattle.std.proofs.Common.{suc, ◌≤◌, [], ◌∷◌, length, reverse, refl, sym, ◌∙◌, ap, subst, arith, Some, true, false}
 use Rattle.std.specs.BTreeMap.{btree_map_len}
 use Rattle.borsh_walks.specs.Container.{first}
 use Rattle.borsh_walks.specs.Counts.{counts_of, definitions_of}
 use Rattle.borsh_walks.specs.ZeroAnswer.{asked, IsZeroCount}
 use Rattle.borsh_walks.specs.Tables.{mark_of}
-use Rattle.borsh_walks.specs.declared.zero.Spot.{Spot}
+use Rattle.borsh_walks.specs.declared.way.Spot.{Spot}
 use Rattle.borsh_walks.specs.declared.counted.Question.TheVariants.{Zero as ZeroQuestion}
-use Rattle.borsh_walks.specs.RulesState.{spot_shape, spot_next}
-use Rattle.borsh_walks.proofs.Names.{names_within, found_shape, found_none}
-use Rattle.borsh_walks.proofs.Tables.{updated_by, still, has_mark, grown, kept, no_items, more_names}
-use Rattle.borsh_walks.proofs.Measure.{work, work_at, rest, rests, smaller_add, smaller_push, smaller_pop}
+use Rattle.borsh_walks.proofs.Names.{found_shape, found_none}
+use Rattle.borsh_walks.proofs.Tables.{updated_by, still, grown, kept, no_items, few_names, few_more}
+use Rattle.borsh_walks.proofs.Measure.{rests, rests_moved, left_popped, left_pushed}
+use Rattle.borsh_walks.proofs.Spots.{last_first}
 use Rattle.borsh_walks.proofs.Counting.{raised_once_more, on_err}
-use Rattle.borsh_walks.proofs.ZeroWalk.{ZeroState, zero_start, zero_add, zero_push, zero_pop, zero_end, zero_never, zero_part_false, zero_part_missing}
-use Rattle.borsh_walks.proofs.ZeroGlue.{none_is, some_is, table_false, answer_false, spots_within}
+use Rattle.borsh_walks.proofs.ZeroWalk.{ZeroState, zero_start, zero_moved, zero_push, zero_pop, zero_end, zero_never, zero_part_false, zero_part_missing}
+use Rattle.borsh_walks.proofs.ZeroGlue.{none_is, some_is, table_false, answer_false}
 use Rattle.borsh_walks.proofs.zero.is_zero.Goals as goal
 
 pub returns-in-Some-clause-counts : goal.returns-in-Some-clause-counts
 returns-in-Some-clause-counts c = λ base h.
     let r = c.requires in
-    let few = names_within c.args.counted.now.map.now r.names r.distinct (λ x a. (r.looked x a).1) in
+    let few = few_names c.args.counted.now.map.now (λ x k. k) r.marks in
     (btree_map_len c.args.table.now, omega (arith, few, r.len), h, refl)
 
 pub returns-in_default-look-clause-counts : goal.returns-in_default-look-clause-counts
 returns-in_default-look-clause-counts c = λ base h.
     let r = c.requires in
-    let few = names_within c.args.counted.now.map.now r.names r.distinct (λ x a. (r.looked x a).1) in
+    let few = few_names c.args.counted.now.map.now (λ x k. k) r.marks in
     (btree_map_len c.args.table.now, omega (arith, few, r.len), c.in_default-look.ensures.counts ∙ h, refl)
 
 pub returns-in_err-insert-clause-counts : goal.returns-in_err-insert-clause-counts
@@ -32,8 +32,7 @@ returns-in_err-insert-clause-counts c = λ base h.
     let r = c.requires in
     let C = definitions_of c.args.counted.now in
     let e = found_shape c.args.counted.now.map c.args.counted.now.map c.args.name.now c.in-Some-look.definition.now refl c.in-Some-look.ensures.found in
-    let l = more_names C c.args.name.now _ r.distinct r.looked (sym c.in_default.ensures.value) e in
-    let few = names_within c.args.counted.now.map.now (c.args.name.now ∷ r.names) l.0 l.1 in
+    let few = few_more c.args.counted.now.map.now (λ x k. k) r.marks (sym c.in_default.ensures.value) e in
     (suc (btree_map_len c.args.table.now), omega (arith, few, r.len), raised_once_more ZeroQuestion (btree_map_len c.args.table.now) (counts_of c.args.counted.now) (counts_of c.look.new.self) base h c.in-Some-look.ensures.counts, on_err _ c.from_residual.result c.from_residual.ensures.0)
 
 pub loop-spot-init : goal.loop-spot-init
@@ -44,10 +43,10 @@ loop-spot-init c =
     let none = sym c.in_default.ensures.value in
     let u = updated_by c.args.name.now c.args.table.now c.insert.new.self false c.in_ok-insert.ensures.updates in
     let f : Spot = record { name = c.args.name; definition = c.in-Some-look.definition; next = 0 } in
-    let s = zero_start C {f = f} r.distinct r.marked r.looked r.zero_is r.not_zero_is none u e refl refl in
+    let s = zero_start C {f = f} r.marks r.zero_is r.not_zero_is none u e refl in
     record {
       names = c.args.name.now ∷ r.names;
-      state = subst (λ l. ZeroState C c.args.name.now (mark_of c.insert.new.self) l f (c.args.name.now ∷ r.names)) (sym c.new-way.ensures.items) s;
+      state = subst (λ l. ZeroState C c.args.name.now (mark_of c.insert.new.self) (reverse l) c.at-spot.result (c.args.name.now ∷ r.names)) (sym c.new-way.ensures.items) (subst (λ g. ZeroState C c.args.name.now (mark_of c.insert.new.self) [] g (c.args.name.now ∷ r.names)) (sym c.at-spot.ensures) s);
       looks = λ base h. raised_once_more ZeroQuestion (length r.names) (counts_of c.args.counted.now) (counts_of c.look.new.self) base (subst (λ k. IsZeroCount c.args.counted.now k base) r.len h) c.in-Some-look.ensures.counts;
       same = (c.in-Some-look.ensures.same.0, c.in-Some-look.ensures.same.1);
       table_len = grown c.in_ok-insert.field-0 c.in_ok-insert.ensures.len (c.in_ok-insert.ensures.old ∙ none) ∙ ap (λ k. suc k) r.len;
@@ -64,10 +63,10 @@ returns-then-never_zero-clause-table c = let i = c.loop-spot.invariant in let C 
 pub returns-then-never_zero-clause-counts : goal.returns-then-never_zero-clause-counts
 returns-then-never_zero-clause-counts c = λ base h.
     let i = c.loop-spot.invariant in
-    (length i.names, names_within c.args.counted.now.map.now i.names i.state.distinct (λ x a. (i.state.looked x a).1), i.looks base h, sym i.table_len)
+    (length i.names, few_names c.args.counted.now.map.now (λ x k. k) i.state.marks, i.looks base h, sym i.table_len)
 
 pub loop-spot-smaller-in-Some-true : goal.loop-spot-smaller-in-Some-true
-loop-spot-smaller-in-Some-true c = smaller_add asked spot_shape spot_next _ c.loop-spot.way.items c.loop-spot.spot _ c.in-Some-asked_part.part.now (sym c.in-Some-asked_part.ensures.part) refl refl
+loop-spot-smaller-in-Some-true c = rests_moved asked _ c.loop-spot.spot (reverse c.loop-spot.way.items) c.in-Some-asked_part.part.now (sym c.in-Some-asked_part.ensures.part)
 
 pub loop-spot-preserved-in-Some-true : goal.loop-spot-preserved-in-Some-true
 loop-spot-preserved-in-Some-true c =
@@ -75,7 +74,7 @@ loop-spot-preserved-in-Some-true c =
     let C = definitions_of c.args.counted.now in
     record {
       names = i.names;
-      state = zero_add C c.in-Some-asked_part.part.now i.state (sym c.in-Some-asked_part.ensures.part) (sym c.in-Some-true.ensures.value ∙ ap Some c.in-Some-true.field-0-test) refl refl refl;
+      state = zero_moved C c.in-Some-asked_part.part.now i.state (sym c.in-Some-asked_part.ensures.part) (sym c.in-Some-true.ensures.value ∙ ap Some c.in-Some-true.field-0-test);
       looks = i.looks;
       same = (i.same.0, i.same.1);
       table_len = i.table_len;
@@ -94,7 +93,7 @@ returns-in-Some-false-clause-table c = let i = c.loop-spot.invariant in let C = 
 pub returns-in-Some-false-clause-counts : goal.returns-in-Some-false-clause-counts
 returns-in-Some-false-clause-counts c = λ base h.
     let i = c.loop-spot.invariant in
-    (length i.names, names_within c.args.counted.now.map.now i.names i.state.distinct (λ x a. (i.state.looked x a).1), i.looks base h, sym i.table_len)
+    (length i.names, few_names c.args.counted.now.map.now (λ x k. k) i.state.marks, i.looks base h, sym i.table_len)
 
 pub returns-in_default-look-2-clause-answer : goal.returns-in_default-look-2-clause-answer
 returns-in_default-look-2-clause-answer c = let i = c.loop-spot.invariant in let C = definitions_of c.args.counted.now in
@@ -107,7 +106,7 @@ returns-in_default-look-2-clause-table c = let i = c.loop-spot.invariant in let 
 pub returns-in_default-look-2-clause-counts : goal.returns-in_default-look-2-clause-counts
 returns-in_default-look-2-clause-counts c = λ base h.
     let i = c.loop-spot.invariant in
-    (length i.names, names_within c.args.counted.now.map.now i.names i.state.distinct (λ x a. (i.state.looked x a).1), c.in_default-look-2.ensures.counts ∙ i.looks base h, sym i.table_len)
+    (length i.names, few_names c.args.counted.now.map.now (λ x k. k) i.state.marks, c.in_default-look-2.ensures.counts ∙ i.looks base h, sym i.table_len)
 
 pub returns-in_err-insert-in-None-get-clause-counts : goal.returns-in_err-insert-in-None-get-clause-counts
 returns-in_err-insert-in-None-get-clause-counts c = λ base h.
@@ -115,8 +114,7 @@ returns-in_err-insert-in-None-get-clause-counts c = λ base h.
     let C = definitions_of c.args.counted.now in
     let p = c.in-Some-asked_part.part.now in
     let e = found_shape c.loop-spot.counted.map c.args.counted.now.map p c.in-Some-look-2.definition.now i.same.0 c.in-Some-look-2.ensures.found in
-    let l = more_names C p _ i.state.distinct i.state.looked (sym c.in-None-get.ensures.value) e in
-    (suc (length i.names), names_within c.args.counted.now.map.now (p ∷ i.names) l.0 l.1, raised_once_more ZeroQuestion (length i.names) (counts_of c.loop-spot.counted) (counts_of c.look-in-None-get.new.self) base (i.looks base h) c.in-Some-look-2.ensures.counts, on_err _ c.from_residual-in_err-insert-in-None-get.result c.from_residual-in_err-insert-in-None-get.ensures.0)
+    (suc (length i.names), few_more c.args.counted.now.map.now (λ x k. k) i.state.marks (sym c.in-None-get.ensures.value) e, raised_once_more ZeroQuestion (length i.names) (counts_of c.loop-spot.counted) (counts_of c.look-in-None-get.new.self) base (i.looks base h) c.in-Some-look-2.ensures.counts, on_err _ c.from_residual-in_err-insert-in-None-get.result c.from_residual-in_err-insert-in-None-get.ensures.0)
 
 pub returns-in_err-push-in-None-get-clause-counts : goal.returns-in_err-push-in-None-get-clause-counts
 returns-in_err-push-in-None-get-clause-counts c = λ base h.
@@ -124,8 +122,7 @@ returns-in_err-push-in-None-get-clause-counts c = λ base h.
     let C = definitions_of c.args.counted.now in
     let p = c.in-Some-asked_part.part.now in
     let e = found_shape c.loop-spot.counted.map c.args.counted.now.map p c.in-Some-look-2.definition.now i.same.0 c.in-Some-look-2.ensures.found in
-    let l = more_names C p _ i.state.distinct i.state.looked (sym c.in-None-get.ensures.value) e in
-    (suc (length i.names), names_within c.args.counted.now.map.now (p ∷ i.names) l.0 l.1, raised_once_more ZeroQuestion (length i.names) (counts_of c.loop-spot.counted) (counts_of c.look-in-None-get.new.self) base (i.looks base h) c.in-Some-look-2.ensures.counts, on_err _ c.from_residual-in_err-push-in-None-get.result c.from_residual-in_err-push-in-None-get.ensures.0)
+    (suc (length i.names), few_more c.args.counted.now.map.now (λ x k. k) i.state.marks (sym c.in-None-get.ensures.value) e, raised_once_more ZeroQuestion (length i.names) (counts_of c.loop-spot.counted) (counts_of c.look-in-None-get.new.self) base (i.looks base h) c.in-Some-look-2.ensures.counts, on_err _ c.from_residual-in_err-push-in-None-get.result c.from_residual-in_err-push-in-None-get.ensures.0)
 
 pub loop-spot-smaller-in-None-get : goal.loop-spot-smaller-in-None-get
 loop-spot-smaller-in-None-get c =
@@ -133,14 +130,12 @@ loop-spot-smaller-in-None-get c =
     let C = definitions_of c.args.counted.now in
     let p = c.in-Some-asked_part.part.now in
     let e = found_shape c.loop-spot.counted.map c.args.counted.now.map p c.in-Some-look-2.definition.now i.same.0 c.in-Some-look-2.ensures.found in
-    let l = more_names C p _ i.state.distinct i.state.looked (sym c.in-None-get.ensures.value) e in
-    let few = names_within c.args.counted.now.map.now (p ∷ i.names) l.0 l.1 in
+    let few = few_more c.args.counted.now.map.now (λ x k. k) i.state.marks (sym c.in-None-get.ensures.value) e in
     let len = grown c.in_ok-insert-in-None-get.field-0 c.in_ok-insert-in-None-get.ensures.len (c.in_ok-insert-in-None-get.ensures.old ∙ sym c.in-None-get.ensures.value) in
     let room : suc (btree_map_len c.loop-spot.table) ≤ btree_map_len c.loop-spot.counted.map.now = omega (arith, few, i.table_len, ap (λ m. btree_map_len m.now) i.same.0) in
     let g : Spot = record { name = c.in-Some-asked_part.part; definition = c.in-Some-look-2.definition; next = 0 } in
-    let small = work_at asked p c.loop-spot.counted.map.now.entries c.in-Some-look-2.definition.now (sym c.in-Some-look-2.ensures.found) in
-    let step = smaller_push asked spot_shape spot_next (btree_map_len c.loop-spot.counted.map.now) (btree_map_len c.loop-spot.table) (work asked c.loop-spot.counted.map.now.entries) c.loop-spot.way.items c.push.new.self.items c.loop-spot.spot g (btree_map_len c.insert-in-None-get.new.self) len c.in_ok-push-in-None-get.ensures.items room small refl (spots_within C i.state) in
-    subst (λ m. (btree_map_len m.now - btree_map_len c.insert-in-None-get.new.self) * (2 + work asked m.now.entries) + (rests asked spot_shape spot_next c.push.new.self.items + rest asked spot_shape spot_next g) < (btree_map_len c.loop-spot.counted.map.now - btree_map_len c.loop-spot.table) * (2 + work asked c.loop-spot.counted.map.now.entries) + (rests asked spot_shape spot_next c.loop-spot.way.items + rest asked spot_shape spot_next c.loop-spot.spot)) (sym c.in-Some-look-2.ensures.same.0) step
+    let same = ap (λ l. rests asked l) (last_first c.loop-spot.way.items c.push.new.self.items c.loop-spot.spot c.in_ok-push-in-None-get.ensures.items) in
+    left_pushed asked c.loop-spot.counted.map.now c.look-in-None-get.new.self.map.now p (btree_map_len c.loop-spot.table) (btree_map_len c.insert-in-None-get.new.self) g (c.loop-spot.spot ∷ reverse c.loop-spot.way.items) (reverse c.push.new.self.items) (c.at-spot-in-None-get.result ∷ reverse c.push.new.self.items) (ap (λ m. m.now) c.in-Some-look-2.ensures.same.0) len room (sym c.in-Some-look-2.ensures.found) refl (omega (arith, same)) (ap (λ f. f ∷ reverse c.push.new.self.items) c.at-spot-in-None-get.ensures)
 
 pub loop-spot-preserved-in-None-get : goal.loop-spot-preserved-in-None-get
 loop-spot-preserved-in-None-get c =
@@ -152,10 +147,11 @@ loop-spot-preserved-in-None-get c =
     let u = updated_by p c.loop-spot.table c.insert-in-None-get.new.self false c.in_ok-insert-in-None-get.ensures.updates in
     let len = grown c.in_ok-insert-in-None-get.field-0 c.in_ok-insert-in-None-get.ensures.len (c.in_ok-insert-in-None-get.ensures.old ∙ none) in
     let g : Spot = record { name = c.in-Some-asked_part.part; definition = c.in-Some-look-2.definition; next = 0 } in
-    let s = zero_push C {g = g} p i.state (sym c.in-Some-asked_part.ensures.part) none e u refl refl in
+    let back = last_first c.loop-spot.way.items c.push.new.self.items c.loop-spot.spot c.in_ok-push-in-None-get.ensures.items in
+    let s = zero_push C {g = g} i.state (sym c.in-Some-asked_part.ensures.part) none e u refl in
     record {
       names = p ∷ i.names;
-      state = subst (λ l. ZeroState C c.args.name.now (mark_of c.insert-in-None-get.new.self) l g (p ∷ i.names)) (sym c.in_ok-push-in-None-get.ensures.items) s;
+      state = subst (λ l. ZeroState C c.args.name.now (mark_of c.insert-in-None-get.new.self) l c.at-spot-in-None-get.result (p ∷ i.names)) (sym back) (subst (λ f. ZeroState C c.args.name.now (mark_of c.insert-in-None-get.new.self) (c.loop-spot.spot ∷ reverse c.loop-spot.way.items) f (p ∷ i.names)) (sym c.at-spot-in-None-get.ensures) s);
       looks = λ base h. raised_once_more ZeroQuestion (length i.names) (counts_of c.loop-spot.counted) (counts_of c.look-in-None-get.new.self) base (i.looks base h) c.in-Some-look-2.ensures.counts;
       same = (c.in-Some-look-2.ensures.same.0 ∙ i.same.0, c.in-Some-look-2.ensures.same.1 ∙ i.same.1);
       table_len = len ∙ ap (λ k. suc k) i.table_len;
@@ -166,24 +162,23 @@ loop-spot-preserved-in-None-get c =
 pub returns-in_err-insert-in-None-clause-counts : goal.returns-in_err-insert-in-None-clause-counts
 returns-in_err-insert-in-None-clause-counts c = λ base h.
     let i = c.loop-spot.invariant in
-    (length i.names, names_within c.args.counted.now.map.now i.names i.state.distinct (λ x a. (i.state.looked x a).1), i.looks base h, on_err _ c.from_residual-in_err-insert-in-None.result c.from_residual-in_err-insert-in-None.ensures.0)
+    (length i.names, few_names c.args.counted.now.map.now (λ x k. k) i.state.marks, i.looks base h, on_err _ c.from_residual-in_err-insert-in-None.result c.from_residual-in_err-insert-in-None.ensures.0)
 
 pub loop-spot-smaller : goal.loop-spot-smaller
 loop-spot-smaller c =
     let i = c.loop-spot.invariant in
     let C = definitions_of c.args.counted.now in
-    let len = kept c.in_ok-insert-in-None.field-0 (has_mark (mark_of c.loop-spot.table c.loop-spot.spot.name.now) (i.state.looked c.loop-spot.spot.name.now (i.state.inside c.loop-spot.spot.name.now first)).0).0 c.in_ok-insert-in-None.ensures.len
-    (c.in_ok-insert-in-None.ensures.old ∙ (has_mark (mark_of c.loop-spot.table c.loop-spot.spot.name.now) (i.state.looked c.loop-spot.spot.name.now (i.state.inside c.loop-spot.spot.name.now first)).0).1) in
-    smaller_pop asked spot_shape spot_next (btree_map_len c.loop-spot.counted.map.now) (btree_map_len c.loop-spot.table) (work asked c.loop-spot.counted.map.now.entries) c.pop.new.self.items c.loop-spot.way.items c.loop-spot.spot c.in-Some-pop.above (btree_map_len c.insert-in-None.new.self) len c.in-Some-pop.ensures.items (spots_within C i.state)
+    let len = kept c.in_ok-insert-in-None.field-0 c.in_ok-insert-in-None.ensures.len (λ h. (i.state.marks.looked c.loop-spot.spot.name.now (i.state.inside c.loop-spot.spot.name.now first)).0 (sym c.in_ok-insert-in-None.ensures.old ∙ h)) in
+    let items = last_first c.pop.new.self.items c.loop-spot.way.items c.in-Some-pop.above c.in-Some-pop.ensures.items in
+    left_popped asked c.loop-spot.counted.map.now (btree_map_len c.loop-spot.table) (btree_map_len c.insert-in-None.new.self) c.loop-spot.spot (c.in-Some-pop.above ∷ reverse c.pop.new.self.items) (c.loop-spot.spot ∷ reverse c.loop-spot.way.items) len (ap (λ l. c.loop-spot.spot ∷ l) items) i.state.ok.low
 
 pub loop-spot-preserved : goal.loop-spot-preserved
 loop-spot-preserved c =
     let i = c.loop-spot.invariant in
     let C = definitions_of c.args.counted.now in
-    let len = kept c.in_ok-insert-in-None.field-0 (has_mark (mark_of c.loop-spot.table c.loop-spot.spot.name.now) (i.state.looked c.loop-spot.spot.name.now (i.state.inside c.loop-spot.spot.name.now first)).0).0 c.in_ok-insert-in-None.ensures.len
-    (c.in_ok-insert-in-None.ensures.old ∙ (has_mark (mark_of c.loop-spot.table c.loop-spot.spot.name.now) (i.state.looked c.loop-spot.spot.name.now (i.state.inside c.loop-spot.spot.name.now first)).0).1) in
+    let len = kept c.in_ok-insert-in-None.field-0 c.in_ok-insert-in-None.ensures.len (λ h. (i.state.marks.looked c.loop-spot.spot.name.now (i.state.inside c.loop-spot.spot.name.now first)).0 (sym c.in_ok-insert-in-None.ensures.old ∙ h)) in
     let u = updated_by c.loop-spot.spot.name.now c.loop-spot.table c.insert-in-None.new.self true c.in_ok-insert-in-None.ensures.updates in
-    let items : c.loop-spot.way.items ≡ c.pop.new.self.items ++ c.in-Some-pop.above ∷ [] = c.in-Some-pop.ensures.items in
+    let items = last_first c.pop.new.self.items c.loop-spot.way.items c.in-Some-pop.above c.in-Some-pop.ensures.items in
     let s = subst (λ l. ZeroState C c.args.name.now (mark_of c.loop-spot.table) l c.loop-spot.spot i.names) items i.state in
     record {
       names = i.names;
@@ -201,7 +196,7 @@ returns-in-None-pop-clause-answer c =
     let C = definitions_of c.args.counted.now in
     let u = updated_by c.loop-spot.spot.name.now c.loop-spot.table c.insert-in-None.new.self true c.in_ok-insert-in-None.ensures.updates in
     let none = no_items c.loop-spot.way.items (omega (arith, c.in-None-pop.ensures.cases.0, c.loop-spot.way.ok.0)) in
-    let s = subst (λ l. ZeroState C c.args.name.now (mark_of c.loop-spot.table) l c.loop-spot.spot i.names) none i.state in
+    let s = subst (λ l. ZeroState C c.args.name.now (mark_of c.loop-spot.table) (reverse l) c.loop-spot.spot i.names) none i.state in
     let r = zero_end C s (some_is _ c.if-never_zero.ensures) (sym c.in-None.ensures.part) u in
     ((λ e. r.0), λ z. refl)
 
@@ -209,13 +204,12 @@ pub returns-in-None-pop-clause-table : goal.returns-in-None-pop-clause-table
 returns-in-None-pop-clause-table c =
     let i = c.loop-spot.invariant in
     let C = definitions_of c.args.counted.now in
-    let len = kept c.in_ok-insert-in-None.field-0 (has_mark (mark_of c.loop-spot.table c.loop-spot.spot.name.now) (i.state.looked c.loop-spot.spot.name.now (i.state.inside c.loop-spot.spot.name.now first)).0).0 c.in_ok-insert-in-None.ensures.len
-    (c.in_ok-insert-in-None.ensures.old ∙ (has_mark (mark_of c.loop-spot.table c.loop-spot.spot.name.now) (i.state.looked c.loop-spot.spot.name.now (i.state.inside c.loop-spot.spot.name.now first)).0).1) in
+    let len = kept c.in_ok-insert-in-None.field-0 c.in_ok-insert-in-None.ensures.len (λ h. (i.state.marks.looked c.loop-spot.spot.name.now (i.state.inside c.loop-spot.spot.name.now first)).0 (sym c.in_ok-insert-in-None.ensures.old ∙ h)) in
     let u = updated_by c.loop-spot.spot.name.now c.loop-spot.table c.insert-in-None.new.self true c.in_ok-insert-in-None.ensures.updates in
     let none = no_items c.loop-spot.way.items (omega (arith, c.in-None-pop.ensures.cases.0, c.loop-spot.way.ok.0)) in
-    let s = subst (λ l. ZeroState C c.args.name.now (mark_of c.loop-spot.table) l c.loop-spot.spot i.names) none i.state in
+    let s = subst (λ l. ZeroState C c.args.name.now (mark_of c.loop-spot.table) (reverse l) c.loop-spot.spot i.names) none i.state in
     let r = zero_end C s (some_is _ c.if-never_zero.ensures) (sym c.in-None.ensures.part) u in
-    record { names = i.names; distinct = i.state.distinct; marked = r.3; looked = r.4; len = len ∙ i.table_len; zero_is = r.1; not_zero_is = r.2 }
+    record { names = i.names; marks = r.3; len = len ∙ i.table_len; zero_is = r.1; not_zero_is = r.2 }
 
 pub returns-in-None-pop-clause-marked : goal.returns-in-None-pop-clause-marked
 returns-in-None-pop-clause-marked c =
@@ -227,6 +221,5 @@ returns-in-None-pop-clause-marked c =
 pub returns-in-None-pop-clause-counts : goal.returns-in-None-pop-clause-counts
 returns-in-None-pop-clause-counts c = λ base h.
     let i = c.loop-spot.invariant in
-    let len = kept c.in_ok-insert-in-None.field-0 (has_mark (mark_of c.loop-spot.table c.loop-spot.spot.name.now) (i.state.looked c.loop-spot.spot.name.now (i.state.inside c.loop-spot.spot.name.now first)).0).0 c.in_ok-insert-in-None.ensures.len
-    (c.in_ok-insert-in-None.ensures.old ∙ (has_mark (mark_of c.loop-spot.table c.loop-spot.spot.name.now) (i.state.looked c.loop-spot.spot.name.now (i.state.inside c.loop-spot.spot.name.now first)).0).1) in
-    (length i.names, names_within c.args.counted.now.map.now i.names i.state.distinct (λ x a. (i.state.looked x a).1), i.looks base h, sym (len ∙ i.table_len))
+    let len = kept c.in_ok-insert-in-None.field-0 c.in_ok-insert-in-None.ensures.len (λ h. (i.state.marks.looked c.loop-spot.spot.name.now (i.state.inside c.loop-spot.spot.name.now first)).0 (sym c.in_ok-insert-in-None.ensures.old ∙ h)) in
+    (length i.names, few_names c.args.counted.now.map.now (λ x k. k) i.state.marks, i.looks base h, sym (len ∙ i.table_len))

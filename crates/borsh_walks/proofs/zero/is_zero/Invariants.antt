@@ -1,18 +1,17 @@
-use Rattle.std.proofs.Common.{◌+◌, ◌-◌, ◌*◌, ◌≡◌, ℕ, List, length, None}
+use Rattle.std.proofs.Common.{◌≡◌, ℕ, List, ◌∷◌, length, reverse, None}
 use Rattle.std.specs.BTreeMap.{btree_map_len}
 use Rattle.borsh_walks.specs.Counts.{definitions_of, LooksOn}
 use Rattle.borsh_walks.specs.declared.counted.Expansions.{Expansions}
 use Rattle.borsh_walks.specs.ZeroAnswer.{asked, IsZeroCount}
 use Rattle.borsh_walks.specs.Tables.{mark_of}
-use Rattle.borsh_walks.specs.RulesState.{spot_shape, spot_next}
-use Rattle.borsh_walks.proofs.Measure.{work, rest, rests}
+use Rattle.borsh_walks.proofs.Measure.{left}
 use Rattle.borsh_walks.proofs.ZeroWalk.{ZeroState}
 use Rattle.borsh_walks.proofs.zero.is_zero.Given as goal
 
 abbrev pub invariant-loop-spot : goal.invariant-loop-spot
 invariant-loop-spot l = record {
   names : List (List ℕ);
-  state : ZeroState (definitions_of l.fn.counted) l.name (mark_of l.table) l.way.items l.spot names;
+  state : ZeroState (definitions_of l.fn.counted) l.name (mark_of l.table) (reverse l.way.items) l.spot names;
   looks : (base : Expansions) → IsZeroCount l.fn.counted (btree_map_len l.fn.table) base → IsZeroCount l.counted (length names) base;
   same : LooksOn l.fn.counted l.counted;
   table_len : btree_map_len l.table ≡ length names;
@@ -21,4 +20,4 @@ invariant-loop-spot l = record {
 }
 
 abbrev pub decreases-loop-spot : goal.decreases-loop-spot
-decreases-loop-spot l = (btree_map_len l.counted.map.now - btree_map_len l.table) * (2 + work asked l.counted.map.now.entries) + (rests asked spot_shape spot_next l.way.items + rest asked spot_shape spot_next l.spot)
+decreases-loop-spot l = left asked l.counted.map.now (btree_map_len l.table) (l.spot ∷ reverse l.way.items)

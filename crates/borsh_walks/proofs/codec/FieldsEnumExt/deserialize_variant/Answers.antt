@@ -1,7 +1,7 @@
 use Rattle.std.proofs.Common.{arith}
 use Rattle.std.proofs.lemmas.Result.{err_from_is_err_and}
 use Rattle.borsh_types.proofs.ReadParts.{behind_along, reads_here, reads_there, denied_behind_along, denied_here, denied_there}
-use Rattle.borsh_walks.specs.Codecs.{fields_parts, list, name, named, from_unnamed, from_empty, empty_avoids, unnamed_avoids}
+use Rattle.borsh_walks.specs.Codecs.{fields_parts, list, named, from_unnamed, from_empty, empty_avoids, unnamed_avoids}
 use Rattle.borsh_walks.proofs.codec.FieldsEnumExt.deserialize_variant.Goals as goal
 
 pub returns-in_err-fields-in-0-clause-err : goal.returns-in_err-fields-in-0-clause-err
