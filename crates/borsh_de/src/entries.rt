@@ -1,5 +1,6 @@
 // Entries of maps and keys of sets that are read: the whole list first, and then the order of the keys.
 ghost use Rattle.borsh_io.specs.Errors.{error_kind};
+ghost use Rattle.borsh_types.specs.Empty.{RefusesEmpty};
 ghost use Rattle.borsh_types.specs.Maps.{IsOutOfOrder, alone, bare_entries, entries};
 ghost use Rattle.borsh_types.specs.Reading.{Denied, Reads};
 ghost use Rattle.borsh_types.specs.Shapes.{counted, pair, refusing};
@@ -68,6 +69,7 @@ pub(crate) fn read_pairs<K: BorshDeserialize, V: BorshDeserialize, R: Read>(
 ) -> Result<Vec<(K, V)>>
     ensures ok { IfOk result (λ v. Reads (List (K × V)) (refusing K.codec.is_empty (counted (pair K.codec V.codec))) (R.stream reader.old) (R.stream reader.new) v.items) }
     ensures err { IfErr result (λ e. Denied (List (K × V)) (refusing K.codec.is_empty (counted (pair K.codec V.codec))) (R.stream reader.old) (R.stream reader.new) (error_kind e)) }
+    ensures untouched { RefusesEmpty K.codec.is_empty result reader.old reader.new }
 {
     if K::encodes_empty() {
         return Err(Error::new(ErrorKind::InvalidData, ERROR_ZST_FORBIDDEN));
@@ -83,6 +85,7 @@ pub(crate) fn read_entries<K: BorshKey + BorshDeserialize + Ord, V: BorshDeseria
 ) -> Result<Vec<(K, V)>>
     ensures ok { IfOk result (λ v. Reads (List (K × V)) (refusing K.codec.is_empty (entries K.cmp (pair K.codec V.codec))) (R.stream reader.old) (R.stream reader.new) v.items) }
     ensures err { IfErr result (λ e. Denied (List (K × V)) (refusing K.codec.is_empty (entries K.cmp (pair K.codec V.codec))) (R.stream reader.old) (R.stream reader.new) (error_kind e)) }
+    ensures untouched { RefusesEmpty K.codec.is_empty result reader.old reader.new }
 {
     let read = read_pairs(alloc, reader)?;
     check_entries(reader.strict_order(), &read)?;
@@ -98,6 +101,7 @@ pub(crate) fn read_keys<K: BorshKey + BorshDeserialize + Ord, R: Read>(
 ) -> Result<Vec<K>>
     ensures ok { IfOk result (λ v. Reads (List (K × ⊤)) (refusing K.codec.is_empty (entries K.cmp (alone K.codec))) (R.stream reader.old) (R.stream reader.new) (bare_entries v.items)) }
     ensures err { IfErr result (λ e. Denied (List (K × ⊤)) (refusing K.codec.is_empty (entries K.cmp (alone K.codec))) (R.stream reader.old) (R.stream reader.new) (error_kind e)) }
+    ensures untouched { RefusesEmpty K.codec.is_empty result reader.old reader.new }
 {
     let read = read_list(alloc, reader)?;
     check_keys(reader.strict_order(), &read)?;

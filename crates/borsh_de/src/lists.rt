@@ -1,8 +1,12 @@
 // Lists: a count of four bytes and the elements in order.
 ghost use Rattle.std.specs.Prelude.{◌≡◌, ◌+◌, ◌≤◌, List, Vec, length, IfOk, IfErr};
+ghost use Rattle.std.specs.Box.{boxed_slice_items};
+ghost use Rattle.std.specs.Rc.{rc_slice_items};
+ghost use Rattle.std.specs.Cow.{cow_slice_items};
 ghost use Rattle.borsh_io.specs.Errors.{error_kind};
 ghost use Rattle.borsh_types.specs.Shapes.{along, listed, counted, elements};
 ghost use Rattle.borsh_types.specs.Reading.{Took, Reads, Denied};
+ghost use Rattle.borsh_types.specs.Empty.{RefusesEmpty};
 
 use super::deserialize::BorshDeserialize;
 use super::hint::cautious;
@@ -60,6 +64,7 @@ pub(crate) fn read_list<T: BorshDeserialize, R: Read>(
     ensures ok { IfOk result (λ v. Reads (List T) (elements T.codec) (R.stream reader.old) (R.stream reader.new) v.items) }
     ensures long { IfOk result (λ v. Took (λ x. 4 + length v.items ≤ length x) (R.stream reader.old) (R.stream reader.new)) }
     ensures err { IfErr result (λ e. Denied (List T) (elements T.codec) (R.stream reader.old) (R.stream reader.new) (error_kind e)) }
+    ensures untouched { RefusesEmpty T.codec.is_empty result reader.old reader.new }
 {
     if T::encodes_empty() {
         return Err(Error::new(ErrorKind::InvalidData, ERROR_ZST_FORBIDDEN));
@@ -73,6 +78,7 @@ impl<T: BorshDeserialize> BorshDeserialize for Vec<T> {
         ensures ok { IfOk result (λ v. Reads (Vec T Global) (along (λ v. v.items) (elements T.codec)) (R.stream reader.old) (R.stream reader.new) v) }
         ensures long { IfOk result (λ v. Took (λ x. 4 + length v.items ≤ length x) (R.stream reader.old) (R.stream reader.new)) }
         ensures err { IfErr result (λ e. Denied (Vec T Global) (along (λ v. v.items) (elements T.codec)) (R.stream reader.old) (R.stream reader.new) (error_kind e)) }
+        ensures untouched { RefusesEmpty T.codec.is_empty result reader.old reader.new }
     {
         read_list(alloc, reader)
     }
@@ -84,6 +90,7 @@ impl<T: BorshDeserialize> BorshDeserialize for VecDeque<T> {
         ensures ok { IfOk result (λ v. Reads (VecDeque T Global) (along (λ v. v.items) (elements T.codec)) (R.stream reader.old) (R.stream reader.new) v) }
         ensures long { IfOk result (λ v. Took (λ x. 4 + length v.items ≤ length x) (R.stream reader.old) (R.stream reader.new)) }
         ensures err { IfErr result (λ e. Denied (VecDeque T Global) (along (λ v. v.items) (elements T.codec)) (R.stream reader.old) (R.stream reader.new) (error_kind e)) }
+        ensures untouched { RefusesEmpty T.codec.is_empty result reader.old reader.new }
     {
         Ok(VecDeque::from_vec(read_list(alloc, reader)?))
     }
@@ -95,6 +102,7 @@ impl<T: BorshDeserialize> BorshDeserialize for LinkedList<T> {
         ensures ok { IfOk result (λ v. Reads (LinkedList T Global) (elements T.codec) (R.stream reader.old) (R.stream reader.new) v) }
         ensures long { IfOk result (λ v. Took (λ x. 4 + length v ≤ length x) (R.stream reader.old) (R.stream reader.new)) }
         ensures err { IfErr result (λ e. Denied (LinkedList T Global) (elements T.codec) (R.stream reader.old) (R.stream reader.new) (error_kind e)) }
+        ensures untouched { RefusesEmpty T.codec.is_empty result reader.old reader.new }
     {
         let mut list = LinkedList::new(alloc);
         for item in read_list(alloc, reader)? {
@@ -106,21 +114,33 @@ impl<T: BorshDeserialize> BorshDeserialize for LinkedList<T> {
 
 impl<T: BorshDeserialize> BorshDeserialize for BoxedSlice<T> {
     #[inline]
-    fn deserialize_reader<R: Read>(alloc: Global, reader: &mut R) -> Result<BoxedSlice<T>> {
+    fn deserialize_reader<R: Read>(alloc: Global, reader: &mut R) -> Result<BoxedSlice<T>>
+        ensures ok { IfOk result (λ v. Reads (BoxedSlice T Global) (along boxed_slice_items (elements T.codec)) (R.stream reader.old) (R.stream reader.new) v) }
+        ensures err { IfErr result (λ e. Denied (BoxedSlice T Global) (along boxed_slice_items (elements T.codec)) (R.stream reader.old) (R.stream reader.new) (error_kind e)) }
+        ensures untouched { RefusesEmpty T.codec.is_empty result reader.old reader.new }
+    {
         Ok(read_list(alloc, reader)?.into_boxed_slice())
     }
 }
 
 impl<T: BorshDeserialize> BorshDeserialize for RcSlice<T> {
     #[inline]
-    fn deserialize_reader<R: Read>(alloc: Global, reader: &mut R) -> Result<RcSlice<T>> {
+    fn deserialize_reader<R: Read>(alloc: Global, reader: &mut R) -> Result<RcSlice<T>>
+        ensures ok { IfOk result (λ v. Reads (RcSlice T Global) (along rc_slice_items (elements T.codec)) (R.stream reader.old) (R.stream reader.new) v) }
+        ensures err { IfErr result (λ e. Denied (RcSlice T Global) (along rc_slice_items (elements T.codec)) (R.stream reader.old) (R.stream reader.new) (error_kind e)) }
+        ensures untouched { RefusesEmpty T.codec.is_empty result reader.old reader.new }
+    {
         Ok(RcSlice::from_vec(read_list(alloc, reader)?)?)
     }
 }
 
 impl<T: BorshDeserialize> BorshDeserialize for CowSlice<'_, T> {
     #[inline]
-    fn deserialize_reader<R: Read>(alloc: Global, reader: &mut R) -> Result<Self> {
+    fn deserialize_reader<R: Read>(alloc: Global, reader: &mut R) -> Result<Self>
+        ensures ok { IfOk result (λ v. Reads (CowSlice T Global) (along cow_slice_items (elements T.codec)) (R.stream reader.old) (R.stream reader.new) v) }
+        ensures err { IfErr result (λ e. Denied (CowSlice T Global) (along cow_slice_items (elements T.codec)) (R.stream reader.old) (R.stream reader.new) (error_kind e)) }
+        ensures untouched { RefusesEmpty T.codec.is_empty result reader.old reader.new }
+    {
         Ok(CowSlice::Owned(read_list(alloc, reader)?))
     }
 }

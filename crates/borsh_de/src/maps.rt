@@ -1,12 +1,16 @@
 // Maps and sets: the list of entries is read, and the map is made of it. Of entries with one key the last
 // gives the value.
-ghost use Rattle.borsh_types.specs.Maps.{LastValues, bare_entries, gathered};
+ghost use Rattle.borsh_io.specs.Errors.{error_kind};
+ghost use Rattle.borsh_types.specs.Empty.{RefusesEmpty};
+ghost use Rattle.borsh_types.specs.Maps.{LastValues, gathered, inserted_map, inserted_set, ordered_map, ordered_set, sorted_map, sorted_set};
+ghost use Rattle.borsh_types.specs.Reading.{Denied, Reads};
+ghost use Rattle.borsh_types.specs.Shapes.{along};
 ghost use Rattle.std.specs.BTreeSet.{IsFromIterResult as IsTreeSetOf};
 ghost use Rattle.std.specs.HashMap.{IsFromIterResult as IsHashMapOf};
 ghost use Rattle.std.specs.HashSet.{IsFromIterResult as IsHashSetOf};
 ghost use Rattle.std.specs.List.Sorted.{IsStrictlySortedBy};
 ghost use Rattle.std.specs.Map.{keys_of};
-ghost use Rattle.std.specs.Prelude.{◌≡◌, [], IfOk};
+ghost use Rattle.std.specs.Prelude.{◌≡◌, [], IfErr, IfOk};
 ghost use Rattle.indexmap.specs.IndexSet.{insert_all};
 
 use super::deserialize::BorshDeserialize;
@@ -87,7 +91,11 @@ fn index_set<K: Eq + Hash + Drop, S: BuildHasher + Default + Drop>(
 impl<K: BorshKey + BorshDeserialize + Ord, V: BorshDeserialize> BorshDeserialize
     for BTreeMap<K, V> {
     #[inline]
-    fn deserialize_reader<R: Read>(alloc: Global, reader: &mut R) -> Result<BTreeMap<K, V>> {
+    fn deserialize_reader<R: Read>(alloc: Global, reader: &mut R) -> Result<BTreeMap<K, V>>
+        ensures ok { IfOk result (λ v. Reads (BTreeMap K V Global) (along (λ m. m.entries) (ordered_map K.cmp K.codec V.codec)) (R.stream reader.old) (R.stream reader.new) v) }
+        ensures err { IfErr result (λ e. Denied (BTreeMap K V Global) (along (λ m. m.entries) (ordered_map K.cmp K.codec V.codec)) (R.stream reader.old) (R.stream reader.new) (error_kind e)) }
+        ensures untouched { RefusesEmpty K.codec.is_empty result reader.old reader.new }
+    {
         let read = read_entries(alloc, reader)?;
         Ok(tree_map(alloc, read)?)
     }
@@ -95,7 +103,11 @@ impl<K: BorshKey + BorshDeserialize + Ord, V: BorshDeserialize> BorshDeserialize
 
 impl<K: BorshKey + BorshDeserialize + Ord> BorshDeserialize for BTreeSet<K> {
     #[inline]
-    fn deserialize_reader<R: Read>(alloc: Global, reader: &mut R) -> Result<BTreeSet<K>> {
+    fn deserialize_reader<R: Read>(alloc: Global, reader: &mut R) -> Result<BTreeSet<K>>
+        ensures ok { IfOk result (λ v. Reads (BTreeSet K Global) (along (λ s. s.keys) (ordered_set K.cmp K.codec)) (R.stream reader.old) (R.stream reader.new) v) }
+        ensures err { IfErr result (λ e. Denied (BTreeSet K Global) (along (λ s. s.keys) (ordered_set K.cmp K.codec)) (R.stream reader.old) (R.stream reader.new) (error_kind e)) }
+        ensures untouched { RefusesEmpty K.codec.is_empty result reader.old reader.new }
+    {
         let read = read_keys(alloc, reader)?;
         Ok(tree_set(alloc, read)?)
     }
@@ -107,7 +119,11 @@ impl<
     S: BuildHasher + Default + Drop,
 > BorshDeserialize for HashMap<K, V, S> {
     #[inline]
-    fn deserialize_reader<R: Read>(alloc: Global, reader: &mut R) -> Result<HashMap<K, V, S>> {
+    fn deserialize_reader<R: Read>(alloc: Global, reader: &mut R) -> Result<HashMap<K, V, S>>
+        ensures ok { IfOk result (λ v. Reads (HashMap K V S Global S.Hasher) (along (λ m. m.entries) (sorted_map K.cmp K.codec V.codec)) (R.stream reader.old) (R.stream reader.new) v) }
+        ensures err { IfErr result (λ e. Denied (HashMap K V S Global S.Hasher) (along (λ m. m.entries) (sorted_map K.cmp K.codec V.codec)) (R.stream reader.old) (R.stream reader.new) (error_kind e)) }
+        ensures untouched { RefusesEmpty K.codec.is_empty result reader.old reader.new }
+    {
         let read = read_entries(alloc, reader)?;
         Ok(hash_map(alloc, read)?)
     }
@@ -116,7 +132,11 @@ impl<
 impl<K: BorshKey + BorshDeserialize + Ord + Hash, S: BuildHasher + Default + Drop> BorshDeserialize
     for HashSet<K, S> {
     #[inline]
-    fn deserialize_reader<R: Read>(alloc: Global, reader: &mut R) -> Result<HashSet<K, S>> {
+    fn deserialize_reader<R: Read>(alloc: Global, reader: &mut R) -> Result<HashSet<K, S>>
+        ensures ok { IfOk result (λ v. Reads (HashSet K S Global S.Hasher) (along (λ s. s.keys) (sorted_set K.cmp K.codec)) (R.stream reader.old) (R.stream reader.new) v) }
+        ensures err { IfErr result (λ e. Denied (HashSet K S Global S.Hasher) (along (λ s. s.keys) (sorted_set K.cmp K.codec)) (R.stream reader.old) (R.stream reader.new) (error_kind e)) }
+        ensures untouched { RefusesEmpty K.codec.is_empty result reader.old reader.new }
+    {
         let read = read_keys(alloc, reader)?;
         Ok(hash_set(alloc, read)?)
     }
@@ -128,7 +148,11 @@ impl<
     S: BuildHasher + Default + Drop,
 > BorshDeserialize for IndexMap<K, V, S> {
     #[inline]
-    fn deserialize_reader<R: Read>(alloc: Global, reader: &mut R) -> Result<IndexMap<K, V, S>> {
+    fn deserialize_reader<R: Read>(alloc: Global, reader: &mut R) -> Result<IndexMap<K, V, S>>
+        ensures ok { IfOk result (λ v. Reads (IndexMap K V S Global S.Hasher) (along (λ m. m.entries) (inserted_map K.eq K.codec V.codec)) (R.stream reader.old) (R.stream reader.new) v) }
+        ensures err { IfErr result (λ e. Denied (IndexMap K V S Global S.Hasher) (along (λ m. m.entries) (inserted_map K.eq K.codec V.codec)) (R.stream reader.old) (R.stream reader.new) (error_kind e)) }
+        ensures untouched { RefusesEmpty K.codec.is_empty result reader.old reader.new }
+    {
         let read = read_pairs(alloc, reader)?;
         Ok(index_map(alloc, read)?)
     }
@@ -137,7 +161,11 @@ impl<
 impl<K: BorshKey + BorshDeserialize + Hash, S: BuildHasher + Default + Drop> BorshDeserialize
     for IndexSet<K, S> {
     #[inline]
-    fn deserialize_reader<R: Read>(alloc: Global, reader: &mut R) -> Result<IndexSet<K, S>> {
+    fn deserialize_reader<R: Read>(alloc: Global, reader: &mut R) -> Result<IndexSet<K, S>>
+        ensures ok { IfOk result (λ v. Reads (IndexSet K S Global S.Hasher) (along (λ s. s.keys) (inserted_set K.eq K.codec)) (R.stream reader.old) (R.stream reader.new) v) }
+        ensures err { IfErr result (λ e. Denied (IndexSet K S Global S.Hasher) (along (λ s. s.keys) (inserted_set K.eq K.codec)) (R.stream reader.old) (R.stream reader.new) (error_kind e)) }
+        ensures untouched { RefusesEmpty K.codec.is_empty result reader.old reader.new }
+    {
         let read = read_list(alloc, reader)?;
         Ok(index_set(alloc, read)?)
     }

@@ -1,13 +1,14 @@
 // Hashed maps and sets: references to the entries are collected, sorted by key and written, so that the
 // bytes depend on the entries alone.
 ghost use Rattle.borsh_io.specs.Errors.{error_kind};
-ghost use Rattle.borsh_types.specs.Maps.{bare_entries, by_key};
+ghost use Rattle.borsh_types.specs.Empty.{RefusesEmpty};
+ghost use Rattle.borsh_types.specs.Maps.{bare_entries, by_key, sorted_map, sorted_set};
 ghost use Rattle.borsh_types.specs.Shapes.{all_joined, counted, pair};
 ghost use Rattle.borsh_types.specs.Writing.{WriteDenied, WritesAll};
 ghost use Rattle.std.specs.HashMap.{IsUnique};
 ghost use Rattle.std.specs.List.{IsDistinct};
 ghost use Rattle.std.specs.Map.Iter.{deref_pair};
-ghost use Rattle.std.specs.Prelude.{◌≡◌, ◌||◌, IfErr, IfOk, OnOk, map};
+ghost use Rattle.std.specs.Prelude.{◌≡◌, ◌||◌, IfErr, IfOk, OnOk, map, true};
 
 use super::lists::{write_count, write_counted};
 use super::parts::write_two;
@@ -103,7 +104,11 @@ fn write_sorted<K: BorshSerialize, V: BorshSerialize, W: Write>(
 impl<K: BorshKey + BorshSerialize + Ord + Hash, V: BorshSerialize, S: BuildHasher> BorshSerialize
     for HashMap<K, V, S> {
     #[inline]
-    fn serialize<W: Write>(&self, alloc: Global, writer: &mut W) -> Result<()> {
+    fn serialize<W: Write>(&self, alloc: Global, writer: &mut W) -> Result<()>
+        ensures ok { OnOk result (WritesAll W.writing writer.old writer.new ((sorted_map K.cmp K.codec V.codec).encoding self.now.entries)) }
+        ensures err { IfErr result (λ e. WriteDenied true W.writing writer.old writer.new ((sorted_map K.cmp K.codec V.codec).encoding self.now.entries) (error_kind e)) }
+        ensures untouched { RefusesEmpty K.codec.is_empty result writer.old writer.new }
+    {
         if K::encodes_empty() {
             return Err(Error::new(ErrorKind::InvalidData, ERROR_ZST_FORBIDDEN));
         }
@@ -114,7 +119,11 @@ impl<K: BorshKey + BorshSerialize + Ord + Hash, V: BorshSerialize, S: BuildHashe
 
 impl<K: BorshKey + BorshSerialize + Ord + Hash, S: BuildHasher> BorshSerialize for HashSet<K, S> {
     #[inline]
-    fn serialize<W: Write>(&self, alloc: Global, writer: &mut W) -> Result<()> {
+    fn serialize<W: Write>(&self, alloc: Global, writer: &mut W) -> Result<()>
+        ensures ok { OnOk result (WritesAll W.writing writer.old writer.new ((sorted_set K.cmp K.codec).encoding self.now.keys)) }
+        ensures err { IfErr result (λ e. WriteDenied true W.writing writer.old writer.new ((sorted_set K.cmp K.codec).encoding self.now.keys) (error_kind e)) }
+        ensures untouched { RefusesEmpty K.codec.is_empty result writer.old writer.new }
+    {
         if K::encodes_empty() {
             return Err(Error::new(ErrorKind::InvalidData, ERROR_ZST_FORBIDDEN));
         }

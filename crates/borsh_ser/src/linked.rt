@@ -1,8 +1,9 @@
 // Lists whose elements don't lie in one place: a count of four bytes and the elements in order.
 ghost use Rattle.std.specs.Prelude.{◌≡◌, OnOk, IfErr};
 ghost use Rattle.borsh_io.specs.Errors.{error_kind};
-ghost use Rattle.borsh_types.specs.Shapes.{all_joined, counted};
+ghost use Rattle.borsh_types.specs.Shapes.{all_joined, counted, elements};
 ghost use Rattle.borsh_types.specs.Writing.{WritesAll, WriteDenied};
+ghost use Rattle.borsh_types.specs.Empty.{RefusesEmpty};
 
 use super::lists::{write_count, write_elements};
 use super::serialize::BorshSerialize;
@@ -59,7 +60,11 @@ fn write_linked_counted<T: BorshSerialize, W: Write>(
 
 impl<T: BorshSerialize> BorshSerialize for VecDeque<T> {
     #[inline]
-    fn serialize<W: Write>(&self, alloc: Global, writer: &mut W) -> Result<()> {
+    fn serialize<W: Write>(&self, alloc: Global, writer: &mut W) -> Result<()>
+        ensures ok { OnOk result (WritesAll W.writing writer.old writer.new ((elements T.codec).encoding self.now.items)) }
+        ensures err { IfErr result (λ e. WriteDenied T.codec.write_allocates W.writing writer.old writer.new ((elements T.codec).encoding self.now.items) (error_kind e)) }
+        ensures untouched { RefusesEmpty T.codec.is_empty result writer.old writer.new }
+    {
         if T::encodes_empty() {
             return Err(Error::new(ErrorKind::InvalidData, ERROR_ZST_FORBIDDEN));
         }
@@ -69,7 +74,11 @@ impl<T: BorshSerialize> BorshSerialize for VecDeque<T> {
 
 impl<T: BorshSerialize> BorshSerialize for LinkedList<T> {
     #[inline]
-    fn serialize<W: Write>(&self, alloc: Global, writer: &mut W) -> Result<()> {
+    fn serialize<W: Write>(&self, alloc: Global, writer: &mut W) -> Result<()>
+        ensures ok { OnOk result (WritesAll W.writing writer.old writer.new ((elements T.codec).encoding self.now)) }
+        ensures err { IfErr result (λ e. WriteDenied T.codec.write_allocates W.writing writer.old writer.new ((elements T.codec).encoding self.now) (error_kind e)) }
+        ensures untouched { RefusesEmpty T.codec.is_empty result writer.old writer.new }
+    {
         if T::encodes_empty() {
             return Err(Error::new(ErrorKind::InvalidData, ERROR_ZST_FORBIDDEN));
         }

@@ -1,8 +1,12 @@
 // Lists: a count of four bytes and the elements in order.
 ghost use Rattle.std.specs.Prelude.{◌≡◌, ◌<◌, length, OnOk, IfErr, false};
+ghost use Rattle.std.specs.Box.{boxed_slice_items};
+ghost use Rattle.std.specs.Rc.{rc_slice_items};
+ghost use Rattle.std.specs.Cow.{cow_slice_items};
 ghost use Rattle.borsh_io.specs.Errors.{error_kind};
 ghost use Rattle.borsh_types.specs.Shapes.{number_encoding, all_joined, counted, elements};
 ghost use Rattle.borsh_types.specs.Writing.{WritesAll, WriteDenied};
+ghost use Rattle.borsh_types.specs.Empty.{RefusesEmpty};
 
 use super::numbers::bytes_of_u32;
 use super::raw_bytes::write_bytes;
@@ -68,6 +72,7 @@ pub(crate) fn write_list<T: BorshSerialize, W: Write>(
 ) -> Result<()>
     ensures ok { OnOk result (WritesAll W.writing writer.old writer.new ((elements T.codec).encoding items.now)) }
     ensures err { IfErr result (λ e. WriteDenied T.codec.write_allocates W.writing writer.old writer.new ((elements T.codec).encoding items.now) (error_kind e)) }
+    ensures untouched { RefusesEmpty T.codec.is_empty result writer.old writer.new }
 {
     if T::encodes_empty() {
         return Err(Error::new(ErrorKind::InvalidData, ERROR_ZST_FORBIDDEN));
@@ -77,28 +82,44 @@ pub(crate) fn write_list<T: BorshSerialize, W: Write>(
 
 impl<T: BorshSerialize> BorshSerialize for Vec<T> {
     #[inline]
-    fn serialize<W: Write>(&self, alloc: Global, writer: &mut W) -> Result<()> {
+    fn serialize<W: Write>(&self, alloc: Global, writer: &mut W) -> Result<()>
+        ensures ok { OnOk result (WritesAll W.writing writer.old writer.new ((elements T.codec).encoding self.now.items)) }
+        ensures err { IfErr result (λ e. WriteDenied T.codec.write_allocates W.writing writer.old writer.new ((elements T.codec).encoding self.now.items) (error_kind e)) }
+        ensures untouched { RefusesEmpty T.codec.is_empty result writer.old writer.new }
+    {
         write_list(self.as_slice(), alloc, writer)
     }
 }
 
 impl<T: BorshSerialize> BorshSerialize for BoxedSlice<T> {
     #[inline]
-    fn serialize<W: Write>(&self, alloc: Global, writer: &mut W) -> Result<()> {
+    fn serialize<W: Write>(&self, alloc: Global, writer: &mut W) -> Result<()>
+        ensures ok { OnOk result (WritesAll W.writing writer.old writer.new ((elements T.codec).encoding (boxed_slice_items self.now))) }
+        ensures err { IfErr result (λ e. WriteDenied T.codec.write_allocates W.writing writer.old writer.new ((elements T.codec).encoding (boxed_slice_items self.now)) (error_kind e)) }
+        ensures untouched { RefusesEmpty T.codec.is_empty result writer.old writer.new }
+    {
         write_list(self.as_slice(), alloc, writer)
     }
 }
 
 impl<T: BorshSerialize> BorshSerialize for RcSlice<T> {
     #[inline]
-    fn serialize<W: Write>(&self, alloc: Global, writer: &mut W) -> Result<()> {
+    fn serialize<W: Write>(&self, alloc: Global, writer: &mut W) -> Result<()>
+        ensures ok { OnOk result (WritesAll W.writing writer.old writer.new ((elements T.codec).encoding (rc_slice_items self.now))) }
+        ensures err { IfErr result (λ e. WriteDenied T.codec.write_allocates W.writing writer.old writer.new ((elements T.codec).encoding (rc_slice_items self.now)) (error_kind e)) }
+        ensures untouched { RefusesEmpty T.codec.is_empty result writer.old writer.new }
+    {
         write_list(self.as_slice(), alloc, writer)
     }
 }
 
 impl<T: BorshSerialize> BorshSerialize for CowSlice<'_, T> {
     #[inline]
-    fn serialize<W: Write>(&self, alloc: Global, writer: &mut W) -> Result<()> {
+    fn serialize<W: Write>(&self, alloc: Global, writer: &mut W) -> Result<()>
+        ensures ok { OnOk result (WritesAll W.writing writer.old writer.new ((elements T.codec).encoding (cow_slice_items self.now))) }
+        ensures err { IfErr result (λ e. WriteDenied T.codec.write_allocates W.writing writer.old writer.new ((elements T.codec).encoding (cow_slice_items self.now)) (error_kind e)) }
+        ensures untouched { RefusesEmpty T.codec.is_empty result writer.old writer.new }
+    {
         write_list(self.as_slice(), alloc, writer)
     }
 }

@@ -1,6 +1,8 @@
 // Maps and sets that hold their entries in the order in which they are written: a count of four bytes and
 // the entries.
 ghost use Rattle.borsh_io.specs.Errors.{error_kind};
+ghost use Rattle.borsh_types.specs.Empty.{RefusesEmpty};
+ghost use Rattle.borsh_types.specs.Maps.{inserted_map, inserted_set, ordered_map, ordered_set};
 ghost use Rattle.borsh_types.specs.Shapes.{all_joined, counted, pair};
 ghost use Rattle.borsh_types.specs.Writing.{WriteDenied, WritesAll};
 ghost use Rattle.indexmap.specs.IndexSet.{IsUnique as IsUniqueSet};
@@ -150,7 +152,11 @@ fn write_index_set<K: BorshSerialize + Eq + Hash, S: BuildHasher, W: Write>(
 
 impl<K: BorshKey + BorshSerialize + Ord, V: BorshSerialize> BorshSerialize for BTreeMap<K, V> {
     #[inline]
-    fn serialize<W: Write>(&self, alloc: Global, writer: &mut W) -> Result<()> {
+    fn serialize<W: Write>(&self, alloc: Global, writer: &mut W) -> Result<()>
+        ensures ok { OnOk result (WritesAll W.writing writer.old writer.new ((ordered_map K.cmp K.codec V.codec).encoding self.now.entries)) }
+        ensures err { IfErr result (λ e. WriteDenied (K.codec.write_allocates || V.codec.write_allocates) W.writing writer.old writer.new ((ordered_map K.cmp K.codec V.codec).encoding self.now.entries) (error_kind e)) }
+        ensures untouched { RefusesEmpty K.codec.is_empty result writer.old writer.new }
+    {
         if K::encodes_empty() {
             return Err(Error::new(ErrorKind::InvalidData, ERROR_ZST_FORBIDDEN));
         }
@@ -160,7 +166,11 @@ impl<K: BorshKey + BorshSerialize + Ord, V: BorshSerialize> BorshSerialize for B
 
 impl<K: BorshKey + BorshSerialize + Ord> BorshSerialize for BTreeSet<K> {
     #[inline]
-    fn serialize<W: Write>(&self, alloc: Global, writer: &mut W) -> Result<()> {
+    fn serialize<W: Write>(&self, alloc: Global, writer: &mut W) -> Result<()>
+        ensures ok { OnOk result (WritesAll W.writing writer.old writer.new ((ordered_set K.cmp K.codec).encoding self.now.keys)) }
+        ensures err { IfErr result (λ e. WriteDenied K.codec.write_allocates W.writing writer.old writer.new ((ordered_set K.cmp K.codec).encoding self.now.keys) (error_kind e)) }
+        ensures untouched { RefusesEmpty K.codec.is_empty result writer.old writer.new }
+    {
         if K::encodes_empty() {
             return Err(Error::new(ErrorKind::InvalidData, ERROR_ZST_FORBIDDEN));
         }
@@ -171,7 +181,11 @@ impl<K: BorshKey + BorshSerialize + Ord> BorshSerialize for BTreeSet<K> {
 impl<K: BorshKey + BorshSerialize + Hash, V: BorshSerialize, S: BuildHasher> BorshSerialize
     for IndexMap<K, V, S> {
     #[inline]
-    fn serialize<W: Write>(&self, alloc: Global, writer: &mut W) -> Result<()> {
+    fn serialize<W: Write>(&self, alloc: Global, writer: &mut W) -> Result<()>
+        ensures ok { OnOk result (WritesAll W.writing writer.old writer.new ((inserted_map K.eq K.codec V.codec).encoding self.now.entries)) }
+        ensures err { IfErr result (λ e. WriteDenied (K.codec.write_allocates || V.codec.write_allocates) W.writing writer.old writer.new ((inserted_map K.eq K.codec V.codec).encoding self.now.entries) (error_kind e)) }
+        ensures untouched { RefusesEmpty K.codec.is_empty result writer.old writer.new }
+    {
         if K::encodes_empty() {
             return Err(Error::new(ErrorKind::InvalidData, ERROR_ZST_FORBIDDEN));
         }
@@ -181,7 +195,11 @@ impl<K: BorshKey + BorshSerialize + Hash, V: BorshSerialize, S: BuildHasher> Bor
 
 impl<K: BorshKey + BorshSerialize + Hash, S: BuildHasher> BorshSerialize for IndexSet<K, S> {
     #[inline]
-    fn serialize<W: Write>(&self, alloc: Global, writer: &mut W) -> Result<()> {
+    fn serialize<W: Write>(&self, alloc: Global, writer: &mut W) -> Result<()>
+        ensures ok { OnOk result (WritesAll W.writing writer.old writer.new ((inserted_set K.eq K.codec).encoding self.now.keys)) }
+        ensures err { IfErr result (λ e. WriteDenied K.codec.write_allocates W.writing writer.old writer.new ((inserted_set K.eq K.codec).encoding self.now.keys) (error_kind e)) }
+        ensures untouched { RefusesEmpty K.codec.is_empty result writer.old writer.new }
+    {
         if K::encodes_empty() {
             return Err(Error::new(ErrorKind::InvalidData, ERROR_ZST_FORBIDDEN));
         }

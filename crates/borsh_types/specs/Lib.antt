@@ -3,6 +3,7 @@ pub mod Shapes
 pub mod Maps
 pub mod Reading
 pub mod Writing
+pub mod Empty
 pub mod Types
 pub mod Laws
 -- what the crate below says, for those above
