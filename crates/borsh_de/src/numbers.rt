@@ -1,8 +1,8 @@
 // Whole numbers, the lowest byte first, and with a sign in two's complement. A `usize` is read as a
 // `u64`, and an `isize` as an `i64`.
-ghost use Rattle.std.specs.Prelude.{◌≡◌, ℕ, ℤ, List, Some, IfOk, IfErr, IsSomeAnd};
+ghost use Rattle.std.specs.Prelude.{◌≡◌, ℕ, ℤ, List, Some, IfOk, IfErr, IsSomeAnd, length, true};
 ghost use Rattle.borsh_io.specs.Errors.{error_kind};
-ghost use Rattle.borsh_types.specs.Shapes.{number_encoding, signed_encoding, number, signed, listed};
+ghost use Rattle.borsh_types.specs.Shapes.{number_encoding, signed_encoding, number, signed, listed, row};
 ghost use Rattle.borsh_types.specs.Reading.{Took, Reads, Denied};
 
 use super::deserialize::BorshDeserialize;
@@ -105,13 +105,20 @@ impl BorshDeserialize for u8 {
         Ok(Some(read_vec(alloc, len as usize, reader)?))
     }
 
+    /// 0, always.
     #[inline]
-    fn blank() -> Option<u8> {
+    fn blank() -> Option<u8>
+        ensures { result ≡ Some 0 }
+    {
         Some(0)
     }
 
+    /// The bytes, always: the answer is never `false`.
     #[inline]
-    fn fill_slice<R: Read>(items: &mut [u8], reader: &mut R) -> Result<bool> {
+    fn fill_slice<R: Read>(items: &mut [u8], reader: &mut R) -> Result<bool>
+        ensures ok { IfOk result (λ filled. (filled ≡ true) × Reads (List ℕ) (row (length items.old) (number 1)) (R.stream reader.old) (R.stream reader.new) items.new) }
+        ensures err { IfErr result (λ e. Denied (List ℕ) (row (length items.old) (number 1)) (R.stream reader.old) (R.stream reader.new) (error_kind e)) }
+    {
         fill(reader, items)?;
         Ok(true)
     }

@@ -1,3 +1,4 @@
+use Rattle.std.proofs.Common.{refl}
 use Rattle.std.proofs.lemmas.Result.{err_from_is_err_and}
 use Rattle.borsh_types.proofs.ReadBytes.{reads_byte_row, denied_byte_row}
 use Rattle.borsh_de.proofs.numbers.U8BorshDeserialize.fill_slice.Goals as goal
@@ -8,4 +9,4 @@ returns-in_err-fill-clause-err g c =
     rw (p.1, p.2) (denied_byte_row c.in_err-fill.ensures.err)
 
 pub returns-clause-ok : goal.returns-clause-ok
-returns-clause-ok g c = reads_byte_row c.fill.auto.buf c.in_ok-fill.ensures.fits c.in_ok-fill.ensures.ok
+returns-clause-ok g c = (refl, reads_byte_row c.fill.auto.buf c.in_ok-fill.ensures.fits c.in_ok-fill.ensures.ok)
