@@ -1,2 +1,3 @@
 mod LineSteps
 mod Asked
+mod Agreed

@@ -1,19 +1,18 @@
 -- The schemas of the types that words name, and what answers a line that asks for one.
-use Rattle.std.specs.Prelude.{◌≡◌, ℕ, List, [], ◌∷◌, Option, Some, None, MatchOption, codes}
+use Rattle.std.specs.Prelude.{◌≡◌, ℕ, List, [], ◌∷◌, Option, Some, None, MatchOption, ◌⊎◌, codes}
 use Rattle.borsh_schema.specs.declared.container.BorshSchemaContainer.{BorshSchemaContainer}
 use Rattle.borsh_schema.specs.Addresses.{ip_address_parts}
 use Rattle.borsh_schema.specs.Codecs.{container}
 use Rattle.borsh_schema.specs.Containers.{IsContainerOf}
-use Rattle.borsh_schema.specs.Described.{list as sequence, no_fields, Parts, none, defined, both, nothing_defined}
-use Rattle.borsh_schema.specs.Joined.{Clashes}
+use Rattle.borsh_schema.specs.Described.{list as sequence, no_fields, Parts, none, defined, both}
 use Rattle.borsh_schema.specs.Names.{applied, applied_to_two, array_name, tuple_name}
 use Rattle.borsh_schema.specs.Own.{container_parts}
 use Rattle.borsh_schema.specs.Types.{list_parts, map_parts, option_of, primitive_parts, range_of, range_from as range_from_of, range_to as range_to_of, result_of, text_parts, tuple_parts, unit_parts}
+use Rattle.borsh.specs.WithSchema.{HasClash}
 use Rattle.borsh_samples.specs.Schemas.{readme_parts, my_enum_parts}
 use Rattle.borsh_answers.specs.declared.words.Word.{Word}
 use Rattle.borsh_answers.specs.declared.words.Word.TheVariants.{U8, U32, U64, Bool, OptionU8, String, ListU8, U128, Isize, NonZeroI16, Unit, ResultU8, ArrayOption, Ranges, ListString, ListOption, ListUnit, ListBoxUnit, ListZero, DequeU8, LinkedU8, SetU8, HashSetU8, MapU8, HashMapU8, MapSet, MapUnit, Ip, BoxU8, RcString, Container, Readme, MyEnum, IndexMapU8, IndexSetU8, Bytes, Uuid, Socket, SocketV6, MyStruct, OneOrZero, ListOne}
 use Rattle.borsh_answers.specs.Digits.{digits_of}
-use Rattle.borsh_answers.specs.Lines.{IsErrorLine}
 
 -- a type's name, and the definitions that it leads to
 abbrev pub Schema : Type 0
@@ -129,12 +128,23 @@ schema_of MyStruct = None
 schema_of OneOrZero = None
 schema_of ListOne = None
 
--- what answers a line that asks for the schema with this name and these definitions: the encoding of its container; or
--- a line that tells an error, where one of its names really has two definitions
-pub data IsSchemaText (name : List ℕ) (parts : Parts) (out : List ℕ) : Type 0 where
-  written : (c : BorshSchemaContainer) (bytes : List ℕ) → IsContainerOf name parts c → container.encoding c ≡ Some bytes → out ≡ digits_of bytes → IsSchemaText name parts out
-  clashes : (x : List ℕ) → Clashes nothing_defined parts x → IsErrorLine out → IsSchemaText name parts out
+-- what answers a line that asks for the schema with this name and these definitions: the encoding of its container
+pub record IsSchemaText (name : List ℕ) (parts : Parts) (out : List ℕ) : Type 0 where
+  pub own : BorshSchemaContainer
+  pub bytes : List ℕ
+  pub is : IsContainerOf name parts own
+  pub encoded : container.encoding own ≡ Some bytes
+  pub text : out ≡ digits_of bytes
 
 -- what answers a line that asks for the schema of the type that a word names
 abbrev pub AnswersSchema : Word → List ℕ → Type 0
 AnswersSchema word out = MatchOption (schema_of word) (out ≡ codes "error no schema") (λ s. IsSchemaText s.0 s.1 out)
+
+-- ---- the steps
+
+-- the same, or a name of the type has two definitions; no word's type has such a name
+abbrev pub IsSchemaTextOrClash : List ℕ → Parts → List ℕ → Type 0
+IsSchemaTextOrClash name parts out = IsSchemaText name parts out ⊎ HasClash parts
+
+abbrev pub AnswersSchemaOrClash : Word → List ℕ → Type 0
+AnswersSchemaOrClash word out = MatchOption (schema_of word) (out ≡ codes "error no schema") (λ s. IsSchemaTextOrClash s.0 s.1 out)

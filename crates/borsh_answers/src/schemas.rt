@@ -2,7 +2,7 @@
 ghost use Rattle.std.specs.Prelude.{◌≡◌, codes, IfOk};
 ghost use Rattle.borsh_answers.specs.Digits.{digits_of};
 ghost use Rattle.borsh_answers.specs.Lines.{IsLine};
-ghost use Rattle.borsh_answers.specs.Schemas.{IsSchemaText, AnswersSchema};
+ghost use Rattle.borsh_answers.specs.Schemas.{IsSchemaTextOrClash, AnswersSchema, AnswersSchemaOrClash};
 
 use super::lines::{line_of, push_digits};
 use super::words::Word;
@@ -17,9 +17,17 @@ use std::num::NonZeroI16;
 use std::ops::{Range, RangeFrom, RangeFull, RangeInclusive, RangeTo, RangeToInclusive};
 use std::rc::RcStr;
 
-/// The container of the type that a word names, as digits.
+/// The container of the type that a word names, as digits. No word's type has two definitions of one name.
 pub(crate) fn schema_answer(alloc: Global, word: Word) -> Result<Vec<u8>, AllocError>
     ensures answers { IfOk result (λ out. AnswersSchema word out.items) }
+    ensures line { IfOk result (λ out. IsLine out.items) }
+{
+    schema_or_clash(alloc, word)
+}
+
+/// The same, with an error for a type that has two definitions of one name.
+fn schema_or_clash(alloc: Global, word: Word) -> Result<Vec<u8>, AllocError>
+    ensures answers { IfOk result (λ out. AnswersSchemaOrClash word out.items) }
     ensures line { IfOk result (λ out. IsLine out.items) }
 {
     match word {
@@ -77,9 +85,9 @@ pub(crate) fn schema_answer(alloc: Global, word: Word) -> Result<Vec<u8>, AllocE
     }
 }
 
-/// The container of a type, as digits.
+/// The container of a type, as digits, with the same error.
 fn container_of<T: BorshSchema>(alloc: Global) -> Result<Vec<u8>, AllocError>
-    ensures answers { IfOk result (λ out. IsSchemaText T.name T.parts out.items) }
+    ensures answers { IfOk result (λ out. IsSchemaTextOrClash T.name T.parts out.items) }
     ensures line { IfOk result (λ out. IsLine out.items) }
 {
     let container = match schema_container_of::<T>(alloc) {

@@ -4,3 +4,4 @@ pub mod Joining
 pub mod Containers
 pub mod Own
 pub mod Sameness
+pub mod Agreeing

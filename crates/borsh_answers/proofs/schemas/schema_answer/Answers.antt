@@ -1,4 +1,6 @@
+use Rattle.std.proofs.lemmas.Result.{IfOk-weaker}
+use Rattle.borsh_answers.proofs.Agreed.{never_clashes}
 use Rattle.borsh_answers.proofs.schemas.schema_answer.Goals as goal
 
-pub returns-in-Ranges-clause-answers : goal.returns-in-Ranges-clause-answers
-returns-in-Ranges-clause-answers c = rw c.in-Ranges.is c.container_of-in-Ranges.ensures.answers
+pub returns-clause-answers : goal.returns-clause-answers
+returns-clause-answers c = IfOk-weaker c.schema_or_clash.result _ _ (λ out p. never_clashes c.args.word out.items p) c.schema_or_clash.ensures.answers
