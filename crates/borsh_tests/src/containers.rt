@@ -1,5 +1,5 @@
 // Containers as bytes, asked about by lines.
-use borsh::schema::{BorshSchemaContainer, Definition, LengthRange};
+use borsh::schema::{BorshSchemaContainer, Definition, Fields, LengthRange};
 use borsh::to_vec;
 use borsh_lines::run;
 use std::alloc::Global;
@@ -298,5 +298,112 @@ fn a_long_chain_needs_no_stack(rt: HostRuntime) -> Result<(), Fail> {
     assert_eq!(rt; answer(alloc, "check", long)?.as_str(), "valid");
     assert_eq!(rt; answer(alloc, "size", long)?.as_str(), "5");
     assert!(rt; is_counted(alloc, long, [100001, 100001, 100001])?);
+    Ok(())
+}
+
+/// A list of at most `end` bytes, behind a count of `width` bytes.
+fn bound_list(alloc: Global, width: u8, end: u64) -> Result<String, Fail> {
+    let name = format!(in alloc; "BoundVec<{width}, {end}>")?;
+    let list = Definition::Sequence {
+        length_width: width,
+        length_range: LengthRange { start: 0, end },
+        elements: String::from_str(alloc, "u8")?,
+    };
+    let mut definitions = BTreeMap::new(alloc);
+    definitions.insert(String::from_str(alloc, name.as_str())?, list)?;
+    definitions.insert(String::from_str(alloc, "u8")?, Definition::Primitive(1))?;
+    digits(alloc, name.as_str(), definitions)
+}
+
+const BOUND_LISTS: [(u8, u64, &str); 4] = [
+    (4, 65535, "valid"),
+    (
+        1,
+        65535,
+        "invalid TagTooNarrow 426f756e645665633c312c2036353533353e",
+    ),
+    (1, 255, "valid"),
+    (0, 65535, "valid"),
+];
+
+#[test]
+fn a_count_has_room_for_the_greatest_length(rt: HostRuntime) -> Result<(), Fail> {
+    let alloc = rt.alloc();
+    for (width, end, check) in BOUND_LISTS {
+        let list = bound_list(alloc, width, end)?;
+        assert_eq!(rt;
+            answer(alloc, "check", list.as_str())?.as_str(),
+            check,
+            "of {width} and {end}"
+        );
+    }
+    Ok(())
+}
+
+/// A struct with these fields, of a number, 15 bytes, or itself by way of a list, an array or an option.
+fn struct_of(alloc: Global, fields: Fields) -> Result<String, Fail> {
+    let mut definitions = BTreeMap::new(alloc);
+    definitions.insert(String::from_str(alloc, "S")?, Definition::Struct { fields })?;
+    definitions.insert(String::from_str(alloc, "()")?, Definition::Primitive(0))?;
+    definitions.insert(String::from_str(alloc, "u8")?, Definition::Primitive(1))?;
+    definitions.insert(String::from_str(alloc, "u64")?, Definition::Primitive(8))?;
+    let lists = [
+        ("[u8; 15]", 0, 15, 15, "u8"),
+        ("[S; 3]", 0, 3, 3, "S"),
+        ("Vec<S>", 4, 0, 4294967295, "S"),
+    ];
+    for (name, length_width, start, end, element) in lists {
+        let list = Definition::Sequence {
+            length_width,
+            length_range: LengthRange { start, end },
+            elements: String::from_str(alloc, element)?,
+        };
+        definitions.insert(String::from_str(alloc, name)?, list)?;
+    }
+    let mut variants = Vec::new(alloc);
+    for (tag, name, part) in [(0, "None", "()"), (1, "Some", "S")] {
+        variants.push((
+            tag,
+            String::from_str(alloc, name)?,
+            String::from_str(alloc, part)?,
+        ))?;
+    }
+    let option = Definition::Enum {
+        tag_width: 1,
+        variants,
+    };
+    definitions.insert(String::from_str(alloc, "Option<S>")?, option)?;
+    digits(alloc, "S", definitions)
+}
+
+/// The answer to `check` of a struct of one place.
+fn check_of_place(alloc: Global, part: &str) -> Result<String, Fail> {
+    let mut places = Vec::new(alloc);
+    places.push(String::from_str(alloc, part)?)?;
+    let digits = struct_of(alloc, Fields::UnnamedFields(places))?;
+    answer(alloc, "check", digits.as_str())
+}
+
+#[test]
+fn structs_may_hold_themselves(rt: HostRuntime) -> Result<(), Fail> {
+    let alloc = rt.alloc();
+    for part in ["Option<S>", "Vec<S>", "[S; 3]", "[u8; 15]", "u64"] {
+        assert_eq!(rt; check_of_place(alloc, part)?.as_str(), "valid", "of {part}");
+    }
+    let empty = struct_of(alloc, Fields::Empty)?;
+    assert_eq!(rt; answer(alloc, "check", empty.as_str())?.as_str(), "valid");
+    assert_eq!(rt; answer(alloc, "size", empty.as_str())?.as_str(), "0");
+    let mut fields = Vec::new(alloc);
+    fields.push((
+        String::from_str(alloc, "_foo")?,
+        String::from_str(alloc, "u64")?,
+    ))?;
+    fields.push((
+        String::from_str(alloc, "_bar")?,
+        String::from_str(alloc, "[u8; 15]")?,
+    ))?;
+    let named = struct_of(alloc, Fields::NamedFields(fields))?;
+    assert_eq!(rt; answer(alloc, "check", named.as_str())?.as_str(), "valid");
+    assert_eq!(rt; answer(alloc, "size", named.as_str())?.as_str(), "23");
     Ok(())
 }
