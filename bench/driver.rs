@@ -1,5 +1,5 @@
 //! Times writing and reading by this library and by the original on the same values.
-use borsh::{from_slice, to_vec, BorshDeserialize, BorshSerialize};
+use borsh::{BorshDeserialize, BorshSerialize, from_slice, to_vec};
 use std::collections::BTreeMap;
 use std::hint::black_box;
 use std::time::Instant;
@@ -59,9 +59,33 @@ fn main() {
     println!("|---|---|---|---|---|");
     row(0, "`u8`", (0..count).map(|n| n as u8).collect::<Vec<u8>>());
     row(1, "`u64`", (0..count).collect::<Vec<u64>>());
-    row(2, "`Option<u64>`", (0..count).map(|n| Some(n).filter(|n| n % 3 > 0)).collect::<Vec<_>>());
-    row(3, "`(u32, (bool, u16))`", (0..count).map(|n| (n as u32, (n % 2 == 0, n as u16))).collect::<Vec<_>>());
-    row(4, "`String`", (0..count).map(|n| format!("text {n}")).collect::<Vec<_>>());
-    row(5, "`BTreeMap<u64, u64>`", (0..count).map(|n| (n, n)).collect::<BTreeMap<_, _>>());
-    row(6, "`[u8; 32]`", (0..count).map(|n| [n as u8; 32]).collect::<Vec<_>>());
+    row(
+        2,
+        "`Option<u64>`",
+        (0..count)
+            .map(|n| Some(n).filter(|n| n % 3 > 0))
+            .collect::<Vec<_>>(),
+    );
+    row(
+        3,
+        "`(u32, (bool, u16))`",
+        (0..count)
+            .map(|n| (n as u32, (n % 2 == 0, n as u16)))
+            .collect::<Vec<_>>(),
+    );
+    row(
+        4,
+        "`String`",
+        (0..count).map(|n| format!("text {n}")).collect::<Vec<_>>(),
+    );
+    row(
+        5,
+        "`BTreeMap<u64, u64>`",
+        (0..count).map(|n| (n, n)).collect::<BTreeMap<_, _>>(),
+    );
+    row(
+        6,
+        "`[u8; 32]`",
+        (0..count).map(|n| [n as u8; 32]).collect::<Vec<_>>(),
+    );
 }

@@ -42,7 +42,13 @@ fn work<T: BorshSerialize + BorshDeserialize>(
 
 /// Works on values of the type with this number; the driver has the same types.
 #[unsafe(no_mangle)]
-pub extern "C" fn ours(alloc: Global, kind: u32, writes: bool, bytes: &[u8], rounds: usize) -> usize {
+pub extern "C" fn ours(
+    alloc: Global,
+    kind: u32,
+    writes: bool,
+    bytes: &[u8],
+    rounds: usize,
+) -> usize {
     match kind {
         0 => work::<Vec<u8>>(alloc, writes, bytes, rounds),
         1 => work::<Vec<u64>>(alloc, writes, bytes, rounds),
