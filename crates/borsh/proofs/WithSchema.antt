@@ -1,34 +1,74 @@
 -- Values that are sent behind the container of their type.
-use Rattle.std.proofs.Common.{◌≡◌, Bool, true, false, List, ℕ, Option, Some, sym, ◌∙◌, ap, subst, true≢false, Decides}
+use Rattle.std.proofs.Common.{◌≡◌, Bool, true, false, List, ℕ, Option, Some, None, refl, sym, ◌∙◌, ap, subst, true≢false, Decides, Vec, Global, Result, Ok, Err}
 use Rattle.borsh_io.specs.declared.error.ErrorKind.{ErrorKind}
 use Rattle.borsh_io.specs.declared.error.ErrorKind.TheVariants.{InvalidData, OutOfMemory}
-use Rattle.borsh_types.specs.Codec.{Codec, HasReading, Lawful}
-use Rattle.borsh_types.specs.Shapes.{pair}
-use Rattle.borsh_types.specs.Laws.Lists.{same_front, free_readings, some_same}
-use Rattle.borsh_types.specs.Laws.Pairs.{pair-lawful}
-use Rattle.borsh_types.specs.Reading.{WhyNotWhole}
-use Rattle.borsh_types.specs.Reading.WhyNotWhole.{no_reading as no_whole, no_memory as whole_memory}
-use Rattle.borsh_types.specs.Writing.{WhyNoVector}
-use Rattle.borsh_types.specs.Writing.WhyNoVector.{no_encoding as no_bytes, no_memory as no_room}
+use Rattle.borsh_codec.specs.Codec.{Codec, IsDecodable, Lawful}
+use Rattle.borsh_codec.specs.Shapes.{pair}
+use Rattle.borsh_codec.proofs.Laws.Lists.{same_front, free_readings, some_same}
+use Rattle.borsh_codec.proofs.Laws.Pairs.{pair-lawful}
+use Rattle.borsh_codec.specs.Reading.{WhyNotDecoded}
+use Rattle.borsh_codec.specs.Reading.WhyNotDecoded.{malformed as no_whole, no_memory as whole_memory}
+use Rattle.borsh_codec.specs.Writing.{WhyNotEncoded}
+use Rattle.borsh_codec.specs.Writing.WhyNotEncoded.{no_encoding as no_bytes, no_memory as no_room}
 use Rattle.borsh_schema.specs.declared.container.BorshSchemaContainer.{BorshSchemaContainer}
 use Rattle.borsh_schema.specs.Codecs.{container, container-lawful}
-use Rattle.borsh_schema.specs.Containers.{IsContainerOf}
-use Rattle.borsh_schema.specs.Described.{Parts}
-use Rattle.borsh_schema.specs.Laws.Sameness.{container_same, given_in}
-use Rattle.borsh.specs.WithSchema.{IsBehindContainer, IsReadWithSchema, IsPairRead, WhyNoContainer, WhyNotWritten, WhyNotRead}
+use Rattle.borsh_schema.specs.Containers.{IsContainerOf, map_of}
+use Rattle.std.specs.String.{string_cmp}
+use Rattle.std.specs.BTreeMap.{IsOrdered}
+use Rattle.borsh_io.specs.declared.error.Error.{Error}
+use Rattle.borsh_io.specs.Errors.{error_kind}
+use Rattle.borsh_schema.specs.Described.{DefinitionTree}
+use Rattle.borsh_schema.specs.Laws.Sameness.{container_same, given_in, encoded_once, one_spelling}
+use Rattle.borsh.specs.WithSchema.{FollowsSchema, IsWithSchema, HasClash, EncodesWithSchema, IsReadWithSchema, IsPairRead, WhyNoContainer, WhyNotWritten, WhyNotRead}
 use Rattle.borsh.specs.WithSchema.WhyNoContainer.{clashing, memory}
-use Rattle.borsh.specs.WithSchema.WhyNotWritten.{no_container, no_memory as unwritten_memory}
-use Rattle.borsh.specs.WithSchema.WhyNotRead.{no_reading, other_schema, clashes, no_memory as unread_memory}
+use Rattle.borsh.specs.WithSchema.WhyNotWritten.{clashes as unwritten_clashes, no_container, no_encoding, no_memory as unwritten_memory}
+use Rattle.borsh.specs.WithSchema.WhyNotRead.{malformed, other_schema, clashes, no_memory as unread_memory}
 
 -- the type's container wasn't written
-pub not_written_vector : {name : List ℕ} {ps : Parts} {encoding : Option (List ℕ)} {k : ErrorKind} (c : BorshSchemaContainer) → IsContainerOf name ps c → WhyNoVector (container.encoding c) k → WhyNotWritten name ps encoding k
-not_written_vector c is (no_bytes e n) = no_container e (record { own = c; is = is; none = n })
-not_written_vector c is (no_room e) = unwritten_memory e
+pub not_written_vector : {name : List ℕ} {ps : DefinitionTree} {encoding : Option (List ℕ)} {k : ErrorKind} (c : BorshSchemaContainer) → IsContainerOf name ps c → IsOrdered string_cmp (map_of c) → WhyNotEncoded (container.encoding c) k → WhyNotWritten name ps encoding k
+not_written_vector c is o (no_bytes e n) = no_container e (record { own = c; is = is; ascending = o; none = n })
+not_written_vector c is o (no_room e) = unwritten_memory e
 
-module _ {B : Type 0} {name : List ℕ} {ps : Parts} {c : Codec B} {bytes : List ℕ} where
+-- a type with a container has no clash
+never_clashes : {name : List ℕ} {ps : DefinitionTree} {c : BorshSchemaContainer} → IsContainerOf name ps c → HasClash ps → ⊥
+never_clashes is h = let j = is.definitions in h.clash.apart (some_same _ _ (sym (given_in j h.clash.has_first) ∙ given_in j h.clash.has_second))
+
+module _ {name : List ℕ} {ps : DefinitionTree} {encoding : Option (List ℕ)} where
+  -- where container and value have encodings, an allocation failure is the one refusal
+  not_written_owed : {x : List ℕ} {k : ErrorKind} → IsWithSchema name ps encoding x → WhyNotWritten name ps encoding k → k ≡ OutOfMemory
+  not_written_owed w (unwritten_clashes r h) = absurd (never_clashes w.sent.is h)
+  not_written_owed w (no_container e h) =
+      let f = encoded_once h.own w.sent.own h.is h.ascending w.sent.is w.sent.encoded in
+      let n = h.none in absurd (cc)
+  not_written_owed w (no_encoding e n) = let i = w.is in absurd (cc)
+  not_written_owed w (unwritten_memory e) = e
+
+  -- the type's container wasn't built
+  pub not_written_container : {k : ErrorKind} → WhyNoContainer ps k → WhyNotWritten name ps encoding k
+  not_written_container (clashing r h) = unwritten_clashes r h
+  not_written_container (memory e) = unwritten_memory e
+
+  -- the bytes of container and value are one list
+  written_owed : {x y : List ℕ} → IsWithSchema name ps encoding x → IsWithSchema name ps encoding y → x ≡ y
+  written_owed v w =
+      let front = one_spelling v.sent.own w.sent.own v.sent.is w.sent.is v.sent.encoded w.sent.encoded in
+      let value = some_same v.value w.value (sym v.is ∙ w.is) in
+      let p = v.sent.whole in let q = w.sent.whole in cc
+
+  pub encodes_ok : {out : Vec ℕ Global} → IsWithSchema name ps encoding out.items → EncodesWithSchema name ps encoding (Ok out)
+  encodes_ok w = record { ok = w; err = tt; exact = λ x u. written_owed w u }
+
+  pub encodes_err : (e : Error) → WhyNotWritten name ps encoding (error_kind e) → EncodesWithSchema name ps encoding (Err e)
+  encodes_err e w = record { ok = tt; err = w; exact = λ x u. not_written_owed u w }
+
+-- a container is read from its encoding alone
+pub pair_read : {B : Type 0} {c : Codec B} {bytes : List ℕ} {v : BorshSchemaContainer × B} → (pair container c).decodes true bytes v → IsPairRead container c bytes v
+pair_read {v = v} r = record { front = r.first; rest = r.second; whole = r.whole; first = container-lawful.canonical r.first v.0 refl r.left; second = r.right }
+
+module _ {B : Type 0} {name : List ℕ} {ps : DefinitionTree} {c : Codec B} {bytes : List ℕ} where
   -- the bytes are no container and a value behind it, or memory was refused
-  pub not_read_pair : {k : ErrorKind} → WhyNotWhole (pair container c) true bytes k → WhyNotRead name ps c bytes k
-  not_read_pair (no_whole r n) = no_reading r n
+  pub not_read_pair : {k : ErrorKind} → WhyNotDecoded (pair container c) true bytes k → WhyNotRead name ps c bytes k
+  not_read_pair (no_whole r n) = malformed r n
   not_read_pair (whole_memory e a) = unread_memory e
 
   -- it isn't known whether the container in front is the type's
@@ -44,22 +84,22 @@ module _ {B : Type 0} {name : List ℕ} {ps : Parts} {c : Codec B} {bytes : List
 
     -- the container in front is the type's
     pub read_behind : own ≡ true → IsReadWithSchema name ps c bytes v.1
-    read_behind e = record { rest = p.rest; reading = p.second; sent = record { own = v.0; is = d.0 e; front = p.front; encoded = p.first; whole = p.whole } }
+    read_behind e = record { rest = p.rest; decodes = p.second; sent = record { own = v.0; is = d.0 e; front = p.front; encoded = p.first; whole = p.whole } }
 
   module _ {x : B} (w : IsReadWithSchema name ps c bytes x) where
-    front_reading : container.reading true w.sent.front w.sent.own
-    front_reading = container-lawful.written true w.sent.own w.sent.front w.sent.encoded
+    front_reading : container.decodes true w.sent.front w.sent.own
+    front_reading = container-lawful.round_trip true w.sent.own w.sent.front w.sent.encoded
 
-    both_readings : (pair container c).reading true bytes (w.sent.own, x)
-    both_readings = record { first = w.sent.front; second = w.rest; whole = w.sent.whole; left = front_reading; right = w.reading }
+    both_readings : (pair container c).decodes true bytes (w.sent.own, x)
+    both_readings = record { first = w.sent.front; second = w.rest; whole = w.sent.whole; left = front_reading; right = w.decodes }
 
-    -- the type's container and a value behind it are refused for want of memory alone
+    -- the type's container and a value behind it are refused only if an allocation failed
     pub refused_owed : {k : ErrorKind} → WhyNotRead name ps c bytes k → k ≡ OutOfMemory
-    refused_owed (no_reading r n) = absurd (n ((w.sent.own, x), both_readings))
+    refused_owed (malformed r n) = absurd (n ((w.sent.own, x), both_readings))
     refused_owed (other_schema e o) =
-        let r = container-lawful.written true o.sent o.front o.encoded in
-        let f = same_front (HasReading container true) (free_readings container-lawful true) o.front o.rest w.sent.front w.rest (o.sent, r) (w.sent.own, front_reading) (sym o.whole ∙ w.sent.whole) in
-        let s = container-lawful.one_value true o.front o.sent w.sent.own r (subst (λ y. container.reading true y w.sent.own) (sym f.0) front_reading) in
+        let r = container-lawful.round_trip true o.sent o.front o.encoded in
+        let f = same_front (IsDecodable container true) (free_readings container-lawful true) o.front o.rest w.sent.front w.rest (o.sent, r) (w.sent.own, front_reading) (sym o.whole ∙ w.sent.whole) in
+        let s = container-lawful.unambiguous true o.front o.sent w.sent.own r (subst (λ y. container.decodes true y w.sent.own) (sym f.0) front_reading) in
         absurd (o.other (container_same o.sent w.sent.own s w.sent.is))
     refused_owed (clashes r h) =
         let j = w.sent.is.definitions in
@@ -67,5 +107,5 @@ module _ {B : Type 0} {name : List ℕ} {ps : Parts} {c : Codec B} {bytes : List
     refused_owed (unread_memory e) = e
 
   -- one value stands behind the type's container
-  pub read_owed : Lawful B c → {x y : B} → IsReadWithSchema name ps c bytes y → IsReadWithSchema name ps c bytes x → c.same y x
-  read_owed l {x = x} {y = y} v w = ((pair-lawful container-lawful l).one_value true bytes (v.sent.own, y) (w.sent.own, x) (both_readings v) (both_readings w)).1
+  pub read_owed : Lawful B c → {x y : B} → IsReadWithSchema name ps c bytes y → IsReadWithSchema name ps c bytes x → c.equivalent y x
+  read_owed l {x = x} {y = y} v w = ((pair-lawful container-lawful l).unambiguous true bytes (v.sent.own, y) (w.sent.own, x) (both_readings v) (both_readings w)).1

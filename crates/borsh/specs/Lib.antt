@@ -1,4 +1,5 @@
 pub mod Counting
+pub mod Decoding
 pub mod Length
 pub mod Schema
 pub mod WithSchema
@@ -9,10 +10,11 @@ pub use Rattle.borsh_io.specs.Sink
 pub use Rattle.borsh_io.specs.SinkLaws
 pub use Rattle.borsh_io.specs.Adapters
 pub use Rattle.borsh_io.specs.Unordered
-pub use Rattle.borsh_types.specs.Codec
-pub use Rattle.borsh_types.specs.Shapes
-pub use Rattle.borsh_types.specs.Maps
-pub use Rattle.borsh_types.specs.Types
-pub use Rattle.borsh_types.specs.Reading
-pub use Rattle.borsh_types.specs.Writing
-pub use Rattle.borsh_types.specs.Laws
+pub use Rattle.borsh_codec.specs.Codec
+pub use Rattle.borsh_codec.specs.Shapes
+pub use Rattle.borsh_codec.specs.Maps
+pub use Rattle.borsh_codec.specs.Types
+pub use Rattle.borsh_codec.specs.Reading
+pub use Rattle.borsh_codec.specs.Writing
+-- the laws of shapes and types, which the ghost members of a type cite
+pub use Rattle.borsh_codec.proofs.Laws

@@ -1,6 +1,7 @@
 -- What the schema layer says, for the crates above.
 pub use Rattle.borsh_walks.specs.Container
 pub use Rattle.borsh_walks.specs.SizeAnswer
+pub use Rattle.borsh_walks.specs.SizeOutcome
 pub use Rattle.borsh_walks.specs.RulesAnswer
 pub use Rattle.borsh_schema.specs.Described
 pub use Rattle.borsh_schema.specs.Joined

@@ -1,20 +1,25 @@
 -- Values that are sent behind the container of their type.
-use Rattle.std.specs.Prelude.{◌≡◌, ℕ, Bool, true, List, ◌++◌, Option, Some, None, MatchBool}
+use Rattle.std.specs.Prelude.{◌≡◌, ℕ, Bool, true, List, ◌++◌, Option, Some, None, MatchBool, MatchResult, Result, IfOk, IfErr, Vec}
+use Rattle.std.specs.Global.{Global}
+use Rattle.std.specs.String.{string_cmp}
+use Rattle.std.specs.BTreeMap.{IsOrdered}
+use Rattle.borsh_io.specs.declared.error.Error.{Error}
+use Rattle.borsh_io.specs.Errors.{error_kind}
 use Rattle.borsh_io.specs.declared.error.ErrorKind.{ErrorKind}
 use Rattle.borsh_io.specs.declared.error.ErrorKind.TheVariants.{InvalidData, OutOfMemory}
-use Rattle.borsh_types.specs.Codec.{Codec, HasReading}
-use Rattle.borsh_types.specs.Shapes.{pair}
-use Rattle.borsh_types.specs.Reading.{IsRefusal}
+use Rattle.borsh_codec.specs.Codec.{Codec, IsDecodable}
+use Rattle.borsh_codec.specs.Shapes.{pair}
+use Rattle.borsh_codec.specs.Reading.{IsInvalidData}
 use Rattle.borsh_schema.specs.declared.container.BorshSchemaContainer.{BorshSchemaContainer}
 use Rattle.borsh_schema.specs.declared.definitions.SchemaBuildError.{SchemaBuildError}
 use Rattle.borsh_schema.specs.declared.definitions.SchemaBuildError.TheVariants.{Redefinition, OutOfMemory as NoMemory}
 use Rattle.borsh_schema.specs.Codecs.{container}
-use Rattle.borsh_schema.specs.Containers.{IsContainerOf}
-use Rattle.borsh_schema.specs.Described.{Parts, nothing_defined}
-use Rattle.borsh_schema.specs.Joined.{Clashes}
+use Rattle.borsh_schema.specs.Containers.{IsContainerOf, map_of}
+use Rattle.borsh_schema.specs.Described.{DefinitionTree, nothing_defined}
+use Rattle.borsh_schema.specs.Joined.{Conflicts}
 
 -- the bytes are the encoding of the type's container, and then `rest`
-pub record IsBehindContainer (name : List ℕ) (parts : Parts) (rest bytes : List ℕ) : Type 0 where
+pub record FollowsSchema (name : List ℕ) (parts : DefinitionTree) (rest bytes : List ℕ) : Type 0 where
   pub own : BorshSchemaContainer
   pub is : IsContainerOf name parts own
   pub front : List ℕ
@@ -22,37 +27,47 @@ pub record IsBehindContainer (name : List ℕ) (parts : Parts) (rest bytes : Lis
   pub whole : bytes ≡ front ++ rest
 
 -- the bytes are the encoding of the type's container, and then that of the value
-pub record IsWithSchema (name : List ℕ) (parts : Parts) (encoding : Option (List ℕ)) (bytes : List ℕ) : Type 0 where
+pub record IsWithSchema (name : List ℕ) (parts : DefinitionTree) (encoding : Option (List ℕ)) (bytes : List ℕ) : Type 0 where
   pub value : List ℕ
   pub is : encoding ≡ Some value
-  pub sent : IsBehindContainer name parts value bytes
+  pub sent : FollowsSchema name parts value bytes
 
 -- the bytes are the encoding of the type's container, and then a reading of the value
-pub record IsReadWithSchema {A : Type 0} (name : List ℕ) (parts : Parts) (c : Codec A) (bytes : List ℕ) (v : A) : Type 0 where
+pub record IsReadWithSchema {A : Type 0} (name : List ℕ) (parts : DefinitionTree) (c : Codec A) (bytes : List ℕ) (v : A) : Type 0 where
   pub rest : List ℕ
-  pub reading : c.reading true rest v
-  pub sent : IsBehindContainer name parts rest bytes
+  pub decodes : c.decodes true rest v
+  pub sent : FollowsSchema name parts rest bytes
 
 -- a name of the type has two definitions
-pub record HasClash (parts : Parts) : Type 0 where
+pub record HasClash (parts : DefinitionTree) : Type 0 where
   pub name : List ℕ
-  pub clash : Clashes nothing_defined parts name
+  pub clash : Conflicts nothing_defined parts name
 
--- the type's container has no encoding
-pub record HasNoBytes (name : List ℕ) (parts : Parts) : Type 0 where
+-- the type's container, its definitions by ascending name, has no encoding
+pub record HasNoBytes (name : List ℕ) (parts : DefinitionTree) : Type 0 where
   pub own : BorshSchemaContainer
   pub is : IsContainerOf name parts own
+  pub ascending : IsOrdered string_cmp (map_of own)
   pub none : container.encoding own ≡ None
 
 -- why container and value aren't written
-pub data WhyNotWritten (name : List ℕ) (parts : Parts) (encoding : Option (List ℕ)) (kind : ErrorKind) : Type 0 where
-  clashes : IsRefusal kind → HasClash parts → WhyNotWritten name parts encoding kind
+pub data WhyNotWritten (name : List ℕ) (parts : DefinitionTree) (encoding : Option (List ℕ)) (kind : ErrorKind) : Type 0 where
+  clashes : IsInvalidData kind → HasClash parts → WhyNotWritten name parts encoding kind
   no_container : kind ≡ InvalidData → HasNoBytes name parts → WhyNotWritten name parts encoding kind
   no_encoding : kind ≡ InvalidData → encoding ≡ None → WhyNotWritten name parts encoding kind
   no_memory : kind ≡ OutOfMemory → WhyNotWritten name parts encoding kind
 
+-- the outcome of a call that is to write a type's container and a value behind it
+pub record EncodesWithSchema (name : List ℕ) (parts : DefinitionTree) (encoding : Option (List ℕ)) (result : Result (Vec ℕ Global) Error) : Type 0 where
+  -- `Ok`: the encoding of the type's container, and then that of the value
+  pub ok : IfOk result (λ v. IsWithSchema name parts encoding v.items)
+  -- `Err`: the kind of the error says why there are no such bytes
+  pub err : IfErr result (λ e. WhyNotWritten name parts encoding (error_kind e))
+  -- where there are such bytes they are answered, memory aside
+  pub exact : (x : List ℕ) → IsWithSchema name parts encoding x → MatchResult result (λ v. v.items ≡ x) (λ e. error_kind e ≡ OutOfMemory)
+
 -- the container in front isn't the type's
-pub record IsOtherSchema (name : List ℕ) (parts : Parts) (bytes : List ℕ) : Type 0 where
+pub record IsOtherSchema (name : List ℕ) (parts : DefinitionTree) (bytes : List ℕ) : Type 0 where
   pub sent : BorshSchemaContainer
   pub front : List ℕ
   pub rest : List ℕ
@@ -61,22 +76,22 @@ pub record IsOtherSchema (name : List ℕ) (parts : Parts) (bytes : List ℕ) : 
   pub other : IsContainerOf name parts sent → ⊥
 
 -- why container and value aren't read: the bytes are no container and a value behind it, or the container isn't the type's
-pub data WhyNotRead {A : Type 0} (name : List ℕ) (parts : Parts) (c : Codec A) (bytes : List ℕ) (kind : ErrorKind) : Type 0 where
-  no_reading : IsRefusal kind → (HasReading (pair container c) true bytes → ⊥) → WhyNotRead name parts c bytes kind
+pub data WhyNotRead {A : Type 0} (name : List ℕ) (parts : DefinitionTree) (c : Codec A) (bytes : List ℕ) (kind : ErrorKind) : Type 0 where
+  malformed : IsInvalidData kind → (IsDecodable (pair container c) true bytes → ⊥) → WhyNotRead name parts c bytes kind
   other_schema : kind ≡ InvalidData → IsOtherSchema name parts bytes → WhyNotRead name parts c bytes kind
-  clashes : IsRefusal kind → HasClash parts → WhyNotRead name parts c bytes kind
+  clashes : IsInvalidData kind → HasClash parts → WhyNotRead name parts c bytes kind
   no_memory : kind ≡ OutOfMemory → WhyNotRead name parts c bytes kind
 
 -- ---- the steps
 
 -- the kind of a refusal to build a container
 abbrev pub IsBuildKind : SchemaBuildError → ErrorKind → Type 0
-IsBuildKind (Redefinition m) kind = IsRefusal kind
+IsBuildKind (Redefinition m) kind = IsInvalidData kind
 IsBuildKind NoMemory kind = kind ≡ OutOfMemory
 
 -- why the type's container isn't there
-pub data WhyNoContainer (parts : Parts) (kind : ErrorKind) : Type 0 where
-  clashing : IsRefusal kind → HasClash parts → WhyNoContainer parts kind
+pub data WhyNoContainer (parts : DefinitionTree) (kind : ErrorKind) : Type 0 where
+  clashing : IsInvalidData kind → HasClash parts → WhyNoContainer parts kind
   memory : kind ≡ OutOfMemory → WhyNoContainer parts kind
 
 -- two values were read, the first from its encoding
@@ -85,4 +100,4 @@ pub record IsPairRead {A B : Type 0} (a : Codec A) (b : Codec B) (bytes : List �
   pub rest : List ℕ
   pub whole : bytes ≡ front ++ rest
   pub first : a.encoding v.0 ≡ Some front
-  pub second : b.reading true rest v.1
+  pub second : b.decodes true rest v.1

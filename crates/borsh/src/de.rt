@@ -1,10 +1,11 @@
 // Reading.
 ghost use Rattle.std.specs.Prelude.{◌≡◌, true, false, IfOk, IfErr, MatchResult};
 ghost use Rattle.borsh_io.specs.Errors.{error_kind};
-ghost use Rattle.borsh_types.specs.Reading.{ReadsAll, DeniedAll, WhyNotWhole};
+ghost use Rattle.borsh_codec.specs.Reading.{DecodedAll, NotDecodedAll};
+ghost use Rattle.borsh.specs.Decoding.{DecodesAll};
 
 pub use borsh_de::{BorshDeserialize, EnumExt, hint, invalid_data, read_bytes, read_tag};
-use borsh_io::{ErrorKind, Read, Result, Unordered};
+use borsh_io::{Read, Result, Unordered};
 use std::alloc::Global;
 
 /// The value that all of the bytes are a reading of.
@@ -13,9 +14,7 @@ use std::alloc::Global;
 /// value is answered, up to sameness, exactly if the bytes are a reading of it, memory aside; and always
 /// where reading the type takes no memory.
 pub fn from_slice<T: BorshDeserialize>(alloc: Global, v: &[u8]) -> Result<T>
-    ensures ok { IfOk result (λ x. T.codec.reading true v.now x) }
-    ensures err { IfErr result (λ e. WhyNotWhole T.codec true v.now (error_kind e)) }
-    ensures exact { (x : T) → T.codec.reading true v.now x → MatchResult result (λ y. T.codec.same y x) (λ e. (error_kind e ≡ ErrorKind.OutOfMemory) × (T.codec.read_allocates ≡ true)) }
+    ensures { DecodesAll T.codec true v.now result }
 {
     T::try_from_slice(alloc, v)
 }
@@ -24,8 +23,8 @@ pub fn from_slice<T: BorshDeserialize>(alloc: Global, v: &[u8]) -> Result<T>
 ///
 /// Refused as [`BorshDeserialize::try_from_reader`] is.
 pub fn from_reader<R: Read, T: BorshDeserialize>(alloc: Global, reader: &mut R) -> Result<T>
-    ensures ok { IfOk result (λ v. ReadsAll T T.codec (R.stream reader.old) (R.stream reader.new) v) }
-    ensures err { IfErr result (λ e. DeniedAll T T.codec (R.stream reader.old) (R.stream reader.new) (error_kind e)) }
+    ensures ok { IfOk result (λ v. DecodedAll T T.codec (R.stream reader.old) (R.stream reader.new) v) }
+    ensures err { IfErr result (λ e. NotDecodedAll T T.codec (R.stream reader.old) (R.stream reader.new) (error_kind e)) }
 {
     T::try_from_reader(alloc, reader)
 }
@@ -36,9 +35,7 @@ pub fn from_reader<R: Read, T: BorshDeserialize>(alloc: Global, reader: &mut R) 
 ///
 /// Refused as [`from_slice`] is.
 pub fn from_slice_unordered<T: BorshDeserialize>(alloc: Global, v: &[u8]) -> Result<T>
-    ensures ok { IfOk result (λ x. T.codec.reading false v.now x) }
-    ensures err { IfErr result (λ e. WhyNotWhole T.codec false v.now (error_kind e)) }
-    ensures exact { (x : T) → T.codec.reading false v.now x → MatchResult result (λ y. T.codec.same y x) (λ e. (error_kind e ≡ ErrorKind.OutOfMemory) × (T.codec.read_allocates ≡ true)) }
+    ensures { DecodesAll T.codec false v.now result }
 {
     T::try_from_reader(alloc, &mut Unordered::new(v))
 }

@@ -1,7 +1,7 @@
 //! Borsh: values as canonical bytes.
 //!
-//! [`to_vec`] writes a value as its encoding, [`from_slice`] reads it again. Each value has one
-//! spelling, and each spelling one value: bytes that are hashed or signed mean the same to everyone.
+//! [`to_vec`] encodes a value, [`from_slice`] decodes it again. Each value has exactly one encoding, and
+//! bytes decode to one value: what is hashed or signed means the same to everyone.
 //! The items stand under the paths of the original crate.
 #![tactic(auto)]
 

@@ -1,13 +1,13 @@
 // Types with their containers, and values that are sent with them.
 ghost use Rattle.std.specs.Prelude.{◌≡◌, Decides, true, IfOk, IfErr, MatchResult};
 ghost use Rattle.borsh_io.specs.Errors.{error_kind};
-ghost use Rattle.borsh_types.specs.Reading.{WhyNotWhole};
-ghost use Rattle.borsh_types.specs.Shapes.{pair};
-ghost use Rattle.borsh_schema.specs.Containers.{IsContainerOf, DescribesRoot};
+ghost use Rattle.std.specs.String.{string_cmp};
+ghost use Rattle.std.specs.BTreeMap.{IsOrdered};
+ghost use Rattle.borsh_schema.specs.Containers.{IsContainerOf, DescribesRoot, map_of};
 ghost use Rattle.borsh_schema.specs.Described.{nothing_defined};
 ghost use Rattle.borsh_schema.specs.Joined.{BuildFault};
-ghost use Rattle.borsh_schema.specs.Sized.{IsTypeSize, BoundsEncodings};
-ghost use Rattle.borsh.specs.WithSchema.{IsWithSchema, IsReadWithSchema, IsPairRead, IsBuildKind, WhyNoContainer, WhyNotWritten, WhyNotRead};
+ghost use Rattle.borsh_schema.specs.Sized.{AnswersTypeSize};
+ghost use Rattle.borsh.specs.WithSchema.{EncodesWithSchema, IsReadWithSchema, IsBuildKind, WhyNoContainer, WhyNotRead};
 
 use super::de::from_slice;
 use super::ser::to_vec;
@@ -26,11 +26,12 @@ pub fn schema_container_of<T: BorshSchema>(
     ensures ok { IfOk result (λ c. IsContainerOf T.name T.parts c) }
     ensures err { IfErr result (λ e. BuildFault nothing_defined T.parts e) }
     ensures language { IfOk result (λ c. DescribesRoot T.codec c) }
+    ensures ascending { IfOk result (λ c. IsOrdered string_cmp (map_of c)) }
 {
     BorshSchemaContainer::for_type::<T>(alloc)
 }
 
-/// The greatest length of the encodings of a type, as its container tells it. No encoding is longer
+/// The greatest length of the encodings of a type in bytes, as its schema container says. No encoding is longer
 /// than an answered size.
 ///
 /// Refused as [`BorshSchemaContainer::max_serialized_size`] is, and with `Redefinition` where a name
@@ -38,8 +39,7 @@ pub fn schema_container_of<T: BorshSchema>(
 pub fn max_serialized_size<T: BorshSchema>(
     alloc: Global,
 ) -> Result<usize, SchemaMaxSerializedSizeError>
-    ensures answer { IsTypeSize T.name T.parts result }
-    ensures bound { BoundsEncodings T.codec result }
+    ensures { AnswersTypeSize T.codec T.name T.parts result }
 {
     let container = schema_container_of::<T>(alloc)?;
     container.max_serialized_size(alloc)
@@ -53,8 +53,7 @@ pub fn try_to_vec_with_schema<T: BorshSerialize + BorshSchema>(
     alloc: Global,
     value: &T,
 ) -> borsh_io::Result<Vec<u8>>
-    ensures ok { IfOk result (λ v. IsWithSchema T.name T.parts (T.codec.encoding value.now) v.items) }
-    ensures err { IfErr result (λ e. WhyNotWritten T.name T.parts (T.codec.encoding value.now) (error_kind e)) }
+    ensures { EncodesWithSchema T.name T.parts (T.codec.encoding value.now) result }
 {
     let container = container_of::<T>(alloc)?;
     let mut out = to_vec(alloc, &container)?;
@@ -74,25 +73,14 @@ pub fn try_from_slice_with_schema<T: BorshDeserialize + BorshSchema>(
 ) -> borsh_io::Result<T>
     ensures ok { IfOk result (λ x. IsReadWithSchema T.name T.parts T.codec v.now x) }
     ensures err { IfErr result (λ e. WhyNotRead T.name T.parts T.codec v.now (error_kind e)) }
-    ensures exact { (x : T) → IsReadWithSchema T.name T.parts T.codec v.now x → MatchResult result (λ y. T.codec.same y x) (λ e. error_kind e ≡ ErrorKind.OutOfMemory) }
+    ensures exact { (x : T) → IsReadWithSchema T.name T.parts T.codec v.now x → MatchResult result (λ y. T.codec.equivalent y x) (λ e. error_kind e ≡ ErrorKind.OutOfMemory) }
 {
-    let sent: (BorshSchemaContainer, T) = pair_from(alloc, v)?;
+    let sent: (BorshSchemaContainer, T) = from_slice(alloc, v)?;
     if is_own::<T>(alloc, &sent.0)? {
         Ok(sent.1)
     } else {
         Err(other_schema())
     }
-}
-
-/// Two values, one behind the other, the first of a type that is read from its encodings alone.
-fn pair_from<S: BorshDeserialize, T: BorshDeserialize>(
-    alloc: Global,
-    v: &[u8],
-) -> borsh_io::Result<(S, T)>
-    ensures ok { S.codec.is_canonical ≡ true → IfOk result (λ p. IsPairRead S.codec T.codec v.now p) }
-    ensures err { IfErr result (λ e. WhyNotWhole (pair S.codec T.codec) true v.now (error_kind e)) }
-{
-    from_slice(alloc, v)
 }
 
 /// Whether a container is that of the type.
@@ -109,6 +97,7 @@ fn is_own<T: BorshSchema>(alloc: Global, sent: &BorshSchemaContainer) -> borsh_i
 /// The container of a type.
 fn container_of<T: BorshSchema>(alloc: Global) -> borsh_io::Result<BorshSchemaContainer>
     ensures ok { IfOk result (λ c. IsContainerOf T.name T.parts c) }
+    ensures ascending { IfOk result (λ c. IsOrdered string_cmp (map_of c)) }
     ensures err { IfErr result (λ e. WhyNoContainer T.parts (error_kind e)) }
 {
     match schema_container_of::<T>(alloc) {

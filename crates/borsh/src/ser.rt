@@ -1,7 +1,7 @@
 // Writing.
 ghost use Rattle.std.specs.Prelude.{◌≡◌, Some, OnOk, IfOk, IfErr};
 ghost use Rattle.borsh_io.specs.Errors.{error_kind};
-ghost use Rattle.borsh_types.specs.Writing.{WritesAll, WriteDenied, WhyNoVector};
+ghost use Rattle.borsh_codec.specs.Writing.{Written, NotWritten, WhyNotEncoded};
 ghost use Rattle.borsh.specs.Length.{IsLength, WhyNoLength};
 
 use super::length::LengthWriter;
@@ -21,7 +21,7 @@ const DEFAULT_SERIALIZER_CAPACITY: usize = 1024;
 /// refused.
 pub fn to_vec<T: BorshSerialize>(alloc: Global, value: &T) -> Result<Vec<u8>>
     ensures ok { IfOk result (λ v. T.codec.encoding value.now ≡ Some v.items) }
-    ensures err { IfErr result (λ e. WhyNoVector (T.codec.encoding value.now) (error_kind e)) }
+    ensures err { IfErr result (λ e. WhyNotEncoded (T.codec.encoding value.now) (error_kind e)) }
 {
     let mut out = Vec::with_capacity(alloc, DEFAULT_SERIALIZER_CAPACITY)?;
     value.serialize(alloc, &mut out)?;
@@ -34,8 +34,8 @@ pub fn to_writer<T: BorshSerialize, W: Write>(
     writer: &mut W,
     value: &T,
 ) -> Result<()>
-    ensures ok { OnOk result (WritesAll W.writing writer.old writer.new (T.codec.encoding value.now)) }
-    ensures err { IfErr result (λ e. WriteDenied T.codec.write_allocates W.writing writer.old writer.new (T.codec.encoding value.now) (error_kind e)) }
+    ensures ok { OnOk result (Written W.writing writer.old writer.new (T.codec.encoding value.now)) }
+    ensures err { IfErr result (λ e. NotWritten T.codec.encoding_allocates W.writing writer.old writer.new (T.codec.encoding value.now) (error_kind e)) }
 {
     value.serialize(alloc, writer)
 }
@@ -46,7 +46,7 @@ pub fn to_writer<T: BorshSerialize, W: Write>(
 /// passes a `usize`, or where writing the value takes memory and that was refused.
 pub fn object_length<T: BorshSerialize>(alloc: Global, value: &T) -> Result<usize>
     ensures ok { IfOk result (IsLength (T.codec.encoding value.now)) }
-    ensures err { IfErr result (λ e. WhyNoLength T.codec.write_allocates (T.codec.encoding value.now) (error_kind e)) }
+    ensures err { IfErr result (λ e. WhyNoLength T.codec.encoding_allocates (T.codec.encoding value.now) (error_kind e)) }
 {
     let mut writer = LengthWriter::new();
     value.serialize(alloc, &mut writer)?;

@@ -3,7 +3,7 @@ use Rattle.std.proofs.Common.{◌≡◌, ◌≢◌, ℕ, zero, suc, ◌+◌, ◌
 use Rattle.std.proofs.lemmas.Fmt.{decimal_by_steps}
 use Rattle.std.proofs.lemmas.List.Elements.{All-nil, All-push, All-append}
 use Rattle.borsh_walks.specs.Container.{Shape, zst_sequence, tag_too_wide, tag_too_narrow, tag_not_power_of_two, missing_definition, empty_length_range}
-use Rattle.borsh_walks.specs.Counts.{raised, raised_for}
+use Rattle.borsh_walks.specs.Counts.{add_saturating, add_to}
 use Rattle.borsh_walks.specs.RulesAnswer.{RulesFault}
 use Rattle.borsh_walks.specs.SizeAnswer.{SizeFault}
 use Rattle.borsh_walks.specs.declared.counted.Expansions.{Expansions}
@@ -12,8 +12,8 @@ use Rattle.borsh_walks.specs.declared.error.SchemaContainerValidateError.{Schema
 use Rattle.borsh_walks.specs.declared.error.SchemaContainerValidateError.TheVariants.{ZSTSequence, TagTooWide, TagTooNarrow, TagNotPowerOfTwo, MissingDefinition, EmptyLengthRange, OutOfMemory}
 use Rattle.borsh_walks.specs.declared.error.SchemaMaxSerializedSizeError.{SchemaMaxSerializedSizeError}
 use Rattle.borsh_walks.specs.declared.error.SchemaMaxSerializedSizeError.TheVariants.{Overflow, Recursive, MissingDefinition as Missing, OutOfMemory as NoMemory, Redefinition}
-use Rattle.borsh_schema.specs.Questions.{FewJudged, FewSized}
-use Rattle.borsh_answers.specs.Containers.{IsRulesText, IsSizeText, AreAtMost, nothing_counted, broken_text, missing_text, counts_text}
+use Rattle.borsh_schema.specs.Questions.{ValidateWork, SizeWork}
+use Rattle.borsh_answers.specs.Containers.{IsRulesText, IsSizeText, nothing_counted, broken_text, missing_text, counts_text}
 use Rattle.borsh_answers.specs.Containers.IsRulesText.{invalid}
 use Rattle.borsh_answers.specs.Containers.IsSizeText.{overflows, recurs, misses}
 use Rattle.borsh_answers.specs.Digits.{digits_of}
@@ -68,14 +68,6 @@ line_of_counts e r z s i =
 
 -- ---- `counts`
 
-raised_little : (n : ℕ) → raised 0 n ≤ n
+raised_little : (n : ℕ) → add_saturating 0 n ≤ n
 raised_little zero = omega arith
 raised_little (suc n) = omega arith
-
-pub few_counts : (most : ℕ) (judged counts : Expansions) → FewJudged most nothing_counted judged → FewSized most judged counts → AreAtMost most counts
-few_counts most judged counts f g =
-    let j = f.0 in
-    let k = f.1 in
-    let i = g.0 in
-    let is : counts ≡ raised_for Size i (raised_for Rules j (raised_for Zero k nothing_counted)) = g.2 ∙ ap (raised_for Size i) f.4 in
-    subst (AreAtMost most) (sym is) (omega (arith, raised_little j, f.2), omega (arith, raised_little k, f.3), omega (arith, raised_little i, g.1))

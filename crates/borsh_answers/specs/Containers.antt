@@ -1,13 +1,13 @@
 -- What answers a question about a container.
 use Rattle.std.specs.Prelude.{◌≡◌, ℕ, ◌^◌, ◌<◌, ◌≤◌, true, List, [], ◌++◌, Option, Some, None, codes, decimal}
 use Rattle.std.specs.BTreeMap.{btree_map_len}
-use Rattle.borsh.specs.Codec.{HasReading}
-use Rattle.borsh_walks.specs.Container.{Shape, Rule, zst_sequence, tag_too_wide, tag_too_narrow, tag_not_power_of_two, missing_definition, empty_length_range, Breaks, IsValid, Reached, Needed, NeededBack, PlainSize, PartialSize}
+use Rattle.borsh.specs.Codec.{IsDecodable}
+use Rattle.borsh_walks.specs.Container.{Shape, Rule, zst_sequence, tag_too_wide, tag_too_narrow, tag_not_power_of_two, missing_definition, empty_length_range, Breaks, IsValid, Reached, SizeReaches, IsRecursive, MaxSize, PartialSize}
 use Rattle.borsh_walks.specs.declared.counted.Expansions.{Expansions}
 use Rattle.borsh_schema.specs.declared.container.BorshSchemaContainer.{BorshSchemaContainer}
 use Rattle.borsh_schema.specs.Codecs.{container}
 use Rattle.borsh_schema.specs.Containers.{language_of, map_of, root_of}
-use Rattle.borsh_schema.specs.Questions.{JudgedCounts, SizedCounts}
+use Rattle.borsh_schema.specs.Questions.{JudgedCounts, SizedCounts, ValidateWork, SizeWork}
 use Rattle.borsh_answers.specs.declared.requests.Inquiry.{Inquiry}
 use Rattle.borsh_answers.specs.declared.requests.Inquiry.TheVariants.{Check, Size, Counts}
 use Rattle.borsh_answers.specs.Digits.{digits_of}
@@ -41,10 +41,10 @@ missing_text name = codes "missing " ++ digits_of name
 
 -- the size, or why there is none
 pub data IsSizeText (C : List ℕ → Option Shape) (root out : List ℕ) : Type 0 where
-  sized : (n : ℕ) → PlainSize C root n → n < 2 ^ 64 → out ≡ decimal n → IsSizeText C root out
+  sized : (n : ℕ) → MaxSize C root n → n < 2 ^ 64 → out ≡ decimal n → IsSizeText C root out
   overflows : (k : ℕ) → PartialSize C [] root k → 2 ^ 64 ≤ k → out ≡ codes "overflow" → IsSizeText C root out
-  recurs : NeededBack C root → out ≡ codes "recursive" → IsSizeText C root out
-  misses : (x : List ℕ) → Needed C root x → C x ≡ None → out ≡ missing_text x → IsSizeText C root out
+  recurs : IsRecursive C root → out ≡ codes "recursive" → IsSizeText C root out
+  misses : (x : List ℕ) → SizeReaches C root x → C x ≡ None → out ≡ missing_text x → IsSizeText C root out
 
 -- ---- `counts`
 
@@ -54,26 +54,25 @@ counts_text e = codes "rules " ++ (decimal e.rules ++ (codes " zero " ++ (decima
 abbrev pub nothing_counted : Expansions
 nothing_counted = record { size = 0; zero = 0; rules = 0 }
 
--- none of the counts is greater
-abbrev pub AreAtMost : ℕ → Expansions → Type 0
-AreAtMost n e = (e.rules ≤ n) × (e.zero ≤ n) × (e.size ≤ n)
-
--- the counts after both questions, the rules first: at most the number of definitions; where the container is valid,
--- as many rules as there are reached names; where a size stands, as many sizes as there are needed names
+-- the counts after both questions, the rules first
 pub record IsCountsText (c : BorshSchemaContainer) (out : List ℕ) : Type 0 where
   pub judged : Expansions
   pub counts : Expansions
   pub is : out ≡ counts_text counts
-  pub few : AreAtMost (btree_map_len (map_of c)) counts
+  -- the first question raised `rules` and `zero`, and the second one `size`, each by at most the number of definitions
+  pub few_judged : ValidateWork (btree_map_len (map_of c)) nothing_counted judged
+  pub few_sized : SizeWork (btree_map_len (map_of c)) judged counts
+  -- where the container is valid, `rules` is the number of reached names, and `zero` at least that of checked elements
   pub rules : IsValid (language_of c) (root_of c) → JudgedCounts (language_of c) (root_of c) nothing_counted judged
-  pub size : (n : ℕ) → PlainSize (language_of c) (root_of c) n → n < 2 ^ 64 → SizedCounts (language_of c) (root_of c) judged counts
+  -- where a size stands, `size` is the number of needed names
+  pub size : (n : ℕ) → MaxSize (language_of c) (root_of c) n → n < 2 ^ 64 → SizedCounts (language_of c) (root_of c) judged counts
 
 -- ---- all of them
 
 -- what answers a question about the container whose encoding the bytes are; where they are none's, a line that tells an error
 pub data AnswersAbout (P : BorshSchemaContainer → List ℕ → Type 0) (bytes out : List ℕ) : Type 0 where
   answered : (c : BorshSchemaContainer) → container.encoding c ≡ Some bytes → P c out → AnswersAbout P bytes out
-  unread : (HasReading container true bytes → ⊥) → IsErrorLine out → AnswersAbout P bytes out
+  unread : (IsDecodable container true bytes → ⊥) → IsErrorLine out → AnswersAbout P bytes out
 
 abbrev pub AnswersInquiry : Inquiry → List ℕ → List ℕ → Type 0
 AnswersInquiry Check bytes out = AnswersAbout (λ c o. IsRulesText (language_of c) (root_of c) o) bytes out

@@ -1,25 +1,25 @@
 -- The schemas of the types that words name, and what answers a line that asks for one.
 use Rattle.std.specs.Prelude.{◌≡◌, ℕ, List, [], ◌∷◌, Option, Some, None, MatchOption, ◌⊎◌, codes}
 use Rattle.borsh_schema.specs.declared.container.BorshSchemaContainer.{BorshSchemaContainer}
-use Rattle.borsh_schema.specs.Addresses.{ip_address_parts}
+use Rattle.borsh_schema.specs.Addresses.{ip_address_definitions}
 use Rattle.borsh_schema.specs.Codecs.{container}
 use Rattle.borsh_schema.specs.Containers.{IsContainerOf}
-use Rattle.borsh_schema.specs.Described.{list as sequence, no_fields, Parts, none, defined, both}
+use Rattle.borsh_schema.specs.Described.{list as sequence, no_fields, DefinitionTree, none, defined, both}
 use Rattle.borsh_schema.specs.Names.{applied, applied_to_two, array_name, tuple_name}
-use Rattle.borsh_schema.specs.Own.{container_parts}
-use Rattle.borsh_schema.specs.Types.{list_parts, map_parts, option_of, primitive_parts, range_of, range_from as range_from_of, range_to as range_to_of, result_of, text_parts, tuple_parts, unit_parts}
+use Rattle.borsh_schema.specs.Own.{container_definitions}
+use Rattle.borsh_schema.specs.Types.{list_definitions, map_definitions, option_of, primitive_definitions, range_of, range_from as range_from_of, range_to as range_to_of, result_of, text_definitions, tuple_definitions, unit_definitions}
 use Rattle.borsh.specs.WithSchema.{HasClash}
-use Rattle.borsh_samples.specs.Schemas.{readme_parts, my_enum_parts}
+use Rattle.borsh_samples.specs.Schemas.{readme_definitions, my_enum_definitions}
 use Rattle.borsh_answers.specs.declared.words.Word.{Word}
 use Rattle.borsh_answers.specs.declared.words.Word.TheVariants.{U8, U32, U64, Bool, OptionU8, String, ListU8, U128, Isize, NonZeroI16, Unit, ResultU8, ArrayOption, Ranges, ListString, ListOption, ListUnit, ListBoxUnit, ListZero, DequeU8, LinkedU8, SetU8, HashSetU8, MapU8, HashMapU8, MapSet, MapUnit, Ip, BoxU8, RcString, Container, Readme, MyEnum, IndexMapU8, IndexSetU8, Bytes, Uuid, Socket, SocketV6, MyStruct, OneOrZero, ListOne}
 use Rattle.borsh_answers.specs.Digits.{digits_of}
 
 -- a type's name, and the definitions that it leads to
 abbrev pub Schema : Type 0
-Schema = List ℕ × Parts
+Schema = List ℕ × DefinitionTree
 
 abbrev primitive : List ℕ → ℕ → Schema
-primitive name n = (name, primitive_parts name n)
+primitive name n = (name, primitive_definitions name n)
 
 abbrev u8 : Schema
 u8 = primitive (codes "u8") 1
@@ -28,15 +28,15 @@ abbrev i32 : Schema
 i32 = primitive (codes "i32") 4
 
 abbrev unit : Schema
-unit = (codes "()", unit_parts)
+unit = (codes "()", unit_definitions)
 
 abbrev string : Schema
-string = (codes "String", text_parts)
+string = (codes "String", text_definitions)
 
 -- ---- sums and ranges
 
 abbrev option : Schema → Schema
-option s = (applied (codes "Option<") s.0, defined (applied (codes "Option<") s.0) (option_of s.0) (both s.1 (both unit_parts none)))
+option s = (applied (codes "Option<") s.0, defined (applied (codes "Option<") s.0) (option_of s.0) (both s.1 (both unit_definitions none)))
 
 abbrev result : Schema → Schema → Schema
 result s t = (applied_to_two (codes "Result<") s.0 t.0, defined (applied_to_two (codes "Result<") s.0 t.0) (result_of s.0 t.0) (both s.1 (both t.1 none)))
@@ -59,12 +59,12 @@ abbrev names : List Schema → List (List ℕ)
 names [] = []
 names (s ∷ ss) = s.0 ∷ names ss
 
-abbrev all_parts : List Schema → Parts
+abbrev all_parts : List Schema → DefinitionTree
 all_parts [] = none
 all_parts (s ∷ ss) = both s.1 (all_parts ss)
 
 abbrev tuple : List Schema → Schema
-tuple ss = (tuple_name (names ss), tuple_parts (names ss) (all_parts ss))
+tuple ss = (tuple_name (names ss), tuple_definitions (names ss) (all_parts ss))
 
 abbrev ranges : Schema
 ranges =
@@ -76,10 +76,10 @@ abbrev array : Schema → ℕ → Schema
 array s n = (array_name s.0 n, defined (array_name s.0 n) (sequence 0 n n s.0) (both s.1 none))
 
 abbrev list : List ℕ → Schema → Schema
-list head s = (applied head s.0, list_parts head s.0 s.1)
+list head s = (applied head s.0, list_definitions head s.0 s.1)
 
 abbrev map : List ℕ → Schema → Schema → Schema
-map head k v = (applied_to_two head k.0 v.0, map_parts head k.0 v.0 k.1 v.1)
+map head k v = (applied_to_two head k.0 v.0, map_definitions head k.0 v.0 k.1 v.1)
 
 -- ---- words
 
@@ -112,12 +112,12 @@ schema_of MapU8 = Some (map (codes "BTreeMap<") u8 u8)
 schema_of HashMapU8 = Some (map (codes "HashMap<") u8 u8)
 schema_of MapSet = Some (map (codes "BTreeMap<") u8 (list (codes "BTreeSet<") u8))
 schema_of MapUnit = Some (map (codes "BTreeMap<") unit u8)
-schema_of Ip = Some (codes "IpAddr", ip_address_parts)
+schema_of Ip = Some (codes "IpAddr", ip_address_definitions)
 schema_of BoxU8 = Some (list (codes "Vec<") u8)
 schema_of RcString = Some string
-schema_of Container = Some (codes "BorshSchemaContainer", container_parts)
-schema_of Readme = Some (codes "A", readme_parts)
-schema_of MyEnum = Some (codes "MyEnum", my_enum_parts)
+schema_of Container = Some (codes "BorshSchemaContainer", container_definitions)
+schema_of Readme = Some (codes "A", readme_definitions)
+schema_of MyEnum = Some (codes "MyEnum", my_enum_definitions)
 schema_of IndexMapU8 = None
 schema_of IndexSetU8 = None
 schema_of Bytes = None
@@ -129,7 +129,7 @@ schema_of OneOrZero = None
 schema_of ListOne = None
 
 -- what answers a line that asks for the schema with this name and these definitions: the encoding of its container
-pub record IsSchemaText (name : List ℕ) (parts : Parts) (out : List ℕ) : Type 0 where
+pub record IsSchemaText (name : List ℕ) (parts : DefinitionTree) (out : List ℕ) : Type 0 where
   pub own : BorshSchemaContainer
   pub bytes : List ℕ
   pub is : IsContainerOf name parts own
@@ -143,7 +143,7 @@ AnswersSchema word out = MatchOption (schema_of word) (out ≡ codes "error no s
 -- ---- the steps
 
 -- the same, or a name of the type has two definitions; no word's type has such a name
-abbrev pub IsSchemaTextOrClash : List ℕ → Parts → List ℕ → Type 0
+abbrev pub IsSchemaTextOrClash : List ℕ → DefinitionTree → List ℕ → Type 0
 IsSchemaTextOrClash name parts out = IsSchemaText name parts out ⊎ HasClash parts
 
 abbrev pub AnswersSchemaOrClash : Word → List ℕ → Type 0

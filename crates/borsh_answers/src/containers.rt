@@ -2,11 +2,11 @@
 ghost use Rattle.std.specs.Prelude.{◌≡◌, ◌++◌, ℕ, ◌^◌, ◌<◌, ⊤, codes, decimal, true, Some, IfOk, IfErr, OnOk, string_bytes};
 ghost use Rattle.std.specs.BTreeMap.{btree_map_len};
 ghost use Rattle.borsh.specs.Errors.{error_kind};
-ghost use Rattle.borsh.specs.Reading.{WhyNotWhole};
-ghost use Rattle.borsh_walks.specs.Container.{IsValid, PlainSize};
+ghost use Rattle.borsh.specs.Reading.{WhyNotDecoded};
+ghost use Rattle.borsh_walks.specs.Container.{IsValid, MaxSize};
 ghost use Rattle.borsh_schema.specs.Codecs.{container as container_codec};
 ghost use Rattle.borsh_schema.specs.Containers.{language_of, root_of, map_of};
-ghost use Rattle.borsh_schema.specs.Questions.{JudgedCounts, SizedCounts, FewJudged, FewSized};
+ghost use Rattle.borsh_schema.specs.Questions.{JudgedCounts, SizedCounts, ValidateWork, SizeWork};
 ghost use Rattle.borsh_answers.specs.Containers.{AnswersInquiry, IsRulesText, IsSizeText, IsCountsText, broken_text, missing_text, counts_text};
 ghost use Rattle.borsh_answers.specs.Lines.{IsLine};
 ghost use Rattle.borsh_answers.specs.Telling.{TellsRule, TellsSize};
@@ -14,11 +14,11 @@ ghost use Rattle.borsh_answers.specs.Telling.{TellsRule, TellsSize};
 use super::lines::{line_of, push_digits};
 use super::requests::Inquiry;
 use super::values::error_answer;
+use borsh::from_slice;
 use borsh::io::Error;
 use borsh::schema::{
     BorshSchemaContainer, Expansions, SchemaContainerValidateError, SchemaMaxSerializedSizeError,
 };
-use borsh::{BorshDeserialize, from_slice};
 use std::alloc::{AllocError, Global};
 
 /// The answer to a question about the container whose encoding the bytes are.
@@ -44,15 +44,7 @@ pub(crate) fn container_answer(
 /// The container whose encoding the bytes are.
 fn container_from(alloc: Global, bytes: &[u8]) -> Result<BorshSchemaContainer, Error>
     ensures ok { IfOk result (λ c. container_codec.encoding c ≡ Some bytes.now) }
-    ensures err { IfErr result (λ e. WhyNotWhole container_codec true bytes.now (error_kind e)) }
-{
-    canonical_from(alloc, bytes)
-}
-
-/// The value whose encoding the bytes are, of a type that is read from its encodings alone.
-fn canonical_from<T: BorshDeserialize>(alloc: Global, bytes: &[u8]) -> Result<T, Error>
-    ensures ok { T.codec.is_canonical ≡ true → IfOk result (λ v. T.codec.encoding v ≡ Some bytes.now) }
-    ensures err { IfErr result (λ e. WhyNotWhole T.codec true bytes.now (error_kind e)) }
+    ensures err { IfErr result (λ e. WhyNotDecoded container_codec true bytes.now (error_kind e)) }
 {
     from_slice(alloc, bytes)
 }
@@ -174,7 +166,7 @@ fn judge(
     container: &BorshSchemaContainer,
     counts: &mut Expansions,
 ) -> Result<(), AllocError>
-    ensures few { FewJudged (btree_map_len (map_of container.now)) counts.old counts.new }
+    ensures few { ValidateWork (btree_map_len (map_of container.now)) counts.old counts.new }
     ensures rules { OnOk result (IsValid (language_of container.now) (root_of container.now) → JudgedCounts (language_of container.now) (root_of container.now) counts.old counts.new) }
 {
     match container.validate_counted(alloc, counts) {
@@ -190,8 +182,8 @@ fn measure(
     container: &BorshSchemaContainer,
     counts: &mut Expansions,
 ) -> Result<(), AllocError>
-    ensures few { FewSized (btree_map_len (map_of container.now)) counts.old counts.new }
-    ensures size { OnOk result ((n : ℕ) → PlainSize (language_of container.now) (root_of container.now) n → n < 2 ^ 64 → SizedCounts (language_of container.now) (root_of container.now) counts.old counts.new) }
+    ensures few { SizeWork (btree_map_len (map_of container.now)) counts.old counts.new }
+    ensures size { OnOk result ((n : ℕ) → MaxSize (language_of container.now) (root_of container.now) n → n < 2 ^ 64 → SizedCounts (language_of container.now) (root_of container.now) counts.old counts.new) }
 {
     match container.max_serialized_size_counted(alloc, counts) {
         Ok(_) => Ok(()),

@@ -1,7 +1,7 @@
 // Bytes that are read as a value, which is written again.
 ghost use Rattle.std.specs.Prelude.{◌≡◌, ◌≢◌, ◌++◌, true, codes, IfOk, IfErr};
 ghost use Rattle.borsh.specs.Errors.{error_kind};
-ghost use Rattle.borsh.specs.Reading.{WhyNotWhole};
+ghost use Rattle.borsh.specs.Reading.{WhyNotDecoded};
 ghost use Rattle.borsh_answers.specs.Digits.{digits_of};
 ghost use Rattle.borsh_answers.specs.Answers.{AnswersValue};
 ghost use Rattle.borsh_answers.specs.Lines.{IsLine, IsErrorLine};
@@ -32,8 +32,8 @@ pub fn value_answer<T: BorshSerialize + BorshDeserialize>(
 
 /// The value that all of the bytes are a reading of, in the strict or the unordered mode.
 fn value_from<T: BorshDeserialize>(alloc: Global, strict: bool, bytes: &[u8]) -> Result<T, Error>
-    ensures ok { IfOk result (λ v. T.codec.reading strict bytes.now v) }
-    ensures err { IfErr result (λ e. WhyNotWhole T.codec strict bytes.now (error_kind e)) }
+    ensures ok { IfOk result (λ v. T.codec.decodes strict bytes.now v) }
+    ensures err { IfErr result (λ e. WhyNotDecoded T.codec strict bytes.now (error_kind e)) }
 {
     if strict {
         from_slice(alloc, bytes)

@@ -2,8 +2,8 @@
 ghost use Rattle.std.specs.Prelude.{◌≡◌, IfOk, IfErr};
 ghost use Rattle.std.specs.Net.Socket.{v6_flowinfo, v6_scope_id, socket_flowinfo, socket_scope_id};
 ghost use Rattle.borsh_io.specs.Errors.{error_kind};
-ghost use Rattle.borsh_types.specs.Types.Addresses.{socket_v6, socket};
-ghost use Rattle.borsh_types.specs.Reading.{Reads, Denied};
+ghost use Rattle.borsh_codec.specs.Types.Addresses.{socket_v6, socket};
+ghost use Rattle.borsh_codec.specs.Reading.{Decoded, NotDecoded};
 
 use super::deserialize::BorshDeserialize;
 use super::raw_bytes::{read_octets, read_tag};
@@ -51,9 +51,9 @@ impl BorshDeserialize for SocketAddrV6 {
     /// The flow and the scope are no part of the encoding: they are 0.
     #[inline]
     fn deserialize_reader<R: Read>(alloc: Global, reader: &mut R) -> Result<SocketAddrV6>
-        ensures ok { IfOk result (λ a. Reads SocketAddrV6 socket_v6 (R.stream reader.old) (R.stream reader.new) a) }
+        ensures ok { IfOk result (λ a. Decoded SocketAddrV6 socket_v6 (R.stream reader.old) (R.stream reader.new) a) }
         ensures plain { IfOk result (λ a. (v6_flowinfo a ≡ 0) × (v6_scope_id a ≡ 0)) }
-        ensures err { IfErr result (λ e. Denied SocketAddrV6 socket_v6 (R.stream reader.old) (R.stream reader.new) (error_kind e)) }
+        ensures err { IfErr result (λ e. NotDecoded SocketAddrV6 socket_v6 (R.stream reader.old) (R.stream reader.new) (error_kind e)) }
     {
         let (ip, port) = <(Ipv6Addr, u16)>::deserialize_reader(alloc, reader)?;
         Ok(SocketAddrV6::new(ip, port, 0, 0))
@@ -66,9 +66,9 @@ impl BorshDeserialize for SocketAddr {
     /// The flow and the scope are no part of the encoding: they are 0.
     #[inline]
     fn deserialize_reader<R: Read>(alloc: Global, reader: &mut R) -> Result<SocketAddr>
-        ensures ok { IfOk result (λ a. Reads SocketAddr socket (R.stream reader.old) (R.stream reader.new) a) }
+        ensures ok { IfOk result (λ a. Decoded SocketAddr socket (R.stream reader.old) (R.stream reader.new) a) }
         ensures plain { IfOk result (λ a. (socket_flowinfo a ≡ 0) × (socket_scope_id a ≡ 0)) }
-        ensures err { IfErr result (λ e. Denied SocketAddr socket (R.stream reader.old) (R.stream reader.new) (error_kind e)) }
+        ensures err { IfErr result (λ e. NotDecoded SocketAddr socket (R.stream reader.old) (R.stream reader.new) (error_kind e)) }
     {
         match read_tag(reader)? {
             0 => Ok(SocketAddr::V4(SocketAddrV4::deserialize_reader(alloc, reader)?)),

@@ -1,9 +1,9 @@
 // What is read.
 ghost use Rattle.std.specs.Prelude.{◌≡◌, List, length, true, IfOk, IfErr, MatchBool, MatchOption};
 ghost use Rattle.borsh_io.specs.Errors.{error_kind};
-ghost use Rattle.borsh_io.specs.Stream.{memory_stream};
-ghost use Rattle.borsh_types.specs.Shapes.{row, listed};
-ghost use Rattle.borsh_types.specs.Reading.{Reads, Denied, ReadsBehind, DeniedBehind, ReadsAll, DeniedAll, WhyNotWhole};
+ghost use Rattle.borsh_io.specs.Stream.{slice_state};
+ghost use Rattle.borsh_codec.specs.Shapes.{array, allocated_array};
+ghost use Rattle.borsh_codec.specs.Reading.{Decoded, NotDecoded, DecodedAfterTag, NotDecodedAfterTag, DecodedAll, NotDecodedAll, WhyNotDecoded};
 
 use super::refusals::not_all_bytes_read;
 use borsh_io::{ErrorKind, Read, Result};
@@ -22,8 +22,8 @@ use std::alloc::Global;
 pub trait BorshDeserialize: BorshType + Sized + Drop {
     /// Reads a value from the front of the bytes to come, and leaves the rest.
     fn deserialize_reader<R: Read>(alloc: Global, reader: &mut R) -> Result<Self>
-        ensures ok { IfOk result (λ v. Reads Self Self.codec (R.stream reader.old) (R.stream reader.new) v) }
-        ensures err { IfErr result (λ e. Denied Self Self.codec (R.stream reader.old) (R.stream reader.new) (error_kind e)) };
+        ensures ok { IfOk result (λ v. Decoded Self Self.codec (R.stream reader.old) (R.stream reader.new) v) }
+        ensures err { IfErr result (λ e. NotDecoded Self Self.codec (R.stream reader.old) (R.stream reader.new) (error_kind e)) };
 
     /// Reads `len` values one after another, where the type has a way to read them at once: only `u8`
     /// has one. Where the answer is `None` nothing was read.
@@ -32,8 +32,8 @@ pub trait BorshDeserialize: BorshType + Sized + Drop {
         _len: u32,
         _reader: &mut R,
     ) -> Result<Option<Vec<Self>>>
-        ensures ok { IfOk result (λ o. MatchOption o (_reader.new ≡ _reader.old) (λ v. Reads (List Self) (listed _len Self.codec) (R.stream _reader.old) (R.stream _reader.new) v.items)) }
-        ensures err { IfErr result (λ e. Denied (List Self) (listed _len Self.codec) (R.stream _reader.old) (R.stream _reader.new) (error_kind e)) }
+        ensures ok { IfOk result (λ o. MatchOption o (_reader.new ≡ _reader.old) (λ v. Decoded (List Self) (allocated_array _len Self.codec) (R.stream _reader.old) (R.stream _reader.new) v.items)) }
+        ensures err { IfErr result (λ e. NotDecoded (List Self) (allocated_array _len Self.codec) (R.stream _reader.old) (R.stream _reader.new) (error_kind e)) }
     {
         Ok(None)
     }
@@ -46,16 +46,16 @@ pub trait BorshDeserialize: BorshType + Sized + Drop {
     /// Writes the next values over those of the slice, where the type has a way to read them at once:
     /// only `u8` has one. Where the answer is `false` nothing was read. No memory is taken.
     fn fill_slice<R: Read>(_items: &mut [Self], _reader: &mut R) -> Result<bool>
-        ensures ok { IfOk result (λ filled. MatchBool filled (Reads (List Self) (row (length _items.old) Self.codec) (R.stream _reader.old) (R.stream _reader.new) _items.new) (_reader.new ≡ _reader.old)) }
-        ensures err { IfErr result (λ e. Denied (List Self) (row (length _items.old) Self.codec) (R.stream _reader.old) (R.stream _reader.new) (error_kind e)) }
+        ensures ok { IfOk result (λ filled. MatchBool filled (Decoded (List Self) (array (length _items.old) Self.codec) (R.stream _reader.old) (R.stream _reader.new) _items.new) (_reader.new ≡ _reader.old)) }
+        ensures err { IfErr result (λ e. NotDecoded (List Self) (array (length _items.old) Self.codec) (R.stream _reader.old) (R.stream _reader.new) (error_kind e)) }
     {
         Ok(false)
     }
 
     /// Reads a value from the front of the slice, which becomes what is left.
     final fn deserialize(alloc: Global, buf: &mut &[u8]) -> Result<Self>
-        ensures ok { IfOk result (λ v. Reads Self Self.codec (memory_stream buf.old.now) (memory_stream buf.new.now) v) }
-        ensures err { IfErr result (λ e. Denied Self Self.codec (memory_stream buf.old.now) (memory_stream buf.new.now) (error_kind e)) }
+        ensures ok { IfOk result (λ v. Decoded Self Self.codec (slice_state buf.old.now) (slice_state buf.new.now) v) }
+        ensures err { IfErr result (λ e. NotDecoded Self Self.codec (slice_state buf.old.now) (slice_state buf.new.now) (error_kind e)) }
     {
         Self::deserialize_reader(alloc, buf)
     }
@@ -63,8 +63,8 @@ pub trait BorshDeserialize: BorshType + Sized + Drop {
     /// Reads a value from all of the slice. Bytes left over are refused: `InvalidData`, "Not all bytes
     /// read".
     final fn try_from_slice(alloc: Global, v: &[u8]) -> Result<Self>
-        ensures ok { IfOk result (λ x. Self.codec.reading true v.now x) }
-        ensures err { IfErr result (λ e. WhyNotWhole Self.codec true v.now (error_kind e)) }
+        ensures ok { IfOk result (λ x. Self.codec.decodes true v.now x) }
+        ensures err { IfErr result (λ e. WhyNotDecoded Self.codec true v.now (error_kind e)) }
     {
         let mut rest = v;
         let value = Self::deserialize_reader(alloc, &mut rest)?;
@@ -78,8 +78,8 @@ pub trait BorshDeserialize: BorshType + Sized + Drop {
     /// where the reader fails then, the answer is `InvalidData`, "Not all bytes read"; but a failure of
     /// the kind `UnexpectedEof` is taken as the end.
     final fn try_from_reader<R: Read>(alloc: Global, reader: &mut R) -> Result<Self>
-        ensures ok { IfOk result (λ v. ReadsAll Self Self.codec (R.stream reader.old) (R.stream reader.new) v) }
-        ensures err { IfErr result (λ e. DeniedAll Self Self.codec (R.stream reader.old) (R.stream reader.new) (error_kind e)) }
+        ensures ok { IfOk result (λ v. DecodedAll Self Self.codec (R.stream reader.old) (R.stream reader.new) v) }
+        ensures err { IfErr result (λ e. NotDecodedAll Self Self.codec (R.stream reader.old) (R.stream reader.new) (error_kind e)) }
     {
         let value = Self::deserialize_reader(alloc, reader)?;
         let mut more = [0u8; 1];
@@ -100,6 +100,6 @@ pub trait EnumExt: BorshDeserialize {
     /// Refused as [`deserialize_reader`](BorshDeserialize::deserialize_reader) is, for the tag followed
     /// by the bytes to come.
     fn deserialize_variant<R: Read>(alloc: Global, reader: &mut R, tag: u8) -> Result<Self>
-        ensures ok { IfOk result (λ v. ReadsBehind tag Self Self.codec (R.stream reader.old) (R.stream reader.new) v) }
-        ensures err { IfErr result (λ e. DeniedBehind tag Self Self.codec (R.stream reader.old) (R.stream reader.new) (error_kind e)) };
+        ensures ok { IfOk result (λ v. DecodedAfterTag tag Self Self.codec (R.stream reader.old) (R.stream reader.new) v) }
+        ensures err { IfErr result (λ e. NotDecodedAfterTag tag Self Self.codec (R.stream reader.old) (R.stream reader.new) (error_kind e)) };
 }

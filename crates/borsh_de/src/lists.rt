@@ -4,9 +4,9 @@ ghost use Rattle.std.specs.Box.{boxed_slice_items};
 ghost use Rattle.std.specs.Rc.{rc_slice_items};
 ghost use Rattle.std.specs.Cow.{cow_slice_items};
 ghost use Rattle.borsh_io.specs.Errors.{error_kind};
-ghost use Rattle.borsh_types.specs.Shapes.{along, listed, counted, elements};
-ghost use Rattle.borsh_types.specs.Reading.{Took, Reads, Denied};
-ghost use Rattle.borsh_types.specs.Empty.{RefusesEmpty};
+ghost use Rattle.borsh_codec.specs.Shapes.{contramap, allocated_array, length_prefixed, list};
+ghost use Rattle.borsh_codec.specs.Reading.{TakesPrefix, Decoded, NotDecoded};
+ghost use Rattle.borsh_codec.specs.Empty.{RefusesZeroWidth};
 
 use super::deserialize::BorshDeserialize;
 use super::hint::cautious;
@@ -25,8 +25,8 @@ pub(crate) fn read_elements<T: BorshDeserialize, R: Read>(
     len: u32,
     reader: &mut R,
 ) -> Result<Vec<T>>
-    ensures ok { IfOk result (λ v. Reads (List T) (listed len T.codec) (R.stream reader.old) (R.stream reader.new) v.items) }
-    ensures err { IfErr result (λ e. Denied (List T) (listed len T.codec) (R.stream reader.old) (R.stream reader.new) (error_kind e)) }
+    ensures ok { IfOk result (λ v. Decoded (List T) (allocated_array len T.codec) (R.stream reader.old) (R.stream reader.new) v.items) }
+    ensures err { IfErr result (λ e. NotDecoded (List T) (allocated_array len T.codec) (R.stream reader.old) (R.stream reader.new) (error_kind e)) }
 {
     if len == 0 {
         return Ok(Vec::new(alloc));
@@ -47,8 +47,8 @@ pub(crate) fn read_counted<T: BorshDeserialize, R: Read>(
     alloc: Global,
     reader: &mut R,
 ) -> Result<Vec<T>>
-    ensures ok { IfOk result (λ v. Reads (List T) (counted T.codec) (R.stream reader.old) (R.stream reader.new) v.items) }
-    ensures err { IfErr result (λ e. Denied (List T) (counted T.codec) (R.stream reader.old) (R.stream reader.new) (error_kind e)) }
+    ensures ok { IfOk result (λ v. Decoded (List T) (length_prefixed T.codec) (R.stream reader.old) (R.stream reader.new) v.items) }
+    ensures err { IfErr result (λ e. NotDecoded (List T) (length_prefixed T.codec) (R.stream reader.old) (R.stream reader.new) (error_kind e)) }
 {
     let count = u32::deserialize_reader(alloc, reader)?;
     read_elements(alloc, count, reader)
@@ -61,10 +61,10 @@ pub(crate) fn read_list<T: BorshDeserialize, R: Read>(
     alloc: Global,
     reader: &mut R,
 ) -> Result<Vec<T>>
-    ensures ok { IfOk result (λ v. Reads (List T) (elements T.codec) (R.stream reader.old) (R.stream reader.new) v.items) }
-    ensures long { IfOk result (λ v. Took (λ x. 4 + length v.items ≤ length x) (R.stream reader.old) (R.stream reader.new)) }
-    ensures err { IfErr result (λ e. Denied (List T) (elements T.codec) (R.stream reader.old) (R.stream reader.new) (error_kind e)) }
-    ensures untouched { RefusesEmpty T.codec.is_empty result reader.old reader.new }
+    ensures ok { IfOk result (λ v. Decoded (List T) (list T.codec) (R.stream reader.old) (R.stream reader.new) v.items) }
+    ensures long { IfOk result (λ v. TakesPrefix (λ x. 4 + length v.items ≤ length x) (R.stream reader.old) (R.stream reader.new)) }
+    ensures err { IfErr result (λ e. NotDecoded (List T) (list T.codec) (R.stream reader.old) (R.stream reader.new) (error_kind e)) }
+    ensures untouched { RefusesZeroWidth T.codec.is_zero_width result reader.old reader.new }
 {
     if T::encodes_empty() {
         return Err(Error::new(ErrorKind::InvalidData, ERROR_ZST_FORBIDDEN));
@@ -75,10 +75,10 @@ pub(crate) fn read_list<T: BorshDeserialize, R: Read>(
 impl<T: BorshDeserialize> BorshDeserialize for Vec<T> {
     #[inline]
     fn deserialize_reader<R: Read>(alloc: Global, reader: &mut R) -> Result<Vec<T>>
-        ensures ok { IfOk result (λ v. Reads (Vec T Global) (along (λ v. v.items) (elements T.codec)) (R.stream reader.old) (R.stream reader.new) v) }
-        ensures long { IfOk result (λ v. Took (λ x. 4 + length v.items ≤ length x) (R.stream reader.old) (R.stream reader.new)) }
-        ensures err { IfErr result (λ e. Denied (Vec T Global) (along (λ v. v.items) (elements T.codec)) (R.stream reader.old) (R.stream reader.new) (error_kind e)) }
-        ensures untouched { RefusesEmpty T.codec.is_empty result reader.old reader.new }
+        ensures ok { IfOk result (λ v. Decoded (Vec T Global) (contramap (λ v. v.items) (list T.codec)) (R.stream reader.old) (R.stream reader.new) v) }
+        ensures long { IfOk result (λ v. TakesPrefix (λ x. 4 + length v.items ≤ length x) (R.stream reader.old) (R.stream reader.new)) }
+        ensures err { IfErr result (λ e. NotDecoded (Vec T Global) (contramap (λ v. v.items) (list T.codec)) (R.stream reader.old) (R.stream reader.new) (error_kind e)) }
+        ensures untouched { RefusesZeroWidth T.codec.is_zero_width result reader.old reader.new }
     {
         read_list(alloc, reader)
     }
@@ -87,10 +87,10 @@ impl<T: BorshDeserialize> BorshDeserialize for Vec<T> {
 impl<T: BorshDeserialize> BorshDeserialize for VecDeque<T> {
     #[inline]
     fn deserialize_reader<R: Read>(alloc: Global, reader: &mut R) -> Result<VecDeque<T>>
-        ensures ok { IfOk result (λ v. Reads (VecDeque T Global) (along (λ v. v.items) (elements T.codec)) (R.stream reader.old) (R.stream reader.new) v) }
-        ensures long { IfOk result (λ v. Took (λ x. 4 + length v.items ≤ length x) (R.stream reader.old) (R.stream reader.new)) }
-        ensures err { IfErr result (λ e. Denied (VecDeque T Global) (along (λ v. v.items) (elements T.codec)) (R.stream reader.old) (R.stream reader.new) (error_kind e)) }
-        ensures untouched { RefusesEmpty T.codec.is_empty result reader.old reader.new }
+        ensures ok { IfOk result (λ v. Decoded (VecDeque T Global) (contramap (λ v. v.items) (list T.codec)) (R.stream reader.old) (R.stream reader.new) v) }
+        ensures long { IfOk result (λ v. TakesPrefix (λ x. 4 + length v.items ≤ length x) (R.stream reader.old) (R.stream reader.new)) }
+        ensures err { IfErr result (λ e. NotDecoded (VecDeque T Global) (contramap (λ v. v.items) (list T.codec)) (R.stream reader.old) (R.stream reader.new) (error_kind e)) }
+        ensures untouched { RefusesZeroWidth T.codec.is_zero_width result reader.old reader.new }
     {
         Ok(VecDeque::from_vec(read_list(alloc, reader)?))
     }
@@ -99,10 +99,10 @@ impl<T: BorshDeserialize> BorshDeserialize for VecDeque<T> {
 impl<T: BorshDeserialize> BorshDeserialize for LinkedList<T> {
     #[inline]
     fn deserialize_reader<R: Read>(alloc: Global, reader: &mut R) -> Result<LinkedList<T>>
-        ensures ok { IfOk result (λ v. Reads (LinkedList T Global) (elements T.codec) (R.stream reader.old) (R.stream reader.new) v) }
-        ensures long { IfOk result (λ v. Took (λ x. 4 + length v ≤ length x) (R.stream reader.old) (R.stream reader.new)) }
-        ensures err { IfErr result (λ e. Denied (LinkedList T Global) (elements T.codec) (R.stream reader.old) (R.stream reader.new) (error_kind e)) }
-        ensures untouched { RefusesEmpty T.codec.is_empty result reader.old reader.new }
+        ensures ok { IfOk result (λ v. Decoded (LinkedList T Global) (list T.codec) (R.stream reader.old) (R.stream reader.new) v) }
+        ensures long { IfOk result (λ v. TakesPrefix (λ x. 4 + length v ≤ length x) (R.stream reader.old) (R.stream reader.new)) }
+        ensures err { IfErr result (λ e. NotDecoded (LinkedList T Global) (list T.codec) (R.stream reader.old) (R.stream reader.new) (error_kind e)) }
+        ensures untouched { RefusesZeroWidth T.codec.is_zero_width result reader.old reader.new }
     {
         let mut list = LinkedList::new(alloc);
         for item in read_list(alloc, reader)? {
@@ -115,9 +115,9 @@ impl<T: BorshDeserialize> BorshDeserialize for LinkedList<T> {
 impl<T: BorshDeserialize> BorshDeserialize for BoxedSlice<T> {
     #[inline]
     fn deserialize_reader<R: Read>(alloc: Global, reader: &mut R) -> Result<BoxedSlice<T>>
-        ensures ok { IfOk result (λ v. Reads (BoxedSlice T Global) (along boxed_slice_items (elements T.codec)) (R.stream reader.old) (R.stream reader.new) v) }
-        ensures err { IfErr result (λ e. Denied (BoxedSlice T Global) (along boxed_slice_items (elements T.codec)) (R.stream reader.old) (R.stream reader.new) (error_kind e)) }
-        ensures untouched { RefusesEmpty T.codec.is_empty result reader.old reader.new }
+        ensures ok { IfOk result (λ v. Decoded (BoxedSlice T Global) (contramap boxed_slice_items (list T.codec)) (R.stream reader.old) (R.stream reader.new) v) }
+        ensures err { IfErr result (λ e. NotDecoded (BoxedSlice T Global) (contramap boxed_slice_items (list T.codec)) (R.stream reader.old) (R.stream reader.new) (error_kind e)) }
+        ensures untouched { RefusesZeroWidth T.codec.is_zero_width result reader.old reader.new }
     {
         Ok(read_list(alloc, reader)?.into_boxed_slice())
     }
@@ -126,9 +126,9 @@ impl<T: BorshDeserialize> BorshDeserialize for BoxedSlice<T> {
 impl<T: BorshDeserialize> BorshDeserialize for RcSlice<T> {
     #[inline]
     fn deserialize_reader<R: Read>(alloc: Global, reader: &mut R) -> Result<RcSlice<T>>
-        ensures ok { IfOk result (λ v. Reads (RcSlice T Global) (along rc_slice_items (elements T.codec)) (R.stream reader.old) (R.stream reader.new) v) }
-        ensures err { IfErr result (λ e. Denied (RcSlice T Global) (along rc_slice_items (elements T.codec)) (R.stream reader.old) (R.stream reader.new) (error_kind e)) }
-        ensures untouched { RefusesEmpty T.codec.is_empty result reader.old reader.new }
+        ensures ok { IfOk result (λ v. Decoded (RcSlice T Global) (contramap rc_slice_items (list T.codec)) (R.stream reader.old) (R.stream reader.new) v) }
+        ensures err { IfErr result (λ e. NotDecoded (RcSlice T Global) (contramap rc_slice_items (list T.codec)) (R.stream reader.old) (R.stream reader.new) (error_kind e)) }
+        ensures untouched { RefusesZeroWidth T.codec.is_zero_width result reader.old reader.new }
     {
         Ok(RcSlice::from_vec(read_list(alloc, reader)?)?)
     }
@@ -137,9 +137,9 @@ impl<T: BorshDeserialize> BorshDeserialize for RcSlice<T> {
 impl<T: BorshDeserialize> BorshDeserialize for CowSlice<'_, T> {
     #[inline]
     fn deserialize_reader<R: Read>(alloc: Global, reader: &mut R) -> Result<Self>
-        ensures ok { IfOk result (λ v. Reads (CowSlice T Global) (along cow_slice_items (elements T.codec)) (R.stream reader.old) (R.stream reader.new) v) }
-        ensures err { IfErr result (λ e. Denied (CowSlice T Global) (along cow_slice_items (elements T.codec)) (R.stream reader.old) (R.stream reader.new) (error_kind e)) }
-        ensures untouched { RefusesEmpty T.codec.is_empty result reader.old reader.new }
+        ensures ok { IfOk result (λ v. Decoded (CowSlice T Global) (contramap cow_slice_items (list T.codec)) (R.stream reader.old) (R.stream reader.new) v) }
+        ensures err { IfErr result (λ e. NotDecoded (CowSlice T Global) (contramap cow_slice_items (list T.codec)) (R.stream reader.old) (R.stream reader.new) (error_kind e)) }
+        ensures untouched { RefusesZeroWidth T.codec.is_zero_width result reader.old reader.new }
     {
         Ok(CowSlice::Owned(read_list(alloc, reader)?))
     }

@@ -1,10 +1,10 @@
 // Maps and sets: the list of entries is read, and the map is made of it. Of entries with one key the last
 // gives the value.
 ghost use Rattle.borsh_io.specs.Errors.{error_kind};
-ghost use Rattle.borsh_types.specs.Empty.{RefusesEmpty};
-ghost use Rattle.borsh_types.specs.Maps.{LastValues, gathered, inserted_map, inserted_set, ordered_map, ordered_set, sorted_map, sorted_set};
-ghost use Rattle.borsh_types.specs.Reading.{Denied, Reads};
-ghost use Rattle.borsh_types.specs.Shapes.{along};
+ghost use Rattle.borsh_codec.specs.Empty.{RefusesZeroWidth};
+ghost use Rattle.borsh_codec.specs.Maps.{HasLastValues, after_inserts, index_map, index_set, btree_map, btree_set, hash_map, hash_set};
+ghost use Rattle.borsh_codec.specs.Reading.{NotDecoded, Decoded};
+ghost use Rattle.borsh_codec.specs.Shapes.{contramap};
 ghost use Rattle.std.specs.BTreeSet.{IsFromIterResult as IsTreeSetOf};
 ghost use Rattle.std.specs.HashMap.{IsFromIterResult as IsHashMapOf};
 ghost use Rattle.std.specs.HashSet.{IsFromIterResult as IsHashSetOf};
@@ -30,7 +30,7 @@ fn tree_map<K: Ord + Drop, V: Drop>(
     alloc: Global,
     entries: Vec<(K, V)>,
 ) -> result::Result<BTreeMap<K, V>, AllocError>
-    ensures values { IfOk result (λ m. LastValues K.cmp entries.items m.entries) }
+    ensures values { IfOk result (λ m. HasLastValues K.cmp entries.items m.entries) }
     ensures ordered { IfOk result (λ m. IsStrictlySortedBy K.cmp (keys_of m.entries)) }
 {
     entries.into_iter().collect(alloc)
@@ -72,7 +72,7 @@ fn index_map<K: Eq + Hash + Drop, V: Drop, S: BuildHasher + Default + Drop>(
     alloc: Global,
     entries: Vec<(K, V)>,
 ) -> result::Result<IndexMap<K, V, S>, AllocError>
-    ensures { IfOk result (λ m. m.entries ≡ gathered K.eq entries.items) }
+    ensures { IfOk result (λ m. m.entries ≡ after_inserts K.eq entries.items) }
 {
     entries.into_iter().collect(alloc)
 }
@@ -92,9 +92,9 @@ impl<K: BorshKey + BorshDeserialize + Ord, V: BorshDeserialize> BorshDeserialize
     for BTreeMap<K, V> {
     #[inline]
     fn deserialize_reader<R: Read>(alloc: Global, reader: &mut R) -> Result<BTreeMap<K, V>>
-        ensures ok { IfOk result (λ v. Reads (BTreeMap K V Global) (along (λ m. m.entries) (ordered_map K.cmp K.codec V.codec)) (R.stream reader.old) (R.stream reader.new) v) }
-        ensures err { IfErr result (λ e. Denied (BTreeMap K V Global) (along (λ m. m.entries) (ordered_map K.cmp K.codec V.codec)) (R.stream reader.old) (R.stream reader.new) (error_kind e)) }
-        ensures untouched { RefusesEmpty K.codec.is_empty result reader.old reader.new }
+        ensures ok { IfOk result (λ v. Decoded (BTreeMap K V Global) (contramap (λ m. m.entries) (btree_map K.cmp K.codec V.codec)) (R.stream reader.old) (R.stream reader.new) v) }
+        ensures err { IfErr result (λ e. NotDecoded (BTreeMap K V Global) (contramap (λ m. m.entries) (btree_map K.cmp K.codec V.codec)) (R.stream reader.old) (R.stream reader.new) (error_kind e)) }
+        ensures untouched { RefusesZeroWidth K.codec.is_zero_width result reader.old reader.new }
     {
         let read = read_entries(alloc, reader)?;
         Ok(tree_map(alloc, read)?)
@@ -104,9 +104,9 @@ impl<K: BorshKey + BorshDeserialize + Ord, V: BorshDeserialize> BorshDeserialize
 impl<K: BorshKey + BorshDeserialize + Ord> BorshDeserialize for BTreeSet<K> {
     #[inline]
     fn deserialize_reader<R: Read>(alloc: Global, reader: &mut R) -> Result<BTreeSet<K>>
-        ensures ok { IfOk result (λ v. Reads (BTreeSet K Global) (along (λ s. s.keys) (ordered_set K.cmp K.codec)) (R.stream reader.old) (R.stream reader.new) v) }
-        ensures err { IfErr result (λ e. Denied (BTreeSet K Global) (along (λ s. s.keys) (ordered_set K.cmp K.codec)) (R.stream reader.old) (R.stream reader.new) (error_kind e)) }
-        ensures untouched { RefusesEmpty K.codec.is_empty result reader.old reader.new }
+        ensures ok { IfOk result (λ v. Decoded (BTreeSet K Global) (contramap (λ s. s.keys) (btree_set K.cmp K.codec)) (R.stream reader.old) (R.stream reader.new) v) }
+        ensures err { IfErr result (λ e. NotDecoded (BTreeSet K Global) (contramap (λ s. s.keys) (btree_set K.cmp K.codec)) (R.stream reader.old) (R.stream reader.new) (error_kind e)) }
+        ensures untouched { RefusesZeroWidth K.codec.is_zero_width result reader.old reader.new }
     {
         let read = read_keys(alloc, reader)?;
         Ok(tree_set(alloc, read)?)
@@ -120,9 +120,9 @@ impl<
 > BorshDeserialize for HashMap<K, V, S> {
     #[inline]
     fn deserialize_reader<R: Read>(alloc: Global, reader: &mut R) -> Result<HashMap<K, V, S>>
-        ensures ok { IfOk result (λ v. Reads (HashMap K V S Global S.Hasher) (along (λ m. m.entries) (sorted_map K.cmp K.codec V.codec)) (R.stream reader.old) (R.stream reader.new) v) }
-        ensures err { IfErr result (λ e. Denied (HashMap K V S Global S.Hasher) (along (λ m. m.entries) (sorted_map K.cmp K.codec V.codec)) (R.stream reader.old) (R.stream reader.new) (error_kind e)) }
-        ensures untouched { RefusesEmpty K.codec.is_empty result reader.old reader.new }
+        ensures ok { IfOk result (λ v. Decoded (HashMap K V S Global S.Hasher) (contramap (λ m. m.entries) (hash_map K.cmp K.codec V.codec)) (R.stream reader.old) (R.stream reader.new) v) }
+        ensures err { IfErr result (λ e. NotDecoded (HashMap K V S Global S.Hasher) (contramap (λ m. m.entries) (hash_map K.cmp K.codec V.codec)) (R.stream reader.old) (R.stream reader.new) (error_kind e)) }
+        ensures untouched { RefusesZeroWidth K.codec.is_zero_width result reader.old reader.new }
     {
         let read = read_entries(alloc, reader)?;
         Ok(hash_map(alloc, read)?)
@@ -133,9 +133,9 @@ impl<K: BorshKey + BorshDeserialize + Ord + Hash, S: BuildHasher + Default + Dro
     for HashSet<K, S> {
     #[inline]
     fn deserialize_reader<R: Read>(alloc: Global, reader: &mut R) -> Result<HashSet<K, S>>
-        ensures ok { IfOk result (λ v. Reads (HashSet K S Global S.Hasher) (along (λ s. s.keys) (sorted_set K.cmp K.codec)) (R.stream reader.old) (R.stream reader.new) v) }
-        ensures err { IfErr result (λ e. Denied (HashSet K S Global S.Hasher) (along (λ s. s.keys) (sorted_set K.cmp K.codec)) (R.stream reader.old) (R.stream reader.new) (error_kind e)) }
-        ensures untouched { RefusesEmpty K.codec.is_empty result reader.old reader.new }
+        ensures ok { IfOk result (λ v. Decoded (HashSet K S Global S.Hasher) (contramap (λ s. s.keys) (hash_set K.cmp K.codec)) (R.stream reader.old) (R.stream reader.new) v) }
+        ensures err { IfErr result (λ e. NotDecoded (HashSet K S Global S.Hasher) (contramap (λ s. s.keys) (hash_set K.cmp K.codec)) (R.stream reader.old) (R.stream reader.new) (error_kind e)) }
+        ensures untouched { RefusesZeroWidth K.codec.is_zero_width result reader.old reader.new }
     {
         let read = read_keys(alloc, reader)?;
         Ok(hash_set(alloc, read)?)
@@ -149,9 +149,9 @@ impl<
 > BorshDeserialize for IndexMap<K, V, S> {
     #[inline]
     fn deserialize_reader<R: Read>(alloc: Global, reader: &mut R) -> Result<IndexMap<K, V, S>>
-        ensures ok { IfOk result (λ v. Reads (IndexMap K V S Global S.Hasher) (along (λ m. m.entries) (inserted_map K.eq K.codec V.codec)) (R.stream reader.old) (R.stream reader.new) v) }
-        ensures err { IfErr result (λ e. Denied (IndexMap K V S Global S.Hasher) (along (λ m. m.entries) (inserted_map K.eq K.codec V.codec)) (R.stream reader.old) (R.stream reader.new) (error_kind e)) }
-        ensures untouched { RefusesEmpty K.codec.is_empty result reader.old reader.new }
+        ensures ok { IfOk result (λ v. Decoded (IndexMap K V S Global S.Hasher) (contramap (λ m. m.entries) (index_map K.eq K.codec V.codec)) (R.stream reader.old) (R.stream reader.new) v) }
+        ensures err { IfErr result (λ e. NotDecoded (IndexMap K V S Global S.Hasher) (contramap (λ m. m.entries) (index_map K.eq K.codec V.codec)) (R.stream reader.old) (R.stream reader.new) (error_kind e)) }
+        ensures untouched { RefusesZeroWidth K.codec.is_zero_width result reader.old reader.new }
     {
         let read = read_pairs(alloc, reader)?;
         Ok(index_map(alloc, read)?)
@@ -162,9 +162,9 @@ impl<K: BorshKey + BorshDeserialize + Hash, S: BuildHasher + Default + Drop> Bor
     for IndexSet<K, S> {
     #[inline]
     fn deserialize_reader<R: Read>(alloc: Global, reader: &mut R) -> Result<IndexSet<K, S>>
-        ensures ok { IfOk result (λ v. Reads (IndexSet K S Global S.Hasher) (along (λ s. s.keys) (inserted_set K.eq K.codec)) (R.stream reader.old) (R.stream reader.new) v) }
-        ensures err { IfErr result (λ e. Denied (IndexSet K S Global S.Hasher) (along (λ s. s.keys) (inserted_set K.eq K.codec)) (R.stream reader.old) (R.stream reader.new) (error_kind e)) }
-        ensures untouched { RefusesEmpty K.codec.is_empty result reader.old reader.new }
+        ensures ok { IfOk result (λ v. Decoded (IndexSet K S Global S.Hasher) (contramap (λ s. s.keys) (index_set K.eq K.codec)) (R.stream reader.old) (R.stream reader.new) v) }
+        ensures err { IfErr result (λ e. NotDecoded (IndexSet K S Global S.Hasher) (contramap (λ s. s.keys) (index_set K.eq K.codec)) (R.stream reader.old) (R.stream reader.new) (error_kind e)) }
+        ensures untouched { RefusesZeroWidth K.codec.is_zero_width result reader.old reader.new }
     {
         let read = read_list(alloc, reader)?;
         Ok(index_set(alloc, read)?)

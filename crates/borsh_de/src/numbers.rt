@@ -2,8 +2,8 @@
 // `u64`, and an `isize` as an `i64`.
 ghost use Rattle.std.specs.Prelude.{◌≡◌, ℕ, ℤ, List, Some, IfOk, IfErr, IsSomeAnd, length, true};
 ghost use Rattle.borsh_io.specs.Errors.{error_kind};
-ghost use Rattle.borsh_types.specs.Shapes.{number_encoding, signed_encoding, number, signed, listed, row};
-ghost use Rattle.borsh_types.specs.Reading.{Took, Reads, Denied};
+ghost use Rattle.borsh_codec.specs.Shapes.{unsigned_encoding, signed_encoding, unsigned, signed, allocated_array, array};
+ghost use Rattle.borsh_codec.specs.Reading.{TakesPrefix, Decoded, NotDecoded};
 
 use super::deserialize::BorshDeserialize;
 use super::raw_bytes::{fill, read_bytes, read_vec};
@@ -13,44 +13,44 @@ use std::alloc::Global;
 /// The bytes of a number. Refused as [`read_bytes`] is.
 #[inline]
 fn number_bytes<R: Read, const N: usize>(reader: &mut R) -> Result<[u8; N]>
-    ensures ok { IfOk result (λ bytes. Took (λ x. x ≡ bytes) (R.stream reader.old) (R.stream reader.new)) }
-    ensures unsigned { IfErr result (λ e. Denied ℕ (number N) (R.stream reader.old) (R.stream reader.new) (error_kind e)) }
-    ensures signed { IfErr result (λ e. Denied ℤ (signed N) (R.stream reader.old) (R.stream reader.new) (error_kind e)) }
+    ensures ok { IfOk result (λ bytes. TakesPrefix (λ x. x ≡ bytes) (R.stream reader.old) (R.stream reader.new)) }
+    ensures unsigned { IfErr result (λ e. NotDecoded ℕ (unsigned N) (R.stream reader.old) (R.stream reader.new) (error_kind e)) }
+    ensures signed { IfErr result (λ e. NotDecoded ℤ (signed N) (R.stream reader.old) (R.stream reader.new) (error_kind e)) }
 {
     read_bytes(reader)
 }
 
 #[inline]
 fn u8_of(bytes: [u8; 1]) -> u8
-    ensures { number_encoding 1 result ≡ Some bytes }
+    ensures { unsigned_encoding 1 result ≡ Some bytes }
 {
     u8::from_le_bytes(bytes)
 }
 
 #[inline]
 fn u16_of(bytes: [u8; 2]) -> u16
-    ensures { number_encoding 2 result ≡ Some bytes }
+    ensures { unsigned_encoding 2 result ≡ Some bytes }
 {
     u16::from_le_bytes(bytes)
 }
 
 #[inline]
 fn u32_of(bytes: [u8; 4]) -> u32
-    ensures { number_encoding 4 result ≡ Some bytes }
+    ensures { unsigned_encoding 4 result ≡ Some bytes }
 {
     u32::from_le_bytes(bytes)
 }
 
 #[inline]
 fn u64_of(bytes: [u8; 8]) -> u64
-    ensures { number_encoding 8 result ≡ Some bytes }
+    ensures { unsigned_encoding 8 result ≡ Some bytes }
 {
     u64::from_le_bytes(bytes)
 }
 
 #[inline]
 fn u128_of(bytes: [u8; 16]) -> u128
-    ensures { number_encoding 16 result ≡ Some bytes }
+    ensures { unsigned_encoding 16 result ≡ Some bytes }
 {
     u128::from_le_bytes(bytes)
 }
@@ -99,8 +99,8 @@ impl BorshDeserialize for u8 {
     /// The bytes, always.
     #[inline]
     fn vec_from_reader<R: Read>(alloc: Global, len: u32, reader: &mut R) -> Result<Option<Vec<u8>>>
-        ensures ok { IfOk result (λ o. IsSomeAnd o (λ v. Reads (List ℕ) (listed len (number 1)) (R.stream reader.old) (R.stream reader.new) v.items)) }
-        ensures err { IfErr result (λ e. Denied (List ℕ) (listed len (number 1)) (R.stream reader.old) (R.stream reader.new) (error_kind e)) }
+        ensures ok { IfOk result (λ o. IsSomeAnd o (λ v. Decoded (List ℕ) (allocated_array len (unsigned 1)) (R.stream reader.old) (R.stream reader.new) v.items)) }
+        ensures err { IfErr result (λ e. NotDecoded (List ℕ) (allocated_array len (unsigned 1)) (R.stream reader.old) (R.stream reader.new) (error_kind e)) }
     {
         Ok(Some(read_vec(alloc, len as usize, reader)?))
     }
@@ -116,8 +116,8 @@ impl BorshDeserialize for u8 {
     /// The bytes, always: the answer is never `false`.
     #[inline]
     fn fill_slice<R: Read>(items: &mut [u8], reader: &mut R) -> Result<bool>
-        ensures ok { IfOk result (λ filled. (filled ≡ true) × Reads (List ℕ) (row (length items.old) (number 1)) (R.stream reader.old) (R.stream reader.new) items.new) }
-        ensures err { IfErr result (λ e. Denied (List ℕ) (row (length items.old) (number 1)) (R.stream reader.old) (R.stream reader.new) (error_kind e)) }
+        ensures ok { IfOk result (λ filled. (filled ≡ true) × Decoded (List ℕ) (array (length items.old) (unsigned 1)) (R.stream reader.old) (R.stream reader.new) items.new) }
+        ensures err { IfErr result (λ e. NotDecoded (List ℕ) (array (length items.old) (unsigned 1)) (R.stream reader.old) (R.stream reader.new) (error_kind e)) }
     {
         fill(reader, items)?;
         Ok(true)

@@ -1,7 +1,7 @@
 // Why bytes are refused.
 ghost use Rattle.std.specs.Prelude.{◌≡◌};
 ghost use Rattle.borsh_io.specs.Errors.{error_kind};
-ghost use Rattle.borsh_types.specs.Reading.{IsRefusal};
+ghost use Rattle.borsh_codec.specs.Reading.{IsInvalidData};
 
 use borsh_io::{Error, ErrorKind};
 use std::alloc::AllocError;
@@ -18,7 +18,7 @@ pub const ERROR_WRONG_ORDER_OF_KEYS: &str = "keys were not serialized in ascendi
 /// A refusal of bytes: `InvalidData` with this text, or `OutOfMemory` where the text found no memory.
 #[cold]
 pub fn invalid_data(text: Result<String, AllocError>) -> Error
-    ensures { IsRefusal (error_kind result) }
+    ensures { IsInvalidData (error_kind result) }
 {
     match text {
         Ok(text) => Error::new(ErrorKind::InvalidData, text),

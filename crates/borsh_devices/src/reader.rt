@@ -1,12 +1,12 @@
 // A reader over a slice.
 ghost use Rattle.std.specs.Prelude.{◌≡◌, Some, length, true};
-ghost use Rattle.borsh_io.specs.Stream.{Stream};
+ghost use Rattle.borsh.specs.Stream.{ReaderState};
 ghost use Rattle.borsh_devices.specs.Devices.{slice_stream};
 
 use super::course::Course;
-use borsh_io::{Read, Result};
+use borsh::io::{Read, Result};
 
-/// Gives the bytes of a slice, as a course says.
+/// Gives the bytes of a slice, and goes wrong as its course says.
 #[derive(Drop)]
 pub struct TestReader<'a> {
     bytes: &'a [u8],
@@ -26,9 +26,21 @@ impl<'a> TestReader<'a> {
         self.bytes
     }
 
-    /// How many calls of `read` came.
+    /// How many calls of `read` were made.
     pub fn calls(&self) -> u64 {
         self.course.calls()
+    }
+
+    /// How many calls of `read` neither failed nor were interrupted.
+    pub fn successes(&self) -> u32 {
+        self.course.successes()
+    }
+
+    /// How many calls of `read` failed.
+    pub fn faults(&self) -> u64
+        ensures { result ≡ self.now.course.faults }
+    {
+        self.course.faults()
     }
 }
 

@@ -3,9 +3,9 @@ ghost use Rattle.std.specs.Prelude.{◌≡◌};
 ghost use Rattle.borsh_devices.specs.Devices.{room_writing, room-laws};
 
 use super::course::Course;
-use borsh_io::{Result, Write};
+use borsh::io::{Result, Write};
 
-/// Takes bytes into a vector, as a course says, and is full after so many.
+/// Appends bytes to a vector, goes wrong as its course says, and is full after a number of bytes.
 #[derive(Drop)]
 pub struct TestWriter {
     taken: Vec<u8>,
@@ -14,7 +14,7 @@ pub struct TestWriter {
 }
 
 impl TestWriter {
-    /// Goes on behind what the vector has, and takes `room` bytes more.
+    /// Appends to the vector, and takes `room` bytes at most.
     pub fn new(taken: Vec<u8>, room: usize, course: Course) -> TestWriter {
         TestWriter {
             taken,
@@ -28,9 +28,21 @@ impl TestWriter {
         self.taken.as_slice()
     }
 
-    /// How many calls of `write` and `flush` came.
+    /// How many calls of `write` and `flush` were made.
     pub fn calls(&self) -> u64 {
         self.course.calls()
+    }
+
+    /// How many calls of `write` and `flush` neither failed nor were interrupted.
+    pub fn successes(&self) -> u32 {
+        self.course.successes()
+    }
+
+    /// How many calls of `write` and `flush` failed.
+    pub fn faults(&self) -> u64
+        ensures { result ≡ self.now.course.faults }
+    {
+        self.course.faults()
     }
 }
 

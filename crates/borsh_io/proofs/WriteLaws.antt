@@ -4,26 +4,26 @@ use Rattle.std.proofs.lemmas.List.{take_rest}
 use Rattle.std.proofs.lemmas.Bool.{eqb-true}
 use Rattle.borsh_io.specs.declared.error.ErrorKind.{ErrorKind}
 use Rattle.borsh_io.specs.declared.error.ErrorKind.TheVariants.{WriteZero}
-use Rattle.borsh_io.specs.Stream.{Rose}
-use Rattle.borsh_io.specs.Sink.{Writing, WritingLaws, Writes, WriterInterrupted, WriterFailed, WriterGaveUp, WriteFault, WriteRefused, overwriting}
+use Rattle.borsh_io.specs.Stream.{CountedUp}
+use Rattle.borsh_io.specs.Sink.{WriterModel, WriterLaws, WroteBytes, WriteInterrupted, WriteFailed, WriteFailedAfterRetries, WriteFault, NotWrittenWhole, overwriting}
 use Rattle.borsh_io.specs.declared.error.Error.{Error}
 use Rattle.borsh_io.specs.Errors.{error_kind}
 
-pub Rose-after : {a b c : ℕ} → b ≡ a → Rose b c → Rose a c
-Rose-after {c = c} e r = subst (λ n. Rose n c) e r
+pub Rose-after : {a b c : ℕ} → b ≡ a → CountedUp b c → CountedUp a c
+Rose-after {c = c} e r = subst (λ n. CountedUp n c) e r
 
-module _ {W : Type 0} {w : Writing W} (laws : WritingLaws W w) where
-  pub Writes-none : (a : W) → Writes w a a []
+module _ {W : Type 0} {w : WriterModel W} (laws : WriterLaws W w) where
+  pub Writes-none : (a : W) → WroteBytes w a a []
   Writes-none a = record { wrote = laws.none a; faults = refl; interruptions = le_refl _ }
 
-  pub Writes-trans : {a b c : W} {x y : List ℕ} → Writes w a b x → Writes w b c y → Writes w a c (x ++ y)
+  pub Writes-trans : {a b c : W} {x y : List ℕ} → WroteBytes w a b x → WroteBytes w b c y → WroteBytes w a c (x ++ y)
   Writes-trans p q = record {
     wrote = laws.more _ _ _ _ _ p.wrote q.wrote;
     faults = q.faults ∙ p.faults;
     interruptions = omega (arith, p.interruptions, q.interruptions);
   }
 
-  pub Writes-interrupted : {a b c : W} {x : List ℕ} → Writes w a b x → WriterInterrupted w b c → Writes w a c x
+  pub Writes-interrupted : {a b c : W} {x : List ℕ} → WroteBytes w a b x → WriteInterrupted w b c → WroteBytes w a c x
   Writes-interrupted {a} {b} {c} {x} p q = record {
     wrote = subst (w.wrote a c) (append-nil x) (laws.more _ _ _ _ _ p.wrote q.wrote);
     faults = q.faults ∙ p.faults;
@@ -35,7 +35,7 @@ module _ {W : Type 0} {w : Writing W} (laws : WritingLaws W w) where
   WriteFault-after e (inr r) = inr (Rose-after e r)
 
   -- after interruptions, a write failed
-  pub GaveUp-after : {a b c : W} {kind : ErrorKind} → Writes w a b [] → WriterFailed w b c kind → WriterGaveUp w a c kind
+  pub GaveUp-after : {a b c : W} {kind : ErrorKind} → WroteBytes w a b [] → WriteFailed w b c kind → WriteFailedAfterRetries w a c kind
   GaveUp-after {a} {b} {c} p q = record {
     wrote = laws.more _ _ _ _ _ p.wrote q.wrote;
     interruptions = omega (arith, p.interruptions, q.interruptions);
@@ -43,7 +43,7 @@ module _ {W : Type 0} {w : Writing W} (laws : WritingLaws W w) where
   }
 
   -- after some bytes, a write failed
-  pub Refused-failed : {a b c : W} {all front : List ℕ} (rest : List ℕ) {kind : ErrorKind} → Writes w a b front → all ≡ front ++ rest → 0 < length rest → WriterFailed w b c kind → WriteRefused w a c all kind
+  pub Refused-failed : {a b c : W} {all front : List ℕ} (rest : List ℕ) {kind : ErrorKind} → WroteBytes w a b front → all ≡ front ++ rest → 0 < length rest → WriteFailed w b c kind → NotWrittenWhole w a c all kind
   Refused-failed {a} {b} {c} {all} {front} rest p split left q = record {
     front = front;
     rest = rest;
@@ -55,9 +55,9 @@ module _ {W : Type 0} {w : Writing W} (laws : WritingLaws W w) where
   }
 
   -- after some bytes, the writer took nothing
-  pub Refused-full : {a b c : W} {all front : List ℕ} (rest : List ℕ) {kind : ErrorKind} (n : ℕ) → Writes w a b front → all ≡ front ++ rest → 0 < length rest → n ≡ 0 → Writes w b c (take n rest) → IsTrue (w.sink c).full → kind ≡ WriteZero → WriteRefused w a c all kind
+  pub Refused-full : {a b c : W} {all front : List ℕ} (rest : List ℕ) {kind : ErrorKind} (n : ℕ) → WroteBytes w a b front → all ≡ front ++ rest → 0 < length rest → n ≡ 0 → WroteBytes w b c (take n rest) → IsTrue (w.sink c).full → kind ≡ WriteZero → NotWrittenWhole w a c all kind
   Refused-full {a} {b} {c} {all} {front} rest n p split left is_none q full is_zero =
-      let none : Writes w b c [] = subst (λ k. Writes w b c (take k rest)) is_none q in
+      let none : WroteBytes w b c [] = subst (λ k. WroteBytes w b c (take k rest)) is_none q in
       record {
         front = front;
         rest = rest;
@@ -69,7 +69,7 @@ module _ {W : Type 0} {w : Writing W} (laws : WritingLaws W w) where
       }
 
   -- the first part was written, and the second one was refused
-  pub Refused-after : {a b c : W} {x y : List ℕ} {kind : ErrorKind} → Writes w a b x → WriteRefused w b c y kind → WriteRefused w a c (x ++ y) kind
+  pub Refused-after : {a b c : W} {x y : List ℕ} {kind : ErrorKind} → WroteBytes w a b x → NotWrittenWhole w b c y kind → NotWrittenWhole w a c (x ++ y) kind
   Refused-after {a} {b} {c} {x} {y} p q = record {
     front = x ++ q.front;
     rest = q.rest;
@@ -81,7 +81,7 @@ module _ {W : Type 0} {w : Writing W} (laws : WritingLaws W w) where
   }
 
   -- the first part was refused already
-  pub Refused-before : {a b : W} {x : List ℕ} (y : List ℕ) {kind : ErrorKind} → WriteRefused w a b x kind → WriteRefused w a b (x ++ y) kind
+  pub Refused-before : {a b : W} {x : List ℕ} (y : List ℕ) {kind : ErrorKind} → NotWrittenWhole w a b x kind → NotWrittenWhole w a b (x ++ y) kind
   Refused-before {x = x} y q = record {
     front = q.front;
     rest = q.rest ++ y;
@@ -93,7 +93,7 @@ module _ {W : Type 0} {w : Writing W} (laws : WritingLaws W w) where
   }
 
 -- a slice with room takes all
-pub slice-takes : {W T : Type 0} (room : W → List ℕ) (a b : W) (bytes : List ℕ) (r : Result T Error) → IfErr r (λ e. WriteRefused (overwriting room) a b bytes (error_kind e)) → length bytes ≤ length (room a) → IsOk r
+pub slice-takes : {W T : Type 0} (room : W → List ℕ) (a b : W) (bytes : List ℕ) (r : Result T Error) → IfErr r (λ e. NotWrittenWhole (overwriting room) a b bytes (error_kind e)) → length bytes ≤ length (room a) → IsOk r
 slice-takes room a b bytes (Ok x) p h = refl
 slice-takes room a b bytes (Err e) p h = absurd (elim p.cause [
   | inl z ↦ (let empty : length (room b) ≡ 0 = eqb-true _ _ z.1 in

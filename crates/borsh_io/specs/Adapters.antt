@@ -9,30 +9,30 @@ use Rattle.borsh_io.specs.declared.error.ErrorKind.TheVariants.{NotFound, Permis
 use Rattle.borsh_io.specs.declared.adapters.Counts.{Counts}
 use Rattle.borsh_io.specs.declared.adapters.StdReader.{StdReader}
 use Rattle.borsh_io.specs.declared.adapters.StdWriter.{StdWriter}
-use Rattle.borsh_io.specs.Stream.{Stream, Rose}
-use Rattle.borsh_io.specs.Sink.{Writing, WritingLaws}
+use Rattle.borsh_io.specs.Stream.{ReaderState, CountedUp}
+use Rattle.borsh_io.specs.Sink.{WriterModel, WriterLaws}
 
 -- the kind of the same name, or `Other`
-abbrev pub kind_named : StdKind → ErrorKind
-kind_named Std.NotFound = NotFound
-kind_named Std.PermissionDenied = PermissionDenied
-kind_named Std.ConnectionRefused = ConnectionRefused
-kind_named Std.ConnectionReset = ConnectionReset
-kind_named Std.ConnectionAborted = ConnectionAborted
-kind_named Std.NotConnected = NotConnected
-kind_named Std.AddrInUse = AddrInUse
-kind_named Std.AddrNotAvailable = AddrNotAvailable
-kind_named Std.BrokenPipe = BrokenPipe
-kind_named Std.AlreadyExists = AlreadyExists
-kind_named Std.WouldBlock = WouldBlock
-kind_named Std.InvalidInput = InvalidInput
-kind_named Std.InvalidData = InvalidData
-kind_named Std.TimedOut = TimedOut
-kind_named Std.WriteZero = WriteZero
-kind_named Std.Interrupted = Interrupted
-kind_named Std.UnexpectedEof = UnexpectedEof
-kind_named Std.OutOfMemory = OutOfMemory
-kind_named _ = Other
+abbrev pub kind_of_std : StdKind → ErrorKind
+kind_of_std Std.NotFound = NotFound
+kind_of_std Std.PermissionDenied = PermissionDenied
+kind_of_std Std.ConnectionRefused = ConnectionRefused
+kind_of_std Std.ConnectionReset = ConnectionReset
+kind_of_std Std.ConnectionAborted = ConnectionAborted
+kind_of_std Std.NotConnected = NotConnected
+kind_of_std Std.AddrInUse = AddrInUse
+kind_of_std Std.AddrNotAvailable = AddrNotAvailable
+kind_of_std Std.BrokenPipe = BrokenPipe
+kind_of_std Std.AlreadyExists = AlreadyExists
+kind_of_std Std.WouldBlock = WouldBlock
+kind_of_std Std.InvalidInput = InvalidInput
+kind_of_std Std.InvalidData = InvalidData
+kind_of_std Std.TimedOut = TimedOut
+kind_of_std Std.WriteZero = WriteZero
+kind_of_std Std.Interrupted = Interrupted
+kind_of_std Std.UnexpectedEof = UnexpectedEof
+kind_of_std Std.OutOfMemory = OutOfMemory
+kind_of_std _ = Other
 
 -- an interruption was passed on
 pub record CountsInterrupted (before after : Counts) : Type 0 where
@@ -42,21 +42,28 @@ pub record CountsInterrupted (before after : Counts) : Type 0 where
 -- a fault was counted
 pub record CountsFailed (before after : Counts) : Type 0 where
   pub interruptions : after.interruptions ≡ before.interruptions
-  pub faults : Rose before.faults after.faults
+  pub faults : CountedUp before.faults after.faults
+
+-- the stream inside
+abbrev pub inner_of_reader : {R : Type 0} → StdReader R → R
+inner_of_reader s = s.inner
+
+abbrev pub inner_of_writer : {W : Type 0} → StdWriter W → W
+inner_of_writer s = s.inner
 
 -- the state of the adapter of a std reader
-abbrev pub reader_stream : {R : Type 0} → (R → Option (List ℕ)) → StdReader R → Stream
-reader_stream remaining s = record { bytes = remaining s.inner; faults = s.counts.faults; interruptions = s.counts.interruptions; reads = s.reads; strict = true }
+abbrev pub reader_stream : {R : Type 0} → (R → Option (List ℕ)) → StdReader R → ReaderState
+reader_stream remaining s = record { bytes = remaining s.inner; faults = s.counts.faults; interruptions = s.counts.interruptions; reads_left = s.reads_left; strict_order = true }
 
 -- what writing into the adapter of a std writer means: the inner writer took the bytes
-abbrev pub device_writing : {W : Type 0} → (W → Option (List ℕ)) → Writing (StdWriter W)
+abbrev pub device_writing : {W : Type 0} → (W → Option (List ℕ)) → WriterModel (StdWriter W)
 device_writing contents = record {
   wrote = λ a b xs. Appends (contents a.inner) (contents b.inner) xs;
   sink = λ a. record { faults = a.counts.faults; interruptions = a.counts.interruptions; full = false };
   allocates = false;
 }
 
-pub device-laws : {W : Type 0} (contents : W → Option (List ℕ)) → WritingLaws (StdWriter W) (device_writing contents)
+pub device-laws : {W : Type 0} (contents : W → Option (List ℕ)) → WriterLaws (StdWriter W) (device_writing contents)
 device-laws contents = record {
   none = λ a. Appends-nil (contents a.inner);
   more = λ a b c x y p q. Appends-trans _ _ _ x y p q;

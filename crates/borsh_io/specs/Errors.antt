@@ -42,6 +42,6 @@ kind_text UnexpectedEof = codes "unexpected end of file"
 kind_text OutOfMemory = codes "out of memory"
 
 -- what an error displays
-abbrev pub shown_text : ErrorKind → Option Text → List ℕ
-shown_text kind None = kind_text kind
-shown_text kind (Some t) = text_bytes t
+abbrev pub display_text : ErrorKind → Option Text → List ℕ
+display_text kind None = kind_text kind
+display_text kind (Some t) = text_bytes t

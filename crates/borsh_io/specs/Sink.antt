@@ -2,10 +2,10 @@
 use Rattle.std.specs.Prelude.{◌≡◌, ℕ, ◌<◌, ◌≤◌, ◌⊎◌, Bool, true, false, ◌==◌, IsTrue, List, [], ◌++◌, length, drop}
 use Rattle.borsh_io.specs.declared.error.ErrorKind.{ErrorKind}
 use Rattle.borsh_io.specs.declared.error.ErrorKind.TheVariants.{WriteZero, OutOfMemory}
-use Rattle.borsh_io.specs.Stream.{Rose}
+use Rattle.borsh_io.specs.Stream.{CountedUp}
 
 -- a writer's counts
-pub record Sink : Type 0 where
+pub record WriterState : Type 0 where
   -- how often it has failed
   pub faults : ℕ
   -- how often it may still be interrupted
@@ -14,89 +14,89 @@ pub record Sink : Type 0 where
   pub full : Bool
 
 -- what writing into a W means
-pub record Writing (W : Type 0) : Type 1 where
+pub record WriterModel (W : Type 0) : Type 1 where
   -- these bytes came between two states
   pub wrote : W → W → List ℕ → Type 0
   -- a state's counts
-  pub sink : W → Sink
+  pub sink : W → WriterState
   -- writing may take memory
   pub allocates : Bool
 
 -- no bytes come between a state and itself, and bytes after bytes are joined
-pub record WritingLaws (W : Type 0) (w : Writing W) : Type 0 where
+pub record WriterLaws (W : Type 0) (w : WriterModel W) : Type 0 where
   pub none : (a : W) → w.wrote a a []
   pub more : (a b c : W) (x y : List ℕ) → w.wrote a b x → w.wrote b c y → w.wrote a c (x ++ y)
 
 -- these bytes were written; no fault came, and perhaps interruptions
-pub record Writes {W : Type 0} (w : Writing W) (before after : W) (bytes : List ℕ) : Type 0 where
+pub record WroteBytes {W : Type 0} (w : WriterModel W) (before after : W) (bytes : List ℕ) : Type 0 where
   pub wrote : w.wrote before after bytes
   pub faults : (w.sink after).faults ≡ (w.sink before).faults
   pub interruptions : (w.sink after).interruptions ≤ (w.sink before).interruptions
 
 -- a write was interrupted: nothing was written, and the number of interruptions fell
-pub record WriterInterrupted {W : Type 0} (w : Writing W) (before after : W) : Type 0 where
+pub record WriteInterrupted {W : Type 0} (w : WriterModel W) (before after : W) : Type 0 where
   pub wrote : w.wrote before after []
   pub faults : (w.sink after).faults ≡ (w.sink before).faults
   pub interruptions : (w.sink after).interruptions < (w.sink before).interruptions
 
 -- memory was refused to a writer that takes some, or the count of faults rose
-abbrev pub WriteFault : {W : Type 0} → Writing W → W → W → ErrorKind → Type 0
+abbrev pub WriteFault : {W : Type 0} → WriterModel W → W → W → ErrorKind → Type 0
 WriteFault w before after kind =
     ((kind ≡ OutOfMemory) × IsTrue w.allocates × ((w.sink after).faults ≡ (w.sink before).faults))
-    ⊎ Rose (w.sink before).faults (w.sink after).faults
+    ⊎ CountedUp (w.sink before).faults (w.sink after).faults
 
 -- a write failed: nothing was written
-pub record WriterFailed {W : Type 0} (w : Writing W) (before after : W) (kind : ErrorKind) : Type 0 where
+pub record WriteFailed {W : Type 0} (w : WriterModel W) (before after : W) (kind : ErrorKind) : Type 0 where
   pub wrote : w.wrote before after []
   pub interruptions : (w.sink after).interruptions ≡ (w.sink before).interruptions
   pub cause : WriteFault w before after kind
 
 -- a writer failed, after perhaps interruptions: nothing was written
-pub record WriterGaveUp {W : Type 0} (w : Writing W) (before after : W) (kind : ErrorKind) : Type 0 where
+pub record WriteFailedAfterRetries {W : Type 0} (w : WriterModel W) (before after : W) (kind : ErrorKind) : Type 0 where
   pub wrote : w.wrote before after []
   pub interruptions : (w.sink after).interruptions ≤ (w.sink before).interruptions
   pub cause : WriteFault w before after kind
 
 -- the writer was full, or it failed
-abbrev pub WriterStopped : {W : Type 0} → Writing W → W → W → ErrorKind → Type 0
-WriterStopped w before after kind =
+abbrev pub WriteAllFailure : {W : Type 0} → WriterModel W → W → W → ErrorKind → Type 0
+WriteAllFailure w before after kind =
     ((kind ≡ WriteZero) × IsTrue (w.sink after).full × ((w.sink after).faults ≡ (w.sink before).faults))
     ⊎ WriteFault w before after kind
 
 -- only a beginning of the bytes was written, since the writer was full or failed
-pub record WriteRefused {W : Type 0} (w : Writing W) (before after : W) (bytes : List ℕ) (kind : ErrorKind) : Type 0 where
+pub record NotWrittenWhole {W : Type 0} (w : WriterModel W) (before after : W) (bytes : List ℕ) (kind : ErrorKind) : Type 0 where
   pub front : List ℕ
   pub rest : List ℕ
   pub split : bytes ≡ front ++ rest
   pub left : 0 < length rest
   pub wrote : w.wrote before after front
   pub interruptions : (w.sink after).interruptions ≤ (w.sink before).interruptions
-  pub cause : WriterStopped w before after kind
+  pub cause : WriteAllFailure w before after kind
 
 -- a writer with no counts
-abbrev pub quiet : Bool → Sink
-quiet full = record { faults = 0; interruptions = 0; full = full }
+abbrev pub no_faults : Bool → WriterState
+no_faults full = record { faults = 0; interruptions = 0; full = full }
 
 -- a writer that hands on to another one
-abbrev pub through : {V W : Type 0} → (V → W) → Writing W → Writing V
-through inner w = record {
+abbrev pub contramap_writer : {V W : Type 0} → (V → W) → WriterModel W → WriterModel V
+contramap_writer inner w = record {
   wrote = λ a b xs. w.wrote (inner a) (inner b) xs;
   sink = λ a. w.sink (inner a);
   allocates = w.allocates;
 }
 
 -- a writer whose bytes go to the end of a list
-abbrev pub appending : {W : Type 0} → (W → List ℕ) → Writing W
+abbrev pub appending : {W : Type 0} → (W → List ℕ) → WriterModel W
 appending items = record {
   wrote = λ a b xs. items b ≡ items a ++ xs;
-  sink = λ _. quiet false;
+  sink = λ _. no_faults false;
   allocates = true;
 }
 
 -- a writer whose bytes go over the front of a list, of which the rest is left
-abbrev pub overwriting : {W : Type 0} → (W → List ℕ) → Writing W
+abbrev pub overwriting : {W : Type 0} → (W → List ℕ) → WriterModel W
 overwriting room = record {
   wrote = λ a b xs. (length xs ≤ length (room a)) × (room b ≡ drop (length xs) (room a));
-  sink = λ a. quiet (length (room a) == 0);
+  sink = λ a. no_faults (length (room a) == 0);
   allocates = false;
 }

@@ -1,21 +1,21 @@
 -- The laws of the writers.
 use Rattle.std.proofs.Common.{ℕ, List, ◌++◌, length, drop, refl, sym, ap, ◌∙◌, arith, append_assoc, append-nil, length-append, length-drop}
 use Rattle.std.proofs.Math.Seq.{drop-drop}
-use Rattle.borsh_io.specs.Sink.{Writing, WritingLaws, through, appending, overwriting}
+use Rattle.borsh_io.specs.Sink.{WriterModel, WriterLaws, contramap_writer, appending, overwriting}
 
-pub through-laws : {V W : Type 0} {w : Writing W} (inner : V → W) → WritingLaws W w → WritingLaws V (through inner w)
-through-laws inner laws = record {
+pub contramap_writer-laws : {V W : Type 0} {w : WriterModel W} (inner : V → W) → WriterLaws W w → WriterLaws V (contramap_writer inner w)
+contramap_writer-laws inner laws = record {
   none = λ a. laws.none (inner a);
   more = λ a b c x y p q. laws.more (inner a) (inner b) (inner c) x y p q;
 }
 
-pub appending-laws : {W : Type 0} (items : W → List ℕ) → WritingLaws W (appending items)
+pub appending-laws : {W : Type 0} (items : W → List ℕ) → WriterLaws W (appending items)
 appending-laws items = record {
   none = λ a. sym (append-nil (items a));
   more = λ a b c x y p q. q ∙ ap (λ l. l ++ y) p ∙ append_assoc (items a) x y;
 }
 
-pub overwriting-laws : {W : Type 0} (room : W → List ℕ) → WritingLaws W (overwriting room)
+pub overwriting-laws : {W : Type 0} (room : W → List ℕ) → WriterLaws W (overwriting room)
 overwriting-laws room = record {
   none = λ a. (omega arith, refl);
   more = λ a b c x y p q. (

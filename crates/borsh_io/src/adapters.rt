@@ -1,8 +1,9 @@
 // The adapters for std's readers and writers.
-ghost use Rattle.std.specs.Prelude.{◌≡◌, ◌≢◌, ◌-◌, ◌^◌, true, false};
-ghost use Rattle.borsh_io.specs.Errors.{error_kind};
-ghost use Rattle.borsh_io.specs.Stream.{Rose};
-ghost use Rattle.borsh_io.specs.Adapters.{kind_named, reader_stream, device_writing, device-laws, CountsInterrupted, CountsFailed};
+ghost use Rattle.std.specs.Prelude.{◌≡◌, ◌≢◌, ◌-◌, ◌^◌, ◌<◌, ◌≤◌, ◌⊎◌, None, length, take, IfOk, OnOk, IfErr, true, false};
+ghost use Rattle.std.specs.Io.KnownBytes.{IsAtEnd};
+ghost use Rattle.borsh_io.specs.Errors.{error_kind, error_text};
+ghost use Rattle.borsh_io.specs.Stream.{CountedUp, Consumed, ReadInterrupted, ReadFailed};
+ghost use Rattle.borsh_io.specs.Adapters.{inner_of_reader, inner_of_writer, kind_of_std, reader_stream, device_writing, device-laws, CountsInterrupted, CountsFailed};
 
 use super::error::{Error, ErrorKind, Result};
 use super::read::Read;
@@ -10,7 +11,7 @@ use super::write::{Write, short_write};
 
 /// The kind of the same name, or `Other`.
 fn kind_by_name(kind: std::io::ErrorKind) -> ErrorKind
-    ensures { result ≡ kind_named kind }
+    ensures { result ≡ kind_of_std kind }
 {
     match kind {
         std::io::ErrorKind::NotFound => ErrorKind::NotFound,
@@ -56,7 +57,7 @@ impl Counts {
     /// Counts a fault.
     fn fault(&mut self)
         ensures interruptions { self.new.interruptions ≡ self.old.interruptions }
-        ensures faults { Rose self.old.faults self.new.faults }
+        ensures faults { CountedUp self.old.faults self.new.faults }
     {
         self.faults = self.faults.saturating_add(1);
     }
@@ -66,6 +67,7 @@ impl Counts {
     fn error(&mut self, kind: std::io::ErrorKind) -> Error
         ensures interrupted { error_kind result ≡ ErrorKind.Interrupted → CountsInterrupted self.old self.new }
         ensures failed { error_kind result ≢ ErrorKind.Interrupted → CountsFailed self.old self.new }
+        ensures text { (error_kind result ≡ ErrorKind.Other) ⊎ (error_text result ≡ None) }
     {
         let kind = kind_by_name(kind);
         if matches!(kind, ErrorKind::Interrupted) {
@@ -90,17 +92,18 @@ impl Counts {
 pub struct StdReader<R> {
     inner: R,
     // How many reads may still take bytes.
-    reads: u64,
+    reads_left: u64,
     counts: Counts,
 }
 
 impl<R: std::io::Read> StdReader<R> {
     pub fn new(inner: R, interruptions: u32) -> StdReader<R>
-        ensures { reader_stream R.remaining result ≡ record { bytes = R.remaining inner; faults = 0; interruptions = interruptions; reads = 2 ^ 64 - 1; strict = true } }
+        ensures inner { inner_of_reader result ≡ inner }
+        ensures state { reader_stream R.remaining result ≡ record { bytes = R.remaining inner; faults = 0; interruptions = interruptions; reads_left = 2 ^ 64 - 1; strict_order = true } }
     {
         StdReader {
             inner,
-            reads: u64::MAX,
+            reads_left: u64::MAX,
             counts: Counts::new(interruptions),
         }
     }
@@ -116,14 +119,23 @@ impl<R: std::io::Read> StdReader<R> {
 impl<R: std::io::Read> Read for StdReader<R> {
     ghost stream = { reader_stream R.remaining };
 
-    fn read(&mut self, buf: &mut [u8]) -> Result<usize> {
-        if self.reads == 0 {
+    fn read(&mut self, buf: &mut [u8]) -> Result<usize>
+        ensures bound { IfOk result (λ n. n ≤ length buf.new) }
+        ensures takes { IfOk result (λ n. Consumed (reader_stream R.remaining self.old) (reader_stream R.remaining self.new) (take n buf.new)) }
+        ensures uninterrupted { OnOk result ((reader_stream R.remaining self.new).interruptions ≡ (reader_stream R.remaining self.old).interruptions) }
+        ensures fewer { IfOk result (λ n. 0 < n → (reader_stream R.remaining self.new).reads_left < (reader_stream R.remaining self.old).reads_left) }
+        ensures some { IfOk result (λ n. n ≡ 0 → 0 < length buf.new → IsAtEnd (reader_stream R.remaining self.new).bytes) }
+        ensures interrupted { IfErr result (λ e. error_kind e ≡ ErrorKind.Interrupted → ReadInterrupted (reader_stream R.remaining self.old) (reader_stream R.remaining self.new)) }
+        ensures failed { IfErr result (λ e. error_kind e ≢ ErrorKind.Interrupted → ReadFailed (reader_stream R.remaining self.old) (reader_stream R.remaining self.new)) }
+        ensures text { IfErr result (λ e. (error_kind e ≡ ErrorKind.Other) ⊎ (error_text e ≡ None)) }
+    {
+        if self.reads_left == 0 {
             self.counts.fault();
             return Err(Error::other("read too often"));
         }
         match std::io::Read::read(&mut self.inner, buf) {
             Ok(n) => {
-                self.reads -= 1;
+                self.reads_left -= 1;
                 Ok(n)
             }
             Err(e) => Err(self.counts.error(e.kind())),
@@ -147,7 +159,8 @@ pub struct StdWriter<W> {
 
 impl<W: std::io::Write> StdWriter<W> {
     pub fn new(inner: W, interruptions: u32) -> StdWriter<W>
-        ensures { (device_writing W.contents).sink result ≡ record { faults = 0; interruptions = interruptions; full = false } }
+        ensures inner { inner_of_writer result ≡ inner }
+        ensures state { (device_writing W.contents).sink result ≡ record { faults = 0; interruptions = interruptions; full = false } }
     {
         StdWriter {
             inner,

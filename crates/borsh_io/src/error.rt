@@ -1,6 +1,6 @@
 // Errors of readers, writers and codecs.
 ghost use Rattle.std.specs.Prelude.{◌≡◌, ◌≢◌, OnOk, IfErr, IsNone, IsSomeAnd, MatchOption, None, Some};
-ghost use Rattle.borsh_io.specs.Errors.{error_kind, error_text, text_bytes, kind_text, shown_text};
+ghost use Rattle.borsh_io.specs.Errors.{error_kind, error_text, text_bytes, kind_text, display_text};
 ghost use Rattle.borsh_io.specs.declared.error.ErrorKind.TheVariants.{OutOfMemory};
 ghost use Rattle.borsh_io.specs.declared.error.Text.TheVariants.{Owned};
 
@@ -146,7 +146,7 @@ impl Error {
 
     /// What the error displays: its own text, or else that of its kind.
     pub fn message(&self) -> &str
-        ensures { result.now ≡ shown_text (error_kind self.now) (error_text self.now) }
+        ensures { result.now ≡ display_text (error_kind self.now) (error_text self.now) }
     {
         match &self.text {
             Some(text) => text.as_str(),
@@ -205,7 +205,7 @@ impl<T: Drop> From<AllocFailed<T>> for Error {
 }
 
 impl Display for Error {
-    ghost output = { λ e. Some (shown_text (error_kind e) (error_text e)) };
+    ghost output = { λ e. Some (display_text (error_kind e) (error_text e)) };
 
     fn fmt<W: fmt::Write>(&self, f: &mut Formatter<W>) -> fmt::Result {
         match &self.text {

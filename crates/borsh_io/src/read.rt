@@ -2,7 +2,7 @@
 ghost use Rattle.std.specs.Prelude.{◌≡◌, ◌≢◌, ℕ, ◌+◌, ◌-◌, ◌<◌, ◌≤◌, List, length, take, IfOk, OnOk, OnErr, IfErr};
 ghost use Rattle.std.specs.Io.KnownBytes.{IsAtEnd};
 ghost use Rattle.borsh_io.specs.Errors.{error_kind};
-ghost use Rattle.borsh_io.specs.Stream.{Stream, Takes, StreamInterrupted, StreamFailed, StreamStopped, LeavesTail, ExactRefused};
+ghost use Rattle.borsh_io.specs.Stream.{ReaderState, Consumed, ReadInterrupted, ReadFailed, ReadFailedAfterRetries, ConsumedSome, ReadExactFailure};
 
 use super::error::{Error, ErrorKind, Result, pass_over};
 
@@ -12,7 +12,7 @@ use super::error::{Error, ErrorKind, Result, pass_over};
 /// it has failed, how often it may still be interrupted, and how many reads may still take bytes. So
 /// a reader ends: it gives bytes a bounded number of times.
 pub trait Read {
-    ghost stream: { Self → Stream };
+    ghost stream: { Self → ReaderState };
 
     /// Puts a front of the bytes to come into the buffer, and answers how many: at least one where one
     /// is left and the buffer isn't empty. Which ones depends on the bytes alone.
@@ -21,16 +21,16 @@ pub trait Read {
     /// other kind: nothing was taken, and the count of faults rose.
     fn read(&mut self, buf: &mut [u8]) -> Result<usize>
         ensures bound { IfOk result (λ n. n ≤ length buf.new) }
-        ensures takes { IfOk result (λ n. Takes (stream self.old) (stream self.new) (take n buf.new)) }
+        ensures takes { IfOk result (λ n. Consumed (stream self.old) (stream self.new) (take n buf.new)) }
         ensures uninterrupted { OnOk result ((stream self.new).interruptions ≡ (stream self.old).interruptions) }
-        ensures fewer { IfOk result (λ n. 0 < n → (stream self.new).reads < (stream self.old).reads) }
+        ensures fewer { IfOk result (λ n. 0 < n → (stream self.new).reads_left < (stream self.old).reads_left) }
         ensures some { IfOk result (λ n. n ≡ 0 → 0 < length buf.new → IsAtEnd (stream self.new).bytes) }
-        ensures interrupted { IfErr result (λ e. error_kind e ≡ ErrorKind.Interrupted → StreamInterrupted (stream self.old) (stream self.new)) }
-        ensures failed { IfErr result (λ e. error_kind e ≢ ErrorKind.Interrupted → StreamFailed (stream self.old) (stream self.new)) };
+        ensures interrupted { IfErr result (λ e. error_kind e ≡ ErrorKind.Interrupted → ReadInterrupted (stream self.old) (stream self.new)) }
+        ensures failed { IfErr result (λ e. error_kind e ≢ ErrorKind.Interrupted → ReadFailed (stream self.old) (stream self.new)) };
 
     /// Whether the keys of maps and sets have to stand in ascending order. No read changes it.
     fn strict_order(&self) -> bool
-        ensures { result ≡ (stream self.now).strict };
+        ensures { result ≡ (stream self.now).strict_order };
 
     /// Fills the buffer with the front of the bytes to come, trying again after interruptions.
     ///
@@ -38,10 +38,10 @@ pub trait Read {
     /// with the reader's error, where it failed. Then a tail of the bytes to come is left, and the
     /// buffer holds anything.
     fn read_exact(&mut self, buf: &mut [u8]) -> Result<()>
-        ensures takes { OnOk result (Takes (stream self.old) (stream self.new) buf.new) }
+        ensures takes { OnOk result (Consumed (stream self.old) (stream self.new) buf.new) }
         ensures retried { IfErr result (λ e. error_kind e ≢ ErrorKind.Interrupted) }
-        ensures cause { IfErr result (λ e. ExactRefused (stream self.old) (stream self.new) (length buf.old) (error_kind e)) }
-        ensures tail { OnErr result (LeavesTail (stream self.old) (stream self.new)) }
+        ensures cause { IfErr result (λ e. ReadExactFailure (stream self.old) (stream self.new) (length buf.old) (error_kind e)) }
+        ensures tail { OnErr result (ConsumedSome (stream self.old) (stream self.new)) }
     {
         let mut at = 0;
         while at < buf.len() {
@@ -70,11 +70,11 @@ pub trait Read {
 /// Refused with the reader's error, where it failed. Nothing was taken then.
 pub fn read_some<R: Read>(reader: &mut R, buf: &mut [u8]) -> Result<usize>
     ensures bound { IfOk result (λ n. n ≤ length buf.new) }
-    ensures takes { IfOk result (λ n. Takes (R.stream reader.old) (R.stream reader.new) (take n buf.new)) }
-    ensures fewer { IfOk result (λ n. 0 < n → (R.stream reader.new).reads < (R.stream reader.old).reads) }
+    ensures takes { IfOk result (λ n. Consumed (R.stream reader.old) (R.stream reader.new) (take n buf.new)) }
+    ensures fewer { IfOk result (λ n. 0 < n → (R.stream reader.new).reads_left < (R.stream reader.old).reads_left) }
     ensures some { IfOk result (λ n. n ≡ 0 → 0 < length buf.new → IsAtEnd (R.stream reader.new).bytes) }
     ensures retried { IfErr result (λ e. error_kind e ≢ ErrorKind.Interrupted) }
-    ensures failed { OnErr result (StreamStopped (R.stream reader.old) (R.stream reader.new)) }
+    ensures failed { OnErr result (ReadFailedAfterRetries (R.stream reader.old) (R.stream reader.new)) }
 {
     loop {
         match reader.read(buf) {

@@ -2,7 +2,7 @@
 ghost use Rattle.std.specs.Prelude.{◌≡◌, ◌≢◌, ℕ, ◌+◌, ◌-◌, ◌<◌, ◌≤◌, ◌++◌, List, Ok, min, length, take, drop, IfOk, OnOk, OnErr, IfErr};
 ghost use Rattle.std.specs.Io.KnownBytes.{IsAtEnd};
 ghost use Rattle.borsh_io.specs.Errors.{error_kind};
-ghost use Rattle.borsh_io.specs.Stream.{Stream, Takes, StreamInterrupted, StreamFailed, LeavesTail, ExactRefused, memory_stream};
+ghost use Rattle.borsh_io.specs.Stream.{ReaderState, Consumed, ReadInterrupted, ReadFailed, ConsumedSome, ReadExactFailure, slice_state};
 
 use super::error::{ErrorKind, Result};
 use super::read::{Read, short_read};
@@ -29,17 +29,17 @@ impl<R: Read> Read for &mut R {
 /// The slice becomes what is left. It never fails and is never interrupted, and a short `read_exact`
 /// leaves it unchanged.
 impl Read for &[u8] {
-    ghost stream = { λ s. memory_stream s.now };
+    ghost stream = { λ s. slice_state s.now };
 
     #[inline]
     fn read(&mut self, buf: &mut [u8]) -> Result<usize>
         ensures bound { IfOk result (λ n. n ≤ length buf.new) }
-        ensures takes { IfOk result (λ n. Takes (memory_stream self.old.now) (memory_stream self.new.now) (take n buf.new)) }
-        ensures uninterrupted { OnOk result ((memory_stream self.new.now).interruptions ≡ (memory_stream self.old.now).interruptions) }
-        ensures fewer { IfOk result (λ n. 0 < n → (memory_stream self.new.now).reads < (memory_stream self.old.now).reads) }
-        ensures some { IfOk result (λ n. n ≡ 0 → 0 < length buf.new → IsAtEnd (memory_stream self.new.now).bytes) }
-        ensures interrupted { IfErr result (λ e. error_kind e ≡ ErrorKind.Interrupted → StreamInterrupted (memory_stream self.old.now) (memory_stream self.new.now)) }
-        ensures failed { IfErr result (λ e. error_kind e ≢ ErrorKind.Interrupted → StreamFailed (memory_stream self.old.now) (memory_stream self.new.now)) }
+        ensures takes { IfOk result (λ n. Consumed (slice_state self.old.now) (slice_state self.new.now) (take n buf.new)) }
+        ensures uninterrupted { OnOk result ((slice_state self.new.now).interruptions ≡ (slice_state self.old.now).interruptions) }
+        ensures fewer { IfOk result (λ n. 0 < n → (slice_state self.new.now).reads_left < (slice_state self.old.now).reads_left) }
+        ensures some { IfOk result (λ n. n ≡ 0 → 0 < length buf.new → IsAtEnd (slice_state self.new.now).bytes) }
+        ensures interrupted { IfErr result (λ e. error_kind e ≡ ErrorKind.Interrupted → ReadInterrupted (slice_state self.old.now) (slice_state self.new.now)) }
+        ensures failed { IfErr result (λ e. error_kind e ≢ ErrorKind.Interrupted → ReadFailed (slice_state self.old.now) (slice_state self.new.now)) }
         ensures count { result ≡ Ok (min (length self.old.now) (length buf.old)) }
     {
         let all: &[u8] = *self;
@@ -56,10 +56,10 @@ impl Read for &[u8] {
 
     #[inline]
     fn read_exact(&mut self, buf: &mut [u8]) -> Result<()>
-        ensures takes { OnOk result (Takes (memory_stream self.old.now) (memory_stream self.new.now) buf.new) }
+        ensures takes { OnOk result (Consumed (slice_state self.old.now) (slice_state self.new.now) buf.new) }
         ensures retried { IfErr result (λ e. error_kind e ≢ ErrorKind.Interrupted) }
-        ensures cause { IfErr result (λ e. ExactRefused (memory_stream self.old.now) (memory_stream self.new.now) (length buf.old) (error_kind e)) }
-        ensures tail { OnErr result (LeavesTail (memory_stream self.old.now) (memory_stream self.new.now)) }
+        ensures cause { IfErr result (λ e. ReadExactFailure (slice_state self.old.now) (slice_state self.new.now) (length buf.old) (error_kind e)) }
+        ensures tail { OnErr result (ConsumedSome (slice_state self.old.now) (slice_state self.new.now)) }
         ensures unchanged { OnErr result (self.new.now ≡ self.old.now) }
     {
         let all: &[u8] = *self;

@@ -1,7 +1,7 @@
 // What writes.
 ghost use Rattle.std.specs.Prelude.{◌≡◌, ◌≢◌, ℕ, ◌+◌, ◌-◌, ◌<◌, ◌≤◌, [], List, IsTrue, length, take, IfOk, OnOk, IfErr};
 ghost use Rattle.borsh_io.specs.Errors.{error_kind};
-ghost use Rattle.borsh_io.specs.Sink.{Writing, WritingLaws, Writes, WriterInterrupted, WriterFailed, WriterGaveUp, WriteRefused};
+ghost use Rattle.borsh_io.specs.Sink.{WriterModel, WriterLaws, WroteBytes, WriteInterrupted, WriteFailed, WriteFailedAfterRetries, NotWrittenWhole};
 
 use super::error::{Error, ErrorKind, Result, pass_over};
 
@@ -11,7 +11,7 @@ use super::error::{Error, ErrorKind, Result, pass_over};
 /// failed, how often it may still be interrupted, when it has no room, and whether it may take memory.
 /// It proves that no bytes come between a state and itself, and that bytes after bytes are joined.
 pub trait Write {
-    ghost writing: { Writing Self };
+    ghost writing: { WriterModel Self };
 
     /// Writes the front of the buffer, and answers how many bytes: none of a buffer that isn't empty
     /// only where the writer is full.
@@ -20,27 +20,27 @@ pub trait Write {
     /// any other kind: nothing was written, and memory was refused or the count of faults rose.
     fn write(&mut self, buf: &[u8]) -> Result<usize>
         ensures bound { IfOk result (λ n. n ≤ length buf.now) }
-        ensures writes { IfOk result (λ n. Writes writing self.old self.new (take n buf.now)) }
+        ensures writes { IfOk result (λ n. WroteBytes writing self.old self.new (take n buf.now)) }
         ensures uninterrupted { OnOk result ((writing.sink self.new).interruptions ≡ (writing.sink self.old).interruptions) }
         ensures some { IfOk result (λ n. n ≡ 0 → 0 < length buf.now → IsTrue (writing.sink self.new).full) }
-        ensures interrupted { IfErr result (λ e. error_kind e ≡ ErrorKind.Interrupted → WriterInterrupted writing self.old self.new) }
-        ensures failed { IfErr result (λ e. error_kind e ≢ ErrorKind.Interrupted → WriterFailed writing self.old self.new (error_kind e)) };
+        ensures interrupted { IfErr result (λ e. error_kind e ≡ ErrorKind.Interrupted → WriteInterrupted writing self.old self.new) }
+        ensures failed { IfErr result (λ e. error_kind e ≢ ErrorKind.Interrupted → WriteFailed writing self.old self.new (error_kind e)) };
 
     /// Hands on what the writer holds back. Adds no bytes; refused as [`write`](Write::write) is.
     fn flush(&mut self) -> Result<()>
-        ensures writes { OnOk result (Writes writing self.old self.new []) }
+        ensures writes { OnOk result (WroteBytes writing self.old self.new []) }
         ensures uninterrupted { OnOk result ((writing.sink self.new).interruptions ≡ (writing.sink self.old).interruptions) }
-        ensures interrupted { IfErr result (λ e. error_kind e ≡ ErrorKind.Interrupted → WriterInterrupted writing self.old self.new) }
-        ensures failed { IfErr result (λ e. error_kind e ≢ ErrorKind.Interrupted → WriterFailed writing self.old self.new (error_kind e)) };
+        ensures interrupted { IfErr result (λ e. error_kind e ≡ ErrorKind.Interrupted → WriteInterrupted writing self.old self.new) }
+        ensures failed { IfErr result (λ e. error_kind e ≢ ErrorKind.Interrupted → WriteFailed writing self.old self.new (error_kind e)) };
 
     /// Writes the whole buffer, trying again after interruptions.
     ///
     /// Refused with `WriteZero`, "failed to write whole buffer", where the writer is full, and with the
     /// writer's error, where it failed. Then a beginning of the buffer was written, and not all of it.
     fn write_all(&mut self, buf: &[u8]) -> Result<()>
-        ensures writes { OnOk result (Writes writing self.old self.new buf.now) }
+        ensures writes { OnOk result (WroteBytes writing self.old self.new buf.now) }
         ensures retried { IfErr result (λ e. error_kind e ≢ ErrorKind.Interrupted) }
-        ensures refused { IfErr result (λ e. WriteRefused writing self.old self.new buf.now (error_kind e)) }
+        ensures refused { IfErr result (λ e. NotWrittenWhole writing self.old self.new buf.now (error_kind e)) }
     {
         let mut rest = buf;
         while !rest.is_empty() {
@@ -63,7 +63,7 @@ pub trait Write {
         self
     }
 
-    ghost lawful: { WritingLaws Self writing };
+    ghost lawful: { WriterLaws Self writing };
 }
 
 #[cold]
@@ -75,9 +75,9 @@ pub(crate) fn short_write() -> Error
 
 /// A flush, trying again after interruptions. Refused with the writer's error, where it failed.
 pub fn flush_all<W: Write>(writer: &mut W) -> Result<()>
-    ensures writes { OnOk result (Writes W.writing writer.old writer.new []) }
+    ensures writes { OnOk result (WroteBytes W.writing writer.old writer.new []) }
     ensures retried { IfErr result (λ e. error_kind e ≢ ErrorKind.Interrupted) }
-    ensures failed { IfErr result (λ e. WriterGaveUp W.writing writer.old writer.new (error_kind e)) }
+    ensures failed { IfErr result (λ e. WriteFailedAfterRetries W.writing writer.old writer.new (error_kind e)) }
 {
     loop {
         match writer.flush() {

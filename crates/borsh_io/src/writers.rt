@@ -1,14 +1,14 @@
 // The writers over vectors, slices and references.
 ghost use Rattle.std.specs.Prelude.{◌≡◌, ◌≢◌, ℕ, ◌+◌, ◌-◌, ◌<◌, ◌≤◌, [], List, Ok, min, length, take, IsOk, IsTrue, IfOk, OnOk, OnErr, IfErr, vec_len, vec_capacity};
 ghost use Rattle.borsh_io.specs.Errors.{error_kind};
-ghost use Rattle.borsh_io.specs.Sink.{Writes, WriterInterrupted, WriterFailed, WriteRefused, through, appending, overwriting};
-ghost use Rattle.borsh_io.specs.SinkLaws.{through-laws, appending-laws, overwriting-laws};
+ghost use Rattle.borsh_io.specs.Sink.{WroteBytes, WriteInterrupted, WriteFailed, NotWrittenWhole, contramap_writer, appending, overwriting};
+ghost use Rattle.borsh_io.specs.SinkLaws.{contramap_writer-laws, appending-laws, overwriting-laws};
 
 use super::error::{Error, ErrorKind, Result};
 use super::write::Write;
 
 impl<W: Write> Write for &mut W {
-    ghost writing = { through (λ r. r.now) W.writing };
+    ghost writing = { contramap_writer (λ r. r.now) W.writing };
 
     #[inline]
     fn write(&mut self, buf: &[u8]) -> Result<usize> {
@@ -25,7 +25,7 @@ impl<W: Write> Write for &mut W {
         Write::write_all(&mut **self, buf)
     }
 
-    ghost lawful = { through-laws (λ r. r.now) W.lawful };
+    ghost lawful = { contramap_writer-laws (λ r. r.now) W.lawful };
 }
 
 /// The bytes go to the end of the vector. Memory that is refused leaves it unchanged (`OutOfMemory`);
@@ -36,11 +36,11 @@ impl Write for Vec<u8> {
     #[inline]
     fn write(&mut self, buf: &[u8]) -> Result<usize>
         ensures bound { IfOk result (λ n. n ≤ length buf.now) }
-        ensures writes { IfOk result (λ n. Writes (appending (λ v. v.items)) self.old self.new (take n buf.now)) }
+        ensures writes { IfOk result (λ n. WroteBytes (appending (λ v. v.items)) self.old self.new (take n buf.now)) }
         ensures uninterrupted { OnOk result (((appending (λ v. v.items)).sink self.new).interruptions ≡ ((appending (λ v. v.items)).sink self.old).interruptions) }
         ensures some { IfOk result (λ n. n ≡ 0 → 0 < length buf.now → IsTrue ((appending (λ v. v.items)).sink self.new).full) }
-        ensures interrupted { IfErr result (λ e. error_kind e ≡ ErrorKind.Interrupted → WriterInterrupted (appending (λ v. v.items)) self.old self.new) }
-        ensures failed { IfErr result (λ e. error_kind e ≢ ErrorKind.Interrupted → WriterFailed (appending (λ v. v.items)) self.old self.new (error_kind e)) }
+        ensures interrupted { IfErr result (λ e. error_kind e ≡ ErrorKind.Interrupted → WriteInterrupted (appending (λ v. v.items)) self.old self.new) }
+        ensures failed { IfErr result (λ e. error_kind e ≢ ErrorKind.Interrupted → WriteFailed (appending (λ v. v.items)) self.old self.new (error_kind e)) }
         ensures all { IfOk result (λ n. n ≡ length buf.now) }
         ensures full { OnErr result (vec_capacity self.old < vec_len self.old + length buf.now) }
     {
@@ -50,10 +50,10 @@ impl Write for Vec<u8> {
 
     #[inline]
     fn flush(&mut self) -> Result<()>
-        ensures writes { OnOk result (Writes (appending (λ v. v.items)) self.old self.new []) }
+        ensures writes { OnOk result (WroteBytes (appending (λ v. v.items)) self.old self.new []) }
         ensures uninterrupted { OnOk result (((appending (λ v. v.items)).sink self.new).interruptions ≡ ((appending (λ v. v.items)).sink self.old).interruptions) }
-        ensures interrupted { IfErr result (λ e. error_kind e ≡ ErrorKind.Interrupted → WriterInterrupted (appending (λ v. v.items)) self.old self.new) }
-        ensures failed { IfErr result (λ e. error_kind e ≢ ErrorKind.Interrupted → WriterFailed (appending (λ v. v.items)) self.old self.new (error_kind e)) }
+        ensures interrupted { IfErr result (λ e. error_kind e ≡ ErrorKind.Interrupted → WriteInterrupted (appending (λ v. v.items)) self.old self.new) }
+        ensures failed { IfErr result (λ e. error_kind e ≢ ErrorKind.Interrupted → WriteFailed (appending (λ v. v.items)) self.old self.new (error_kind e)) }
         ensures succeeds { IsOk result }
         ensures unchanged { self.new ≡ self.old }
     {
@@ -62,9 +62,9 @@ impl Write for Vec<u8> {
 
     #[inline]
     fn write_all(&mut self, buf: &[u8]) -> Result<()>
-        ensures writes { OnOk result (Writes (appending (λ v. v.items)) self.old self.new buf.now) }
+        ensures writes { OnOk result (WroteBytes (appending (λ v. v.items)) self.old self.new buf.now) }
         ensures retried { IfErr result (λ e. error_kind e ≢ ErrorKind.Interrupted) }
-        ensures refused { IfErr result (λ e. WriteRefused (appending (λ v. v.items)) self.old self.new buf.now (error_kind e)) }
+        ensures refused { IfErr result (λ e. NotWrittenWhole (appending (λ v. v.items)) self.old self.new buf.now (error_kind e)) }
         ensures unchanged { OnErr result (self.new.items ≡ self.old.items) }
         ensures full { OnErr result (vec_capacity self.old < vec_len self.old + length buf.now) }
     {

@@ -1,18 +1,24 @@
 -- How bytes that are taken turn into lines and answers.
-use Rattle.std.proofs.Common.{◌≡◌, ◌≢◌, ℕ, ◌+◌, ◌-◌, ◌<◌, ◌≤◌, ◌==◌, cond, Bool, true, false, List, [], ◌∷◌, ◌++◌, length, take, drop, get_or, refl, sym, ap, ◌∙◌, subst, arith, append_assoc, append-nil, take-append-drop, ⊎_elim, true≢false, eq-eqb}
+use Rattle.std.proofs.Common.{◌≡◌, ◌≢◌, ℕ, ◌+◌, ◌<◌, ◌≤◌, ◌==◌, cond, Bool, false, List, [], ◌∷◌, ◌++◌, length, take, drop, get_or, refl, sym, ap, ◌∙◌, subst, arith, append_assoc, append-nil, take-append-drop, ⊎_elim, true≢false, eq-eqb, length-append, Result, Ok, Err, IsErr, IsOk, OnOk, zero, suc, add-zero, zero-add}
 use Rattle.std.proofs.Math.Nat.{eq-zero-or-pos}
-use Rattle.std.specs.List.{All, AllZip, flat_map}
+use Rattle.std.specs.List.{All}
 use Rattle.std.proofs.lemmas.List.Elements.{All-nil, All-head, All-tail, All-push, AllZip-push}
 use Rattle.std.proofs.lemmas.Grind.{flat_map-append, common_steps}
 use Rattle.std.proofs.lemmas.Bool.{ne_eqb}
 use Rattle.std.proofs.lemmas.List.{take_more, map-append}
 use Rattle.borsh_lines.specs.Runs.{spaced}
 use Rattle.borsh_answers.specs.Lines.{IsLine}
-use Rattle.borsh_lines.specs.Lines.{with_feeds, onto_first, lines_of, ended_lines, OutputOf, BeginsOutput, Answered, Continues, Replies}
+use Rattle.borsh_lines.specs.Counts.{add_saturating}
+use Rattle.borsh_lines.specs.Lines.{with_feeds, onto_first, lines_of, ended_lines, OutputOf, Answered, Continues, Appends, AnswersChunk}
 
 -- a test that a length is 0, which failed
 pub not_empty : (b : Bool) (n : ℕ) → b ≡ n == 0 → b ≡ false → 0 < n
 not_empty b n e f = ⊎_elim (λ (z : n ≡ 0). absurd (true≢false (sym (eq-eqb n 0 z) ∙ sym e ∙ f))) (λ (h : 0 < n). h) (eq-zero-or-pos n)
+
+-- what holds after a success, after one
+pub on_success : {E : Type 0} {P : Type 0} (r : Result (Unit {0}) E) → IsOk r → OnOk r P → P
+on_success (Ok x) h p = p
+on_success (Err e) h p = absurd (true≢false (sym h))
 
 pub no_line : IsLine []
 no_line = All-nil (λ b. b ≢ 10)
@@ -59,108 +65,155 @@ ended_lines-fed (line ∷ lines) rest h =
     ∙ ended_lines-first line (with_feeds lines ++ rest) (All-head IsLine line lines h)
     ∙ ap (λ t. line ∷ t) (ended_lines-fed lines rest (All-tail IsLine line lines h))
 
+-- a count of lines is raised by one more
+raised-more : (m k : ℕ) → add_saturating (add_saturating m k) 1 ≡ add_saturating m (suc k)
+raised-more m zero = omega arith
+raised-more m (suc k) = omega arith
+
+raised-again : (m k l : ℕ) → add_saturating (add_saturating m k) l ≡ add_saturating m (k + l)
+raised-again m k zero = ap (add_saturating m) (sym (add-zero k))
+raised-again m zero (suc l) = ap (add_saturating m) (sym (zero-add (suc l)))
+raised-again m (suc k) (suc l) =
+    let sum : suc (suc k + l) ≡ suc k + suc l = omega arith in
+    let more : add_saturating (add_saturating m (suc k)) (suc l) ≡ add_saturating m (suc (suc k + l)) = omega arith in
+    more ∙ ap (add_saturating m) sum
+
+pub raised-once : (m n l : ℕ) (lines : List (List ℕ)) (line : List ℕ) → n ≡ add_saturating m (length lines) → l ≡ add_saturating n 1 → l ≡ add_saturating m (length (lines ++ line ∷ []))
+raised-once m n l lines line h e =
+    let one : suc (length lines) ≡ length (lines ++ line ∷ []) = omega (arith, length-append lines (line ∷ [])) in
+    e ∙ ap (λ c. add_saturating c 1) h ∙ raised-more m (length lines) ∙ ap (add_saturating m) one
+
+pub raised-on : (m n l : ℕ) (lines more : List (List ℕ)) → n ≡ add_saturating m (length lines) → l ≡ add_saturating n (length more) → l ≡ add_saturating m (length (lines ++ more))
+raised-on m n l lines more h e = e ∙ ap (λ c. add_saturating c (length more)) h ∙ raised-again m (length lines) (length more) ∙ ap (add_saturating m) (sym (length-append lines more))
+
+-- what a front of a chunk has become
+pub record ChunkSoFar (answers : List ℕ → List ℕ → Type 0) (front before after old new : List ℕ) (old_count new_count : ℕ) : Type 0 where
+  pub lines : List (List ℕ)
+  pub added : List ℕ
+  pub continues : Continues answers before front after lines added
+  pub appended : new ≡ old ++ added
+  pub counted : new_count ≡ add_saturating old_count (length lines)
+
+-- the front of a buffer that was filled
+front-filled : (n len : ℕ) (buf items : List ℕ) → n ≤ length buf → length buf ≤ len → take n (take len (buf ++ drop (length buf) items)) ≡ take n buf
+front-filled n len buf items h fits = grind (arith, common_steps)
+
 module _ {answers : List ℕ → List ℕ → Type 0} where
   pub output-none : OutputOf answers [] []
   output-none = record { outs = []; each = tt; whole = All-nil IsLine; joined = refl }
 
-  pub output-push : {lines : List (List ℕ)} {out line added : List ℕ} → OutputOf answers lines out → Replies answers line added → OutputOf answers (lines ++ line ∷ []) (out ++ added)
-  output-push {lines} {out} {line} {added} p r = record {
+  pub output-push : {lines : List (List ℕ)} {out line all : List ℕ} → OutputOf answers lines out → Appends answers line out all → OutputOf answers (lines ++ line ∷ []) all
+  output-push {lines} {out} {line} {all} p r = record {
     outs = p.outs ++ r.reply ∷ [];
     each = AllZip-push answers lines p.outs line r.reply p.each r.answers_it;
     whole = All-push IsLine p.outs r.reply p.whole r.whole;
-    joined = ap (λ t. t ++ added) p.joined ∙ ap (λ t. with_feeds p.outs ++ t) r.joined ∙ sym (with_feeds-push p.outs r.reply);
+    joined = r.joined ∙ ap (λ t. t ++ (r.reply ++ 10 ∷ [])) p.joined ∙ sym (with_feeds-push p.outs r.reply);
   }
 
-  pub answered-none : Answered answers [] [] []
-  answered-none = record { ended = []; joined = refl; whole = All-nil IsLine; unended = no_line; output = output-none }
+  -- what was appended to an end is appended to all of it
+  pub appends-after : {line old new : List ℕ} (out : List ℕ) → Appends answers line old new → Appends answers line (out ++ old) (out ++ new)
+  appends-after {line} {old} {new} out r = record {
+    reply = r.reply;
+    answers_it = r.answers_it;
+    whole = r.whole;
+    joined = ap (λ t. out ++ t) r.joined ∙ sym (append_assoc out old (r.reply ++ 10 ∷ []));
+  }
 
-  pub answered-byte : {taken line out : List ℕ} (b : ℕ) → b ≢ 10 → Answered answers taken line out → Answered answers (taken ++ b ∷ []) (line ++ b ∷ []) out
-  answered-byte {taken} {line} {out} b ne p = record {
-    ended = p.ended;
-    joined = ap (λ t. t ++ b ∷ []) p.joined ∙ append_assoc (with_feeds p.ended) line (b ∷ []);
+  pub answered-none : Answered answers [] [] [] []
+  answered-none = record { joined = refl; whole = All-nil IsLine; unended = no_line; output = output-none }
+
+  pub answered-byte : {taken line out : List ℕ} {lines : List (List ℕ)} (b : ℕ) → b ≢ 10 → Answered answers taken lines line out → Answered answers (taken ++ b ∷ []) lines (line ++ b ∷ []) out
+  answered-byte {taken} {line} {out} {lines} b ne p = record {
+    joined = ap (λ t. t ++ b ∷ []) p.joined ∙ append_assoc (with_feeds lines) line (b ∷ []);
     whole = p.whole;
     unended = All-push (λ b. b ≢ 10) line b p.unended ne;
     output = p.output;
   }
 
-  pub answered-feed : {taken line out added : List ℕ} → Replies answers line added → Answered answers taken line out → Answered answers (taken ++ 10 ∷ []) [] (out ++ added)
-  answered-feed {taken} {line} {out} {added} r p = record {
-    ended = p.ended ++ line ∷ [];
-    joined = ap (λ t. t ++ 10 ∷ []) p.joined ∙ append_assoc (with_feeds p.ended) line (10 ∷ []) ∙ sym (with_feeds-push p.ended line) ∙ sym (append-nil _);
-    whole = All-push IsLine p.ended line p.whole p.unended;
+  pub answered-feed : {taken line out all : List ℕ} {lines : List (List ℕ)} → Appends answers line out all → Answered answers taken lines line out → Answered answers (taken ++ 10 ∷ []) (lines ++ line ∷ []) [] all
+  answered-feed {taken} {line} {out} {all} {lines} r p = record {
+    joined = ap (λ t. t ++ 10 ∷ []) p.joined ∙ append_assoc (with_feeds lines) line (10 ∷ []) ∙ sym (with_feeds-push lines line) ∙ sym (append-nil _);
+    whole = All-push IsLine lines line p.whole p.unended;
     unended = no_line;
     output = output-push p.output r;
   }
 
-  pub continues-none : (line : List ℕ) → Continues answers line [] line []
-  continues-none line = record { go = λ taken out p. subst (λ t. Answered answers t line (out ++ [])) (sym (append-nil taken)) (subst (λ t. Answered answers taken line t) (sym (append-nil out)) p) }
+  pub continues-none : (line : List ℕ) → Continues answers line [] line [] []
+  continues-none line = record { go = λ taken before out p. rw (append-nil taken, append-nil before, append-nil out) p }
 
-  pub continues-byte : {line chunk after added : List ℕ} (b : ℕ) → b ≢ 10 → Continues answers line chunk after added → Continues answers line (chunk ++ b ∷ []) (after ++ b ∷ []) added
-  continues-byte {line} {chunk} {after} {added} b ne p = record {
-    go = λ taken out q. subst (λ t. Answered answers t (after ++ b ∷ []) (out ++ added)) (append_assoc taken chunk (b ∷ [])) (answered-byte b ne (p.go taken out q));
+  pub continues-byte : {line chunk after added : List ℕ} {lines : List (List ℕ)} (b : ℕ) → b ≢ 10 → Continues answers line chunk after lines added → Continues answers line (chunk ++ b ∷ []) (after ++ b ∷ []) lines added
+  continues-byte {line} {chunk} {after} {added} {lines} b ne p = record {
+    go = λ taken before out q. subst (λ t. Answered answers t (before ++ lines) (after ++ b ∷ []) (out ++ added)) (append_assoc taken chunk (b ∷ [])) (answered-byte b ne (p.go taken before out q));
   }
 
-  pub continues-feed : {line chunk after added more : List ℕ} → Replies answers after more → Continues answers line chunk after added → Continues answers line (chunk ++ 10 ∷ []) [] (added ++ more)
-  continues-feed {line} {chunk} {after} {added} {more} r p = record {
-    go = λ taken out q. subst (λ t. Answered answers t [] (out ++ (added ++ more))) (append_assoc taken chunk (10 ∷ [])) (subst (λ t. Answered answers ((taken ++ chunk) ++ 10 ∷ []) [] t) (append_assoc out added more) (answered-feed r (p.go taken out q)));
+  pub continues-feed : {line chunk after added all : List ℕ} {lines : List (List ℕ)} → Appends answers after added all → Continues answers line chunk after lines added → Continues answers line (chunk ++ 10 ∷ []) [] (lines ++ after ∷ []) all
+  continues-feed {line} {chunk} {after} {added} {all} {lines} r p = record {
+    go = λ taken before out q.
+        subst (λ t. Answered answers t (before ++ (lines ++ after ∷ [])) [] (out ++ all)) (append_assoc taken chunk (10 ∷ []))
+        (subst (λ t. Answered answers ((taken ++ chunk) ++ 10 ∷ []) t [] (out ++ all)) (append_assoc before lines (after ∷ []))
+        (answered-feed (appends-after out r) (p.go taken before out q)));
   }
 
   -- at the end of the bytes
-  pub output-at_end : {taken out : List ℕ} → Answered answers taken [] out → OutputOf answers (lines_of taken) out
-  output-at_end {taken} {out} p = subst (λ t. OutputOf answers t out) (sym (ap lines_of p.joined ∙ lines_of-fed p.ended [] p.whole ∙ append-nil p.ended)) p.output
+  pub output-at_end : {taken out : List ℕ} {lines : List (List ℕ)} → Answered answers taken lines [] out → lines_of taken ≡ lines
+  output-at_end {taken} {out} {lines} p = ap lines_of p.joined ∙ lines_of-fed lines [] p.whole ∙ append-nil lines
 
-  pub output-at_last : {taken out added : List ℕ} (line : List ℕ) → Answered answers taken line out → 0 < length line → Replies answers line added → OutputOf answers (lines_of taken) (out ++ added)
-  output-at_last {taken} {out} {added} [] p h r = absurd (omega arith)
-  output-at_last {taken} {out} {added} (b ∷ line) p h r = subst (λ t. OutputOf answers t (out ++ added)) (sym (ap lines_of p.joined ∙ lines_of-fed p.ended (b ∷ line) p.whole ∙ ap (λ t. p.ended ++ t) (lines_of-last b line p.unended))) (output-push p.output r)
+  pub output-at_last : {taken out : List ℕ} {lines : List (List ℕ)} (line : List ℕ) → Answered answers taken lines line out → 0 < length line → lines_of taken ≡ lines ++ line ∷ []
+  output-at_last {taken} {out} {lines} [] p h = absurd (omega arith)
+  output-at_last {taken} {out} {lines} (b ∷ line) p h = ap lines_of p.joined ∙ lines_of-fed lines (b ∷ line) p.whole ∙ ap (λ t. lines ++ t) (lines_of-last b line p.unended)
 
-  pub output-ended : {taken line out : List ℕ} → Answered answers taken line out → OutputOf answers (ended_lines taken) out
-  output-ended {taken} {line} {out} p = subst (λ t. OutputOf answers t out) (sym (ap ended_lines p.joined ∙ ended_lines-fed p.ended line p.whole ∙ ap (λ t. p.ended ++ t) (ended_lines-last line p.unended) ∙ append-nil p.ended)) p.output
+  pub ended-are : {taken line out : List ℕ} {lines : List (List ℕ)} → Answered answers taken lines line out → ended_lines taken ≡ lines
+  ended-are {taken} {line} {out} {lines} p = ap ended_lines p.joined ∙ ended_lines-fed lines line p.whole ∙ ap (λ t. lines ++ t) (ended_lines-last line p.unended) ∙ append-nil lines
 
   -- whatever bytes are still to come
-  pub begins-of_front : {taken line out : List ℕ} (rest front more : List ℕ) → Answered answers taken line out → out ≡ front ++ more → BeginsOutput answers (lines_of (taken ++ rest)) front
-  begins-of_front {taken} {line} {out} rest front more p e = record {
-    done = p.ended;
-    rest = lines_of (line ++ rest);
-    split = ap (λ t. lines_of (t ++ rest)) p.joined ∙ ap lines_of (append_assoc (with_feeds p.ended) line rest) ∙ lines_of-fed p.ended (line ++ rest) p.whole;
-    full = out;
-    more = more;
-    output = p.output;
-    front = e;
-  }
+  pub first-lines : {taken line out : List ℕ} {lines : List (List ℕ)} (rest : List ℕ) → Answered answers taken lines line out → lines_of (taken ++ rest) ≡ lines ++ lines_of (line ++ rest)
+  first-lines {taken} {line} {out} {lines} rest p = ap (λ t. lines_of (t ++ rest)) p.joined ∙ ap lines_of (append_assoc (with_feeds lines) line rest) ∙ lines_of-fed lines (line ++ rest) p.whole
 
-  pub begins : {taken line out : List ℕ} (rest : List ℕ) → Answered answers taken line out → BeginsOutput answers (lines_of (taken ++ rest)) out
-  begins {taken} {line} {out} rest p = begins-of_front rest out [] p (sym (append-nil out))
-
-  pub begins-of_all : {lines : List (List ℕ)} {out : List ℕ} (front more : List ℕ) → OutputOf answers lines out → out ≡ front ++ more → BeginsOutput answers lines front
-  begins-of_all {lines} {out} front more p e = record {
-    done = lines;
-    rest = [];
-    split = sym (append-nil lines);
-    full = out;
-    more = more;
-    output = p;
-    front = e;
+  pub chunk-none : (before out : List ℕ) (count : ℕ) → ChunkSoFar answers [] before before out out count count
+  chunk-none before out count = record {
+    lines = [];
+    added = [];
+    continues = continues-none before;
+    appended = sym (append-nil out);
+    counted = refl;
   }
 
   -- a turn at a byte of the chunk
-  pub turn-byte : {line after longer added : List ℕ} (chunk : List ℕ) (i : ℕ) → i < length chunk → get_or chunk i 0 ≢ 10 → longer ≡ after ++ get_or chunk i 0 ∷ [] → Continues answers line (take i chunk) after added → Continues answers line (take (i + 1) chunk) longer added
-  turn-byte {line} {after} {longer} {added} chunk i h ne e p =
-      subst (λ t. Continues answers line (take (i + 1) chunk) t added) (sym e)
-      (subst (λ t. Continues answers line t (after ++ get_or chunk i 0 ∷ []) added) (sym (take_more chunk i 0 h)) (continues-byte (get_or chunk i 0) ne p))
+  pub chunk-byte : {before after longer old new : List ℕ} {m n : ℕ} (chunk : List ℕ) (i : ℕ) → i < length chunk → get_or chunk i 0 ≢ 10 → longer ≡ after ++ get_or chunk i 0 ∷ [] → ChunkSoFar answers (take i chunk) before after old new m n → ChunkSoFar answers (take (i + 1) chunk) before longer old new m n
+  chunk-byte {before} {after} {longer} {old} {new} {m} {n} chunk i h ne e p = record {
+    lines = p.lines;
+    added = p.added;
+    continues = rw (e, take_more chunk i 0 h) (continues-byte (get_or chunk i 0) ne p.continues);
+    appended = p.appended;
+    counted = p.counted;
+  }
 
   -- a turn at a line feed
-  pub turn-feed : {line after none added more all : List ℕ} (chunk : List ℕ) (i : ℕ) → i < length chunk → get_or chunk i 0 ≡ 10 → none ≡ [] → all ≡ added ++ more → Replies answers after more → Continues answers line (take i chunk) after added → Continues answers line (take (i + 1) chunk) none all
-  turn-feed {line} {after} {none} {added} {more} {all} chunk i h is z e r p =
-      subst (λ t. Continues answers line (take (i + 1) chunk) t all) (sym z)
-      (subst (λ t. Continues answers line (take (i + 1) chunk) [] t) (sym e)
-      (subst (λ t. Continues answers line t [] (added ++ more)) (sym (take_more chunk i 0 h ∙ ap (λ b. take i chunk ++ b ∷ []) is)) (continues-feed r p)))
+  pub chunk-feed : {before after none old new all : List ℕ} {m n k : ℕ} (chunk : List ℕ) (i : ℕ) → i < length chunk → get_or chunk i 0 ≡ 10 → none ≡ [] → Appends answers after new all → k ≡ add_saturating n 1 → ChunkSoFar answers (take i chunk) before after old new m n → ChunkSoFar answers (take (i + 1) chunk) before none old all m k
+  chunk-feed {before} {after} {none} {old} {new} {all} {m} {n} {k} chunk i h is z r e p =
+      let s : Appends answers after p.added (p.added ++ (r.reply ++ 10 ∷ [])) = record { reply = r.reply; answers_it = r.answers_it; whole = r.whole; joined = refl } in
+      record {
+        lines = p.lines ++ after ∷ [];
+        added = p.added ++ (r.reply ++ 10 ∷ []);
+        continues = rw (z, take_more chunk i 0 h, is) (continues-feed s p.continues);
+        appended = r.joined ∙ ap (λ t. t ++ (r.reply ++ 10 ∷ [])) p.appended ∙ append_assoc old p.added (r.reply ++ 10 ∷ []);
+        counted = raised-once m n k p.lines after p.counted e;
+      }
 
-pub longer_line : {longer : List ℕ} (line : List ℕ) (b : ℕ) → longer ≡ line ++ b ∷ [] → b ≢ 10 → IsLine line → IsLine longer
-longer_line {longer} line b e ne p = subst IsLine (sym e) (All-push (λ b. b ≢ 10) line b p ne)
+  -- the chunk is done, or stops at a front of it
+  pub chunk-done : {E : Type 0} {chunk before after old new : List ℕ} {m n : ℕ} (r : Result (Unit {0}) E) → ChunkSoFar answers chunk before after old new m n → AnswersChunk answers chunk before after old new m n r
+  chunk-done {chunk = chunk} (Ok x) p = record { front = chunk; rest = []; split = sym (append-nil chunk); complete = refl; lines = p.lines; added = p.added; continues = p.continues; appended = p.appended; counted = p.counted }
+  chunk-done {chunk = chunk} (Err e) p = record { front = chunk; rest = []; split = sym (append-nil chunk); complete = tt; lines = p.lines; added = p.added; continues = p.continues; appended = p.appended; counted = p.counted }
 
--- the front of a buffer that was filled
-pub front-filled : (n len : ℕ) (buf items : List ℕ) → n ≤ length buf → length buf ≤ len → take n (take len (buf ++ drop (length buf) items)) ≡ take n buf
-front-filled n len buf items h fits = grind (arith, common_steps)
+  pub chunk-stops : {E : Type 0} {before after old new : List ℕ} {m n : ℕ} (chunk : List ℕ) (i : ℕ) (r : Result (Unit {0}) E) → IsErr r → ChunkSoFar answers (take i chunk) before after old new m n → AnswersChunk answers chunk before after old new m n r
+  chunk-stops chunk i (Ok x) h p = absurd (true≢false (sym h))
+  chunk-stops chunk i (Err e) h p = record { front = take i chunk; rest = drop i chunk; split = sym (take-append-drop i chunk); complete = tt; lines = p.lines; added = p.added; continues = p.continues; appended = p.appended; counted = p.counted }
+
+  -- the chunk is the front of a buffer that was filled
+  pub chunk-taken : {E : Type 0} {before after new : List ℕ} {m n : ℕ} {r : Result (Unit {0}) E} (k len : ℕ) (buf items seen old : List ℕ) → seen ≡ take len (buf ++ drop (length buf) items) → k ≤ length buf → length buf ≤ len → old ≡ [] → AnswersChunk answers (take k seen) before after old new m n r → AnswersChunk answers (take k buf) before after [] new m n r
+  chunk-taken k len buf items seen old value bound fits none p =
+      let same : take k seen ≡ take k buf = ap (take k) value ∙ front-filled k len buf items bound fits in
+      rw (same, none) at p
 
 pub spaced-more : (text : List ℕ) (i : ℕ) → i < length text → spaced (take (i + 1) text) ≡ spaced (take i text) ++ cond (get_or text i 0 == 10) 32 (get_or text i 0) ∷ []
 spaced-more text i h = ap spaced (take_more text i 0 h) ∙ map-append (λ b. cond (b == 10) 32 b) (take i text) (get_or text i 0 ∷ [])

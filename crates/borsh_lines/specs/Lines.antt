@@ -1,7 +1,8 @@
 -- The lines of a list of bytes, and the output that answers them.
-use Rattle.std.specs.Prelude.{◌≡◌, ℕ, ◌==◌, cond, List, [], ◌∷◌, ◌++◌}
+use Rattle.std.specs.Prelude.{◌≡◌, ℕ, ◌==◌, cond, List, [], ◌∷◌, ◌++◌, length, Result, OnOk}
 use Rattle.std.specs.List.{All, AllZip, flat_map}
 use Rattle.borsh_answers.specs.Lines.{IsLine}
+use Rattle.borsh_lines.specs.Counts.{add_saturating}
 
 -- each of these with a line feed behind it
 abbrev pub with_feeds : List (List ℕ) → List ℕ
@@ -29,31 +30,39 @@ pub record OutputOf (answers : List ℕ → List ℕ → Type 0) (lines : List (
   pub whole : All IsLine outs
   pub joined : out ≡ with_feeds outs
 
--- a beginning of the output of the first of these lines
-pub record BeginsOutput (answers : List ℕ → List ℕ → Type 0) (lines : List (List ℕ)) (out : List ℕ) : Type 0 where
-  pub done : List (List ℕ)
-  pub rest : List (List ℕ)
-  pub split : lines ≡ done ++ rest
-  pub full : List ℕ
-  pub more : List ℕ
-  pub output : OutputOf answers done full
-  pub front : full ≡ out ++ more
-
--- of the bytes taken each line whose line feed is there is answered, and `line` is what stands behind
-pub record Answered (answers : List ℕ → List ℕ → Type 0) (taken line out : List ℕ) : Type 0 where
-  pub ended : List (List ℕ)
-  pub joined : taken ≡ with_feeds ended ++ line
-  pub whole : All IsLine ended
+-- of the bytes `taken`, `lines` are the lines whose line feed is there, `out` has their answers, and `line` is what comes behind
+pub record Answered (answers : List ℕ → List ℕ → Type 0) (taken : List ℕ) (lines : List (List ℕ)) (line out : List ℕ) : Type 0 where
+  pub joined : taken ≡ with_feeds lines ++ line
+  pub whole : All IsLine lines
   pub unended : IsLine line
-  pub output : OutputOf answers ended out
+  pub output : OutputOf answers lines out
 
--- with `chunk` behind what was taken before, `added` is what has to follow
-pub record Continues (answers : List ℕ → List ℕ → Type 0) (line chunk after added : List ℕ) : Type 0 where
-  pub go : (taken out : List ℕ) → Answered answers taken line out → Answered answers (taken ++ chunk) after (out ++ added)
+-- where `line` is what came behind the last line feed, `chunk` ends `lines`, whose answers are `added`, and leaves `after` as the next one's beginning
+pub record Continues (answers : List ℕ → List ℕ → Type 0) (line chunk after : List ℕ) (lines : List (List ℕ)) (added : List ℕ) : Type 0 where
+  pub go : (taken : List ℕ) (before : List (List ℕ)) (out : List ℕ) → Answered answers taken before line out → Answered answers (taken ++ chunk) (before ++ lines) after (out ++ added)
 
--- the answer to a line and a line feed
-pub record Replies (answers : List ℕ → List ℕ → Type 0) (line added : List ℕ) : Type 0 where
+-- an answer to the line and a line feed were appended
+pub record Appends (answers : List ℕ → List ℕ → Type 0) (line old new : List ℕ) : Type 0 where
   pub reply : List ℕ
   pub answers_it : answers line reply
   pub whole : IsLine reply
-  pub joined : added ≡ reply ++ 10 ∷ []
+  pub joined : new ≡ old ++ (reply ++ 10 ∷ [])
+
+-- the lines that end in a chunk were answered; where memory was refused, those that end in a beginning of it
+pub record AnswersChunk {E : Type 0} (answers : List ℕ → List ℕ → Type 0) (chunk before after old new : List ℕ) (old_count new_count : ℕ) (result : Result (Unit {0}) E) : Type 0 where
+  -- the beginning of the chunk whose lines were answered
+  pub front : List ℕ
+  -- the rest of the chunk
+  pub rest : List ℕ
+  pub split : chunk ≡ front ++ rest
+  -- after a success there is no rest
+  pub complete : OnOk result (rest ≡ [])
+  -- the lines that were answered
+  pub lines : List (List ℕ)
+  -- their answers
+  pub added : List ℕ
+  pub continues : Continues answers before front after lines added
+  -- the answers were appended
+  pub appended : new ≡ old ++ added
+  -- the lines were counted
+  pub counted : new_count ≡ add_saturating old_count (length lines)

@@ -1,7 +1,7 @@
 // How a run ends.
 ghost use Rattle.std.specs.Prelude.{◌≡◌, cond, ◌==◌, IfErr, OnOk};
 ghost use Rattle.borsh.specs.Errors.{error_kind};
-ghost use Rattle.borsh.specs.Sink.{Writes, WriteRefused};
+ghost use Rattle.borsh.specs.Sink.{WroteBytes, NotWrittenWhole};
 ghost use Rattle.borsh_lines.specs.Runs.{error_line, spaced, Told};
 
 use borsh::io::{Error, Result, Write};
@@ -23,8 +23,8 @@ pub fn finish<W: Write>(outcome: &Result<()>, errors: &mut W) -> u8
 
 /// Writes what an error displays, as one line.
 fn tell<W: Write>(error: &Error, errors: &mut W) -> Result<()>
-    ensures writes { OnOk result (Writes W.writing errors.old errors.new (error_line error.now)) }
-    ensures refused { IfErr result (λ e. WriteRefused W.writing errors.old errors.new (error_line error.now) (error_kind e)) }
+    ensures writes { OnOk result (WroteBytes W.writing errors.old errors.new (error_line error.now)) }
+    ensures refused { IfErr result (λ e. NotWrittenWhole W.writing errors.old errors.new (error_line error.now) (error_kind e)) }
 {
     errors.write_all(b"borsh_check: ")?;
     write_spaced(error.message().as_bytes(), errors)?;
@@ -34,8 +34,8 @@ fn tell<W: Write>(error: &Error, errors: &mut W) -> Result<()>
 
 /// Writes a text with a space for each line feed.
 fn write_spaced<W: Write>(text: &[u8], errors: &mut W) -> Result<()>
-    ensures writes { OnOk result (Writes W.writing errors.old errors.new (spaced text.now)) }
-    ensures refused { IfErr result (λ e. WriteRefused W.writing errors.old errors.new (spaced text.now) (error_kind e)) }
+    ensures writes { OnOk result (WroteBytes W.writing errors.old errors.new (spaced text.now)) }
+    ensures refused { IfErr result (λ e. NotWrittenWhole W.writing errors.old errors.new (spaced text.now) (error_kind e)) }
 {
     for byte in text {
         errors.write_all(&[space_for_feed(*byte)])?;

@@ -1,10 +1,10 @@
 // A run over a reader and a writer.
-ghost use Rattle.std.specs.Prelude.{OnOk, IfErr};
-ghost use Rattle.borsh.specs.Errors.{error_kind};
 ghost use Rattle.borsh_answers.specs.Answers.{Answers};
-ghost use Rattle.borsh_lines.specs.Runs.{Ran, Stopped};
+ghost use Rattle.borsh_lines.specs.Counts.{line_count};
+ghost use Rattle.borsh_lines.specs.Runs.{Runs, RunsCounted};
 
-use super::replies::{answer_chunk, reply};
+use super::answerer::Answerer;
+use super::replies::answer_chunk;
 use borsh::io::{Read, Result, Write, flush_all, read_some};
 use std::alloc::Global;
 
@@ -13,35 +13,57 @@ const CHUNK: usize = 8192;
 
 /// Answers each line of the reader's bytes by one line, and flushes the writer.
 ///
-/// Lines end by a line feed; a last one without it counts if it isn't empty. Refused where memory was
-/// refused, or where the reader or the writer failed or the writer was full: then a beginning of the
-/// output was written, after a fault of the reader exactly the answers to the lines whose line feed was
-/// taken.
+/// Lines end by a line feed; a last line without one counts if it isn't empty. An error means that
+/// memory was refused, that the reader or the writer failed, or that the writer was full. The lines
+/// that were answered by then are the first ones of the input. Their answers were all written where
+/// memory was refused or the reader failed; where the writer was full or failed, a beginning of them.
 pub fn run<R: Read, W: Write>(alloc: Global, reader: &mut R, writer: &mut W) -> Result<()>
-    ensures ran { OnOk result (Ran Answers W.writing (R.stream reader.old) (R.stream reader.new) writer.old writer.new) }
-    ensures stopped { IfErr result (λ e. Stopped Answers W.writing (R.stream reader.old) (R.stream reader.new) writer.old writer.new (error_kind e)) }
+    ensures { Runs Answers W.writing (R.stream reader.old) (R.stream reader.new)
+        writer.old writer.new result }
 {
-    run_lines(alloc, reader, writer)?;
+    run_counted(alloc, reader, writer, &mut Answerer::new())
+}
+
+/// As [`run`], with an answerer of the caller's. Its count rises by the number of lines that were
+/// answered. So no answer is lost where memory is refused or the reader fails: as many were written.
+pub fn run_counted<R: Read, W: Write>(
+    alloc: Global,
+    reader: &mut R,
+    writer: &mut W,
+    answerer: &mut Answerer,
+) -> Result<()>
+    ensures { RunsCounted Answers W.writing (R.stream reader.old) (R.stream reader.new)
+        writer.old writer.new (line_count answerer.old) (line_count answerer.new) result }
+{
+    run_lines(alloc, reader, writer, answerer)?;
     flush_all(writer)
 }
 
 /// The same without the flush.
-fn run_lines<R: Read, W: Write>(alloc: Global, reader: &mut R, writer: &mut W) -> Result<()>
-    ensures ran { OnOk result (Ran Answers W.writing (R.stream reader.old) (R.stream reader.new) writer.old writer.new) }
-    ensures stopped { IfErr result (λ e. Stopped Answers W.writing (R.stream reader.old) (R.stream reader.new) writer.old writer.new (error_kind e)) }
+fn run_lines<R: Read, W: Write>(
+    alloc: Global,
+    reader: &mut R,
+    writer: &mut W,
+    answerer: &mut Answerer,
+) -> Result<()>
+    ensures { RunsCounted Answers W.writing (R.stream reader.old) (R.stream reader.new)
+        writer.old writer.new (line_count answerer.old) (line_count answerer.new) result }
 {
     let mut buffer = vec![in alloc; 0u8; CHUNK]?;
     let mut line = Vec::new(alloc);
     'chunks: loop {
         let n = read_some(reader, buffer.as_mut_slice())?;
+        let mut answers = Vec::new(alloc);
         if n == 0 {
             if line.is_empty() {
                 return Ok(());
             }
-            let last = reply(alloc, line.as_slice())?;
-            return writer.write_all(last.as_slice());
+            answerer.answer(alloc, line.as_slice(), &mut answers)?;
+            return writer.write_all(answers.as_slice());
         }
-        let answers = answer_chunk(alloc, &buffer.as_slice()[..n], &mut line)?;
+        let chunk = &buffer.as_slice()[..n];
+        let outcome = answer_chunk(alloc, chunk, &mut line, answerer, &mut answers);
         writer.write_all(answers.as_slice())?;
+        outcome?;
     }
 }

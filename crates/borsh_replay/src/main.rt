@@ -1,26 +1,31 @@
-//! Gives lines whose answers are known to `run`, and counts how many agree.
+//! Gives stored lines to `run`, and compares each answer with the stored ones, to the end of both.
 //!
-//! A row of standard input is a line, a tab, and the known answers with tabs between them, any one of
-//! which will do. Each row that is answered otherwise is printed, and last how many agree.
+//! Standard input begins with a row that names the columns. Each further row is a line, where its answers
+//! come from, and the answers, with tabs between them. What differs is printed, and last how many lines of
+//! each source agree. replay/README.md tells how the rows are made.
 #![tactic(auto)]
 
+mod rows;
+
 use borsh_lines::run;
+use rows::Row;
 use std::alloc::{AllocError, Global};
+use std::collections::BTreeMap;
 use std::io;
 
-/// The line of a row.
-fn line_of(row: &str) -> &str {
-    match row.split_once('\t') {
-        Some((line, _)) => line,
-        None => row,
-    }
+/// How many lines of a source there are, and how many of them are answered as stored.
+#[derive(Drop)]
+struct Tally {
+    all: u64,
+    agreed: u64,
 }
 
-/// Whether one of the known answers of a row is this one.
-fn agrees(row: &str, answer: &str) -> bool {
-    match row.split_once('\t') {
-        Some((_, known)) => known.split('\t').any(|one| one == answer),
-        None => false,
+impl Tally {
+    fn add(&mut self, agrees: bool) {
+        self.all = self.all.saturating_add(1);
+        if agrees {
+            self.agreed = self.agreed.saturating_add(1);
+        }
     }
 }
 
@@ -28,8 +33,10 @@ fn agrees(row: &str, answer: &str) -> bool {
 fn lines_of(alloc: Global, rows: &str) -> Result<String, AllocError> {
     let mut lines = String::new(alloc);
     for row in rows.lines() {
-        lines.push_str(line_of(row))?;
-        lines.push('\n')?;
+        if let Some(row) = Row::from_text(row) {
+            lines.push_str(row.line)?;
+            lines.push('\n')?;
+        }
     }
     Ok(lines)
 }
@@ -48,18 +55,42 @@ fn answers_to(alloc: Global, lines: &str) -> io::Result<String> {
 
 fn main(rt: HostRuntime) -> io::Result<()> {
     let alloc = rt.alloc();
-    let rows = io::read_to_string(alloc, rt.stdin())?;
-    let lines = lines_of(alloc, rows.as_str())?;
-    let answers = answers_to(alloc, lines.as_str())?;
-    let mut all = 0u64;
-    let mut agreed = 0u64;
-    for (row, answer) in rows.lines().zip(answers.lines()) {
-        all = all.saturating_add(1);
-        if agrees(row, answer) {
-            agreed = agreed.saturating_add(1);
-        } else {
-            println!(rt; "{row}\n    is answered {answer}")?;
-        }
+    let input = io::read_to_string(alloc, rt.stdin())?;
+    let rows = match input.as_str().split_once('\n') {
+        Some((_columns, rows)) => rows,
+        None => "",
+    };
+    let lines = lines_of(alloc, rows)?;
+    let output = answers_to(alloc, lines.as_str())?;
+    let mut answers = output.lines();
+    let mut tallies: BTreeMap<&str, Tally> = BTreeMap::new(alloc);
+    for text in rows.lines() {
+        let Some(row) = Row::from_text(text) else {
+            println!(rt; "{text}\n    is no row")?;
+            continue;
+        };
+        let agrees = match answers.next() {
+            Some(answer) if row.allows(answer) => true,
+            Some(answer) => {
+                println!(rt; "{text}\n    is answered {answer}")?;
+                false
+            }
+            None => {
+                println!(rt; "{text}\n    isn't answered")?;
+                false
+            }
+        };
+        let tally = tallies
+            .entry(row.source)?
+            .or_insert(Tally { all: 0, agreed: 0 });
+        tally.add(agrees);
     }
-    println!(rt; "{agreed} of {all} agree")
+    for answer in answers {
+        println!(rt; "{answer}\n    answers no line")?;
+    }
+    for (source, tally) in tallies.iter() {
+        let Tally { all, agreed } = tally;
+        println!(rt; "{source}: {agreed} of {all} agree")?;
+    }
+    Ok(())
 }

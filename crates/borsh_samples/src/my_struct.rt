@@ -1,9 +1,9 @@
 // A struct of two parts.
-ghost use Rattle.borsh.specs.Shapes.{along};
-ghost use Rattle.borsh.specs.Laws.Exact.{along-lawful};
-ghost use Rattle.borsh.specs.Laws.Numbers.{number-lawful};
+ghost use Rattle.borsh.specs.Shapes.{contramap};
+ghost use Rattle.borsh.specs.Laws.Exact.{contramap-lawful};
+ghost use Rattle.borsh.specs.Laws.Numbers.{unsigned-lawful};
 ghost use Rattle.borsh.specs.Laws.Pairs.{pair-lawful};
-ghost use Rattle.borsh.specs.Laws.Rows.{elements-lawful};
+ghost use Rattle.borsh.specs.Laws.Rows.{list-lawful};
 
 use borsh::io::{Read, Result, Write};
 use borsh::ser::write_two;
@@ -18,9 +18,9 @@ pub struct MyStruct {
 }
 
 impl BorshType for MyStruct {
-    ghost codec = { along (λ v. (v.a, v.b)) ⟦<(u64, Vec<u8>) as BorshType>⟧.codec };
+    ghost codec = { contramap (λ v. (v.a, v.b)) ⟦<(u64, Vec<u8>) as BorshType>⟧.codec };
 
-    ghost lawful = { along-lawful (λ v. (v.a, v.b)) (pair-lawful (number-lawful 8) (along-lawful (λ v. v.items) (elements-lawful (number-lawful 1)))) };
+    ghost lawful = { contramap-lawful (λ v. (v.a, v.b)) (pair-lawful (unsigned-lawful 8) (contramap-lawful (λ v. v.items) (list-lawful (unsigned-lawful 1)))) };
 
     fn encodes_empty() -> bool {
         <(u64, Vec<u8>)>::encodes_empty()

@@ -1,10 +1,10 @@
 // Two types that go by one name: their schemas can't stand in one container.
 ghost use Rattle.std.specs.Prelude.{codes};
-ghost use Rattle.borsh.specs.Shapes.{along, number};
-ghost use Rattle.borsh.specs.Laws.Exact.{along-lawful};
-ghost use Rattle.borsh.specs.Laws.Numbers.{number-lawful};
-ghost use Rattle.borsh.specs.Schema.Laws.Members.{describes_along, describes_number};
-ghost use Rattle.borsh.specs.Schema.Types.{primitive_parts};
+ghost use Rattle.borsh.specs.Shapes.{contramap, unsigned};
+ghost use Rattle.borsh.specs.Laws.Exact.{contramap-lawful};
+ghost use Rattle.borsh.specs.Laws.Numbers.{unsigned-lawful};
+ghost use Rattle.borsh.specs.Schema.Laws.Members.{describes_contramap, describes_number};
+ghost use Rattle.borsh.specs.Schema.Types.{primitive_definitions};
 
 use borsh::io::{Read, Result, Write};
 use borsh::schema::{Declaration, Definition, SchemaBuildError, add_with_parts, declared};
@@ -21,9 +21,9 @@ pub struct ShortA(pub u8);
 pub struct LongA(pub u16);
 
 impl BorshType for ShortA {
-    ghost codec = { along (λ v. v.0) (number 1) };
+    ghost codec = { contramap (λ v. v.0) (unsigned 1) };
 
-    ghost lawful = { along-lawful (λ v. v.0) (number-lawful 1) };
+    ghost lawful = { contramap-lawful (λ v. v.0) (unsigned-lawful 1) };
 
     fn encodes_empty() -> bool {
         false
@@ -35,9 +35,9 @@ impl BorshType for ShortA {
 }
 
 impl BorshType for LongA {
-    ghost codec = { along (λ v. v.0) (number 2) };
+    ghost codec = { contramap (λ v. v.0) (unsigned 2) };
 
-    ghost lawful = { along-lawful (λ v. v.0) (number-lawful 2) };
+    ghost lawful = { contramap-lawful (λ v. v.0) (unsigned-lawful 2) };
 
     fn encodes_empty() -> bool {
         false
@@ -75,7 +75,7 @@ impl BorshDeserialize for LongA {
 impl BorshSchema for ShortA {
     ghost name = { codes "A" };
 
-    ghost parts = { primitive_parts (codes "A") 1 };
+    ghost parts = { primitive_definitions (codes "A") 1 };
 
     fn declaration(alloc: Global) -> std::result::Result<Declaration, SchemaBuildError> {
         declared(alloc, "A")
@@ -89,13 +89,13 @@ impl BorshSchema for ShortA {
         add_with_parts::<()>(alloc, name, Definition::Primitive(1), definitions)
     }
 
-    ghost describes = { λ C h. describes_along (λ v. v.0) (describes_number 1 h.0) };
+    ghost describes = { λ C h. describes_contramap (λ v. v.0) (describes_number 1 h.0) };
 }
 
 impl BorshSchema for LongA {
     ghost name = { codes "A" };
 
-    ghost parts = { primitive_parts (codes "A") 2 };
+    ghost parts = { primitive_definitions (codes "A") 2 };
 
     fn declaration(alloc: Global) -> std::result::Result<Declaration, SchemaBuildError> {
         declared(alloc, "A")
@@ -109,5 +109,5 @@ impl BorshSchema for LongA {
         add_with_parts::<()>(alloc, name, Definition::Primitive(2), definitions)
     }
 
-    ghost describes = { λ C h. describes_along (λ v. v.0) (describes_number 2 h.0) };
+    ghost describes = { λ C h. describes_contramap (λ v. v.0) (describes_number 2 h.0) };
 }

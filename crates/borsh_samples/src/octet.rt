@@ -1,7 +1,7 @@
 // A byte in a type of its own: the same encoding, and no way to read or write many at once.
-ghost use Rattle.borsh.specs.Shapes.{along, number};
-ghost use Rattle.borsh.specs.Laws.Exact.{along-lawful};
-ghost use Rattle.borsh.specs.Laws.Numbers.{number-lawful};
+ghost use Rattle.borsh.specs.Shapes.{contramap, unsigned};
+ghost use Rattle.borsh.specs.Laws.Exact.{contramap-lawful};
+ghost use Rattle.borsh.specs.Laws.Numbers.{unsigned-lawful};
 
 use borsh::io::{Read, Result, Write};
 use borsh::{BorshDeserialize, BorshSerialize, BorshType};
@@ -12,9 +12,9 @@ use std::alloc::Global;
 pub struct Octet(pub u8);
 
 impl BorshType for Octet {
-    ghost codec = { along (λ v. v.0) (number 1) };
+    ghost codec = { contramap (λ v. v.0) (unsigned 1) };
 
-    ghost lawful = { along-lawful (λ v. v.0) (number-lawful 1) };
+    ghost lawful = { contramap-lawful (λ v. v.0) (unsigned-lawful 1) };
 
     fn encodes_empty() -> bool {
         false

@@ -1,9 +1,9 @@
 // The struct of the original's README: a number and a text.
-ghost use Rattle.borsh.specs.Shapes.{along};
-ghost use Rattle.borsh.specs.Laws.Exact.{along-lawful};
-ghost use Rattle.borsh.specs.Laws.Numbers.{number-lawful};
+ghost use Rattle.borsh.specs.Shapes.{contramap};
+ghost use Rattle.borsh.specs.Laws.Exact.{contramap-lawful};
+ghost use Rattle.borsh.specs.Laws.Numbers.{unsigned-lawful};
 ghost use Rattle.borsh.specs.Laws.Pairs.{pair-lawful};
-ghost use Rattle.borsh.specs.Types.Texts.{text-lawful};
+ghost use Rattle.borsh.specs.Laws.Types.{text-lawful};
 ghost use Rattle.std.specs.String.{string_bytes};
 
 use borsh::io::{Read, Result, Write};
@@ -19,9 +19,9 @@ pub struct A {
 }
 
 impl BorshType for A {
-    ghost codec = { along (λ v. (v.x, v.y)) ⟦<(u64, String) as BorshType>⟧.codec };
+    ghost codec = { contramap (λ v. (v.x, v.y)) ⟦<(u64, String) as BorshType>⟧.codec };
 
-    ghost lawful = { along-lawful (λ v. (v.x, v.y)) (pair-lawful (number-lawful 8) (along-lawful string_bytes text-lawful)) };
+    ghost lawful = { contramap-lawful (λ v. (v.x, v.y)) (pair-lawful (unsigned-lawful 8) (contramap-lawful string_bytes text-lawful)) };
 
     fn encodes_empty() -> bool {
         <(u64, String)>::encodes_empty()

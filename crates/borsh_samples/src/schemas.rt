@@ -1,9 +1,9 @@
 // The schemas of two of the types, as a user writes them.
 ghost use Rattle.std.specs.Prelude.{codes, refl};
 ghost use Rattle.borsh.specs.Schema.Container.{first_variant, later_variant};
-ghost use Rattle.borsh.specs.Schema.Laws.Members.{describes_along, describes_number, describes_text, describes_elements, describes_unit, describes_parts, describes_choice, all_none, all_one, all_more, choice_more, choice_none};
-ghost use Rattle.borsh_samples.specs.MyEnum.{my_enum_parts as my_enum_view};
-ghost use Rattle.borsh_samples.specs.Schemas.{readme_parts, zero_parts, one_parts, many_parts, my_enum_parts};
+ghost use Rattle.borsh.specs.Schema.Laws.Members.{describes_contramap, describes_number, describes_text, describes_elements, describes_unit, describes_parts, describes_choice, all_none, all_one, all_more, choice_more, choice_none};
+ghost use Rattle.borsh_samples.specs.MyEnum.{my_enum_view};
+ghost use Rattle.borsh_samples.specs.Schemas.{readme_definitions, zero_definitions, one_definitions, many_definitions, my_enum_definitions};
 ghost use Rattle.std.specs.String.{string_bytes};
 
 use super::my_enum::MyEnum;
@@ -19,7 +19,7 @@ use std::collections::BTreeMap;
 impl BorshSchema for A {
     ghost name = { codes "A" };
 
-    ghost parts = { readme_parts };
+    ghost parts = { readme_definitions };
 
     fn declaration(alloc: Global) -> Result<Declaration, SchemaBuildError> {
         declared(alloc, "A")
@@ -41,14 +41,14 @@ impl BorshSchema for A {
         )
     }
 
-    ghost describes = { λ C h. describes_along (λ v. (v.x, v.y)) (describes_parts h.0 (all_more (describes_number 8 h.1.0.0) (all_one (describes_along string_bytes (describes_text h.1.1.0.0 h.1.1.0.1.0.0))))) };
+    ghost describes = { λ C h. describes_contramap (λ v. (v.x, v.y)) (describes_parts h.0 (all_more (describes_number 8 h.1.0.0) (all_one (describes_contramap string_bytes (describes_text h.1.1.0.0 h.1.1.0.1.0.0))))) };
 }
 
 /// The definitions of the part of `MyEnum::Zero`, which has a name of its own.
 struct ZeroPart;
 
 impl SchemaParts for ZeroPart {
-    ghost all_parts = { zero_parts };
+    ghost all_parts = { zero_definitions };
 
     fn add_all(
         alloc: Global,
@@ -70,7 +70,7 @@ impl SchemaParts for ZeroPart {
 struct OnePart;
 
 impl SchemaParts for OnePart {
-    ghost all_parts = { one_parts };
+    ghost all_parts = { one_definitions };
 
     fn add_all(
         alloc: Global,
@@ -90,7 +90,7 @@ impl SchemaParts for OnePart {
 struct ManyPart;
 
 impl SchemaParts for ManyPart {
-    ghost all_parts = { many_parts };
+    ghost all_parts = { many_definitions };
 
     fn add_all(
         alloc: Global,
@@ -109,7 +109,7 @@ impl SchemaParts for ManyPart {
 impl BorshSchema for MyEnum {
     ghost name = { codes "MyEnum" };
 
-    ghost parts = { my_enum_parts };
+    ghost parts = { my_enum_definitions };
 
     fn declaration(alloc: Global) -> Result<Declaration, SchemaBuildError> {
         declared(alloc, "MyEnum")
@@ -135,5 +135,5 @@ impl BorshSchema for MyEnum {
         )
     }
 
-    ghost describes = { λ C h. describes_along my_enum_view (describes_choice h.0 (choice_more first_variant refl (describes_parts h.1.0.0 all_none) (choice_more (later_variant first_variant) refl (describes_parts h.1.1.0.0 (all_one (describes_number 1 h.1.1.0.1.0.0))) (choice_more (later_variant (later_variant first_variant)) refl (describes_parts h.1.1.1.0 (all_one (describes_along (λ v. v.items) (describes_elements h.1.1.1.1.0.0 (describes_number 1 h.1.1.1.1.0.1.0.0))))) choice_none)))) };
+    ghost describes = { λ C h. describes_contramap my_enum_view (describes_choice h.0 (choice_more first_variant refl (describes_parts h.1.0.0 all_none) (choice_more (later_variant first_variant) refl (describes_parts h.1.1.0.0 (all_one (describes_number 1 h.1.1.0.1.0.0))) (choice_more (later_variant (later_variant first_variant)) refl (describes_parts h.1.1.1.0 (all_one (describes_contramap (λ v. v.items) (describes_elements h.1.1.1.1.0.0 (describes_number 1 h.1.1.1.1.0.1.0.0))))) choice_none)))) };
 }

@@ -9,66 +9,66 @@ use Rattle.std.proofs.lemmas.Slice.Eq.{bytes_eq-Decides}
 use Rattle.std.proofs.lemmas.Map.Text.{btree_map_updates_text}
 use Rattle.borsh_walks.specs.declared.definition.Definition.{Definition}
 use Rattle.borsh_schema.specs.declared.definitions.SchemaBuildError.TheVariants.{Redefinition}
-use Rattle.borsh_schema.specs.Described.{Described, described_of, Contents, contents_of, none, defined, IsPart}
-use Rattle.borsh_schema.specs.Joined.{IsGiven, IsJoined, NotJoined}
+use Rattle.borsh_schema.specs.Described.{NamedDefinition, named_definition, DefinitionMap, definitions_by_name, none, defined, IsInTree}
+use Rattle.borsh_schema.specs.Joined.{IsDefinedIn, IsUnion, UnionFails}
 
-module _ (a : Contents) (n : List ℕ) (d : Described) (h : a n ≡ Some d) where
-  known_part : (m : List ℕ) (e : Described) → IsPart m e (defined n d none) → a m ≡ Some e
+module _ (a : DefinitionMap) (n : List ℕ) (d : NamedDefinition) (h : a n ≡ Some d) where
+  known_part : (m : List ℕ) (e : NamedDefinition) → IsInTree m e (defined n d none) → a m ≡ Some e
   known_part m e (inl k) = ap a (sym k.0) ∙ h ∙ ap Some k.1
   known_part m e (inr k) = absurd k
 
   -- the definition stands already
-  pub joined_known : IsJoined a (defined n d none) a
+  pub joined_known : IsUnion a (defined n d none) a
   joined_known = record { keeps = λ m e k. k; has = known_part; only = λ m e k. inl k }
 
 -- another definition stands under the name
-pub not_joined_known : (a : Contents) {k d : Described} (m : String Global) → a (string_bytes m) ≡ Some k → (k ≡ d → ⊥) → NotJoined a (defined (string_bytes m) d none) a (Redefinition m)
+pub not_joined_known : (a : DefinitionMap) {k d : NamedDefinition} (m : String Global) → a (string_bytes m) ≡ Some k → (k ≡ d → ⊥) → UnionFails a (defined (string_bytes m) d none) a (Redefinition m)
 not_joined_known a {k = k} {d = d} m h apart = record {
   partly = record { keeps = λ n e i. i; only = λ n e i. inl i };
   fault = record { first = k; second = d; has_first = inl h; has_second = inr (inl (refl, refl)); apart = apart };
 }
 
 -- what a look-up by a text found stands under the text's bytes
-pub found_at : (m : BTreeMap (String Global) Definition) (bs cs : List ℕ) {o : Option Definition} → o ≡ get_by_text m bs → bs ≡ cs → contents_of m cs ≡ option_map described_of o
-found_at m bs cs e p = ap (contents_of m) (sym p) ∙ ap (option_map described_of) (sym e)
+pub found_at : (m : BTreeMap (String Global) Definition) (bs cs : List ℕ) {o : Option Definition} → o ≡ get_by_text m bs → bs ≡ cs → definitions_by_name m cs ≡ option_map named_definition o
+found_at m bs cs e p = ap (definitions_by_name m) (sym p) ∙ ap (option_map named_definition) (sym e)
 
 pub absent_at : (m : BTreeMap (String Global) Definition) (bs cs : List ℕ) → None ≡ get_by_text m bs → bs ≡ cs → get_by_text m cs ≡ None
 absent_at m bs cs e p = ap (get_by_text m) (sym p) ∙ sym e
 
 -- what is found under a name is one
-pub found_once : {k d : Described} {o : Option Described} → o ≡ Some k → o ≡ Some d → d ≡ k
+pub found_once : {k d : NamedDefinition} {o : Option NamedDefinition} → o ≡ Some k → o ≡ Some d → d ≡ k
 found_once f g = let e = sym f in let h = g in cc
 
 module _ (m n : BTreeMap (String Global) Definition) (bs : List ℕ) (v : Definition) (absent : get_by_text m bs ≡ None) (u : UpdatesBy string_cmp (λ k. slice_cmp nat_cmp bs (string_bytes k)) m n (Some v)) where
   -- a name is the new one, or it stands as it did
   abbrev After : List ℕ → Type 0
-  After q = ((bs ≡ q) × (contents_of n q ≡ Some (described_of v))) ⊎ ((bs ≡ q → ⊥) × (contents_of n q ≡ contents_of m q))
+  After q = ((bs ≡ q) × (definitions_by_name n q ≡ Some (named_definition v))) ⊎ ((bs ≡ q → ⊥) × (definitions_by_name n q ≡ definitions_by_name m q))
 
-  at_name : (q : List ℕ) → contents_of n q ≡ option_map described_of (cond (bytes_eq bs q) (Some v) (get_by_text m q))
-  at_name q = ap (option_map described_of) (btree_map_updates_text bs m n (Some v) u q)
+  at_name : (q : List ℕ) → definitions_by_name n q ≡ option_map named_definition (cond (bytes_eq bs q) (Some v) (get_by_text m q))
+  at_name q = ap (option_map named_definition) (btree_map_updates_text bs m n (Some v) u q)
 
   after : (q : List ℕ) → After q
   after q = elim (bytes_eq bs q) as (λ b. bytes_eq bs q ≡ b → After q) [
-    | true ↦ λ e. inl ((bytes_eq-Decides bs q).0 e, at_name q ∙ ap (λ b. option_map described_of (cond b (Some v) (get_by_text m q))) e)
-    | false ↦ λ e. inr (λ p. true≢false (sym ((bytes_eq-Decides bs q).1 p) ∙ e), at_name q ∙ ap (λ b. option_map described_of (cond b (Some v) (get_by_text m q))) e)
+    | true ↦ λ e. inl ((bytes_eq-Decides bs q).0 e, at_name q ∙ ap (λ b. option_map named_definition (cond b (Some v) (get_by_text m q))) e)
+    | false ↦ λ e. inr (λ p. true≢false (sym ((bytes_eq-Decides bs q).1 p) ∙ e), at_name q ∙ ap (λ b. option_map named_definition (cond b (Some v) (get_by_text m q))) e)
   ] refl
 
-  nothing : contents_of m bs ≡ None
-  nothing = ap (option_map described_of) absent
+  nothing : definitions_by_name m bs ≡ None
+  nothing = ap (option_map named_definition) absent
 
-  keeps : (q : List ℕ) (d : Described) → contents_of m q ≡ Some d → contents_of n q ≡ Some d
+  keeps : (q : List ℕ) (d : NamedDefinition) → definitions_by_name m q ≡ Some d → definitions_by_name n q ≡ Some d
   keeps q d h = elim (after q) [
-    | inl p ↦ (let e = ap (contents_of m) p.0 in let z = nothing in absurd (cc))
+    | inl p ↦ (let e = ap (definitions_by_name m) p.0 in let z = nothing in absurd (cc))
     | inr p ↦ p.1 ∙ h
   ]
 
-  has : (q : List ℕ) (d : Described) → IsPart q d (defined bs (described_of v) none) → contents_of n q ≡ Some d
+  has : (q : List ℕ) (d : NamedDefinition) → IsInTree q d (defined bs (named_definition v) none) → definitions_by_name n q ≡ Some d
   has q d (inl k) = elim (after q) [ inl p ↦ p.1 ∙ ap Some k.1 | inr p ↦ absurd (p.0 k.0) ]
   has q d (inr k) = absurd k
 
-  only : (q : List ℕ) (d : Described) → contents_of n q ≡ Some d → IsGiven (contents_of m) (defined bs (described_of v) none) q d
+  only : (q : List ℕ) (d : NamedDefinition) → definitions_by_name n q ≡ Some d → IsDefinedIn (definitions_by_name m) (defined bs (named_definition v) none) q d
   only q d h = elim (after q) [ inl p ↦ inr (inl (p.0, (let e = p.1 in cc))) | inr p ↦ inl (sym p.1 ∙ h) ]
 
   -- the name was free, and has the definition now
-  pub joined_new : IsJoined (contents_of m) (defined bs (described_of v) none) (contents_of n)
+  pub joined_new : IsUnion (definitions_by_name m) (defined bs (named_definition v) none) (definitions_by_name n)
   joined_new = record { keeps = keeps; has = has; only = only }

@@ -5,20 +5,20 @@ use Rattle.std.specs.String.{string_cmp}
 use Rattle.std.proofs.lemmas.List.{length-map}
 use Rattle.borsh_walks.specs.declared.definition.Definition.{Definition}
 use Rattle.borsh_schema.specs.declared.container.BorshSchemaContainer.{BorshSchemaContainer}
-use Rattle.borsh_schema.specs.Described.{Parts, contents_of, nothing_defined}
-use Rattle.borsh_schema.specs.Joined.{IsJoined}
+use Rattle.borsh_schema.specs.Described.{DefinitionTree, definitions_by_name, nothing_defined}
+use Rattle.borsh_schema.specs.Joined.{IsUnion}
 use Rattle.borsh_schema.specs.Containers.{declaration_of, map_of, IsContainerOf}
 use Rattle.borsh_schema.specs.Laws.Sameness.{said_entry, SayTheSame, container_as, container_once}
 
-pub container_made : {name : List ℕ} {ps : Parts} (m n : BTreeMap (String Global) Definition) {d : String Global} (c : BorshSchemaContainer)
-    → contents_of m ≡ nothing_defined → IsJoined (contents_of m) ps (contents_of n) → string_bytes d ≡ name → declaration_of c ≡ d → map_of c ≡ n → IsContainerOf name ps c
+pub container_made : {name : List ℕ} {ps : DefinitionTree} (m n : BTreeMap (String Global) Definition) {d : String Global} (c : BorshSchemaContainer)
+    → definitions_by_name m ≡ nothing_defined → IsUnion (definitions_by_name m) ps (definitions_by_name n) → string_bytes d ≡ name → declaration_of c ≡ d → map_of c ≡ n → IsContainerOf name ps c
 container_made {ps = ps} m n c e j f g h = record {
   root = ap string_bytes g ∙ f;
-  definitions = subst (λ a. IsJoined a ps (contents_of (map_of c))) e (subst (λ k. IsJoined (contents_of m) ps (contents_of k)) (sym h) j);
+  definitions = subst (λ a. IsUnion a ps (definitions_by_name (map_of c))) e (subst (λ k. IsUnion (definitions_by_name m) ps (definitions_by_name k)) (sym h) j);
 }
 
 -- two containers by ascending name are compared, first by how many definitions they have
-module _ {name : List ℕ} {ps : Parts} (own sent : BorshSchemaContainer) (is : IsContainerOf name ps own) (o : IsOrdered string_cmp (map_of own)) (s : IsOrdered string_cmp (map_of sent)) where
+module _ {name : List ℕ} {ps : DefinitionTree} (own sent : BorshSchemaContainer) (is : IsContainerOf name ps own) (o : IsOrdered string_cmp (map_of own)) (s : IsOrdered string_cmp (map_of sent)) where
   pub compared_long : (b : Bool) → Decides b (SayTheSame sent own) → Decides b (IsContainerOf name ps sent)
   compared_long b d = (λ e. container_as sent own (d.0 e) is, λ h. d.1 (container_once sent own s o h is))
 

@@ -14,7 +14,7 @@ use Rattle.borsh_schema.specs.declared.container.BorshSchemaContainer.{BorshSche
 use Rattle.borsh_schema.specs.contracts.container.BorshSchemaContainerPartialEq.TheImpl as of_containers
 use Rattle.borsh_schema.specs.Containers.{map_of}
 use Rattle.borsh_schema.specs.Laws.Sameness.{Entry, said_entry, SayTheSame}
-use Rattle.borsh_schema.specs.Described.{Described, field_bytes, variant_bytes, bytes, list, tuple, variants, named, unnamed, no_fields, described_fields, described_of}
+use Rattle.borsh_schema.specs.Described.{NamedDefinition, field_bytes, variant_bytes, bytes, list, tuple, variants, named, unnamed, no_fields, named_fields, named_definition}
 
 -- `==` of definitions
 abbrev same : Definition → Definition → Bool
@@ -40,7 +40,7 @@ variant-Decides a b =
     Decides-like _ (λ p. let h = p.0 in let t = p.1 in cc) (λ e. ((ap (λ q. q.0) e, ap (λ q. q.1) e), ap (λ q. q.2) e)) (Decides-and _ _ (Decides-and _ _ (Decides-int_eq a.0 b.0) (text-Decides a.1 b.1)) (text-Decides a.2 b.2))
 
 -- fields, or something else
-is_fields : Described → Bool
+is_fields : NamedDefinition → Bool
 is_fields (bytes n) = false
 is_fields (list w lo hi e) = false
 is_fields (tuple ns) = false
@@ -49,16 +49,16 @@ is_fields (named fs) = true
 is_fields (unnamed ns) = true
 is_fields no_fields = true
 
-are_fields : (fs : Fields) → is_fields (described_fields fs) ≡ true
+are_fields : (fs : Fields) → is_fields (named_fields fs) ≡ true
 unfolding is_fields
 are_fields (NamedFields fs) = refl
 are_fields (UnnamedFields fs) = refl
 are_fields Empty = refl
 
-no_same : {a b : Described} → is_fields a ≡ false → is_fields b ≡ true → a ≡ b → ⊥
+no_same : {a b : NamedDefinition} → is_fields a ≡ false → is_fields b ≡ true → a ≡ b → ⊥
 no_same e f p = true≢false (sym f ∙ ap is_fields (sym p) ∙ e)
 
-pub definition-Decides : (a b : Definition) → Decides (same a b) (described_of a ≡ described_of b)
+pub definition-Decides : (a b : Definition) → Decides (same a b) (named_definition a ≡ named_definition b)
 unfolding is_fields
 definition-Decides (Primitive m) (Primitive n) = Decides-like (nat_eq m n) (λ e. ap bytes e) (λ e. cc) (Decides-eqb m n)
 definition-Decides (Primitive m) (Sequence w s e) = (λ t. absurd (true≢false (sym t)), λ p. absurd (cc))

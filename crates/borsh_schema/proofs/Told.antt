@@ -4,15 +4,15 @@ use Rattle.std.specs.Prelude.{⊤, OnOk, IfErr, Result, map}
 use Rattle.borsh_walks.specs.declared.definition.Fields.TheVariants.{NamedFields, UnnamedFields}
 use Rattle.borsh_walks.specs.declared.definition.Definition.TheVariants.{Enum}
 use Rattle.borsh_schema.specs.declared.definitions.SchemaBuildError.{SchemaBuildError}
-use Rattle.borsh_schema.specs.Described.{Described, field_bytes, variant_bytes, Contents, Parts, defined, variants, named, unnamed, described_fields, described_of}
-use Rattle.borsh_schema.specs.Joined.{IsJoined, NotJoined}
+use Rattle.borsh_schema.specs.Described.{NamedDefinition, field_bytes, variant_bytes, DefinitionMap, DefinitionTree, defined, variants, named, unnamed, named_fields, named_definition}
+use Rattle.borsh_schema.specs.Joined.{IsUnion, UnionFails}
 
-module _ (r : Result (Unit {0}) SchemaBuildError) (old new : Contents) (ps : Parts) {n m : List ℕ} {d e : Described} (f : n ≡ m) (g : d ≡ e) where
-  pub joined_told : OnOk r (IsJoined old (defined n d ps) new) → OnOk r (IsJoined old (defined m e ps) new)
-  joined_told h = subst (λ k. OnOk r (IsJoined old (defined k e ps) new)) f (subst (λ k. OnOk r (IsJoined old (defined n k ps) new)) g h)
+module _ (r : Result (Unit {0}) SchemaBuildError) (old new : DefinitionMap) (ps : DefinitionTree) {n m : List ℕ} {d e : NamedDefinition} (f : n ≡ m) (g : d ≡ e) where
+  pub joined_told : OnOk r (IsUnion old (defined n d ps) new) → OnOk r (IsUnion old (defined m e ps) new)
+  joined_told h = subst (λ k. OnOk r (IsUnion old (defined k e ps) new)) f (subst (λ k. OnOk r (IsUnion old (defined n k ps) new)) g h)
 
-  pub not_joined_told : IfErr r (λ x. NotJoined old (defined n d ps) new x) → IfErr r (λ x. NotJoined old (defined m e ps) new x)
-  not_joined_told h = subst (λ k. IfErr r (λ x. NotJoined old (defined k e ps) new x)) f (subst (λ k. IfErr r (λ x. NotJoined old (defined n k ps) new x)) g h)
+  pub not_joined_told : IfErr r (λ x. UnionFails old (defined n d ps) new x) → IfErr r (λ x. UnionFails old (defined m e ps) new x)
+  not_joined_told h = subst (λ k. IfErr r (λ x. UnionFails old (defined k e ps) new x)) f (subst (λ k. IfErr r (λ x. UnionFails old (defined n k ps) new x)) g h)
 
 -- ---- fields
 
@@ -27,22 +27,22 @@ Spells f a b = (string_bytes f.0 ≡ a) × (string_bytes f.1 ≡ b)
 spelled : (f : Field) {a b : List ℕ} → Spells f a b → ◌≡◌ {A = List ℕ × List ℕ} (field_bytes f) (a, b)
 spelled f s = rw (s.0, s.1) refl
 
-pub named_one : {f : Field} {a b : List ℕ} (v : Vec Field Global) → v.items ≡ f ∷ [] → Spells f a b → described_fields (NamedFields v) ≡ named ((a, b) ∷ [])
+pub named_one : {f : Field} {a b : List ℕ} (v : Vec Field Global) → v.items ≡ f ∷ [] → Spells f a b → named_fields (NamedFields v) ≡ named ((a, b) ∷ [])
 named_one {f = f} v i s = ap (λ xs. named (map field_bytes xs)) i ∙ ap (λ k. named (k ∷ [])) (spelled f s)
 
-pub named_two : {f g : Field} {a b c d : List ℕ} (v : Vec Field Global) → v.items ≡ f ∷ g ∷ [] → Spells f a b → Spells g c d → described_fields (NamedFields v) ≡ named ((a, b) ∷ (c, d) ∷ [])
+pub named_two : {f g : Field} {a b c d : List ℕ} (v : Vec Field Global) → v.items ≡ f ∷ g ∷ [] → Spells f a b → Spells g c d → named_fields (NamedFields v) ≡ named ((a, b) ∷ (c, d) ∷ [])
 named_two {f = f} {g = g} {a = a} {b = b} v i s t =
     ap (λ xs. named (map field_bytes xs)) i ∙ ap (λ k. named (k ∷ field_bytes g ∷ [])) (spelled f s)
     ∙ ap (λ k. named ((a, b) ∷ k ∷ [])) (spelled g t)
 
-pub named_three : {f g h : Field} {a b c d k l : List ℕ} (v : Vec Field Global) → v.items ≡ f ∷ g ∷ h ∷ [] → Spells f a b → Spells g c d → Spells h k l → described_fields (NamedFields v) ≡ named ((a, b) ∷ (c, d) ∷ (k, l) ∷ [])
+pub named_three : {f g h : Field} {a b c d k l : List ℕ} (v : Vec Field Global) → v.items ≡ f ∷ g ∷ h ∷ [] → Spells f a b → Spells g c d → Spells h k l → named_fields (NamedFields v) ≡ named ((a, b) ∷ (c, d) ∷ (k, l) ∷ [])
 named_three {f = f} {g = g} {h = h} {a = a} {b = b} {c = c} {d = d} v i s t u =
     ap (λ xs. named (map field_bytes xs)) i
     ∙ ap (λ k. named (k ∷ field_bytes g ∷ field_bytes h ∷ [])) (spelled f s)
     ∙ ap (λ k. named ((a, b) ∷ k ∷ field_bytes h ∷ [])) (spelled g t)
     ∙ ap (λ k. named ((a, b) ∷ (c, d) ∷ k ∷ [])) (spelled h u)
 
-pub unnamed_one : {n : String Global} {a : List ℕ} (v : Vec (String Global) Global) → v.items ≡ n ∷ [] → string_bytes n ≡ a → described_fields (UnnamedFields v) ≡ unnamed (a ∷ [])
+pub unnamed_one : {n : String Global} {a : List ℕ} (v : Vec (String Global) Global) → v.items ≡ n ∷ [] → string_bytes n ≡ a → named_fields (UnnamedFields v) ≡ unnamed (a ∷ [])
 unnamed_one v i s = ap (λ xs. unnamed (map (λ f. string_bytes f) xs)) i ∙ ap (λ k. unnamed (k ∷ [])) s
 
 -- ---- variants
@@ -75,5 +75,5 @@ all_told [] (t ∷ ts) a = absurd a
 all_told (v ∷ vs) [] a = absurd a
 all_told (v ∷ vs) (t ∷ ts) a = let h = told v t a.0 in let l = all_told vs ts a.1 in cc
 
-pub variants_told : (w : ℕ) (v : Vec Variant Global) (vs : List Variant) (ts : List Told) → v.items ≡ vs → AllTell vs ts → described_of (Enum w v) ≡ variants w ts
+pub variants_told : (w : ℕ) (v : Vec Variant Global) (vs : List Variant) (ts : List Told) → v.items ≡ vs → AllTell vs ts → named_definition (Enum w v) ≡ variants w ts
 variants_told w v vs ts i a = ap (λ xs. variants w (map variant_bytes xs)) i ∙ ap (λ xs. variants w xs) (all_told vs ts a)

@@ -2,14 +2,14 @@
 use Rattle.std.specs.Prelude.{◌≡◌, ℕ, List, Option, Some, String, string_bytes}
 use Rattle.std.specs.Global.{Global}
 use Rattle.std.specs.BTreeMap.{BTreeMap}
-use Rattle.borsh_types.specs.Codec.{Codec}
+use Rattle.borsh_codec.specs.Codec.{Codec}
 use Rattle.borsh_walks.specs.Container.{Shape, Member}
 use Rattle.borsh_walks.specs.Definitions.{definitions_in}
 use Rattle.borsh_walks.specs.declared.definition.Definition.{Definition}
 use Rattle.borsh_schema.specs.declared.container.BorshSchemaContainer.{BorshSchemaContainer}
 use Rattle.borsh_schema.specs.declared.container.Definitions.{Definitions}
-use Rattle.borsh_schema.specs.Described.{Contents, contents_of, nothing_defined, Parts}
-use Rattle.borsh_schema.specs.Joined.{IsJoined}
+use Rattle.borsh_schema.specs.Described.{DefinitionMap, definitions_by_name, nothing_defined, DefinitionTree}
+use Rattle.borsh_schema.specs.Joined.{IsUnion}
 
 -- the root
 abbrev pub declaration_of : BorshSchemaContainer → String Global
@@ -24,8 +24,8 @@ abbrev pub map_of : BorshSchemaContainer → BTreeMap (String Global) Definition
 map_of c = c.definitions
 
 -- the definitions, as a function of the name
-abbrev pub defined_in : BorshSchemaContainer → Contents
-defined_in c = contents_of (map_of c)
+abbrev pub defined_in : BorshSchemaContainer → DefinitionMap
+defined_in c = definitions_by_name (map_of c)
 
 -- the same, as the walks and the language see them
 abbrev pub language_of : BorshSchemaContainer → List ℕ → Option Shape
@@ -36,9 +36,9 @@ abbrev pub left_of : Definitions → List (String Global × Definition)
 left_of d = d.entries
 
 -- the container of a type: its name, and its definitions and no other
-pub record IsContainerOf (name : List ℕ) (parts : Parts) (c : BorshSchemaContainer) : Type 0 where
+pub record IsContainerOf (name : List ℕ) (parts : DefinitionTree) (c : BorshSchemaContainer) : Type 0 where
   pub root : root_of c ≡ name
-  pub definitions : IsJoined nothing_defined parts (defined_in c)
+  pub definitions : IsUnion nothing_defined parts (defined_in c)
 
 -- each encoding is a member of the container's root
 abbrev pub DescribesRoot : {A : Type 0} → Codec A → BorshSchemaContainer → Type 0

@@ -6,33 +6,33 @@ use Rattle.borsh_walks.specs.declared.definition.Definition.{Definition}
 use Rattle.borsh_walks.specs.declared.definition.Definition.TheVariants.{Primitive, Sequence, Tuple, Enum, Struct}
 use Rattle.borsh_walks.specs.declared.definition.Fields.{Fields}
 use Rattle.borsh_walks.specs.declared.definition.Fields.TheVariants.{NamedFields, UnnamedFields, Empty}
-use Rattle.borsh_walks.specs.Container.{Shape, primitive, sequence, parts, choice}
+use Rattle.borsh_walks.specs.Container.{Shape, primitive, sequence, product, choice}
 
 -- a definition with all its names, as the bytes of their texts
-pub data Described : Type 0 where
+pub data NamedDefinition : Type 0 where
   -- so many bytes
-  bytes : ℕ → Described
+  bytes : ℕ → NamedDefinition
   -- the width of the count, the least and the greatest count, the element
-  list : ℕ → ℕ → ℕ → List ℕ → Described
+  list : ℕ → ℕ → ℕ → List ℕ → NamedDefinition
   -- the elements
-  tuple : List (List ℕ) → Described
+  tuple : List (List ℕ) → NamedDefinition
   -- the width of the tag; discriminant, name and type of each variant
-  variants : ℕ → List (ℤ × List ℕ × List ℕ) → Described
+  variants : ℕ → List (ℤ × List ℕ × List ℕ) → NamedDefinition
   -- name and type of each field
-  named : List (List ℕ × List ℕ) → Described
+  named : List (List ℕ × List ℕ) → NamedDefinition
   -- the type of each field
-  unnamed : List (List ℕ) → Described
-  no_fields : Described
+  unnamed : List (List ℕ) → NamedDefinition
+  no_fields : NamedDefinition
 
 -- what is left without the names of fields and variants
-abbrev pub shape : Described → Shape
+abbrev pub shape : NamedDefinition → Shape
 shape (bytes n) = primitive n
 shape (list w lo hi e) = sequence w lo hi e
-shape (tuple ns) = parts ns
+shape (tuple ns) = product ns
 shape (variants w vs) = choice w (map (λ v. (v.0, v.2)) vs)
-shape (named fs) = parts (map (λ f. f.1) fs)
-shape (unnamed ns) = parts ns
-shape no_fields = parts []
+shape (named fs) = product (map (λ f. f.1) fs)
+shape (unnamed ns) = product ns
+shape no_fields = product []
 
 -- a field's name and type
 abbrev pub field_bytes : String Global × String Global → List ℕ × List ℕ
@@ -43,44 +43,44 @@ abbrev pub variant_bytes : ℤ × String Global × String Global → ℤ × List
 variant_bytes v = (v.0, string_bytes v.1, string_bytes v.2)
 
 -- what the fields of a struct say
-abbrev pub described_fields : Fields → Described
-described_fields (NamedFields fs) = named (map field_bytes fs.items)
-described_fields (UnnamedFields fs) = unnamed (map (λ f. string_bytes f) fs.items)
-described_fields Empty = no_fields
+abbrev pub named_fields : Fields → NamedDefinition
+named_fields (NamedFields fs) = named (map field_bytes fs.items)
+named_fields (UnnamedFields fs) = unnamed (map (λ f. string_bytes f) fs.items)
+named_fields Empty = no_fields
 
 -- what a definition of the program says
-abbrev pub described_of : Definition → Described
-described_of (Primitive n) = bytes n
-described_of (Sequence w r e) = list w r.start r.end (string_bytes e)
-described_of (Tuple es) = tuple (map (λ e. string_bytes e) es.items)
-described_of (Enum w vs) = variants w (map variant_bytes vs.items)
-described_of (Struct fs) = described_fields fs
+abbrev pub named_definition : Definition → NamedDefinition
+named_definition (Primitive n) = bytes n
+named_definition (Sequence w r e) = list w r.start r.end (string_bytes e)
+named_definition (Tuple es) = tuple (map (λ e. string_bytes e) es.items)
+named_definition (Enum w vs) = variants w (map variant_bytes vs.items)
+named_definition (Struct fs) = named_fields fs
 
 -- named definitions, as a function of the name
-abbrev pub Contents : Type 0
-Contents = List ℕ → Option Described
+abbrev pub DefinitionMap : Type 0
+DefinitionMap = List ℕ → Option NamedDefinition
 
 -- what stands in a map of definitions
-abbrev pub contents_of : {A : Type 0} → BTreeMap (String A) Definition → Contents
-contents_of m n = option_map described_of (get_by_text m n)
+abbrev pub definitions_by_name : {A : Type 0} → BTreeMap (String A) Definition → DefinitionMap
+definitions_by_name m n = option_map named_definition (get_by_text m n)
 
 -- the same without the names of fields and variants, as the language of a container is read
-abbrev pub shapes_of : Contents → List ℕ → Option Shape
+abbrev pub shapes_of : DefinitionMap → List ℕ → Option Shape
 shapes_of C n = option_map shape (C n)
 
 -- nothing is defined
-abbrev pub nothing_defined : Contents
+abbrev pub nothing_defined : DefinitionMap
 nothing_defined n = None
 
 -- named definitions, as a type brings them: its own, and those of its parts
-pub data Parts : Type 0 where
-  none : Parts
+pub data DefinitionTree : Type 0 where
+  none : DefinitionTree
   -- a name with its definition, and what else there is
-  defined : List ℕ → Described → Parts → Parts
-  both : Parts → Parts → Parts
+  defined : List ℕ → NamedDefinition → DefinitionTree → DefinitionTree
+  both : DefinitionTree → DefinitionTree → DefinitionTree
 
 -- the name is given the definition
-abbrev pub IsPart : List ℕ → Described → Parts → Type 0
-IsPart n d none = ⊥
-IsPart n d (defined m e ps) = ((m ≡ n) × (e ≡ d)) ⊎ IsPart n d ps
-IsPart n d (both ps qs) = IsPart n d ps ⊎ IsPart n d qs
+abbrev pub IsInTree : List ℕ → NamedDefinition → DefinitionTree → Type 0
+IsInTree n d none = ⊥
+IsInTree n d (defined m e ps) = ((m ≡ n) × (e ≡ d)) ⊎ IsInTree n d ps
+IsInTree n d (both ps qs) = IsInTree n d ps ⊎ IsInTree n d qs

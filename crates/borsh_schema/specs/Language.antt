@@ -1,11 +1,11 @@
 -- When a name of a container describes the bytes of a type.
 use Rattle.std.specs.Prelude.{◌≡◌, ℕ, ℤ, List, ◌++◌, Option, Some, ⊤}
-use Rattle.borsh_types.specs.Codec.{Codec}
-use Rattle.borsh_walks.specs.Container.{Shape, Member, Members, Listed, tag}
-use Rattle.borsh_schema.specs.Described.{Parts, none, defined, both, shape}
+use Rattle.borsh_codec.specs.Codec.{Codec}
+use Rattle.borsh_walks.specs.Container.{Shape, Member, Members, IsListedVariant, tag}
+use Rattle.borsh_schema.specs.Described.{DefinitionTree, none, defined, both, shape}
 
 -- each of the named definitions stands in the container
-abbrev pub Holds : (List ℕ → Option Shape) → Parts → Type 0
+abbrev pub Holds : (List ℕ → Option Shape) → DefinitionTree → Type 0
 Holds C none = ⊤
 Holds C (defined n d ps) = (C n ≡ Some (shape d)) × Holds C ps
 Holds C (both ps qs) = Holds C ps × Holds C qs
@@ -23,7 +23,7 @@ pub record IsVariant (C : List ℕ → Option Shape) (w : ℕ) (vs : List (ℤ �
   pub discriminant : ℤ
   pub variant : List ℕ
   pub part : List ℕ
-  pub listed : Listed discriminant variant vs
+  pub listed : IsListedVariant discriminant variant vs
   pub whole : tag w discriminant ++ part ≡ x
   pub member : Member C variant part
 

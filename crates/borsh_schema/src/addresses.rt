@@ -1,10 +1,10 @@
 // Addresses: their octets, and a tag where there are two kinds.
 ghost use Rattle.std.specs.Prelude.{codes, refl};
 ghost use Rattle.std.specs.Net.Addr.{ipv4_octets, ipv6_octets};
-ghost use Rattle.borsh_types.specs.Types.Addresses.{ip_parts};
+ghost use Rattle.borsh_codec.specs.Types.Addresses.{ip_view};
 ghost use Rattle.borsh_walks.specs.Container.{first_variant, later_variant};
-ghost use Rattle.borsh_schema.specs.Addresses.{ipv4_parts, ipv6_parts, v4_variant, v6_variant, ip_address_parts};
-ghost use Rattle.borsh_schema.specs.Laws.Members.{describes_along, describes_choice, describes_number, describes_parts, describes_row, all_one, choice_more, choice_none};
+ghost use Rattle.borsh_schema.specs.Addresses.{ipv4_definitions, ipv6_definitions, v4_variant, v6_variant, ip_address_definitions};
+ghost use Rattle.borsh_schema.specs.Laws.Members.{describes_contramap, describes_choice, describes_number, describes_parts, describes_row, all_one, choice_more, choice_none};
 
 use super::definitions::SchemaBuildError;
 use super::parts::{Both, SchemaParts, add_with_parts, declared, field, named_variant};
@@ -17,7 +17,7 @@ use std::net::{IpAddr, Ipv4Addr, Ipv6Addr};
 impl BorshSchema for Ipv4Addr {
     ghost name = { codes "Ipv4Addr" };
 
-    ghost parts = { ipv4_parts };
+    ghost parts = { ipv4_definitions };
 
     fn declaration(alloc: Global) -> Result<Declaration, SchemaBuildError> {
         declared(alloc, "Ipv4Addr")
@@ -36,13 +36,13 @@ impl BorshSchema for Ipv4Addr {
         )
     }
 
-    ghost describes = { λ C h. describes_along ipv4_octets (describes_parts h.0 (all_one (describes_row 4 h.1.0.0 (describes_number 1 h.1.0.1.0.0)))) };
+    ghost describes = { λ C h. describes_contramap ipv4_octets (describes_parts h.0 (all_one (describes_row 4 h.1.0.0 (describes_number 1 h.1.0.1.0.0)))) };
 }
 
 impl BorshSchema for Ipv6Addr {
     ghost name = { codes "Ipv6Addr" };
 
-    ghost parts = { ipv6_parts };
+    ghost parts = { ipv6_definitions };
 
     fn declaration(alloc: Global) -> Result<Declaration, SchemaBuildError> {
         declared(alloc, "Ipv6Addr")
@@ -61,7 +61,7 @@ impl BorshSchema for Ipv6Addr {
         )
     }
 
-    ghost describes = { λ C h. describes_along ipv6_octets (describes_parts h.0 (all_one (describes_row 16 h.1.0.0 (describes_number 1 h.1.0.1.0.0)))) };
+    ghost describes = { λ C h. describes_contramap ipv6_octets (describes_parts h.0 (all_one (describes_row 16 h.1.0.0 (describes_number 1 h.1.0.1.0.0)))) };
 }
 
 // The part of `IpAddr::V4`.
@@ -107,7 +107,7 @@ impl SchemaParts for V6Variant {
 impl BorshSchema for IpAddr {
     ghost name = { codes "IpAddr" };
 
-    ghost parts = { ip_address_parts };
+    ghost parts = { ip_address_definitions };
 
     fn declaration(alloc: Global) -> Result<Declaration, SchemaBuildError> {
         declared(alloc, "IpAddr")
@@ -132,5 +132,5 @@ impl BorshSchema for IpAddr {
         )
     }
 
-    ghost describes = { λ C h. describes_along ip_parts (describes_choice h.0 (choice_more first_variant refl (describes_parts h.1.0.0 (all_one (describes_along ipv4_octets (describes_parts h.1.0.1.0.0 (all_one (describes_row 4 h.1.0.1.0.1.0.0 (describes_number 1 h.1.0.1.0.1.0.1.0.0))))))) (choice_more (later_variant first_variant) refl (describes_parts h.1.1.0 (all_one (describes_along ipv6_octets (describes_parts h.1.1.1.0.0 (all_one (describes_row 16 h.1.1.1.0.1.0.0 (describes_number 1 h.1.1.1.0.1.0.1.0.0))))))) choice_none))) };
+    ghost describes = { λ C h. describes_contramap ip_view (describes_choice h.0 (choice_more first_variant refl (describes_parts h.1.0.0 (all_one (describes_contramap ipv4_octets (describes_parts h.1.0.1.0.0 (all_one (describes_row 4 h.1.0.1.0.1.0.0 (describes_number 1 h.1.0.1.0.1.0.1.0.0))))))) (choice_more (later_variant first_variant) refl (describes_parts h.1.1.0 (all_one (describes_contramap ipv6_octets (describes_parts h.1.1.1.0.0 (all_one (describes_row 16 h.1.1.1.0.1.0.0 (describes_number 1 h.1.1.1.0.1.0.1.0.0))))))) choice_none))) };
 }

@@ -45,10 +45,13 @@ impl BorshSchemaContainer {
         ensures ok { IfOk result (λ c. IsContainerOf T.name T.parts c) }
         ensures err { IfErr result (λ e. BuildFault nothing_defined T.parts e) }
         ensures language { IfOk result (λ c. DescribesRoot T.codec c) }
+        ensures ascending { IfOk result (λ c. IsOrdered string_cmp (map_of c)) }
     {
         let mut definitions = BTreeMap::new(alloc);
         T::add_definitions_recursively(alloc, &mut definitions)?;
-        Ok(BorshSchemaContainer::new(T::declaration(alloc)?, definitions))
+        let container = BorshSchemaContainer::new(T::declaration(alloc)?, definitions);
+        container.definitions();
+        Ok(container)
     }
 
     /// Whether this is the container of a type. Where a name of the type has two different definitions

@@ -2,13 +2,15 @@
 ghost use Rattle.std.specs.Prelude.{◌≡◌, Decides, OnOk, IfErr, Some, string_bytes, ℕ};
 ghost use Rattle.std.specs.BTreeMap.{IsUnchanged};
 ghost use Rattle.borsh_schema.specs.declared.definitions.SchemaBuildError.TheVariants.{OutOfMemory};
-ghost use Rattle.borsh_schema.specs.Described.{Described, contents_of, described_of, defined, none};
+ghost use Rattle.borsh_schema.specs.Described.{NamedDefinition, definitions_by_name, named_definition, defined, none};
 ghost use Rattle.borsh_schema.specs.Errors.{size_error};
-ghost use Rattle.borsh_schema.specs.Joined.{IsJoined, NotJoined, IsKnownAnswer};
+ghost use Rattle.borsh_schema.specs.Joined.{IsUnion, UnionFails, IsKnownAnswer};
 
 use borsh_walks::{Declaration, Definition, SchemaMaxSerializedSizeError};
 use std::alloc::{AllocError, AllocFailed};
 use std::collections::BTreeMap;
+use std::error::Error;
+use std::fmt;
 
 /// Why the definitions of a type could not be put together.
 #[derive(Clone, Debug, PartialEq, Eq, Drop)]
@@ -34,6 +36,19 @@ impl<T: Drop> From<AllocFailed<T>> for SchemaBuildError {
     }
 }
 
+impl fmt::Display for SchemaBuildError {
+    fn fmt<W: fmt::Write>(&self, f: &mut fmt::Formatter<W>) -> fmt::Result {
+        match self {
+            SchemaBuildError::Redefinition(name) => {
+                write!(f, "`{name}` has two different definitions")
+            }
+            SchemaBuildError::OutOfMemory => write!(f, "out of memory"),
+        }
+    }
+}
+
+impl Error for SchemaBuildError {}
+
 /// The same refusal, of a size.
 impl From<SchemaBuildError> for SchemaMaxSerializedSizeError {
     ghost from_gives = { λ e made. made ≡ size_error e };
@@ -50,7 +65,7 @@ impl From<SchemaBuildError> for SchemaMaxSerializedSizeError {
 
 // Whether two definitions are equal, names and all.
 fn says_the_same(known: &Definition, given: &Definition) -> bool
-    ensures { Decides result (described_of known.now ≡ described_of given.now) }
+    ensures { Decides result (named_definition known.now ≡ named_definition given.now) }
 {
     known == given
 }
@@ -63,10 +78,10 @@ pub fn add_definition(
     definition: Definition,
     definitions: &mut BTreeMap<Declaration, Definition>,
 ) -> Result<(), SchemaBuildError>
-    ensures ok { OnOk result (IsJoined (contents_of definitions.old) (defined (string_bytes declaration) (described_of definition) none) (contents_of definitions.new)) }
-    ensures err { IfErr result (λ e. NotJoined (contents_of definitions.old) (defined (string_bytes declaration) (described_of definition) none) (contents_of definitions.new) e) }
+    ensures ok { OnOk result (IsUnion (definitions_by_name definitions.old) (defined (string_bytes declaration) (named_definition definition) none) (definitions_by_name definitions.new)) }
+    ensures err { IfErr result (λ e. UnionFails (definitions_by_name definitions.old) (defined (string_bytes declaration) (named_definition definition) none) (definitions_by_name definitions.new) e) }
     ensures unchanged { IfErr result (λ _. IsUnchanged definitions.old definitions.new) }
-    ensures known { (d : Described) → contents_of definitions.old (string_bytes declaration) ≡ Some d → IsKnownAnswer d (described_of definition) (SchemaBuildError.Redefinition declaration) result }
+    ensures known { (d : NamedDefinition) → definitions_by_name definitions.old (string_bytes declaration) ≡ Some d → IsKnownAnswer d (named_definition definition) (SchemaBuildError.Redefinition declaration) result }
 {
     if let Some(known) = definitions.get(declaration.as_str()) {
         if says_the_same(known, &definition) {

@@ -3,9 +3,9 @@ ghost use Rattle.std.specs.Prelude.{codes};
 ghost use Rattle.std.specs.Box.{boxed_slice_items};
 ghost use Rattle.std.specs.Cow.{cow_slice_items};
 ghost use Rattle.std.specs.Rc.{rc_slice_items};
-ghost use Rattle.borsh_schema.specs.Laws.Members.{describes_along, describes_counted, describes_elements};
+ghost use Rattle.borsh_schema.specs.Laws.Members.{describes_contramap, describes_counted, describes_elements};
 ghost use Rattle.borsh_schema.specs.Names.{applied};
-ghost use Rattle.borsh_schema.specs.Types.{list_parts};
+ghost use Rattle.borsh_schema.specs.Types.{list_definitions};
 
 use super::definitions::SchemaBuildError;
 use super::parts::add_list;
@@ -20,7 +20,7 @@ use std::rc::RcSlice;
 impl<T: BorshSchema> BorshSchema for Vec<T> {
     ghost name = { applied (codes "Vec<") T.name };
 
-    ghost parts = { list_parts (codes "Vec<") T.name T.parts };
+    ghost parts = { list_definitions (codes "Vec<") T.name T.parts };
 
     fn declaration(alloc: Global) -> Result<Declaration, SchemaBuildError> {
         let element = T::declaration(alloc)?;
@@ -34,13 +34,13 @@ impl<T: BorshSchema> BorshSchema for Vec<T> {
         add_list::<T>(alloc, Self::declaration(alloc)?, definitions)
     }
 
-    ghost describes = { λ C h. describes_along (λ v. v.items) (describes_elements h.0 (T.describes C h.1.0)) };
+    ghost describes = { λ C h. describes_contramap (λ v. v.items) (describes_elements h.0 (T.describes C h.1.0)) };
 }
 
 impl<T: BorshSchema> BorshSchema for VecDeque<T> {
     ghost name = { applied (codes "VecDeque<") T.name };
 
-    ghost parts = { list_parts (codes "VecDeque<") T.name T.parts };
+    ghost parts = { list_definitions (codes "VecDeque<") T.name T.parts };
 
     fn declaration(alloc: Global) -> Result<Declaration, SchemaBuildError> {
         let element = T::declaration(alloc)?;
@@ -54,13 +54,13 @@ impl<T: BorshSchema> BorshSchema for VecDeque<T> {
         add_list::<T>(alloc, Self::declaration(alloc)?, definitions)
     }
 
-    ghost describes = { λ C h. describes_along (λ v. v.items) (describes_elements h.0 (T.describes C h.1.0)) };
+    ghost describes = { λ C h. describes_contramap (λ v. v.items) (describes_elements h.0 (T.describes C h.1.0)) };
 }
 
 impl<T: BorshSchema> BorshSchema for LinkedList<T> {
     ghost name = { applied (codes "LinkedList<") T.name };
 
-    ghost parts = { list_parts (codes "LinkedList<") T.name T.parts };
+    ghost parts = { list_definitions (codes "LinkedList<") T.name T.parts };
 
     fn declaration(alloc: Global) -> Result<Declaration, SchemaBuildError> {
         let element = T::declaration(alloc)?;
@@ -80,7 +80,7 @@ impl<T: BorshSchema> BorshSchema for LinkedList<T> {
 impl<T: BorshSchema> BorshSchema for BoxedSlice<T> {
     ghost name = { applied (codes "Vec<") T.name };
 
-    ghost parts = { list_parts (codes "Vec<") T.name T.parts };
+    ghost parts = { list_definitions (codes "Vec<") T.name T.parts };
 
     fn declaration(alloc: Global) -> Result<Declaration, SchemaBuildError> {
         let element = T::declaration(alloc)?;
@@ -94,13 +94,13 @@ impl<T: BorshSchema> BorshSchema for BoxedSlice<T> {
         add_list::<T>(alloc, Self::declaration(alloc)?, definitions)
     }
 
-    ghost describes = { λ C h. describes_along boxed_slice_items (describes_elements h.0 (T.describes C h.1.0)) };
+    ghost describes = { λ C h. describes_contramap boxed_slice_items (describes_elements h.0 (T.describes C h.1.0)) };
 }
 
 impl<T: BorshSchema> BorshSchema for RcSlice<T> {
     ghost name = { applied (codes "Vec<") T.name };
 
-    ghost parts = { list_parts (codes "Vec<") T.name T.parts };
+    ghost parts = { list_definitions (codes "Vec<") T.name T.parts };
 
     fn declaration(alloc: Global) -> Result<Declaration, SchemaBuildError> {
         let element = T::declaration(alloc)?;
@@ -114,13 +114,13 @@ impl<T: BorshSchema> BorshSchema for RcSlice<T> {
         add_list::<T>(alloc, Self::declaration(alloc)?, definitions)
     }
 
-    ghost describes = { λ C h. describes_along rc_slice_items (describes_elements h.0 (T.describes C h.1.0)) };
+    ghost describes = { λ C h. describes_contramap rc_slice_items (describes_elements h.0 (T.describes C h.1.0)) };
 }
 
 impl<T: BorshSchema> BorshSchema for CowSlice<'_, T> {
     ghost name = { applied (codes "Vec<") T.name };
 
-    ghost parts = { list_parts (codes "Vec<") T.name T.parts };
+    ghost parts = { list_definitions (codes "Vec<") T.name T.parts };
 
     fn declaration(alloc: Global) -> Result<Declaration, SchemaBuildError> {
         let element = T::declaration(alloc)?;
@@ -134,13 +134,13 @@ impl<T: BorshSchema> BorshSchema for CowSlice<'_, T> {
         add_list::<T>(alloc, Self::declaration(alloc)?, definitions)
     }
 
-    ghost describes = { λ C h. describes_along cow_slice_items (describes_elements h.0 (T.describes C h.1.0)) };
+    ghost describes = { λ C h. describes_contramap cow_slice_items (describes_elements h.0 (T.describes C h.1.0)) };
 }
 
 impl<T: BorshSchema> BorshSchema for &[T] {
     ghost name = { applied (codes "Vec<") T.name };
 
-    ghost parts = { list_parts (codes "Vec<") T.name T.parts };
+    ghost parts = { list_definitions (codes "Vec<") T.name T.parts };
 
     fn declaration(alloc: Global) -> Result<Declaration, SchemaBuildError> {
         let element = T::declaration(alloc)?;
@@ -154,5 +154,5 @@ impl<T: BorshSchema> BorshSchema for &[T] {
         add_list::<T>(alloc, Self::declaration(alloc)?, definitions)
     }
 
-    ghost describes = { λ C h. describes_along (λ r. r.now) (describes_counted h.0 (T.describes C h.1.0)) };
+    ghost describes = { λ C h. describes_contramap (λ r. r.now) (describes_counted h.0 (T.describes C h.1.0)) };
 }

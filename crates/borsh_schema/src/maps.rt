@@ -1,9 +1,9 @@
 // Maps and sets: a count of four bytes and the entries.
 ghost use Rattle.std.specs.Prelude.{codes, ⊤};
-ghost use Rattle.borsh_types.specs.Maps.{bare_entries};
-ghost use Rattle.borsh_schema.specs.Laws.Members.{describes_along, describes_ordered, describes_parts, describes_refusing, describes_sorted, all_one, all_more};
+ghost use Rattle.borsh_codec.specs.Maps.{unit_entries};
+ghost use Rattle.borsh_schema.specs.Laws.Members.{describes_contramap, describes_ordered, describes_parts, describes_refused_if, describes_sorted, all_one, all_more};
 ghost use Rattle.borsh_schema.specs.Names.{applied, applied_to_two};
-ghost use Rattle.borsh_schema.specs.Types.{list_parts, map_parts};
+ghost use Rattle.borsh_schema.specs.Types.{list_definitions, map_definitions};
 
 use super::definitions::SchemaBuildError;
 use super::parts::add_list;
@@ -17,7 +17,7 @@ use std::hash::{BuildHasher, Hash};
 impl<K: BorshSchema + BorshKey + Ord, V: BorshSchema> BorshSchema for BTreeMap<K, V> {
     ghost name = { applied_to_two (codes "BTreeMap<") K.name V.name };
 
-    ghost parts = { map_parts (codes "BTreeMap<") K.name V.name K.parts V.parts };
+    ghost parts = { map_definitions (codes "BTreeMap<") K.name V.name K.parts V.parts };
 
     fn declaration(alloc: Global) -> Result<Declaration, SchemaBuildError> {
         let key = K::declaration(alloc)?;
@@ -32,13 +32,13 @@ impl<K: BorshSchema + BorshKey + Ord, V: BorshSchema> BorshSchema for BTreeMap<K
         add_list::<(K, V)>(alloc, Self::declaration(alloc)?, definitions)
     }
 
-    ghost describes = { λ C h. describes_along (λ m. m.entries) (describes_refusing K.codec.is_empty (describes_ordered K.cmp h.0 (describes_parts h.1.0.0 (all_more (K.describes C h.1.0.1.0) (all_one (V.describes C h.1.0.1.1.0)))))) };
+    ghost describes = { λ C h. describes_contramap (λ m. m.entries) (describes_refused_if K.codec.is_zero_width (describes_ordered K.cmp h.0 (describes_parts h.1.0.0 (all_more (K.describes C h.1.0.1.0) (all_one (V.describes C h.1.0.1.1.0)))))) };
 }
 
 impl<K: BorshSchema + BorshKey + Ord> BorshSchema for BTreeSet<K> {
     ghost name = { applied (codes "BTreeSet<") K.name };
 
-    ghost parts = { list_parts (codes "BTreeSet<") K.name K.parts };
+    ghost parts = { list_definitions (codes "BTreeSet<") K.name K.parts };
 
     fn declaration(alloc: Global) -> Result<Declaration, SchemaBuildError> {
         let key = K::declaration(alloc)?;
@@ -52,14 +52,14 @@ impl<K: BorshSchema + BorshKey + Ord> BorshSchema for BTreeSet<K> {
         add_list::<K>(alloc, Self::declaration(alloc)?, definitions)
     }
 
-    ghost describes = { λ C h. describes_along (λ s. s.keys) (describes_along bare_entries (describes_refusing K.codec.is_empty (describes_ordered K.cmp h.0 (describes_along (λ e. e.0) (K.describes C h.1.0))))) };
+    ghost describes = { λ C h. describes_contramap (λ s. s.keys) (describes_contramap unit_entries (describes_refused_if K.codec.is_zero_width (describes_ordered K.cmp h.0 (describes_contramap (λ e. e.0) (K.describes C h.1.0))))) };
 }
 
 impl<K: BorshSchema + BorshKey + Ord + Hash, V: BorshSchema, S: BuildHasher> BorshSchema
     for HashMap<K, V, S> {
     ghost name = { applied_to_two (codes "HashMap<") K.name V.name };
 
-    ghost parts = { map_parts (codes "HashMap<") K.name V.name K.parts V.parts };
+    ghost parts = { map_definitions (codes "HashMap<") K.name V.name K.parts V.parts };
 
     fn declaration(alloc: Global) -> Result<Declaration, SchemaBuildError> {
         let key = K::declaration(alloc)?;
@@ -74,13 +74,13 @@ impl<K: BorshSchema + BorshKey + Ord + Hash, V: BorshSchema, S: BuildHasher> Bor
         add_list::<(K, V)>(alloc, Self::declaration(alloc)?, definitions)
     }
 
-    ghost describes = { λ C h. describes_along (λ m. m.entries) (describes_refusing K.codec.is_empty (describes_sorted K.cmp V.codec.same h.0 (describes_parts h.1.0.0 (all_more (K.describes C h.1.0.1.0) (all_one (V.describes C h.1.0.1.1.0)))))) };
+    ghost describes = { λ C h. describes_contramap (λ m. m.entries) (describes_refused_if K.codec.is_zero_width (describes_sorted K.cmp V.codec.equivalent h.0 (describes_parts h.1.0.0 (all_more (K.describes C h.1.0.1.0) (all_one (V.describes C h.1.0.1.1.0)))))) };
 }
 
 impl<K: BorshSchema + BorshKey + Ord + Hash, S: BuildHasher> BorshSchema for HashSet<K, S> {
     ghost name = { applied (codes "HashSet<") K.name };
 
-    ghost parts = { list_parts (codes "HashSet<") K.name K.parts };
+    ghost parts = { list_definitions (codes "HashSet<") K.name K.parts };
 
     fn declaration(alloc: Global) -> Result<Declaration, SchemaBuildError> {
         let key = K::declaration(alloc)?;
@@ -94,5 +94,5 @@ impl<K: BorshSchema + BorshKey + Ord + Hash, S: BuildHasher> BorshSchema for Has
         add_list::<K>(alloc, Self::declaration(alloc)?, definitions)
     }
 
-    ghost describes = { λ C h. describes_along (λ s. s.keys) (describes_along bare_entries (describes_refusing K.codec.is_empty (describes_sorted K.cmp (λ v w. ⊤) h.0 (describes_along (λ e. e.0) (K.describes C h.1.0))))) };
+    ghost describes = { λ C h. describes_contramap (λ s. s.keys) (describes_contramap unit_entries (describes_refused_if K.codec.is_zero_width (describes_sorted K.cmp (λ v w. ⊤) h.0 (describes_contramap (λ e. e.0) (K.describes C h.1.0))))) };
 }

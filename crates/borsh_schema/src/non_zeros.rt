@@ -1,8 +1,8 @@
 // Numbers that are never zero: so many bytes, as those of the number.
 ghost use Rattle.std.specs.Prelude.{codes};
 ghost use Rattle.std.specs.Int.NonZero.{non_zero_u8_get, non_zero_u16_get, non_zero_u32_get, non_zero_u64_get, non_zero_u128_get, non_zero_usize_get, non_zero_i8_get, non_zero_i16_get, non_zero_i32_get, non_zero_i64_get, non_zero_i128_get};
-ghost use Rattle.borsh_schema.specs.Types.{primitive_parts};
-ghost use Rattle.borsh_schema.specs.Laws.Members.{describes_along, describes_number, describes_signed};
+ghost use Rattle.borsh_schema.specs.Types.{primitive_definitions};
+ghost use Rattle.borsh_schema.specs.Laws.Members.{describes_contramap, describes_number, describes_signed};
 
 use super::definitions::SchemaBuildError;
 use super::parts::{add_primitive, declared};
@@ -18,7 +18,7 @@ use std::num::{
 impl BorshSchema for NonZeroU8 {
     ghost name = { codes "NonZeroU8" };
 
-    ghost parts = { primitive_parts (codes "NonZeroU8") 1 };
+    ghost parts = { primitive_definitions (codes "NonZeroU8") 1 };
 
     fn declaration(alloc: Global) -> Result<Declaration, SchemaBuildError> {
         declared(alloc, "NonZeroU8")
@@ -31,13 +31,13 @@ impl BorshSchema for NonZeroU8 {
         add_primitive(alloc, "NonZeroU8", 1, definitions)
     }
 
-    ghost describes = { λ C h. describes_along non_zero_u8_get (describes_number 1 h.0) };
+    ghost describes = { λ C h. describes_contramap non_zero_u8_get (describes_number 1 h.0) };
 }
 
 impl BorshSchema for NonZeroU16 {
     ghost name = { codes "NonZeroU16" };
 
-    ghost parts = { primitive_parts (codes "NonZeroU16") 2 };
+    ghost parts = { primitive_definitions (codes "NonZeroU16") 2 };
 
     fn declaration(alloc: Global) -> Result<Declaration, SchemaBuildError> {
         declared(alloc, "NonZeroU16")
@@ -50,13 +50,13 @@ impl BorshSchema for NonZeroU16 {
         add_primitive(alloc, "NonZeroU16", 2, definitions)
     }
 
-    ghost describes = { λ C h. describes_along non_zero_u16_get (describes_number 2 h.0) };
+    ghost describes = { λ C h. describes_contramap non_zero_u16_get (describes_number 2 h.0) };
 }
 
 impl BorshSchema for NonZeroU32 {
     ghost name = { codes "NonZeroU32" };
 
-    ghost parts = { primitive_parts (codes "NonZeroU32") 4 };
+    ghost parts = { primitive_definitions (codes "NonZeroU32") 4 };
 
     fn declaration(alloc: Global) -> Result<Declaration, SchemaBuildError> {
         declared(alloc, "NonZeroU32")
@@ -69,13 +69,13 @@ impl BorshSchema for NonZeroU32 {
         add_primitive(alloc, "NonZeroU32", 4, definitions)
     }
 
-    ghost describes = { λ C h. describes_along non_zero_u32_get (describes_number 4 h.0) };
+    ghost describes = { λ C h. describes_contramap non_zero_u32_get (describes_number 4 h.0) };
 }
 
 impl BorshSchema for NonZeroU64 {
     ghost name = { codes "NonZeroU64" };
 
-    ghost parts = { primitive_parts (codes "NonZeroU64") 8 };
+    ghost parts = { primitive_definitions (codes "NonZeroU64") 8 };
 
     fn declaration(alloc: Global) -> Result<Declaration, SchemaBuildError> {
         declared(alloc, "NonZeroU64")
@@ -88,13 +88,13 @@ impl BorshSchema for NonZeroU64 {
         add_primitive(alloc, "NonZeroU64", 8, definitions)
     }
 
-    ghost describes = { λ C h. describes_along non_zero_u64_get (describes_number 8 h.0) };
+    ghost describes = { λ C h. describes_contramap non_zero_u64_get (describes_number 8 h.0) };
 }
 
 impl BorshSchema for NonZeroU128 {
     ghost name = { codes "NonZeroU128" };
 
-    ghost parts = { primitive_parts (codes "NonZeroU128") 16 };
+    ghost parts = { primitive_definitions (codes "NonZeroU128") 16 };
 
     fn declaration(alloc: Global) -> Result<Declaration, SchemaBuildError> {
         declared(alloc, "NonZeroU128")
@@ -107,13 +107,13 @@ impl BorshSchema for NonZeroU128 {
         add_primitive(alloc, "NonZeroU128", 16, definitions)
     }
 
-    ghost describes = { λ C h. describes_along non_zero_u128_get (describes_number 16 h.0) };
+    ghost describes = { λ C h. describes_contramap non_zero_u128_get (describes_number 16 h.0) };
 }
 
 impl BorshSchema for NonZeroUsize {
     ghost name = { codes "NonZeroUsize" };
 
-    ghost parts = { primitive_parts (codes "NonZeroUsize") 8 };
+    ghost parts = { primitive_definitions (codes "NonZeroUsize") 8 };
 
     fn declaration(alloc: Global) -> Result<Declaration, SchemaBuildError> {
         declared(alloc, "NonZeroUsize")
@@ -126,13 +126,13 @@ impl BorshSchema for NonZeroUsize {
         add_primitive(alloc, "NonZeroUsize", 8, definitions)
     }
 
-    ghost describes = { λ C h. describes_along non_zero_usize_get (describes_number 8 h.0) };
+    ghost describes = { λ C h. describes_contramap non_zero_usize_get (describes_number 8 h.0) };
 }
 
 impl BorshSchema for NonZeroI8 {
     ghost name = { codes "NonZeroI8" };
 
-    ghost parts = { primitive_parts (codes "NonZeroI8") 1 };
+    ghost parts = { primitive_definitions (codes "NonZeroI8") 1 };
 
     fn declaration(alloc: Global) -> Result<Declaration, SchemaBuildError> {
         declared(alloc, "NonZeroI8")
@@ -145,13 +145,13 @@ impl BorshSchema for NonZeroI8 {
         add_primitive(alloc, "NonZeroI8", 1, definitions)
     }
 
-    ghost describes = { λ C h. describes_along non_zero_i8_get (describes_signed 1 h.0) };
+    ghost describes = { λ C h. describes_contramap non_zero_i8_get (describes_signed 1 h.0) };
 }
 
 impl BorshSchema for NonZeroI16 {
     ghost name = { codes "NonZeroI16" };
 
-    ghost parts = { primitive_parts (codes "NonZeroI16") 2 };
+    ghost parts = { primitive_definitions (codes "NonZeroI16") 2 };
 
     fn declaration(alloc: Global) -> Result<Declaration, SchemaBuildError> {
         declared(alloc, "NonZeroI16")
@@ -164,13 +164,13 @@ impl BorshSchema for NonZeroI16 {
         add_primitive(alloc, "NonZeroI16", 2, definitions)
     }
 
-    ghost describes = { λ C h. describes_along non_zero_i16_get (describes_signed 2 h.0) };
+    ghost describes = { λ C h. describes_contramap non_zero_i16_get (describes_signed 2 h.0) };
 }
 
 impl BorshSchema for NonZeroI32 {
     ghost name = { codes "NonZeroI32" };
 
-    ghost parts = { primitive_parts (codes "NonZeroI32") 4 };
+    ghost parts = { primitive_definitions (codes "NonZeroI32") 4 };
 
     fn declaration(alloc: Global) -> Result<Declaration, SchemaBuildError> {
         declared(alloc, "NonZeroI32")
@@ -183,13 +183,13 @@ impl BorshSchema for NonZeroI32 {
         add_primitive(alloc, "NonZeroI32", 4, definitions)
     }
 
-    ghost describes = { λ C h. describes_along non_zero_i32_get (describes_signed 4 h.0) };
+    ghost describes = { λ C h. describes_contramap non_zero_i32_get (describes_signed 4 h.0) };
 }
 
 impl BorshSchema for NonZeroI64 {
     ghost name = { codes "NonZeroI64" };
 
-    ghost parts = { primitive_parts (codes "NonZeroI64") 8 };
+    ghost parts = { primitive_definitions (codes "NonZeroI64") 8 };
 
     fn declaration(alloc: Global) -> Result<Declaration, SchemaBuildError> {
         declared(alloc, "NonZeroI64")
@@ -202,13 +202,13 @@ impl BorshSchema for NonZeroI64 {
         add_primitive(alloc, "NonZeroI64", 8, definitions)
     }
 
-    ghost describes = { λ C h. describes_along non_zero_i64_get (describes_signed 8 h.0) };
+    ghost describes = { λ C h. describes_contramap non_zero_i64_get (describes_signed 8 h.0) };
 }
 
 impl BorshSchema for NonZeroI128 {
     ghost name = { codes "NonZeroI128" };
 
-    ghost parts = { primitive_parts (codes "NonZeroI128") 16 };
+    ghost parts = { primitive_definitions (codes "NonZeroI128") 16 };
 
     fn declaration(alloc: Global) -> Result<Declaration, SchemaBuildError> {
         declared(alloc, "NonZeroI128")
@@ -221,5 +221,5 @@ impl BorshSchema for NonZeroI128 {
         add_primitive(alloc, "NonZeroI128", 16, definitions)
     }
 
-    ghost describes = { λ C h. describes_along non_zero_i128_get (describes_signed 16 h.0) };
+    ghost describes = { λ C h. describes_contramap non_zero_i128_get (describes_signed 16 h.0) };
 }

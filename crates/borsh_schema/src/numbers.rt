@@ -1,6 +1,6 @@
 // Whole numbers: so many bytes.
 ghost use Rattle.std.specs.Prelude.{codes};
-ghost use Rattle.borsh_schema.specs.Types.{primitive_parts};
+ghost use Rattle.borsh_schema.specs.Types.{primitive_definitions};
 ghost use Rattle.borsh_schema.specs.Laws.Members.{describes_number, describes_signed};
 
 use super::definitions::SchemaBuildError;
@@ -13,7 +13,7 @@ use std::collections::BTreeMap;
 impl BorshSchema for u8 {
     ghost name = { codes "u8" };
 
-    ghost parts = { primitive_parts (codes "u8") 1 };
+    ghost parts = { primitive_definitions (codes "u8") 1 };
 
     fn declaration(alloc: Global) -> Result<Declaration, SchemaBuildError> {
         declared(alloc, "u8")
@@ -32,7 +32,7 @@ impl BorshSchema for u8 {
 impl BorshSchema for u16 {
     ghost name = { codes "u16" };
 
-    ghost parts = { primitive_parts (codes "u16") 2 };
+    ghost parts = { primitive_definitions (codes "u16") 2 };
 
     fn declaration(alloc: Global) -> Result<Declaration, SchemaBuildError> {
         declared(alloc, "u16")
@@ -51,7 +51,7 @@ impl BorshSchema for u16 {
 impl BorshSchema for u32 {
     ghost name = { codes "u32" };
 
-    ghost parts = { primitive_parts (codes "u32") 4 };
+    ghost parts = { primitive_definitions (codes "u32") 4 };
 
     fn declaration(alloc: Global) -> Result<Declaration, SchemaBuildError> {
         declared(alloc, "u32")
@@ -70,7 +70,7 @@ impl BorshSchema for u32 {
 impl BorshSchema for u64 {
     ghost name = { codes "u64" };
 
-    ghost parts = { primitive_parts (codes "u64") 8 };
+    ghost parts = { primitive_definitions (codes "u64") 8 };
 
     fn declaration(alloc: Global) -> Result<Declaration, SchemaBuildError> {
         declared(alloc, "u64")
@@ -89,7 +89,7 @@ impl BorshSchema for u64 {
 impl BorshSchema for u128 {
     ghost name = { codes "u128" };
 
-    ghost parts = { primitive_parts (codes "u128") 16 };
+    ghost parts = { primitive_definitions (codes "u128") 16 };
 
     fn declaration(alloc: Global) -> Result<Declaration, SchemaBuildError> {
         declared(alloc, "u128")
@@ -108,7 +108,7 @@ impl BorshSchema for u128 {
 impl BorshSchema for usize {
     ghost name = { codes "u64" };
 
-    ghost parts = { primitive_parts (codes "u64") 8 };
+    ghost parts = { primitive_definitions (codes "u64") 8 };
 
     fn declaration(alloc: Global) -> Result<Declaration, SchemaBuildError> {
         declared(alloc, "u64")
@@ -127,7 +127,7 @@ impl BorshSchema for usize {
 impl BorshSchema for i8 {
     ghost name = { codes "i8" };
 
-    ghost parts = { primitive_parts (codes "i8") 1 };
+    ghost parts = { primitive_definitions (codes "i8") 1 };
 
     fn declaration(alloc: Global) -> Result<Declaration, SchemaBuildError> {
         declared(alloc, "i8")
@@ -146,7 +146,7 @@ impl BorshSchema for i8 {
 impl BorshSchema for i16 {
     ghost name = { codes "i16" };
 
-    ghost parts = { primitive_parts (codes "i16") 2 };
+    ghost parts = { primitive_definitions (codes "i16") 2 };
 
     fn declaration(alloc: Global) -> Result<Declaration, SchemaBuildError> {
         declared(alloc, "i16")
@@ -165,7 +165,7 @@ impl BorshSchema for i16 {
 impl BorshSchema for i32 {
     ghost name = { codes "i32" };
 
-    ghost parts = { primitive_parts (codes "i32") 4 };
+    ghost parts = { primitive_definitions (codes "i32") 4 };
 
     fn declaration(alloc: Global) -> Result<Declaration, SchemaBuildError> {
         declared(alloc, "i32")
@@ -184,7 +184,7 @@ impl BorshSchema for i32 {
 impl BorshSchema for i64 {
     ghost name = { codes "i64" };
 
-    ghost parts = { primitive_parts (codes "i64") 8 };
+    ghost parts = { primitive_definitions (codes "i64") 8 };
 
     fn declaration(alloc: Global) -> Result<Declaration, SchemaBuildError> {
         declared(alloc, "i64")
@@ -203,7 +203,7 @@ impl BorshSchema for i64 {
 impl BorshSchema for i128 {
     ghost name = { codes "i128" };
 
-    ghost parts = { primitive_parts (codes "i128") 16 };
+    ghost parts = { primitive_definitions (codes "i128") 16 };
 
     fn declaration(alloc: Global) -> Result<Declaration, SchemaBuildError> {
         declared(alloc, "i128")
@@ -222,7 +222,7 @@ impl BorshSchema for i128 {
 impl BorshSchema for isize {
     ghost name = { codes "i64" };
 
-    ghost parts = { primitive_parts (codes "i64") 8 };
+    ghost parts = { primitive_definitions (codes "i64") 8 };
 
     fn declaration(alloc: Global) -> Result<Declaration, SchemaBuildError> {
         declared(alloc, "i64")

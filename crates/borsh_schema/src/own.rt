@@ -1,7 +1,7 @@
 // The schemas of what schemas are made of: lengths, fields, definitions and containers.
 ghost use Rattle.std.specs.Prelude.{codes};
 ghost use Rattle.borsh_schema.specs.Laws.Own.{length_range_described, fields_described, definition_described, container_described};
-ghost use Rattle.borsh_schema.specs.Own.{length_range_name, length_range_parts, fields_parts, named_fields_variant, unnamed_fields_variant, empty_variant, definition_parts, primitive_variant, sequence_variant, tuple_variant, enum_variant, struct_variant, container_parts};
+ghost use Rattle.borsh_schema.specs.Own.{length_range_name, length_range_definitions, fields_definitions, named_fields_variant, unnamed_fields_variant, empty_variant, definition_definitions, primitive_variant, sequence_variant, tuple_variant, enum_variant, struct_variant, container_definitions};
 
 use super::container::BorshSchemaContainer;
 use super::definitions::SchemaBuildError;
@@ -16,7 +16,7 @@ use std::collections::BTreeMap;
 impl BorshSchema for LengthRange {
     ghost name = { length_range_name };
 
-    ghost parts = { length_range_parts };
+    ghost parts = { length_range_definitions };
 
     fn declaration(alloc: Global) -> Result<Declaration, SchemaBuildError> {
         declared(alloc, "RangeInclusive<u64>")
@@ -108,7 +108,7 @@ impl SchemaParts for EmptyVariant {
 impl BorshSchema for Fields {
     ghost name = { codes "Fields" };
 
-    ghost parts = { fields_parts };
+    ghost parts = { fields_definitions };
 
     fn declaration(alloc: Global) -> Result<Declaration, SchemaBuildError> {
         declared(alloc, "Fields")
@@ -249,7 +249,7 @@ impl SchemaParts for StructVariant {
 impl BorshSchema for Definition {
     ghost name = { codes "Definition" };
 
-    ghost parts = { definition_parts };
+    ghost parts = { definition_definitions };
 
     fn declaration(alloc: Global) -> Result<Declaration, SchemaBuildError> {
         declared(alloc, "Definition")
@@ -288,7 +288,7 @@ impl BorshSchema for Definition {
 impl BorshSchema for BorshSchemaContainer {
     ghost name = { codes "BorshSchemaContainer" };
 
-    ghost parts = { container_parts };
+    ghost parts = { container_definitions };
 
     fn declaration(alloc: Global) -> Result<Declaration, SchemaBuildError> {
         declared(alloc, "BorshSchemaContainer")

@@ -1,9 +1,9 @@
 // The definitions of a type and of its parts, one after another.
 ghost use Rattle.std.specs.Prelude.{◌≡◌, IfOk, IfErr, OnOk, string_bytes};
 ghost use Rattle.borsh_schema.specs.declared.definitions.SchemaBuildError.TheVariants.{OutOfMemory};
-ghost use Rattle.borsh_schema.specs.Described.{Parts, none, both, defined, contents_of, described_of};
-ghost use Rattle.borsh_schema.specs.Joined.{IsJoined, NotJoined};
-ghost use Rattle.borsh_schema.specs.Types.{primitive_parts, list_of};
+ghost use Rattle.borsh_schema.specs.Described.{DefinitionTree, none, both, defined, definitions_by_name, named_definition};
+ghost use Rattle.borsh_schema.specs.Joined.{IsUnion, UnionFails};
+ghost use Rattle.borsh_schema.specs.Types.{primitive_definitions, list_of};
 
 use super::definitions::{SchemaBuildError, add_definition};
 use super::schema::BorshSchema;
@@ -14,7 +14,7 @@ use std::marker::PhantomData;
 
 /// Types whose definitions are put in together: a type and the others, as `(A, (B, (C, ())))`.
 pub trait SchemaParts {
-    ghost all_parts: { Parts };
+    ghost all_parts: { DefinitionTree };
 
     /// Puts in the definitions of all, with the answers of
     /// [`BorshSchema::add_definitions_recursively`].
@@ -22,8 +22,8 @@ pub trait SchemaParts {
         alloc: Global,
         definitions: &mut BTreeMap<Declaration, Definition>,
     ) -> Result<(), SchemaBuildError>
-        ensures ok { OnOk result (IsJoined (contents_of definitions.old) all_parts (contents_of definitions.new)) }
-        ensures err { IfErr result (λ e. NotJoined (contents_of definitions.old) all_parts (contents_of definitions.new) e) };
+        ensures ok { OnOk result (IsUnion (definitions_by_name definitions.old) all_parts (definitions_by_name definitions.new)) }
+        ensures err { IfErr result (λ e. UnionFails (definitions_by_name definitions.old) all_parts (definitions_by_name definitions.new) e) };
 }
 
 impl SchemaParts for () {
@@ -78,8 +78,8 @@ pub fn add_with_parts<P: SchemaParts>(
     definition: Definition,
     definitions: &mut BTreeMap<Declaration, Definition>,
 ) -> Result<(), SchemaBuildError>
-    ensures ok { OnOk result (IsJoined (contents_of definitions.old) (defined (string_bytes declaration) (described_of definition) P.all_parts) (contents_of definitions.new)) }
-    ensures err { IfErr result (λ e. NotJoined (contents_of definitions.old) (defined (string_bytes declaration) (described_of definition) P.all_parts) (contents_of definitions.new) e) }
+    ensures ok { OnOk result (IsUnion (definitions_by_name definitions.old) (defined (string_bytes declaration) (named_definition definition) P.all_parts) (definitions_by_name definitions.new)) }
+    ensures err { IfErr result (λ e. UnionFails (definitions_by_name definitions.old) (defined (string_bytes declaration) (named_definition definition) P.all_parts) (definitions_by_name definitions.new) e) }
 {
     add_definition(declaration, definition, definitions)?;
     P::add_all(alloc, definitions)
@@ -145,8 +145,8 @@ pub(crate) fn add_primitive(
     size: u8,
     definitions: &mut BTreeMap<Declaration, Definition>,
 ) -> Result<(), SchemaBuildError>
-    ensures ok { OnOk result (IsJoined (contents_of definitions.old) (primitive_parts name.now size) (contents_of definitions.new)) }
-    ensures err { IfErr result (λ e. NotJoined (contents_of definitions.old) (primitive_parts name.now size) (contents_of definitions.new) e) }
+    ensures ok { OnOk result (IsUnion (definitions_by_name definitions.old) (primitive_definitions name.now size) (definitions_by_name definitions.new)) }
+    ensures err { IfErr result (λ e. UnionFails (definitions_by_name definitions.old) (primitive_definitions name.now size) (definitions_by_name definitions.new) e) }
 {
     add_definition(
         declared(alloc, name)?,
@@ -161,8 +161,8 @@ pub(crate) fn add_list<T: BorshSchema>(
     declaration: Declaration,
     definitions: &mut BTreeMap<Declaration, Definition>,
 ) -> Result<(), SchemaBuildError>
-    ensures ok { OnOk result (IsJoined (contents_of definitions.old) (defined (string_bytes declaration) (list_of T.name) (both T.parts none)) (contents_of definitions.new)) }
-    ensures err { IfErr result (λ e. NotJoined (contents_of definitions.old) (defined (string_bytes declaration) (list_of T.name) (both T.parts none)) (contents_of definitions.new) e) }
+    ensures ok { OnOk result (IsUnion (definitions_by_name definitions.old) (defined (string_bytes declaration) (list_of T.name) (both T.parts none)) (definitions_by_name definitions.new)) }
+    ensures err { IfErr result (λ e. UnionFails (definitions_by_name definitions.old) (defined (string_bytes declaration) (list_of T.name) (both T.parts none)) (definitions_by_name definitions.new) e) }
 {
     let definition = Definition::Sequence {
         length_width: Definition::DEFAULT_LENGTH_WIDTH,

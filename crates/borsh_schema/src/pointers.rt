@@ -1,5 +1,5 @@
 // Pointers, which are what they point to.
-ghost use Rattle.borsh_schema.specs.Laws.Members.{describes_along, describes_stored};
+ghost use Rattle.borsh_schema.specs.Laws.Members.{describes_contramap, describes_stored};
 
 use super::definitions::SchemaBuildError;
 use super::schema::BorshSchema;
@@ -24,7 +24,7 @@ impl<T: BorshSchema> BorshSchema for Box<T> {
         T::add_definitions_recursively(alloc, definitions)
     }
 
-    ghost describes = { λ C h. describes_along (λ b. b.value) (describes_stored (T.describes C h)) };
+    ghost describes = { λ C h. describes_contramap (λ b. b.value) (describes_stored (T.describes C h)) };
 }
 
 impl<T: BorshSchema> BorshSchema for Rc<T> {
@@ -43,5 +43,5 @@ impl<T: BorshSchema> BorshSchema for Rc<T> {
         T::add_definitions_recursively(alloc, definitions)
     }
 
-    ghost describes = { λ C h. describes_along (λ b. b.value) (describes_stored (T.describes C h)) };
+    ghost describes = { λ C h. describes_contramap (λ b. b.value) (describes_stored (T.describes C h)) };
 }

@@ -2,10 +2,10 @@
 ghost use Rattle.std.specs.Prelude.{OnOk, MatchResult};
 ghost use Rattle.std.specs.BTreeMap.{btree_map_len};
 ghost use Rattle.borsh_walks.specs.Container.{IsValid};
-ghost use Rattle.borsh_walks.specs.RulesAnswer.{RulesFault, IsRulesDue};
-ghost use Rattle.borsh_walks.specs.SizeAnswer.{IsSizeAnswer, IsDue, IsBound, HasSize};
+ghost use Rattle.borsh_walks.specs.RulesAnswer.{RulesFault, AcceptsIfValid};
+ghost use Rattle.borsh_walks.specs.SizeOutcome.{AnswersSize};
 ghost use Rattle.borsh_schema.specs.Containers.{root_of, map_of, language_of};
-ghost use Rattle.borsh_schema.specs.Questions.{JudgedCounts, SizedCounts, FewJudged, FewSized};
+ghost use Rattle.borsh_schema.specs.Questions.{JudgedCounts, SizedCounts, ValidateWork, SizeWork};
 
 use super::container::BorshSchemaContainer;
 use borsh_walks::{
@@ -19,7 +19,7 @@ impl BorshSchemaContainer {
     /// reached name and a rule that it breaks.
     pub fn validate(&self, alloc: Global) -> Result<(), SchemaContainerValidateError>
         ensures answer { MatchResult result (λ _. IsValid (language_of self.now) (root_of self.now)) (λ e. RulesFault (language_of self.now) (root_of self.now) e) }
-        ensures due { IsRulesDue (language_of self.now) (root_of self.now) result }
+        ensures due { AcceptsIfValid (language_of self.now) (root_of self.now) result }
     {
         let mut counts = Expansions {
             size: 0,
@@ -36,9 +36,9 @@ impl BorshSchemaContainer {
         counts: &mut Expansions,
     ) -> Result<(), SchemaContainerValidateError>
         ensures answer { MatchResult result (λ _. IsValid (language_of self.now) (root_of self.now)) (λ e. RulesFault (language_of self.now) (root_of self.now) e) }
-        ensures due { IsRulesDue (language_of self.now) (root_of self.now) result }
+        ensures due { AcceptsIfValid (language_of self.now) (root_of self.now) result }
         ensures counts { OnOk result (JudgedCounts (language_of self.now) (root_of self.now) counts.old counts.new) }
-        ensures few { FewJudged (btree_map_len (map_of self.now)) counts.old counts.new }
+        ensures few { ValidateWork (btree_map_len (map_of self.now)) counts.old counts.new }
     {
         let mut counted = Counted::new(&self.definitions, counts);
         check_rules(alloc, self.declaration.as_str(), &mut counted)
@@ -46,10 +46,7 @@ impl BorshSchemaContainer {
 
     /// The greatest length of the encodings that the container describes.
     pub fn max_serialized_size(&self, alloc: Global) -> Result<usize, SchemaMaxSerializedSizeError>
-        ensures answer { IsSizeAnswer (language_of self.now) (root_of self.now) result }
-        ensures due { IsDue (language_of self.now) (root_of self.now) result }
-        ensures stands { HasSize (language_of self.now) (root_of self.now) }
-        ensures bound { IsBound (language_of self.now) (root_of self.now) result }
+        ensures size { AnswersSize (language_of self.now) (root_of self.now) result }
     {
         let mut counts = Expansions {
             size: 0,
@@ -65,12 +62,9 @@ impl BorshSchemaContainer {
         alloc: Global,
         counts: &mut Expansions,
     ) -> Result<usize, SchemaMaxSerializedSizeError>
-        ensures answer { IsSizeAnswer (language_of self.now) (root_of self.now) result }
-        ensures due { IsDue (language_of self.now) (root_of self.now) result }
-        ensures stands { HasSize (language_of self.now) (root_of self.now) }
-        ensures bound { IsBound (language_of self.now) (root_of self.now) result }
+        ensures size { AnswersSize (language_of self.now) (root_of self.now) result }
         ensures counts { OnOk result (SizedCounts (language_of self.now) (root_of self.now) counts.old counts.new) }
-        ensures few { FewSized (btree_map_len (map_of self.now)) counts.old counts.new }
+        ensures few { SizeWork (btree_map_len (map_of self.now)) counts.old counts.new }
     {
         let mut counted = Counted::new(&self.definitions, counts);
         root_size(alloc, self.declaration.as_str(), &mut counted)

@@ -2,7 +2,7 @@
 ghost use Rattle.std.specs.Prelude.{codes};
 ghost use Rattle.std.specs.Range.{range_inclusive_start, range_inclusive_end};
 ghost use Rattle.borsh_schema.specs.Described.{defined, both, none};
-ghost use Rattle.borsh_schema.specs.Laws.Members.{describes_along, describes_parts, all_one, all_more};
+ghost use Rattle.borsh_schema.specs.Laws.Members.{describes_contramap, describes_parts, all_one, all_more};
 ghost use Rattle.borsh_schema.specs.Names.{applied};
 ghost use Rattle.borsh_schema.specs.Types.{range_of, range_from, range_to};
 
@@ -40,7 +40,7 @@ impl<T: BorshSchema> BorshSchema for Range<T> {
         )
     }
 
-    ghost describes = { λ C h. describes_along (λ r. (r.start, r.end)) (describes_parts h.0 (all_more (T.describes C h.1.0) (all_one (T.describes C h.1.0)))) };
+    ghost describes = { λ C h. describes_contramap (λ r. (r.start, r.end)) (describes_parts h.0 (all_more (T.describes C h.1.0) (all_one (T.describes C h.1.0)))) };
 }
 
 impl<T: BorshSchema> BorshSchema for RangeInclusive<T> {
@@ -69,7 +69,7 @@ impl<T: BorshSchema> BorshSchema for RangeInclusive<T> {
         )
     }
 
-    ghost describes = { λ C h. describes_along (λ r. (range_inclusive_start r, range_inclusive_end r)) (describes_parts h.0 (all_more (T.describes C h.1.0) (all_one (T.describes C h.1.0)))) };
+    ghost describes = { λ C h. describes_contramap (λ r. (range_inclusive_start r, range_inclusive_end r)) (describes_parts h.0 (all_more (T.describes C h.1.0) (all_one (T.describes C h.1.0)))) };
 }
 
 impl<T: BorshSchema> BorshSchema for RangeFrom<T> {
@@ -95,7 +95,7 @@ impl<T: BorshSchema> BorshSchema for RangeFrom<T> {
         )
     }
 
-    ghost describes = { λ C h. describes_along (λ r. r.start) (describes_parts h.0 (all_one (T.describes C h.1.0))) };
+    ghost describes = { λ C h. describes_contramap (λ r. r.start) (describes_parts h.0 (all_one (T.describes C h.1.0))) };
 }
 
 impl<T: BorshSchema> BorshSchema for RangeTo<T> {
@@ -121,7 +121,7 @@ impl<T: BorshSchema> BorshSchema for RangeTo<T> {
         )
     }
 
-    ghost describes = { λ C h. describes_along (λ r. r.end) (describes_parts h.0 (all_one (T.describes C h.1.0))) };
+    ghost describes = { λ C h. describes_contramap (λ r. r.end) (describes_parts h.0 (all_one (T.describes C h.1.0))) };
 }
 
 impl<T: BorshSchema> BorshSchema for RangeToInclusive<T> {
@@ -147,5 +147,5 @@ impl<T: BorshSchema> BorshSchema for RangeToInclusive<T> {
         )
     }
 
-    ghost describes = { λ C h. describes_along (λ r. r.end) (describes_parts h.0 (all_one (T.describes C h.1.0))) };
+    ghost describes = { λ C h. describes_contramap (λ r. r.end) (describes_parts h.0 (all_one (T.describes C h.1.0))) };
 }

@@ -2,8 +2,8 @@
 ghost use Rattle.std.specs.Prelude.{◌≡◌, IfOk, IfErr, OnOk, List, ℕ, Option, string_bytes};
 ghost use Rattle.borsh_walks.specs.Container.{Shape};
 ghost use Rattle.borsh_schema.specs.declared.definitions.SchemaBuildError.TheVariants.{OutOfMemory};
-ghost use Rattle.borsh_schema.specs.Described.{Parts, contents_of};
-ghost use Rattle.borsh_schema.specs.Joined.{IsJoined, NotJoined};
+ghost use Rattle.borsh_schema.specs.Described.{DefinitionTree, definitions_by_name};
+ghost use Rattle.borsh_schema.specs.Joined.{IsUnion, UnionFails};
 ghost use Rattle.borsh_schema.specs.Language.{Holds, Describes};
 
 use super::definitions::SchemaBuildError;
@@ -20,7 +20,7 @@ use std::collections::BTreeMap;
 pub trait BorshSchema: BorshType {
     ghost name: { List ℕ };
 
-    ghost parts: { Parts };
+    ghost parts: { DefinitionTree };
 
     /// The name of the type. The error is always `OutOfMemory`.
     fn declaration(alloc: Global) -> Result<Declaration, SchemaBuildError>
@@ -34,8 +34,8 @@ pub trait BorshSchema: BorshType {
         alloc: Global,
         definitions: &mut BTreeMap<Declaration, Definition>,
     ) -> Result<(), SchemaBuildError>
-        ensures ok { OnOk result (IsJoined (contents_of definitions.old) parts (contents_of definitions.new)) }
-        ensures err { IfErr result (λ e. NotJoined (contents_of definitions.old) parts (contents_of definitions.new) e) };
+        ensures ok { OnOk result (IsUnion (definitions_by_name definitions.old) parts (definitions_by_name definitions.new)) }
+        ensures err { IfErr result (λ e. UnionFails (definitions_by_name definitions.old) parts (definitions_by_name definitions.new) e) };
 
     ghost describes: { (C : List ℕ → Option Shape) → Holds C parts → Describes Self C Self.codec name };
 }

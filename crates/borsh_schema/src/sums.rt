@@ -1,11 +1,11 @@
 // Values that are one of several kinds.
 ghost use Rattle.std.specs.Prelude.{codes, refl};
-ghost use Rattle.borsh_types.specs.Types.Sums.{option_parts, result_parts};
+ghost use Rattle.borsh_codec.specs.Types.Sums.{option_view, result_view};
 ghost use Rattle.borsh_walks.specs.Container.{first_variant, later_variant};
 ghost use Rattle.borsh_schema.specs.Described.{defined, both, none};
-ghost use Rattle.borsh_schema.specs.Laws.Members.{describes_along, describes_bool, describes_choice, describes_unit, choice_more, choice_none};
+ghost use Rattle.borsh_schema.specs.Laws.Members.{describes_contramap, describes_bool, describes_choice, describes_unit, choice_more, choice_none};
 ghost use Rattle.borsh_schema.specs.Names.{applied, applied_to_two};
-ghost use Rattle.borsh_schema.specs.Types.{primitive_parts, unit_parts, option_of, result_of};
+ghost use Rattle.borsh_schema.specs.Types.{primitive_definitions, unit_definitions, option_of, result_of};
 
 use super::definitions::SchemaBuildError;
 use super::parts::{add_primitive, add_with_parts, declared, variant};
@@ -17,7 +17,7 @@ use std::collections::BTreeMap;
 impl BorshSchema for bool {
     ghost name = { codes "bool" };
 
-    ghost parts = { primitive_parts (codes "bool") 1 };
+    ghost parts = { primitive_definitions (codes "bool") 1 };
 
     fn declaration(alloc: Global) -> Result<Declaration, SchemaBuildError> {
         declared(alloc, "bool")
@@ -36,7 +36,7 @@ impl BorshSchema for bool {
 impl<T: BorshSchema> BorshSchema for Option<T> {
     ghost name = { applied (codes "Option<") T.name };
 
-    ghost parts = { defined (applied (codes "Option<") T.name) (option_of T.name) (both T.parts (both unit_parts none)) };
+    ghost parts = { defined (applied (codes "Option<") T.name) (option_of T.name) (both T.parts (both unit_definitions none)) };
 
     fn declaration(alloc: Global) -> Result<Declaration, SchemaBuildError> {
         let value = T::declaration(alloc)?;
@@ -62,7 +62,7 @@ impl<T: BorshSchema> BorshSchema for Option<T> {
         )
     }
 
-    ghost describes = { λ C h. describes_along option_parts (describes_choice h.0 (choice_more first_variant refl (describes_unit h.1.1.0.0) (choice_more (later_variant first_variant) refl (T.describes C h.1.0) choice_none))) };
+    ghost describes = { λ C h. describes_contramap option_view (describes_choice h.0 (choice_more first_variant refl (describes_unit h.1.1.0.0) (choice_more (later_variant first_variant) refl (T.describes C h.1.0) choice_none))) };
 }
 
 impl<T: BorshSchema, E: BorshSchema> BorshSchema for Result<T, E> {
@@ -95,5 +95,5 @@ impl<T: BorshSchema, E: BorshSchema> BorshSchema for Result<T, E> {
         )
     }
 
-    ghost describes = { λ C h. describes_along result_parts (describes_choice h.0 (choice_more (later_variant first_variant) refl (E.describes C h.1.1.0) (choice_more first_variant refl (T.describes C h.1.0) choice_none))) };
+    ghost describes = { λ C h. describes_contramap result_view (describes_choice h.0 (choice_more (later_variant first_variant) refl (E.describes C h.1.1.0) (choice_more first_variant refl (T.describes C h.1.0) choice_none))) };
 }

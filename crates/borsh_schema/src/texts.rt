@@ -5,10 +5,10 @@ ghost use Rattle.std.specs.Cow.{cow_str_bytes};
 ghost use Rattle.std.specs.Rc.{rc_str_bytes};
 ghost use Rattle.std.specs.String.{string_bytes};
 ghost use Rattle.borsh_schema.specs.declared.definitions.SchemaBuildError.TheVariants.{OutOfMemory};
-ghost use Rattle.borsh_schema.specs.Described.{contents_of};
-ghost use Rattle.borsh_schema.specs.Joined.{IsJoined, NotJoined};
-ghost use Rattle.borsh_schema.specs.Laws.Members.{describes_along, describes_text};
-ghost use Rattle.borsh_schema.specs.Types.{text_parts};
+ghost use Rattle.borsh_schema.specs.Described.{definitions_by_name};
+ghost use Rattle.borsh_schema.specs.Joined.{IsUnion, UnionFails};
+ghost use Rattle.borsh_schema.specs.Laws.Members.{describes_contramap, describes_text};
+ghost use Rattle.borsh_schema.specs.Types.{text_definitions};
 
 use super::definitions::SchemaBuildError;
 use super::parts::{add_list, declared};
@@ -23,7 +23,7 @@ use std::rc::RcStr;
 impl BorshSchema for String {
     ghost name = { codes "String" };
 
-    ghost parts = { text_parts };
+    ghost parts = { text_definitions };
 
     fn declaration(alloc: Global) -> Result<Declaration, SchemaBuildError> {
         declared(alloc, "String")
@@ -36,13 +36,13 @@ impl BorshSchema for String {
         add_list::<u8>(alloc, Self::declaration(alloc)?, definitions)
     }
 
-    ghost describes = { λ C h. describes_along string_bytes (describes_text h.0 h.1.0.0) };
+    ghost describes = { λ C h. describes_contramap string_bytes (describes_text h.0 h.1.0.0) };
 }
 
 impl BorshSchema for &str {
     ghost name = { codes "String" };
 
-    ghost parts = { text_parts };
+    ghost parts = { text_definitions };
 
     fn declaration(alloc: Global) -> Result<Declaration, SchemaBuildError>
         ensures ok { IfOk result (λ d. string_bytes d ≡ codes "String") }
@@ -55,19 +55,19 @@ impl BorshSchema for &str {
         alloc: Global,
         definitions: &mut BTreeMap<Declaration, Definition>,
     ) -> Result<(), SchemaBuildError>
-        ensures ok { OnOk result (IsJoined (contents_of definitions.old) text_parts (contents_of definitions.new)) }
-        ensures err { IfErr result (λ e. NotJoined (contents_of definitions.old) text_parts (contents_of definitions.new) e) }
+        ensures ok { OnOk result (IsUnion (definitions_by_name definitions.old) text_definitions (definitions_by_name definitions.new)) }
+        ensures err { IfErr result (λ e. UnionFails (definitions_by_name definitions.old) text_definitions (definitions_by_name definitions.new) e) }
     {
         add_list::<u8>(alloc, Self::declaration(alloc)?, definitions)
     }
 
-    ghost describes = { λ C h. describes_along (λ r. r.now) (describes_text h.0 h.1.0.0) };
+    ghost describes = { λ C h. describes_contramap (λ r. r.now) (describes_text h.0 h.1.0.0) };
 }
 
 impl BorshSchema for BoxedStr {
     ghost name = { codes "String" };
 
-    ghost parts = { text_parts };
+    ghost parts = { text_definitions };
 
     fn declaration(alloc: Global) -> Result<Declaration, SchemaBuildError> {
         declared(alloc, "String")
@@ -80,13 +80,13 @@ impl BorshSchema for BoxedStr {
         add_list::<u8>(alloc, Self::declaration(alloc)?, definitions)
     }
 
-    ghost describes = { λ C h. describes_along boxed_str_bytes (describes_text h.0 h.1.0.0) };
+    ghost describes = { λ C h. describes_contramap boxed_str_bytes (describes_text h.0 h.1.0.0) };
 }
 
 impl BorshSchema for RcStr {
     ghost name = { codes "String" };
 
-    ghost parts = { text_parts };
+    ghost parts = { text_definitions };
 
     fn declaration(alloc: Global) -> Result<Declaration, SchemaBuildError> {
         declared(alloc, "String")
@@ -99,13 +99,13 @@ impl BorshSchema for RcStr {
         add_list::<u8>(alloc, Self::declaration(alloc)?, definitions)
     }
 
-    ghost describes = { λ C h. describes_along rc_str_bytes (describes_text h.0 h.1.0.0) };
+    ghost describes = { λ C h. describes_contramap rc_str_bytes (describes_text h.0 h.1.0.0) };
 }
 
 impl BorshSchema for CowStr<'_> {
     ghost name = { codes "String" };
 
-    ghost parts = { text_parts };
+    ghost parts = { text_definitions };
 
     fn declaration(alloc: Global) -> Result<Declaration, SchemaBuildError>
         ensures ok { IfOk result (λ d. string_bytes d ≡ codes "String") }
@@ -118,11 +118,11 @@ impl BorshSchema for CowStr<'_> {
         alloc: Global,
         definitions: &mut BTreeMap<Declaration, Definition>,
     ) -> Result<(), SchemaBuildError>
-        ensures ok { OnOk result (IsJoined (contents_of definitions.old) text_parts (contents_of definitions.new)) }
-        ensures err { IfErr result (λ e. NotJoined (contents_of definitions.old) text_parts (contents_of definitions.new) e) }
+        ensures ok { OnOk result (IsUnion (definitions_by_name definitions.old) text_definitions (definitions_by_name definitions.new)) }
+        ensures err { IfErr result (λ e. UnionFails (definitions_by_name definitions.old) text_definitions (definitions_by_name definitions.new) e) }
     {
         add_list::<u8>(alloc, Self::declaration(alloc)?, definitions)
     }
 
-    ghost describes = { λ C h. describes_along cow_str_bytes (describes_text h.0 h.1.0.0) };
+    ghost describes = { λ C h. describes_contramap cow_str_bytes (describes_text h.0 h.1.0.0) };
 }

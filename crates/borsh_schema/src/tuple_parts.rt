@@ -1,8 +1,8 @@
 // The places of tuples: their names, one after another.
 ghost use Rattle.std.specs.Prelude.{◌≡◌, ◌∷◌, [], ◌++◌, List, ℕ, IfOk, IfErr, OnOk, codes, map, string_bytes};
 ghost use Rattle.borsh_schema.specs.declared.definitions.SchemaBuildError.TheVariants.{OutOfMemory};
-ghost use Rattle.borsh_schema.specs.Described.{both, contents_of};
-ghost use Rattle.borsh_schema.specs.Joined.{IsJoined, NotJoined};
+ghost use Rattle.borsh_schema.specs.Described.{both, definitions_by_name};
+ghost use Rattle.borsh_schema.specs.Joined.{IsUnion, UnionFails};
 ghost use Rattle.borsh_schema.specs.Names.{following};
 ghost use Rattle.borsh_schema.specs.Types.{tuple_described};
 
@@ -96,8 +96,8 @@ pub(crate) fn add_tuple<P: Places>(
     declaration: Declaration,
     definitions: &mut BTreeMap<Declaration, Definition>,
 ) -> Result<(), SchemaBuildError>
-    ensures ok { OnOk result (IsJoined (contents_of definitions.old) (tuple_described (string_bytes declaration) P.names P.all_parts) (contents_of definitions.new)) }
-    ensures err { IfErr result (λ e. NotJoined (contents_of definitions.old) (tuple_described (string_bytes declaration) P.names P.all_parts) (contents_of definitions.new) e) }
+    ensures ok { OnOk result (IsUnion (definitions_by_name definitions.old) (tuple_described (string_bytes declaration) P.names P.all_parts) (definitions_by_name definitions.new)) }
+    ensures err { IfErr result (λ e. UnionFails (definitions_by_name definitions.old) (tuple_described (string_bytes declaration) P.names P.all_parts) (definitions_by_name definitions.new) e) }
 {
     let mut elements = Vec::with_capacity(alloc, P::count())?;
     P::push_declarations(alloc, &mut elements)?;

@@ -1,8 +1,8 @@
 // Types whose encodings are empty.
 ghost use Rattle.std.specs.Prelude.{codes};
 ghost use Rattle.borsh_schema.specs.Described.{defined, no_fields, none};
-ghost use Rattle.borsh_schema.specs.Laws.Members.{describes_along, describes_unit, describes_parts, all_none};
-ghost use Rattle.borsh_schema.specs.Types.{unit_parts};
+ghost use Rattle.borsh_schema.specs.Laws.Members.{describes_contramap, describes_unit, describes_parts, all_none};
+ghost use Rattle.borsh_schema.specs.Types.{unit_definitions};
 
 use super::definitions::SchemaBuildError;
 use super::parts::{add_primitive, add_with_parts, declared};
@@ -16,7 +16,7 @@ use std::ops::RangeFull;
 impl BorshSchema for () {
     ghost name = { codes "()" };
 
-    ghost parts = { unit_parts };
+    ghost parts = { unit_definitions };
 
     fn declaration(alloc: Global) -> Result<Declaration, SchemaBuildError> {
         declared(alloc, "()")
@@ -35,7 +35,7 @@ impl BorshSchema for () {
 impl<T> BorshSchema for PhantomData<T> {
     ghost name = { codes "()" };
 
-    ghost parts = { unit_parts };
+    ghost parts = { unit_definitions };
 
     fn declaration(alloc: Global) -> Result<Declaration, SchemaBuildError> {
         declared(alloc, "()")
@@ -48,7 +48,7 @@ impl<T> BorshSchema for PhantomData<T> {
         add_primitive(alloc, "()", 0, definitions)
     }
 
-    ghost describes = { λ C h. describes_along (λ _. tt) (describes_unit h.0) };
+    ghost describes = { λ C h. describes_contramap (λ _. tt) (describes_unit h.0) };
 }
 
 impl BorshSchema for RangeFull {
@@ -70,5 +70,5 @@ impl BorshSchema for RangeFull {
         add_with_parts::<()>(alloc, Self::declaration(alloc)?, definition, definitions)
     }
 
-    ghost describes = { λ C h. describes_along (λ _. tt) (describes_parts h.0 all_none) };
+    ghost describes = { λ C h. describes_contramap (λ _. tt) (describes_parts h.0 all_none) };
 }

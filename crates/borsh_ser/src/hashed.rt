@@ -1,10 +1,10 @@
 // Hashed maps and sets: references to the entries are collected, sorted by key and written, so that the
 // bytes depend on the entries alone.
 ghost use Rattle.borsh_io.specs.Errors.{error_kind};
-ghost use Rattle.borsh_types.specs.Empty.{RefusesEmpty};
-ghost use Rattle.borsh_types.specs.Maps.{bare_entries, by_key, sorted_map, sorted_set};
-ghost use Rattle.borsh_types.specs.Shapes.{all_joined, counted, pair};
-ghost use Rattle.borsh_types.specs.Writing.{WriteDenied, WritesAll};
+ghost use Rattle.borsh_codec.specs.Empty.{RefusesZeroWidth};
+ghost use Rattle.borsh_codec.specs.Maps.{unit_entries, sorted_by_key, hash_map, hash_set};
+ghost use Rattle.borsh_codec.specs.Shapes.{concat_encodings, length_prefixed, pair};
+ghost use Rattle.borsh_codec.specs.Writing.{NotWritten, Written};
 ghost use Rattle.std.specs.HashMap.{IsUnique};
 ghost use Rattle.std.specs.List.{IsDistinct};
 ghost use Rattle.std.specs.Map.Iter.{deref_pair};
@@ -39,7 +39,7 @@ fn sorted_entries<'a, K: Ord + Hash, V, S: BuildHasher>(
     alloc: Global,
     table: &'a HashMap<K, V, S>,
 ) -> result::Result<Vec<(&'a K, &'a V)>, AllocError>
-    ensures { IfOk result (λ v. map deref_pair v.items ≡ by_key K.cmp table.now.entries) }
+    ensures { IfOk result (λ v. map deref_pair v.items ≡ sorted_by_key K.cmp table.now.entries) }
 {
     let mut all = entry_refs(alloc, table)?;
     all.sort_unstable_by(|a, b| a.0.cmp(b.0));
@@ -64,7 +64,7 @@ fn sorted_keys<'a, K: Ord + Hash, S: BuildHasher>(
     alloc: Global,
     set: &'a HashSet<K, S>,
 ) -> result::Result<Vec<&'a K>, AllocError>
-    ensures { IfOk result (λ v. map (λ r. (r.now, tt)) v.items ≡ by_key K.cmp (bare_entries set.now.keys)) }
+    ensures { IfOk result (λ v. map (λ r. (r.now, tt)) v.items ≡ sorted_by_key K.cmp (unit_entries set.now.keys)) }
 {
     let mut all = key_refs(alloc, set)?;
     all.sort_unstable();
@@ -78,8 +78,8 @@ fn write_entries<K: BorshSerialize, V: BorshSerialize, W: Write>(
     alloc: Global,
     writer: &mut W,
 ) -> Result<()>
-    ensures ok { OnOk result (WritesAll W.writing writer.old writer.new (all_joined (pair K.codec V.codec).encoding (map deref_pair entries.now))) }
-    ensures err { IfErr result (λ e. WriteDenied (K.codec.write_allocates || V.codec.write_allocates) W.writing writer.old writer.new (all_joined (pair K.codec V.codec).encoding (map deref_pair entries.now)) (error_kind e)) }
+    ensures ok { OnOk result (Written W.writing writer.old writer.new (concat_encodings (pair K.codec V.codec).encoding (map deref_pair entries.now))) }
+    ensures err { IfErr result (λ e. NotWritten (K.codec.encoding_allocates || V.codec.encoding_allocates) W.writing writer.old writer.new (concat_encodings (pair K.codec V.codec).encoding (map deref_pair entries.now)) (error_kind e)) }
 {
     for e in entries {
         write_two(e.0, e.1, alloc, writer)?;
@@ -94,8 +94,8 @@ fn write_sorted<K: BorshSerialize, V: BorshSerialize, W: Write>(
     alloc: Global,
     writer: &mut W,
 ) -> Result<()>
-    ensures ok { OnOk result (WritesAll W.writing writer.old writer.new ((counted (pair K.codec V.codec)).encoding (map deref_pair entries.now))) }
-    ensures err { IfErr result (λ e. WriteDenied (K.codec.write_allocates || V.codec.write_allocates) W.writing writer.old writer.new ((counted (pair K.codec V.codec)).encoding (map deref_pair entries.now)) (error_kind e)) }
+    ensures ok { OnOk result (Written W.writing writer.old writer.new ((length_prefixed (pair K.codec V.codec)).encoding (map deref_pair entries.now))) }
+    ensures err { IfErr result (λ e. NotWritten (K.codec.encoding_allocates || V.codec.encoding_allocates) W.writing writer.old writer.new ((length_prefixed (pair K.codec V.codec)).encoding (map deref_pair entries.now)) (error_kind e)) }
 {
     write_count(entries.len(), writer)?;
     write_entries(entries, alloc, writer)
@@ -105,9 +105,9 @@ impl<K: BorshKey + BorshSerialize + Ord + Hash, V: BorshSerialize, S: BuildHashe
     for HashMap<K, V, S> {
     #[inline]
     fn serialize<W: Write>(&self, alloc: Global, writer: &mut W) -> Result<()>
-        ensures ok { OnOk result (WritesAll W.writing writer.old writer.new ((sorted_map K.cmp K.codec V.codec).encoding self.now.entries)) }
-        ensures err { IfErr result (λ e. WriteDenied true W.writing writer.old writer.new ((sorted_map K.cmp K.codec V.codec).encoding self.now.entries) (error_kind e)) }
-        ensures untouched { RefusesEmpty K.codec.is_empty result writer.old writer.new }
+        ensures ok { OnOk result (Written W.writing writer.old writer.new ((hash_map K.cmp K.codec V.codec).encoding self.now.entries)) }
+        ensures err { IfErr result (λ e. NotWritten true W.writing writer.old writer.new ((hash_map K.cmp K.codec V.codec).encoding self.now.entries) (error_kind e)) }
+        ensures untouched { RefusesZeroWidth K.codec.is_zero_width result writer.old writer.new }
     {
         if K::encodes_empty() {
             return Err(Error::new(ErrorKind::InvalidData, ERROR_ZST_FORBIDDEN));
@@ -120,9 +120,9 @@ impl<K: BorshKey + BorshSerialize + Ord + Hash, V: BorshSerialize, S: BuildHashe
 impl<K: BorshKey + BorshSerialize + Ord + Hash, S: BuildHasher> BorshSerialize for HashSet<K, S> {
     #[inline]
     fn serialize<W: Write>(&self, alloc: Global, writer: &mut W) -> Result<()>
-        ensures ok { OnOk result (WritesAll W.writing writer.old writer.new ((sorted_set K.cmp K.codec).encoding self.now.keys)) }
-        ensures err { IfErr result (λ e. WriteDenied true W.writing writer.old writer.new ((sorted_set K.cmp K.codec).encoding self.now.keys) (error_kind e)) }
-        ensures untouched { RefusesEmpty K.codec.is_empty result writer.old writer.new }
+        ensures ok { OnOk result (Written W.writing writer.old writer.new ((hash_set K.cmp K.codec).encoding self.now.keys)) }
+        ensures err { IfErr result (λ e. NotWritten true W.writing writer.old writer.new ((hash_set K.cmp K.codec).encoding self.now.keys) (error_kind e)) }
+        ensures untouched { RefusesZeroWidth K.codec.is_zero_width result writer.old writer.new }
     {
         if K::encodes_empty() {
             return Err(Error::new(ErrorKind::InvalidData, ERROR_ZST_FORBIDDEN));

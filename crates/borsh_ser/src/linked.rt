@@ -1,9 +1,9 @@
 // Lists whose elements don't lie in one place: a count of four bytes and the elements in order.
 ghost use Rattle.std.specs.Prelude.{◌≡◌, OnOk, IfErr};
 ghost use Rattle.borsh_io.specs.Errors.{error_kind};
-ghost use Rattle.borsh_types.specs.Shapes.{all_joined, counted, elements};
-ghost use Rattle.borsh_types.specs.Writing.{WritesAll, WriteDenied};
-ghost use Rattle.borsh_types.specs.Empty.{RefusesEmpty};
+ghost use Rattle.borsh_codec.specs.Shapes.{concat_encodings, length_prefixed, list};
+ghost use Rattle.borsh_codec.specs.Writing.{Written, NotWritten};
+ghost use Rattle.borsh_codec.specs.Empty.{RefusesZeroWidth};
 
 use super::lists::{write_count, write_elements};
 use super::serialize::BorshSerialize;
@@ -19,8 +19,8 @@ fn write_queue<T: BorshSerialize, W: Write>(
     alloc: Global,
     writer: &mut W,
 ) -> Result<()>
-    ensures ok { OnOk result (WritesAll W.writing writer.old writer.new ((counted T.codec).encoding queue.now.items)) }
-    ensures err { IfErr result (λ e. WriteDenied T.codec.write_allocates W.writing writer.old writer.new ((counted T.codec).encoding queue.now.items) (error_kind e)) }
+    ensures ok { OnOk result (Written W.writing writer.old writer.new ((length_prefixed T.codec).encoding queue.now.items)) }
+    ensures err { IfErr result (λ e. NotWritten T.codec.encoding_allocates W.writing writer.old writer.new ((length_prefixed T.codec).encoding queue.now.items) (error_kind e)) }
 {
     let (front, back) = queue.as_slices();
     write_count(queue.len(), writer)?;
@@ -35,8 +35,8 @@ fn write_linked<T: BorshSerialize, W: Write>(
     alloc: Global,
     writer: &mut W,
 ) -> Result<()>
-    ensures ok { OnOk result (WritesAll W.writing writer.old writer.new (all_joined T.codec.encoding list.now)) }
-    ensures err { IfErr result (λ e. WriteDenied T.codec.write_allocates W.writing writer.old writer.new (all_joined T.codec.encoding list.now) (error_kind e)) }
+    ensures ok { OnOk result (Written W.writing writer.old writer.new (concat_encodings T.codec.encoding list.now)) }
+    ensures err { IfErr result (λ e. NotWritten T.codec.encoding_allocates W.writing writer.old writer.new (concat_encodings T.codec.encoding list.now) (error_kind e)) }
 {
     for item in list.iter() {
         item.serialize(alloc, writer)?;
@@ -51,8 +51,8 @@ fn write_linked_counted<T: BorshSerialize, W: Write>(
     alloc: Global,
     writer: &mut W,
 ) -> Result<()>
-    ensures ok { OnOk result (WritesAll W.writing writer.old writer.new ((counted T.codec).encoding list.now)) }
-    ensures err { IfErr result (λ e. WriteDenied T.codec.write_allocates W.writing writer.old writer.new ((counted T.codec).encoding list.now) (error_kind e)) }
+    ensures ok { OnOk result (Written W.writing writer.old writer.new ((length_prefixed T.codec).encoding list.now)) }
+    ensures err { IfErr result (λ e. NotWritten T.codec.encoding_allocates W.writing writer.old writer.new ((length_prefixed T.codec).encoding list.now) (error_kind e)) }
 {
     write_count(list.len(), writer)?;
     write_linked(list, alloc, writer)
@@ -61,9 +61,9 @@ fn write_linked_counted<T: BorshSerialize, W: Write>(
 impl<T: BorshSerialize> BorshSerialize for VecDeque<T> {
     #[inline]
     fn serialize<W: Write>(&self, alloc: Global, writer: &mut W) -> Result<()>
-        ensures ok { OnOk result (WritesAll W.writing writer.old writer.new ((elements T.codec).encoding self.now.items)) }
-        ensures err { IfErr result (λ e. WriteDenied T.codec.write_allocates W.writing writer.old writer.new ((elements T.codec).encoding self.now.items) (error_kind e)) }
-        ensures untouched { RefusesEmpty T.codec.is_empty result writer.old writer.new }
+        ensures ok { OnOk result (Written W.writing writer.old writer.new ((list T.codec).encoding self.now.items)) }
+        ensures err { IfErr result (λ e. NotWritten T.codec.encoding_allocates W.writing writer.old writer.new ((list T.codec).encoding self.now.items) (error_kind e)) }
+        ensures untouched { RefusesZeroWidth T.codec.is_zero_width result writer.old writer.new }
     {
         if T::encodes_empty() {
             return Err(Error::new(ErrorKind::InvalidData, ERROR_ZST_FORBIDDEN));
@@ -75,9 +75,9 @@ impl<T: BorshSerialize> BorshSerialize for VecDeque<T> {
 impl<T: BorshSerialize> BorshSerialize for LinkedList<T> {
     #[inline]
     fn serialize<W: Write>(&self, alloc: Global, writer: &mut W) -> Result<()>
-        ensures ok { OnOk result (WritesAll W.writing writer.old writer.new ((elements T.codec).encoding self.now)) }
-        ensures err { IfErr result (λ e. WriteDenied T.codec.write_allocates W.writing writer.old writer.new ((elements T.codec).encoding self.now) (error_kind e)) }
-        ensures untouched { RefusesEmpty T.codec.is_empty result writer.old writer.new }
+        ensures ok { OnOk result (Written W.writing writer.old writer.new ((list T.codec).encoding self.now)) }
+        ensures err { IfErr result (λ e. NotWritten T.codec.encoding_allocates W.writing writer.old writer.new ((list T.codec).encoding self.now) (error_kind e)) }
+        ensures untouched { RefusesZeroWidth T.codec.is_zero_width result writer.old writer.new }
     {
         if T::encodes_empty() {
             return Err(Error::new(ErrorKind::InvalidData, ERROR_ZST_FORBIDDEN));

@@ -1,10 +1,10 @@
 // Maps and sets that hold their entries in the order in which they are written: a count of four bytes and
 // the entries.
 ghost use Rattle.borsh_io.specs.Errors.{error_kind};
-ghost use Rattle.borsh_types.specs.Empty.{RefusesEmpty};
-ghost use Rattle.borsh_types.specs.Maps.{inserted_map, inserted_set, ordered_map, ordered_set};
-ghost use Rattle.borsh_types.specs.Shapes.{all_joined, counted, pair};
-ghost use Rattle.borsh_types.specs.Writing.{WriteDenied, WritesAll};
+ghost use Rattle.borsh_codec.specs.Empty.{RefusesZeroWidth};
+ghost use Rattle.borsh_codec.specs.Maps.{index_map, index_set, btree_map, btree_set};
+ghost use Rattle.borsh_codec.specs.Shapes.{concat_encodings, length_prefixed, pair};
+ghost use Rattle.borsh_codec.specs.Writing.{NotWritten, Written};
 ghost use Rattle.indexmap.specs.IndexSet.{IsUnique as IsUniqueSet};
 ghost use Rattle.std.specs.HashMap.{IsUnique};
 ghost use Rattle.std.specs.List.Sorted.{IsStrictlySortedBy};
@@ -29,8 +29,8 @@ fn write_tree_entries<K: BorshSerialize + Ord, V: BorshSerialize, W: Write>(
     alloc: Global,
     writer: &mut W,
 ) -> Result<()>
-    ensures ok { OnOk result (WritesAll W.writing writer.old writer.new (all_joined (pair K.codec V.codec).encoding tree.now.entries)) }
-    ensures err { IfErr result (λ e. WriteDenied (K.codec.write_allocates || V.codec.write_allocates) W.writing writer.old writer.new (all_joined (pair K.codec V.codec).encoding tree.now.entries) (error_kind e)) }
+    ensures ok { OnOk result (Written W.writing writer.old writer.new (concat_encodings (pair K.codec V.codec).encoding tree.now.entries)) }
+    ensures err { IfErr result (λ e. NotWritten (K.codec.encoding_allocates || V.codec.encoding_allocates) W.writing writer.old writer.new (concat_encodings (pair K.codec V.codec).encoding tree.now.entries) (error_kind e)) }
     ensures ordered { IsStrictlySortedBy K.cmp (keys_of tree.now.entries) }
 {
     for (k, v) in tree.iter() {
@@ -46,8 +46,8 @@ fn write_tree<K: BorshSerialize + Ord, V: BorshSerialize, W: Write>(
     alloc: Global,
     writer: &mut W,
 ) -> Result<()>
-    ensures ok { OnOk result (WritesAll W.writing writer.old writer.new ((counted (pair K.codec V.codec)).encoding tree.now.entries)) }
-    ensures err { IfErr result (λ e. WriteDenied (K.codec.write_allocates || V.codec.write_allocates) W.writing writer.old writer.new ((counted (pair K.codec V.codec)).encoding tree.now.entries) (error_kind e)) }
+    ensures ok { OnOk result (Written W.writing writer.old writer.new ((length_prefixed (pair K.codec V.codec)).encoding tree.now.entries)) }
+    ensures err { IfErr result (λ e. NotWritten (K.codec.encoding_allocates || V.codec.encoding_allocates) W.writing writer.old writer.new ((length_prefixed (pair K.codec V.codec)).encoding tree.now.entries) (error_kind e)) }
     ensures ordered { IsStrictlySortedBy K.cmp (keys_of tree.now.entries) }
 {
     write_count(tree.len(), writer)?;
@@ -61,8 +61,8 @@ fn write_tree_keys<K: BorshSerialize + Ord, W: Write>(
     alloc: Global,
     writer: &mut W,
 ) -> Result<()>
-    ensures ok { OnOk result (WritesAll W.writing writer.old writer.new (all_joined K.codec.encoding set.now.keys)) }
-    ensures err { IfErr result (λ e. WriteDenied K.codec.write_allocates W.writing writer.old writer.new (all_joined K.codec.encoding set.now.keys) (error_kind e)) }
+    ensures ok { OnOk result (Written W.writing writer.old writer.new (concat_encodings K.codec.encoding set.now.keys)) }
+    ensures err { IfErr result (λ e. NotWritten K.codec.encoding_allocates W.writing writer.old writer.new (concat_encodings K.codec.encoding set.now.keys) (error_kind e)) }
     ensures ordered { IsStrictlySortedBy K.cmp set.now.keys }
 {
     for k in set.iter() {
@@ -78,8 +78,8 @@ fn write_tree_set<K: BorshSerialize + Ord, W: Write>(
     alloc: Global,
     writer: &mut W,
 ) -> Result<()>
-    ensures ok { OnOk result (WritesAll W.writing writer.old writer.new ((counted K.codec).encoding set.now.keys)) }
-    ensures err { IfErr result (λ e. WriteDenied K.codec.write_allocates W.writing writer.old writer.new ((counted K.codec).encoding set.now.keys) (error_kind e)) }
+    ensures ok { OnOk result (Written W.writing writer.old writer.new ((length_prefixed K.codec).encoding set.now.keys)) }
+    ensures err { IfErr result (λ e. NotWritten K.codec.encoding_allocates W.writing writer.old writer.new ((length_prefixed K.codec).encoding set.now.keys) (error_kind e)) }
     ensures ordered { IsStrictlySortedBy K.cmp set.now.keys }
 {
     write_count(set.len(), writer)?;
@@ -93,8 +93,8 @@ fn write_index_entries<K: BorshSerialize + Eq + Hash, V: BorshSerialize, S: Buil
     alloc: Global,
     writer: &mut W,
 ) -> Result<()>
-    ensures ok { OnOk result (WritesAll W.writing writer.old writer.new (all_joined (pair K.codec V.codec).encoding table.now.entries)) }
-    ensures err { IfErr result (λ e. WriteDenied (K.codec.write_allocates || V.codec.write_allocates) W.writing writer.old writer.new (all_joined (pair K.codec V.codec).encoding table.now.entries) (error_kind e)) }
+    ensures ok { OnOk result (Written W.writing writer.old writer.new (concat_encodings (pair K.codec V.codec).encoding table.now.entries)) }
+    ensures err { IfErr result (λ e. NotWritten (K.codec.encoding_allocates || V.codec.encoding_allocates) W.writing writer.old writer.new (concat_encodings (pair K.codec V.codec).encoding table.now.entries) (error_kind e)) }
     ensures unique { IsUnique K.eq table.now }
 {
     for (k, v) in table.iter() {
@@ -110,8 +110,8 @@ fn write_index<K: BorshSerialize + Eq + Hash, V: BorshSerialize, S: BuildHasher,
     alloc: Global,
     writer: &mut W,
 ) -> Result<()>
-    ensures ok { OnOk result (WritesAll W.writing writer.old writer.new ((counted (pair K.codec V.codec)).encoding table.now.entries)) }
-    ensures err { IfErr result (λ e. WriteDenied (K.codec.write_allocates || V.codec.write_allocates) W.writing writer.old writer.new ((counted (pair K.codec V.codec)).encoding table.now.entries) (error_kind e)) }
+    ensures ok { OnOk result (Written W.writing writer.old writer.new ((length_prefixed (pair K.codec V.codec)).encoding table.now.entries)) }
+    ensures err { IfErr result (λ e. NotWritten (K.codec.encoding_allocates || V.codec.encoding_allocates) W.writing writer.old writer.new ((length_prefixed (pair K.codec V.codec)).encoding table.now.entries) (error_kind e)) }
     ensures unique { IsUnique K.eq table.now }
 {
     write_count(table.len(), writer)?;
@@ -125,8 +125,8 @@ fn write_index_keys<K: BorshSerialize + Eq + Hash, S: BuildHasher, W: Write>(
     alloc: Global,
     writer: &mut W,
 ) -> Result<()>
-    ensures ok { OnOk result (WritesAll W.writing writer.old writer.new (all_joined K.codec.encoding set.now.keys)) }
-    ensures err { IfErr result (λ e. WriteDenied K.codec.write_allocates W.writing writer.old writer.new (all_joined K.codec.encoding set.now.keys) (error_kind e)) }
+    ensures ok { OnOk result (Written W.writing writer.old writer.new (concat_encodings K.codec.encoding set.now.keys)) }
+    ensures err { IfErr result (λ e. NotWritten K.codec.encoding_allocates W.writing writer.old writer.new (concat_encodings K.codec.encoding set.now.keys) (error_kind e)) }
     ensures unique { IsUniqueSet K.eq set.now }
 {
     for k in set.iter() {
@@ -142,8 +142,8 @@ fn write_index_set<K: BorshSerialize + Eq + Hash, S: BuildHasher, W: Write>(
     alloc: Global,
     writer: &mut W,
 ) -> Result<()>
-    ensures ok { OnOk result (WritesAll W.writing writer.old writer.new ((counted K.codec).encoding set.now.keys)) }
-    ensures err { IfErr result (λ e. WriteDenied K.codec.write_allocates W.writing writer.old writer.new ((counted K.codec).encoding set.now.keys) (error_kind e)) }
+    ensures ok { OnOk result (Written W.writing writer.old writer.new ((length_prefixed K.codec).encoding set.now.keys)) }
+    ensures err { IfErr result (λ e. NotWritten K.codec.encoding_allocates W.writing writer.old writer.new ((length_prefixed K.codec).encoding set.now.keys) (error_kind e)) }
     ensures unique { IsUniqueSet K.eq set.now }
 {
     write_count(set.len(), writer)?;
@@ -153,9 +153,9 @@ fn write_index_set<K: BorshSerialize + Eq + Hash, S: BuildHasher, W: Write>(
 impl<K: BorshKey + BorshSerialize + Ord, V: BorshSerialize> BorshSerialize for BTreeMap<K, V> {
     #[inline]
     fn serialize<W: Write>(&self, alloc: Global, writer: &mut W) -> Result<()>
-        ensures ok { OnOk result (WritesAll W.writing writer.old writer.new ((ordered_map K.cmp K.codec V.codec).encoding self.now.entries)) }
-        ensures err { IfErr result (λ e. WriteDenied (K.codec.write_allocates || V.codec.write_allocates) W.writing writer.old writer.new ((ordered_map K.cmp K.codec V.codec).encoding self.now.entries) (error_kind e)) }
-        ensures untouched { RefusesEmpty K.codec.is_empty result writer.old writer.new }
+        ensures ok { OnOk result (Written W.writing writer.old writer.new ((btree_map K.cmp K.codec V.codec).encoding self.now.entries)) }
+        ensures err { IfErr result (λ e. NotWritten (K.codec.encoding_allocates || V.codec.encoding_allocates) W.writing writer.old writer.new ((btree_map K.cmp K.codec V.codec).encoding self.now.entries) (error_kind e)) }
+        ensures untouched { RefusesZeroWidth K.codec.is_zero_width result writer.old writer.new }
     {
         if K::encodes_empty() {
             return Err(Error::new(ErrorKind::InvalidData, ERROR_ZST_FORBIDDEN));
@@ -167,9 +167,9 @@ impl<K: BorshKey + BorshSerialize + Ord, V: BorshSerialize> BorshSerialize for B
 impl<K: BorshKey + BorshSerialize + Ord> BorshSerialize for BTreeSet<K> {
     #[inline]
     fn serialize<W: Write>(&self, alloc: Global, writer: &mut W) -> Result<()>
-        ensures ok { OnOk result (WritesAll W.writing writer.old writer.new ((ordered_set K.cmp K.codec).encoding self.now.keys)) }
-        ensures err { IfErr result (λ e. WriteDenied K.codec.write_allocates W.writing writer.old writer.new ((ordered_set K.cmp K.codec).encoding self.now.keys) (error_kind e)) }
-        ensures untouched { RefusesEmpty K.codec.is_empty result writer.old writer.new }
+        ensures ok { OnOk result (Written W.writing writer.old writer.new ((btree_set K.cmp K.codec).encoding self.now.keys)) }
+        ensures err { IfErr result (λ e. NotWritten K.codec.encoding_allocates W.writing writer.old writer.new ((btree_set K.cmp K.codec).encoding self.now.keys) (error_kind e)) }
+        ensures untouched { RefusesZeroWidth K.codec.is_zero_width result writer.old writer.new }
     {
         if K::encodes_empty() {
             return Err(Error::new(ErrorKind::InvalidData, ERROR_ZST_FORBIDDEN));
@@ -182,9 +182,9 @@ impl<K: BorshKey + BorshSerialize + Hash, V: BorshSerialize, S: BuildHasher> Bor
     for IndexMap<K, V, S> {
     #[inline]
     fn serialize<W: Write>(&self, alloc: Global, writer: &mut W) -> Result<()>
-        ensures ok { OnOk result (WritesAll W.writing writer.old writer.new ((inserted_map K.eq K.codec V.codec).encoding self.now.entries)) }
-        ensures err { IfErr result (λ e. WriteDenied (K.codec.write_allocates || V.codec.write_allocates) W.writing writer.old writer.new ((inserted_map K.eq K.codec V.codec).encoding self.now.entries) (error_kind e)) }
-        ensures untouched { RefusesEmpty K.codec.is_empty result writer.old writer.new }
+        ensures ok { OnOk result (Written W.writing writer.old writer.new ((index_map K.eq K.codec V.codec).encoding self.now.entries)) }
+        ensures err { IfErr result (λ e. NotWritten (K.codec.encoding_allocates || V.codec.encoding_allocates) W.writing writer.old writer.new ((index_map K.eq K.codec V.codec).encoding self.now.entries) (error_kind e)) }
+        ensures untouched { RefusesZeroWidth K.codec.is_zero_width result writer.old writer.new }
     {
         if K::encodes_empty() {
             return Err(Error::new(ErrorKind::InvalidData, ERROR_ZST_FORBIDDEN));
@@ -196,9 +196,9 @@ impl<K: BorshKey + BorshSerialize + Hash, V: BorshSerialize, S: BuildHasher> Bor
 impl<K: BorshKey + BorshSerialize + Hash, S: BuildHasher> BorshSerialize for IndexSet<K, S> {
     #[inline]
     fn serialize<W: Write>(&self, alloc: Global, writer: &mut W) -> Result<()>
-        ensures ok { OnOk result (WritesAll W.writing writer.old writer.new ((inserted_set K.eq K.codec).encoding self.now.keys)) }
-        ensures err { IfErr result (λ e. WriteDenied K.codec.write_allocates W.writing writer.old writer.new ((inserted_set K.eq K.codec).encoding self.now.keys) (error_kind e)) }
-        ensures untouched { RefusesEmpty K.codec.is_empty result writer.old writer.new }
+        ensures ok { OnOk result (Written W.writing writer.old writer.new ((index_set K.eq K.codec).encoding self.now.keys)) }
+        ensures err { IfErr result (λ e. NotWritten K.codec.encoding_allocates W.writing writer.old writer.new ((index_set K.eq K.codec).encoding self.now.keys) (error_kind e)) }
+        ensures untouched { RefusesZeroWidth K.codec.is_zero_width result writer.old writer.new }
     {
         if K::encodes_empty() {
             return Err(Error::new(ErrorKind::InvalidData, ERROR_ZST_FORBIDDEN));

@@ -1,7 +1,7 @@
 // Whole numbers, the lowest byte first, and with a sign in two's complement. A `usize` is written as a
 // `u64`, and an `isize` as an `i64`.
 ghost use Rattle.std.specs.Prelude.{◌≡◌, Some, IsSomeAnd};
-ghost use Rattle.borsh_types.specs.Shapes.{number_encoding, signed_encoding, all_joined};
+ghost use Rattle.borsh_codec.specs.Shapes.{unsigned_encoding, signed_encoding, concat_encodings};
 
 use super::raw_bytes::write_bytes;
 use super::serialize::BorshSerialize;
@@ -10,35 +10,35 @@ use std::alloc::Global;
 
 #[inline]
 pub(crate) fn bytes_of_u8(n: u8) -> [u8; 1]
-    ensures { number_encoding 1 n ≡ Some result }
+    ensures { unsigned_encoding 1 n ≡ Some result }
 {
     [n]
 }
 
 #[inline]
 pub(crate) fn bytes_of_u16(n: u16) -> [u8; 2]
-    ensures { number_encoding 2 n ≡ Some result }
+    ensures { unsigned_encoding 2 n ≡ Some result }
 {
     n.to_le_bytes()
 }
 
 #[inline]
 pub(crate) fn bytes_of_u32(n: u32) -> [u8; 4]
-    ensures { number_encoding 4 n ≡ Some result }
+    ensures { unsigned_encoding 4 n ≡ Some result }
 {
     n.to_le_bytes()
 }
 
 #[inline]
 pub(crate) fn bytes_of_u64(n: u64) -> [u8; 8]
-    ensures { number_encoding 8 n ≡ Some result }
+    ensures { unsigned_encoding 8 n ≡ Some result }
 {
     n.to_le_bytes()
 }
 
 #[inline]
 pub(crate) fn bytes_of_u128(n: u128) -> [u8; 16]
-    ensures { number_encoding 16 n ≡ Some result }
+    ensures { unsigned_encoding 16 n ≡ Some result }
 {
     n.to_le_bytes()
 }
@@ -87,7 +87,7 @@ impl BorshSerialize for u8 {
     /// The bytes themselves, always.
     #[inline]
     fn u8_slice(slice: &[u8]) -> Option<&[u8]>
-        ensures { IsSomeAnd result (λ bytes. all_joined (number_encoding 1) slice.now ≡ Some bytes.now) }
+        ensures { IsSomeAnd result (λ bytes. concat_encodings (unsigned_encoding 1) slice.now ≡ Some bytes.now) }
     {
         Some(slice)
     }

@@ -1,8 +1,8 @@
 // What is written.
 ghost use Rattle.std.specs.Prelude.{◌≡◌, Some, OnOk, IfErr, IfSome};
 ghost use Rattle.borsh_io.specs.Errors.{error_kind};
-ghost use Rattle.borsh_types.specs.Shapes.{all_joined};
-ghost use Rattle.borsh_types.specs.Writing.{WritesAll, WriteDenied};
+ghost use Rattle.borsh_codec.specs.Shapes.{concat_encodings};
+ghost use Rattle.borsh_codec.specs.Writing.{Written, NotWritten};
 
 use borsh_io::{Result, Write};
 use borsh_types::BorshType;
@@ -16,13 +16,13 @@ pub trait BorshSerialize: BorshType + Sized {
     /// with `OutOfMemory` where memory was refused to the value or to the writer, and with the writer's
     /// error. Then a beginning of the encoding was written.
     fn serialize<W: Write>(&self, alloc: Global, writer: &mut W) -> Result<()>
-        ensures ok { OnOk result (WritesAll W.writing writer.old writer.new (Self.codec.encoding self.now)) }
-        ensures err { IfErr result (λ e. WriteDenied Self.codec.write_allocates W.writing writer.old writer.new (Self.codec.encoding self.now) (error_kind e)) };
+        ensures ok { OnOk result (Written W.writing writer.old writer.new (Self.codec.encoding self.now)) }
+        ensures err { IfErr result (λ e. NotWritten Self.codec.encoding_allocates W.writing writer.old writer.new (Self.codec.encoding self.now) (error_kind e)) };
 
     /// The encodings of the values, one after another, where they lie in memory as they are: only
     /// `u8` answers them.
     fn u8_slice(_slice: &[Self]) -> Option<&[u8]>
-        ensures { IfSome result (λ bytes. all_joined Self.codec.encoding _slice.now ≡ Some bytes.now) }
+        ensures { IfSome result (λ bytes. concat_encodings Self.codec.encoding _slice.now ≡ Some bytes.now) }
     {
         None
     }

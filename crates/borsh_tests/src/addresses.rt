@@ -1,6 +1,6 @@
 // Addresses, bytes and identifiers.
-use super::spelling::{is_spelling, is_written};
-use borsh::from_slice;
+use borsh::{BorshDeserialize, BorshSerialize, from_slice};
+use borsh_devices::encodings::{is_encoding, is_written};
 use bytes::{Bytes, BytesMut};
 use std::alloc::Global;
 use std::net::{IpAddr, Ipv4Addr, Ipv6Addr, SocketAddr, SocketAddrV4, SocketAddrV6};
@@ -11,30 +11,40 @@ const V6: &[u8] = b"\x20\x01\x0d\xb8\0\0\0\0\0\0\0\0\0\0\0\x01\x50\0";
 
 fn addresses(alloc: Global) -> Result<bool, Fail> {
     Ok(
-        is_spelling::<Ipv4Addr>(alloc, b"\xc0\xa8\0\x01")?
-            && is_spelling::<Ipv6Addr>(alloc, b"0123456789abcdef")?
-            && is_spelling::<IpAddr>(alloc, b"\0\xc0\xa8\0\x01")?,
+        is_encoding::<Ipv4Addr>(alloc, b"\xc0\xa8\0\x01")?
+            && is_encoding::<Ipv6Addr>(alloc, b"0123456789abcdef")?
+            && is_encoding::<IpAddr>(alloc, b"\0\xc0\xa8\0\x01")?,
     )
 }
 
 fn addresses_with_ports(alloc: Global) -> Result<bool, Fail> {
     Ok(
-        is_spelling::<SocketAddrV4>(alloc, b"\xc0\xa8\0\x01\x50\0")?
-            && is_spelling::<SocketAddrV6>(alloc, V6)?
-            && is_spelling::<SocketAddr>(alloc, b"\0\xc0\xa8\0\x01\x50\0")?,
+        is_encoding::<SocketAddrV4>(alloc, b"\xc0\xa8\0\x01\x50\0")?
+            && is_encoding::<SocketAddrV6>(alloc, V6)?
+            && is_encoding::<SocketAddr>(alloc, b"\0\xc0\xa8\0\x01\x50\0")?,
     )
 }
 
 fn bytes_and_identifiers(alloc: Global) -> Result<bool, Fail> {
     Ok(
-        is_spelling::<Bytes>(alloc, b"\x02\0\0\0hi")?
-            && is_spelling::<BytesMut>(alloc, b"\x02\0\0\0hi")?
-            && is_spelling::<Uuid>(alloc, b"0123456789abcdef")?,
+        is_encoding::<Bytes>(alloc, b"\x02\0\0\0hi")?
+            && is_encoding::<BytesMut>(alloc, b"\x02\0\0\0hi")?
+            && is_encoding::<Uuid>(alloc, b"0123456789abcdef")?,
     )
 }
 
+/// Whether the value is written as these bytes and read from them.
+fn is_value<T: BorshSerialize + BorshDeserialize + PartialEq>(
+    alloc: Global,
+    value: T,
+    bytes: &[u8],
+) -> Result<bool, Fail> {
+    let read: T = from_slice(alloc, bytes)?;
+    Ok(read == value && is_written(alloc, &value, bytes)?)
+}
+
 #[test]
-fn addresses_and_bytes_have_one_spelling(rt: HostRuntime) -> Result<(), Fail> {
+fn addresses_and_bytes_round_trip(rt: HostRuntime) -> Result<(), Fail> {
     let alloc = rt.alloc();
     assert!(rt; addresses(alloc)?);
     assert!(rt; addresses_with_ports(alloc)?);
@@ -43,11 +53,27 @@ fn addresses_and_bytes_have_one_spelling(rt: HostRuntime) -> Result<(), Fail> {
 }
 
 #[test]
-fn flow_and_scope_are_not_written(rt: HostRuntime) -> Result<(), Fail> {
+fn addresses_and_identifiers_are_written_in_order(rt: HostRuntime) -> Result<(), Fail> {
     let alloc = rt.alloc();
-    let address = Ipv6Addr::new(0x2001, 0xdb8, 0, 0, 0, 0, 0, 1);
-    assert!(rt; is_written(alloc, &SocketAddrV6::new(address, 80, 7, 9), V6)?);
-    let again: SocketAddrV6 = from_slice(alloc, V6)?;
-    assert_eq!(rt; again, SocketAddrV6::new(address, 80, 0, 0));
+    let home = Ipv4Addr::new(192, 168, 0, 1);
+    let example = Ipv6Addr::new(0x2001, 0xdb8, 0, 0, 0, 0, 0, 1);
+    let local = Ipv6Addr::new(0xfe80, 0, 0, 0, 0, 0, 0, 1);
+    assert!(rt; is_value(alloc, home, b"\xc0\xa8\0\x01")?);
+    assert!(rt;
+        is_value(
+            alloc,
+            example,
+            b"\x20\x01\x0d\xb8\0\0\0\0\0\0\0\0\0\0\0\x01"
+        )?
+    );
+    assert!(rt; is_value(alloc, IpAddr::V4(home), b"\0\xc0\xa8\0\x01")?);
+    let bytes = b"\x01\x20\x01\x0d\xb8\0\0\0\0\0\0\0\0\0\0\0\x01";
+    assert!(rt; is_value(alloc, IpAddr::V6(example), bytes)?);
+    let list = vec![in alloc; IpAddr::V4(home), IpAddr::V6(example), IpAddr::V6(local)]?;
+    let bytes =
+        b"\x03\0\0\0\0\xc0\xa8\0\x01\x01\x20\x01\x0d\xb8\0\0\0\0\0\0\0\0\0\0\0\x01\x01\xfe\x80\0\0\0\0\0\0\0\0\0\0\0\0\0\x01";
+    assert!(rt; is_value(alloc, list, bytes)?);
+    let bytes = b"\xa1\xa2\xa3\xa4\xb1\xb2\xc1\xc2\xd1\xd2\xd3\xd4\xd5\xd6\xd7\xd8";
+    assert!(rt; is_value(alloc, Uuid::from_bytes(*bytes), bytes)?);
     Ok(())
 }

@@ -7,26 +7,8 @@
 #[cfg(test)]
 mod addresses;
 #[cfg(test)]
-mod containers;
-#[cfg(test)]
-mod declared;
-#[cfg(test)]
-mod hooks;
-#[cfg(test)]
 mod keys;
 #[cfg(test)]
-mod lines;
-#[cfg(test)]
-mod long;
-#[cfg(test)]
-mod old_lines;
-#[cfg(test)]
 mod refusals;
-#[cfg(test)]
-mod schemas;
-#[cfg(test)]
-mod spelling;
-#[cfg(test)]
-mod streams;
 #[cfg(test)]
 mod values;

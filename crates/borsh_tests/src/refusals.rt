@@ -1,6 +1,6 @@
 // The texts of refusals.
-use super::spelling::is_refused;
 use borsh::error::ERROR_ZST_FORBIDDEN;
+use borsh_devices::encodings::is_refused;
 use indexmap::{IndexMap, IndexSet};
 use std::alloc::Global;
 use std::boxed::BoxedSlice;

@@ -1,5 +1,6 @@
 // Addresses: their octets, and a tag where there are two kinds.
-ghost use Rattle.borsh_types.specs.Types.Addresses.{ipv4, ipv4-lawful, ipv6, ipv6-lawful, ip, ip-lawful, socket_v4, socket_v4-lawful, socket_v6, socket_v6-lawful, socket, socket-lawful};
+ghost use Rattle.borsh_codec.specs.Types.Addresses.{ipv4, ipv6, ip, socket_v4, socket_v6, socket};
+ghost use Rattle.borsh_codec.proofs.Laws.Types.{ipv4-lawful, ipv6-lawful, ip-lawful, socket_v4-lawful, socket_v6-lawful, socket-lawful};
 
 use super::types::BorshType;
 use std::net::{IpAddr, Ipv4Addr, Ipv6Addr, SocketAddr, SocketAddrV4, SocketAddrV6};

@@ -1,13 +1,13 @@
 // Arrays: their elements in order, with no count.
-ghost use Rattle.borsh_types.specs.Shapes.{row};
-ghost use Rattle.borsh_types.specs.Laws.Rows.{row-lawful};
+ghost use Rattle.borsh_codec.specs.Shapes.{array};
+ghost use Rattle.borsh_codec.proofs.Laws.Rows.{array-lawful};
 
 use super::types::BorshType;
 
 impl<T: BorshType, const N: usize> BorshType for [T; N] {
-    ghost codec = { row N T.codec };
+    ghost codec = { array N T.codec };
 
-    ghost lawful = { row-lawful N T.lawful };
+    ghost lawful = { array-lawful N T.lawful };
 
     fn encodes_empty() -> bool {
         N == 0 || T::encodes_empty()

@@ -1,8 +1,8 @@
 // Keys of maps and elements of sets: types whose `==` says whether two values are the same.
-ghost use Rattle.borsh_types.specs.Laws.Keys.{all_key, and_key, bare_key, bool_key, key_as, number_key, option_key, pair_key, result_key, signed_key, text_key, unit_key};
-ghost use Rattle.borsh_types.specs.Laws.AddressKeys.{ip_key, octets_key, segments_key};
-ghost use Rattle.borsh_types.specs.Maps.{KeyLaw};
-ghost use Rattle.borsh_types.specs.Shapes.{pair};
+ghost use Rattle.borsh_codec.proofs.Laws.Keys.{all_key, and_key, bare_key, bool_key, key_as, number_key, option_key, pair_key, result_key, signed_key, text_key, unit_key};
+ghost use Rattle.borsh_codec.proofs.Laws.AddressKeys.{ip_key, octets_key, segments_key};
+ghost use Rattle.borsh_codec.specs.Maps.{KeyLaw};
+ghost use Rattle.borsh_codec.specs.Shapes.{pair};
 ghost use Rattle.std.proofs.Common.{refl};
 ghost use Rattle.std.specs.Box.{boxed_slice_items, boxed_str_bytes};
 ghost use Rattle.std.specs.Cow.{cow_slice_items, cow_str_bytes};

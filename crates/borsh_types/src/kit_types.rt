@@ -1,18 +1,19 @@
 // Types of the crates `bytes` and `uuid`.
-ghost use Rattle.borsh_types.specs.Shapes.{along, number, elements};
-ghost use Rattle.borsh_types.specs.Laws.Exact.{along-lawful};
-ghost use Rattle.borsh_types.specs.Laws.Numbers.{number-lawful};
-ghost use Rattle.borsh_types.specs.Laws.Rows.{elements-lawful};
-ghost use Rattle.borsh_types.specs.Types.Addresses.{octets, octets-lawful};
+ghost use Rattle.borsh_codec.specs.Shapes.{contramap, unsigned, list};
+ghost use Rattle.borsh_codec.proofs.Laws.Exact.{contramap-lawful};
+ghost use Rattle.borsh_codec.proofs.Laws.Numbers.{unsigned-lawful};
+ghost use Rattle.borsh_codec.proofs.Laws.Rows.{list-lawful};
+ghost use Rattle.borsh_codec.specs.Types.Addresses.{octets};
+ghost use Rattle.borsh_codec.proofs.Laws.Types.{octets-lawful};
 
 use super::types::BorshType;
 use bytes::{Bytes, BytesMut};
 use uuid::Uuid;
 
 impl BorshType for Bytes {
-    ghost codec = { elements (number 1) };
+    ghost codec = { list (unsigned 1) };
 
-    ghost lawful = { elements-lawful (number-lawful 1) };
+    ghost lawful = { list-lawful (unsigned-lawful 1) };
 
     fn encodes_empty() -> bool {
         false
@@ -24,9 +25,9 @@ impl BorshType for Bytes {
 }
 
 impl BorshType for BytesMut {
-    ghost codec = { along (λ b. b.items) (elements (number 1)) };
+    ghost codec = { contramap (λ b. b.items) (list (unsigned 1)) };
 
-    ghost lawful = { along-lawful (λ b. b.items) (elements-lawful (number-lawful 1)) };
+    ghost lawful = { contramap-lawful (λ b. b.items) (list-lawful (unsigned-lawful 1)) };
 
     fn encodes_empty() -> bool {
         false

@@ -2,9 +2,9 @@
 ghost use Rattle.std.specs.Box.{boxed_slice_items};
 ghost use Rattle.std.specs.Rc.{rc_slice_items};
 ghost use Rattle.std.specs.Cow.{cow_slice_items};
-ghost use Rattle.borsh_types.specs.Shapes.{along, counted, elements};
-ghost use Rattle.borsh_types.specs.Laws.Exact.{along-lawful};
-ghost use Rattle.borsh_types.specs.Laws.Rows.{counted-lawful, elements-lawful};
+ghost use Rattle.borsh_codec.specs.Shapes.{contramap, length_prefixed, list};
+ghost use Rattle.borsh_codec.proofs.Laws.Exact.{contramap-lawful};
+ghost use Rattle.borsh_codec.proofs.Laws.Rows.{length_prefixed-lawful, list-lawful};
 
 use super::types::BorshType;
 use std::borrow::CowSlice;
@@ -13,9 +13,9 @@ use std::collections::{LinkedList, VecDeque};
 use std::rc::RcSlice;
 
 impl<T: BorshType> BorshType for Vec<T> {
-    ghost codec = { along (λ v. v.items) (elements T.codec) };
+    ghost codec = { contramap (λ v. v.items) (list T.codec) };
 
-    ghost lawful = { along-lawful (λ v. v.items) (elements-lawful T.lawful) };
+    ghost lawful = { contramap-lawful (λ v. v.items) (list-lawful T.lawful) };
 
     fn encodes_empty() -> bool {
         false
@@ -27,9 +27,9 @@ impl<T: BorshType> BorshType for Vec<T> {
 }
 
 impl<T: BorshType> BorshType for VecDeque<T> {
-    ghost codec = { along (λ v. v.items) (elements T.codec) };
+    ghost codec = { contramap (λ v. v.items) (list T.codec) };
 
-    ghost lawful = { along-lawful (λ v. v.items) (elements-lawful T.lawful) };
+    ghost lawful = { contramap-lawful (λ v. v.items) (list-lawful T.lawful) };
 
     fn encodes_empty() -> bool {
         false
@@ -41,9 +41,9 @@ impl<T: BorshType> BorshType for VecDeque<T> {
 }
 
 impl<T: BorshType> BorshType for LinkedList<T> {
-    ghost codec = { elements T.codec };
+    ghost codec = { list T.codec };
 
-    ghost lawful = { elements-lawful T.lawful };
+    ghost lawful = { list-lawful T.lawful };
 
     fn encodes_empty() -> bool {
         false
@@ -55,9 +55,9 @@ impl<T: BorshType> BorshType for LinkedList<T> {
 }
 
 impl<T: BorshType> BorshType for BoxedSlice<T> {
-    ghost codec = { along boxed_slice_items (elements T.codec) };
+    ghost codec = { contramap boxed_slice_items (list T.codec) };
 
-    ghost lawful = { along-lawful boxed_slice_items (elements-lawful T.lawful) };
+    ghost lawful = { contramap-lawful boxed_slice_items (list-lawful T.lawful) };
 
     fn encodes_empty() -> bool {
         false
@@ -69,9 +69,9 @@ impl<T: BorshType> BorshType for BoxedSlice<T> {
 }
 
 impl<T: BorshType> BorshType for RcSlice<T> {
-    ghost codec = { along rc_slice_items (elements T.codec) };
+    ghost codec = { contramap rc_slice_items (list T.codec) };
 
-    ghost lawful = { along-lawful rc_slice_items (elements-lawful T.lawful) };
+    ghost lawful = { contramap-lawful rc_slice_items (list-lawful T.lawful) };
 
     fn encodes_empty() -> bool {
         false
@@ -83,9 +83,9 @@ impl<T: BorshType> BorshType for RcSlice<T> {
 }
 
 impl<T: BorshType> BorshType for CowSlice<'_, T> {
-    ghost codec = { along cow_slice_items (elements T.codec) };
+    ghost codec = { contramap cow_slice_items (list T.codec) };
 
-    ghost lawful = { along-lawful cow_slice_items (elements-lawful T.lawful) };
+    ghost lawful = { contramap-lawful cow_slice_items (list-lawful T.lawful) };
 
     fn encodes_empty() -> bool {
         false
@@ -98,9 +98,9 @@ impl<T: BorshType> BorshType for CowSlice<'_, T> {
 
 // A plain slice isn't asked whether its elements are empty.
 impl<T: BorshType> BorshType for &[T] {
-    ghost codec = { along (λ r. r.now) (counted T.codec) };
+    ghost codec = { contramap (λ r. r.now) (length_prefixed T.codec) };
 
-    ghost lawful = { along-lawful (λ r. r.now) (counted-lawful T.lawful) };
+    ghost lawful = { contramap-lawful (λ r. r.now) (length_prefixed-lawful T.lawful) };
 
     fn encodes_empty() -> bool {
         false

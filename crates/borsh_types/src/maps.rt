@@ -1,8 +1,8 @@
 // Maps and sets: a count of four bytes and the entries, by ascending key or in the order of insertion.
-ghost use Rattle.borsh_types.specs.Laws.Exact.{along-lawful};
-ghost use Rattle.borsh_types.specs.Laws.Maps.Types.{inserted_map-lawful, inserted_set-lawful, ordered_map-lawful, ordered_set-lawful, sorted_map-lawful, sorted_set-lawful};
-ghost use Rattle.borsh_types.specs.Maps.{inserted_map, inserted_set, ordered_map, ordered_set, sorted_map, sorted_set};
-ghost use Rattle.borsh_types.specs.Shapes.{along};
+ghost use Rattle.borsh_codec.proofs.Laws.Exact.{contramap-lawful};
+ghost use Rattle.borsh_codec.proofs.Laws.Maps.Types.{index_map-lawful, index_set-lawful, btree_map-lawful, btree_set-lawful, hash_map-lawful, hash_set-lawful};
+ghost use Rattle.borsh_codec.specs.Maps.{index_map, index_set, btree_map, btree_set, hash_map, hash_set};
+ghost use Rattle.borsh_codec.specs.Shapes.{contramap};
 
 use super::keys::BorshKey;
 use super::types::BorshType;
@@ -11,9 +11,9 @@ use std::collections::{BTreeMap, BTreeSet, HashMap, HashSet};
 use std::hash::{BuildHasher, Hash};
 
 impl<K: BorshKey + Ord, V: BorshType> BorshType for BTreeMap<K, V> {
-    ghost codec = { along (λ m. m.entries) (ordered_map K.cmp K.codec V.codec) };
+    ghost codec = { contramap (λ m. m.entries) (btree_map K.cmp K.codec V.codec) };
 
-    ghost lawful = { along-lawful (λ m. m.entries) (ordered_map-lawful K.lawful K.key K.total K.matches_eq V.lawful) };
+    ghost lawful = { contramap-lawful (λ m. m.entries) (btree_map-lawful K.lawful K.key K.total K.matches_eq V.lawful) };
 
     fn encodes_empty() -> bool {
         false
@@ -25,9 +25,9 @@ impl<K: BorshKey + Ord, V: BorshType> BorshType for BTreeMap<K, V> {
 }
 
 impl<K: BorshKey + Ord> BorshType for BTreeSet<K> {
-    ghost codec = { along (λ s. s.keys) (ordered_set K.cmp K.codec) };
+    ghost codec = { contramap (λ s. s.keys) (btree_set K.cmp K.codec) };
 
-    ghost lawful = { along-lawful (λ s. s.keys) (ordered_set-lawful K.lawful K.key K.total K.matches_eq) };
+    ghost lawful = { contramap-lawful (λ s. s.keys) (btree_set-lawful K.lawful K.key K.total K.matches_eq) };
 
     fn encodes_empty() -> bool {
         false
@@ -39,9 +39,9 @@ impl<K: BorshKey + Ord> BorshType for BTreeSet<K> {
 }
 
 impl<K: BorshKey + Ord + Hash, V: BorshType, S: BuildHasher> BorshType for HashMap<K, V, S> {
-    ghost codec = { along (λ m. m.entries) (sorted_map K.cmp K.codec V.codec) };
+    ghost codec = { contramap (λ m. m.entries) (hash_map K.cmp K.codec V.codec) };
 
-    ghost lawful = { along-lawful (λ m. m.entries) (sorted_map-lawful K.lawful K.key K.total K.matches_eq V.lawful) };
+    ghost lawful = { contramap-lawful (λ m. m.entries) (hash_map-lawful K.lawful K.key K.total K.matches_eq V.lawful) };
 
     fn encodes_empty() -> bool {
         false
@@ -53,9 +53,9 @@ impl<K: BorshKey + Ord + Hash, V: BorshType, S: BuildHasher> BorshType for HashM
 }
 
 impl<K: BorshKey + Ord + Hash, S: BuildHasher> BorshType for HashSet<K, S> {
-    ghost codec = { along (λ s. s.keys) (sorted_set K.cmp K.codec) };
+    ghost codec = { contramap (λ s. s.keys) (hash_set K.cmp K.codec) };
 
-    ghost lawful = { along-lawful (λ s. s.keys) (sorted_set-lawful K.lawful K.key K.total K.matches_eq) };
+    ghost lawful = { contramap-lawful (λ s. s.keys) (hash_set-lawful K.lawful K.key K.total K.matches_eq) };
 
     fn encodes_empty() -> bool {
         false
@@ -67,9 +67,9 @@ impl<K: BorshKey + Ord + Hash, S: BuildHasher> BorshType for HashSet<K, S> {
 }
 
 impl<K: BorshKey + Hash, V: BorshType, S: BuildHasher> BorshType for IndexMap<K, V, S> {
-    ghost codec = { along (λ m. m.entries) (inserted_map K.eq K.codec V.codec) };
+    ghost codec = { contramap (λ m. m.entries) (index_map K.eq K.codec V.codec) };
 
-    ghost lawful = { along-lawful (λ m. m.entries) (inserted_map-lawful K.lawful K.key K.Eq.laws V.lawful) };
+    ghost lawful = { contramap-lawful (λ m. m.entries) (index_map-lawful K.lawful K.key K.Eq.laws V.lawful) };
 
     fn encodes_empty() -> bool {
         false
@@ -81,9 +81,9 @@ impl<K: BorshKey + Hash, V: BorshType, S: BuildHasher> BorshType for IndexMap<K,
 }
 
 impl<K: BorshKey + Hash, S: BuildHasher> BorshType for IndexSet<K, S> {
-    ghost codec = { along (λ s. s.keys) (inserted_set K.eq K.codec) };
+    ghost codec = { contramap (λ s. s.keys) (index_set K.eq K.codec) };
 
-    ghost lawful = { along-lawful (λ s. s.keys) (inserted_set-lawful K.lawful K.key K.Eq.laws) };
+    ghost lawful = { contramap-lawful (λ s. s.keys) (index_set-lawful K.lawful K.key K.Eq.laws) };
 
     fn encodes_empty() -> bool {
         false

@@ -1,8 +1,8 @@
 // Whole numbers that are not zero: their number.
 ghost use Rattle.std.specs.Int.NonZero.{non_zero_u8_get, non_zero_u16_get, non_zero_u32_get, non_zero_u64_get, non_zero_u128_get, non_zero_usize_get, non_zero_i8_get, non_zero_i16_get, non_zero_i32_get, non_zero_i64_get, non_zero_i128_get};
-ghost use Rattle.borsh_types.specs.Shapes.{along, number, signed};
-ghost use Rattle.borsh_types.specs.Laws.Exact.{along-lawful};
-ghost use Rattle.borsh_types.specs.Laws.Numbers.{number-lawful, signed-lawful};
+ghost use Rattle.borsh_codec.specs.Shapes.{contramap, unsigned, signed};
+ghost use Rattle.borsh_codec.proofs.Laws.Exact.{contramap-lawful};
+ghost use Rattle.borsh_codec.proofs.Laws.Numbers.{unsigned-lawful, signed-lawful};
 
 use super::types::BorshType;
 use std::num::{
@@ -11,9 +11,9 @@ use std::num::{
 };
 
 impl BorshType for NonZeroU8 {
-    ghost codec = { along non_zero_u8_get (number 1) };
+    ghost codec = { contramap non_zero_u8_get (unsigned 1) };
 
-    ghost lawful = { along-lawful non_zero_u8_get (number-lawful 1) };
+    ghost lawful = { contramap-lawful non_zero_u8_get (unsigned-lawful 1) };
 
     fn encodes_empty() -> bool {
         false
@@ -25,9 +25,9 @@ impl BorshType for NonZeroU8 {
 }
 
 impl BorshType for NonZeroU16 {
-    ghost codec = { along non_zero_u16_get (number 2) };
+    ghost codec = { contramap non_zero_u16_get (unsigned 2) };
 
-    ghost lawful = { along-lawful non_zero_u16_get (number-lawful 2) };
+    ghost lawful = { contramap-lawful non_zero_u16_get (unsigned-lawful 2) };
 
     fn encodes_empty() -> bool {
         false
@@ -39,9 +39,9 @@ impl BorshType for NonZeroU16 {
 }
 
 impl BorshType for NonZeroU32 {
-    ghost codec = { along non_zero_u32_get (number 4) };
+    ghost codec = { contramap non_zero_u32_get (unsigned 4) };
 
-    ghost lawful = { along-lawful non_zero_u32_get (number-lawful 4) };
+    ghost lawful = { contramap-lawful non_zero_u32_get (unsigned-lawful 4) };
 
     fn encodes_empty() -> bool {
         false
@@ -53,9 +53,9 @@ impl BorshType for NonZeroU32 {
 }
 
 impl BorshType for NonZeroU64 {
-    ghost codec = { along non_zero_u64_get (number 8) };
+    ghost codec = { contramap non_zero_u64_get (unsigned 8) };
 
-    ghost lawful = { along-lawful non_zero_u64_get (number-lawful 8) };
+    ghost lawful = { contramap-lawful non_zero_u64_get (unsigned-lawful 8) };
 
     fn encodes_empty() -> bool {
         false
@@ -67,9 +67,9 @@ impl BorshType for NonZeroU64 {
 }
 
 impl BorshType for NonZeroU128 {
-    ghost codec = { along non_zero_u128_get (number 16) };
+    ghost codec = { contramap non_zero_u128_get (unsigned 16) };
 
-    ghost lawful = { along-lawful non_zero_u128_get (number-lawful 16) };
+    ghost lawful = { contramap-lawful non_zero_u128_get (unsigned-lawful 16) };
 
     fn encodes_empty() -> bool {
         false
@@ -81,9 +81,9 @@ impl BorshType for NonZeroU128 {
 }
 
 impl BorshType for NonZeroUsize {
-    ghost codec = { along non_zero_usize_get (number 8) };
+    ghost codec = { contramap non_zero_usize_get (unsigned 8) };
 
-    ghost lawful = { along-lawful non_zero_usize_get (number-lawful 8) };
+    ghost lawful = { contramap-lawful non_zero_usize_get (unsigned-lawful 8) };
 
     fn encodes_empty() -> bool {
         false
@@ -95,9 +95,9 @@ impl BorshType for NonZeroUsize {
 }
 
 impl BorshType for NonZeroI8 {
-    ghost codec = { along non_zero_i8_get (signed 1) };
+    ghost codec = { contramap non_zero_i8_get (signed 1) };
 
-    ghost lawful = { along-lawful non_zero_i8_get (signed-lawful 1) };
+    ghost lawful = { contramap-lawful non_zero_i8_get (signed-lawful 1) };
 
     fn encodes_empty() -> bool {
         false
@@ -109,9 +109,9 @@ impl BorshType for NonZeroI8 {
 }
 
 impl BorshType for NonZeroI16 {
-    ghost codec = { along non_zero_i16_get (signed 2) };
+    ghost codec = { contramap non_zero_i16_get (signed 2) };
 
-    ghost lawful = { along-lawful non_zero_i16_get (signed-lawful 2) };
+    ghost lawful = { contramap-lawful non_zero_i16_get (signed-lawful 2) };
 
     fn encodes_empty() -> bool {
         false
@@ -123,9 +123,9 @@ impl BorshType for NonZeroI16 {
 }
 
 impl BorshType for NonZeroI32 {
-    ghost codec = { along non_zero_i32_get (signed 4) };
+    ghost codec = { contramap non_zero_i32_get (signed 4) };
 
-    ghost lawful = { along-lawful non_zero_i32_get (signed-lawful 4) };
+    ghost lawful = { contramap-lawful non_zero_i32_get (signed-lawful 4) };
 
     fn encodes_empty() -> bool {
         false
@@ -137,9 +137,9 @@ impl BorshType for NonZeroI32 {
 }
 
 impl BorshType for NonZeroI64 {
-    ghost codec = { along non_zero_i64_get (signed 8) };
+    ghost codec = { contramap non_zero_i64_get (signed 8) };
 
-    ghost lawful = { along-lawful non_zero_i64_get (signed-lawful 8) };
+    ghost lawful = { contramap-lawful non_zero_i64_get (signed-lawful 8) };
 
     fn encodes_empty() -> bool {
         false
@@ -151,9 +151,9 @@ impl BorshType for NonZeroI64 {
 }
 
 impl BorshType for NonZeroI128 {
-    ghost codec = { along non_zero_i128_get (signed 16) };
+    ghost codec = { contramap non_zero_i128_get (signed 16) };
 
-    ghost lawful = { along-lawful non_zero_i128_get (signed-lawful 16) };
+    ghost lawful = { contramap-lawful non_zero_i128_get (signed-lawful 16) };
 
     fn encodes_empty() -> bool {
         false

@@ -1,14 +1,14 @@
 // Whole numbers, the lowest byte first, and with a sign in two's complement. A `usize` is written as a
 // `u64`, and an `isize` as an `i64`.
-ghost use Rattle.borsh_types.specs.Shapes.{number, signed};
-ghost use Rattle.borsh_types.specs.Laws.Numbers.{number-lawful, signed-lawful};
+ghost use Rattle.borsh_codec.specs.Shapes.{unsigned, signed};
+ghost use Rattle.borsh_codec.proofs.Laws.Numbers.{unsigned-lawful, signed-lawful};
 
 use super::types::BorshType;
 
 impl BorshType for u8 {
-    ghost codec = { number 1 };
+    ghost codec = { unsigned 1 };
 
-    ghost lawful = { number-lawful 1 };
+    ghost lawful = { unsigned-lawful 1 };
 
     fn encodes_empty() -> bool {
         false
@@ -20,9 +20,9 @@ impl BorshType for u8 {
 }
 
 impl BorshType for u16 {
-    ghost codec = { number 2 };
+    ghost codec = { unsigned 2 };
 
-    ghost lawful = { number-lawful 2 };
+    ghost lawful = { unsigned-lawful 2 };
 
     fn encodes_empty() -> bool {
         false
@@ -34,9 +34,9 @@ impl BorshType for u16 {
 }
 
 impl BorshType for u32 {
-    ghost codec = { number 4 };
+    ghost codec = { unsigned 4 };
 
-    ghost lawful = { number-lawful 4 };
+    ghost lawful = { unsigned-lawful 4 };
 
     fn encodes_empty() -> bool {
         false
@@ -48,9 +48,9 @@ impl BorshType for u32 {
 }
 
 impl BorshType for u64 {
-    ghost codec = { number 8 };
+    ghost codec = { unsigned 8 };
 
-    ghost lawful = { number-lawful 8 };
+    ghost lawful = { unsigned-lawful 8 };
 
     fn encodes_empty() -> bool {
         false
@@ -62,9 +62,9 @@ impl BorshType for u64 {
 }
 
 impl BorshType for u128 {
-    ghost codec = { number 16 };
+    ghost codec = { unsigned 16 };
 
-    ghost lawful = { number-lawful 16 };
+    ghost lawful = { unsigned-lawful 16 };
 
     fn encodes_empty() -> bool {
         false
@@ -76,9 +76,9 @@ impl BorshType for u128 {
 }
 
 impl BorshType for usize {
-    ghost codec = { number 8 };
+    ghost codec = { unsigned 8 };
 
-    ghost lawful = { number-lawful 8 };
+    ghost lawful = { unsigned-lawful 8 };
 
     fn encodes_empty() -> bool {
         false

@@ -1,14 +1,14 @@
 // Pointers, which are what they point to.
-ghost use Rattle.borsh_types.specs.Shapes.{along, stored};
-ghost use Rattle.borsh_types.specs.Laws.Exact.{along-lawful, stored-lawful};
+ghost use Rattle.borsh_codec.specs.Shapes.{contramap, allocated};
+ghost use Rattle.borsh_codec.proofs.Laws.Exact.{contramap-lawful, allocated-lawful};
 
 use super::types::BorshType;
 use std::rc::Rc;
 
 impl<T: BorshType> BorshType for &T {
-    ghost codec = { along (λ r. r.now) T.codec };
+    ghost codec = { contramap (λ r. r.now) T.codec };
 
-    ghost lawful = { along-lawful (λ r. r.now) T.lawful };
+    ghost lawful = { contramap-lawful (λ r. r.now) T.lawful };
 
     fn encodes_empty() -> bool {
         T::encodes_empty()
@@ -20,9 +20,9 @@ impl<T: BorshType> BorshType for &T {
 }
 
 impl<T: BorshType> BorshType for Box<T> {
-    ghost codec = { along (λ b. b.value) (stored T.codec) };
+    ghost codec = { contramap (λ b. b.value) (allocated T.codec) };
 
-    ghost lawful = { along-lawful (λ b. b.value) (stored-lawful T.lawful) };
+    ghost lawful = { contramap-lawful (λ b. b.value) (allocated-lawful T.lawful) };
 
     fn encodes_empty() -> bool {
         T::encodes_empty()
@@ -34,9 +34,9 @@ impl<T: BorshType> BorshType for Box<T> {
 }
 
 impl<T: BorshType> BorshType for Rc<T> {
-    ghost codec = { along (λ b. b.value) (stored T.codec) };
+    ghost codec = { contramap (λ b. b.value) (allocated T.codec) };
 
-    ghost lawful = { along-lawful (λ b. b.value) (stored-lawful T.lawful) };
+    ghost lawful = { contramap-lawful (λ b. b.value) (allocated-lawful T.lawful) };
 
     fn encodes_empty() -> bool {
         T::encodes_empty()

@@ -1,16 +1,16 @@
 // Ranges: their start, where they have one, and then their end, where they have one.
 ghost use Rattle.std.specs.Range.{range_inclusive_start, range_inclusive_end};
-ghost use Rattle.borsh_types.specs.Shapes.{along, pair};
-ghost use Rattle.borsh_types.specs.Laws.Exact.{along-lawful};
-ghost use Rattle.borsh_types.specs.Laws.Pairs.{pair-lawful};
+ghost use Rattle.borsh_codec.specs.Shapes.{contramap, pair};
+ghost use Rattle.borsh_codec.proofs.Laws.Exact.{contramap-lawful};
+ghost use Rattle.borsh_codec.proofs.Laws.Pairs.{pair-lawful};
 
 use super::types::BorshType;
 use std::ops::{Range, RangeFrom, RangeInclusive, RangeTo, RangeToInclusive};
 
 impl<T: BorshType> BorshType for Range<T> {
-    ghost codec = { along (λ r. (r.start, r.end)) (pair T.codec T.codec) };
+    ghost codec = { contramap (λ r. (r.start, r.end)) (pair T.codec T.codec) };
 
-    ghost lawful = { along-lawful (λ r. (r.start, r.end)) (pair-lawful T.lawful T.lawful) };
+    ghost lawful = { contramap-lawful (λ r. (r.start, r.end)) (pair-lawful T.lawful T.lawful) };
 
     fn encodes_empty() -> bool {
         <(T, T)>::encodes_empty()
@@ -22,9 +22,9 @@ impl<T: BorshType> BorshType for Range<T> {
 }
 
 impl<T: BorshType> BorshType for RangeInclusive<T> {
-    ghost codec = { along (λ r. (range_inclusive_start r, range_inclusive_end r)) (pair T.codec T.codec) };
+    ghost codec = { contramap (λ r. (range_inclusive_start r, range_inclusive_end r)) (pair T.codec T.codec) };
 
-    ghost lawful = { along-lawful (λ r. (range_inclusive_start r, range_inclusive_end r)) (pair-lawful T.lawful T.lawful) };
+    ghost lawful = { contramap-lawful (λ r. (range_inclusive_start r, range_inclusive_end r)) (pair-lawful T.lawful T.lawful) };
 
     fn encodes_empty() -> bool {
         <(T, T)>::encodes_empty()
@@ -36,9 +36,9 @@ impl<T: BorshType> BorshType for RangeInclusive<T> {
 }
 
 impl<T: BorshType> BorshType for RangeFrom<T> {
-    ghost codec = { along (λ r. r.start) T.codec };
+    ghost codec = { contramap (λ r. r.start) T.codec };
 
-    ghost lawful = { along-lawful (λ r. r.start) T.lawful };
+    ghost lawful = { contramap-lawful (λ r. r.start) T.lawful };
 
     fn encodes_empty() -> bool {
         T::encodes_empty()
@@ -50,9 +50,9 @@ impl<T: BorshType> BorshType for RangeFrom<T> {
 }
 
 impl<T: BorshType> BorshType for RangeTo<T> {
-    ghost codec = { along (λ r. r.end) T.codec };
+    ghost codec = { contramap (λ r. r.end) T.codec };
 
-    ghost lawful = { along-lawful (λ r. r.end) T.lawful };
+    ghost lawful = { contramap-lawful (λ r. r.end) T.lawful };
 
     fn encodes_empty() -> bool {
         T::encodes_empty()
@@ -64,9 +64,9 @@ impl<T: BorshType> BorshType for RangeTo<T> {
 }
 
 impl<T: BorshType> BorshType for RangeToInclusive<T> {
-    ghost codec = { along (λ r. r.end) T.codec };
+    ghost codec = { contramap (λ r. r.end) T.codec };
 
-    ghost lawful = { along-lawful (λ r. r.end) T.lawful };
+    ghost lawful = { contramap-lawful (λ r. r.end) T.lawful };
 
     fn encodes_empty() -> bool {
         T::encodes_empty()

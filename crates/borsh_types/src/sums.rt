@@ -1,5 +1,6 @@
 // Values that are one of several kinds.
-ghost use Rattle.borsh_types.specs.Types.Sums.{bool, bool-lawful, option, option-lawful, result_of, result_of-lawful};
+ghost use Rattle.borsh_codec.specs.Types.Sums.{bool, option, result_of};
+ghost use Rattle.borsh_codec.proofs.Laws.Types.{bool-lawful, option-lawful, result_of-lawful};
 
 use super::types::BorshType;
 

@@ -4,9 +4,10 @@ ghost use Rattle.std.specs.Box.{boxed_str_bytes};
 ghost use Rattle.std.specs.Cow.{cow_str_bytes};
 ghost use Rattle.std.specs.Rc.{rc_str_bytes};
 ghost use Rattle.std.specs.String.{string_bytes};
-ghost use Rattle.borsh_types.specs.Shapes.{along};
-ghost use Rattle.borsh_types.specs.Laws.Exact.{along-lawful};
-ghost use Rattle.borsh_types.specs.Types.Texts.{text, text-lawful};
+ghost use Rattle.borsh_codec.specs.Shapes.{contramap};
+ghost use Rattle.borsh_codec.proofs.Laws.Exact.{contramap-lawful};
+ghost use Rattle.borsh_codec.specs.Types.Texts.{text};
+ghost use Rattle.borsh_codec.proofs.Laws.Types.{text-lawful};
 
 use super::types::BorshType;
 use std::borrow::CowStr;
@@ -14,9 +15,9 @@ use std::boxed::BoxedStr;
 use std::rc::RcStr;
 
 impl BorshType for String {
-    ghost codec = { along string_bytes text };
+    ghost codec = { contramap string_bytes text };
 
-    ghost lawful = { along-lawful string_bytes text-lawful };
+    ghost lawful = { contramap-lawful string_bytes text-lawful };
 
     fn encodes_empty() -> bool {
         false
@@ -28,12 +29,12 @@ impl BorshType for String {
 }
 
 impl BorshType for &str {
-    ghost codec = { along (λ r. r.now) text };
+    ghost codec = { contramap (λ r. r.now) text };
 
-    ghost lawful = { along-lawful (λ r. r.now) text-lawful };
+    ghost lawful = { contramap-lawful (λ r. r.now) text-lawful };
 
     fn encodes_empty() -> bool
-        ensures { result ≡ text.is_empty }
+        ensures { result ≡ text.is_zero_width }
     {
         false
     }
@@ -44,9 +45,9 @@ impl BorshType for &str {
 }
 
 impl BorshType for BoxedStr {
-    ghost codec = { along boxed_str_bytes text };
+    ghost codec = { contramap boxed_str_bytes text };
 
-    ghost lawful = { along-lawful boxed_str_bytes text-lawful };
+    ghost lawful = { contramap-lawful boxed_str_bytes text-lawful };
 
     fn encodes_empty() -> bool {
         false
@@ -58,9 +59,9 @@ impl BorshType for BoxedStr {
 }
 
 impl BorshType for RcStr {
-    ghost codec = { along rc_str_bytes text };
+    ghost codec = { contramap rc_str_bytes text };
 
-    ghost lawful = { along-lawful rc_str_bytes text-lawful };
+    ghost lawful = { contramap-lawful rc_str_bytes text-lawful };
 
     fn encodes_empty() -> bool {
         false
@@ -72,12 +73,12 @@ impl BorshType for RcStr {
 }
 
 impl BorshType for CowStr<'_> {
-    ghost codec = { along cow_str_bytes text };
+    ghost codec = { contramap cow_str_bytes text };
 
-    ghost lawful = { along-lawful cow_str_bytes text-lawful };
+    ghost lawful = { contramap-lawful cow_str_bytes text-lawful };
 
     fn encodes_empty() -> bool
-        ensures { result ≡ text.is_empty }
+        ensures { result ≡ text.is_zero_width }
     {
         false
     }

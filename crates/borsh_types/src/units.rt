@@ -1,6 +1,6 @@
 // Values of types with one value: no bytes.
-ghost use Rattle.borsh_types.specs.Shapes.{along, unit};
-ghost use Rattle.borsh_types.specs.Laws.Exact.{along-lawful, unit-lawful};
+ghost use Rattle.borsh_codec.specs.Shapes.{contramap, unit};
+ghost use Rattle.borsh_codec.proofs.Laws.Exact.{contramap-lawful, unit-lawful};
 
 use super::types::BorshType;
 use std::marker::PhantomData;
@@ -21,9 +21,9 @@ impl BorshType for () {
 }
 
 impl BorshType for RangeFull {
-    ghost codec = { along (λ _. tt) unit };
+    ghost codec = { contramap (λ _. tt) unit };
 
-    ghost lawful = { along-lawful (λ _. tt) unit-lawful };
+    ghost lawful = { contramap-lawful (λ _. tt) unit-lawful };
 
     fn encodes_empty() -> bool {
         true
@@ -35,9 +35,9 @@ impl BorshType for RangeFull {
 }
 
 impl<T> BorshType for PhantomData<T> {
-    ghost codec = { along (λ _. tt) unit };
+    ghost codec = { contramap (λ _. tt) unit };
 
-    ghost lawful = { along-lawful (λ _. tt) unit-lawful };
+    ghost lawful = { contramap-lawful (λ _. tt) unit-lawful };
 
     fn encodes_empty() -> bool {
         true

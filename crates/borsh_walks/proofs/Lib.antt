@@ -9,6 +9,7 @@ pub mod Counting
 pub mod SizeExits
 pub mod SizeDue
 pub mod SizeStands
+pub mod SizeOutcome
 pub mod ZeroWalk
 pub mod ZeroGlue
 pub mod RulesLaws

@@ -10,7 +10,7 @@ use Rattle.std.proofs.lemmas.Bool.{cases_eq}
 use Rattle.std.proofs.lemmas.Map.Text.{is_eq-slice_cmp}
 use Rattle.std.proofs.lemmas.Slice.Eq.{bytes_eq-Decides}
 use Rattle.borsh_walks.specs.declared.definition.Definition.{Definition}
-use Rattle.borsh_walks.specs.Container.{Shape, Among, first, later}
+use Rattle.borsh_walks.specs.Container.{Shape, IsIn, first, later}
 use Rattle.borsh_walks.specs.Definitions.{shape_of}
 use Rattle.borsh_walks.specs.SizeAnswer.{Distinct, distinct_more}
 
@@ -21,31 +21,31 @@ next_below (y ∷ xs) zero x h = omega arith
 next_below (y ∷ xs) (suc i) x h = let k = next_below xs i x h in omega (arith, k)
 
 -- ---- elements of a list
-pub among_get : {p : List ℕ} (xs : List (List ℕ)) (i : ℕ) → slice_get xs i ≡ Some p → Among p xs
+pub among_get : {p : List ℕ} (xs : List (List ℕ)) (i : ℕ) → slice_get xs i ≡ Some p → IsIn p xs
 among_get [] i e = cc
-among_get {p} (x ∷ xs) zero e = let q : p ≡ x = cc in subst (λ y. Among p (y ∷ xs)) q first
+among_get {p} (x ∷ xs) zero e = let q : p ≡ x = cc in subst (λ y. IsIn p (y ∷ xs)) q first
 among_get (x ∷ xs) (suc i) e = later (among_get xs i e)
 
-pub among_append : {x : List ℕ} (xs ys : List (List ℕ)) → Among x (xs ++ ys) → Among x xs ⊎ Among x ys
+pub among_append : {x : List ℕ} (xs ys : List (List ℕ)) → IsIn x (xs ++ ys) → IsIn x xs ⊎ IsIn x ys
 among_append [] ys a = inr a
 among_append (y ∷ xs) ys first = inl first
 among_append {x} (y ∷ xs) ys (later a) =
-    let go : Among x xs ⊎ Among x ys → Among x (y ∷ xs) ⊎ Among x ys = elim [ inl b ↦ inl (later b) | inr b ↦ inr b ] in go (among_append xs ys a)
+    let go : IsIn x xs ⊎ IsIn x ys → IsIn x (y ∷ xs) ⊎ IsIn x ys = elim [ inl b ↦ inl (later b) | inr b ↦ inr b ] in go (among_append xs ys a)
 
-pub among_left : {x : List ℕ} (xs ys : List (List ℕ)) → Among x xs → Among x (xs ++ ys)
+pub among_left : {x : List ℕ} (xs ys : List (List ℕ)) → IsIn x xs → IsIn x (xs ++ ys)
 among_left (y ∷ xs) ys first = first
 among_left (y ∷ xs) ys (later a) = later (among_left xs ys a)
 among_left [] ys a = elim a [ ]
 
-pub among_right : {x : List ℕ} (xs ys : List (List ℕ)) → Among x ys → Among x (xs ++ ys)
+pub among_right : {x : List ℕ} (xs ys : List (List ℕ)) → IsIn x ys → IsIn x (xs ++ ys)
 among_right [] ys a = a
 among_right (y ∷ xs) ys a = later (among_right xs ys a)
 
-pub among_one : {x y : List ℕ} → Among x (y ∷ []) → x ≡ y
+pub among_one : {x y : List ℕ} → IsIn x (y ∷ []) → x ≡ y
 among_one first = refl
 among_one (later a) = elim a [ ]
 
-pub other_one : {x y : List ℕ} {ys : List (List ℕ)} → (x ≡ y → ⊥) → Among x (y ∷ ys) → Among x ys
+pub other_one : {x y : List ℕ} {ys : List (List ℕ)} → (x ≡ y → ⊥) → IsIn x (y ∷ ys) → IsIn x ys
 other_one f first = absurd (f refl)
 other_one f (later a) = a
 
@@ -60,25 +60,25 @@ name_cases (a ∷ x) (b ∷ y) =
     go (name_cases x y) (cases_eq a b)
 
 -- ---- distinct names
-among_except : {x : List ℕ} (ys : List (List ℕ)) → Among x ys → (zs : List (List ℕ)) × (length ys ≡ suc (length zs)) × ((y : List ℕ) → Among y ys → (y ≡ x → ⊥) → Among y zs)
+among_except : {x : List ℕ} (ys : List (List ℕ)) → IsIn x ys → (zs : List (List ℕ)) × (length ys ≡ suc (length zs)) × ((y : List ℕ) → IsIn y ys → (y ≡ x → ⊥) → IsIn y zs)
 among_except [] a = elim a [ ]
 among_except (y ∷ ys) first = (ys, refl, λ z a f. other z a f)
   where
-    other : {y : List ℕ} {ys : List (List ℕ)} (z : List ℕ) → Among z (y ∷ ys) → (z ≡ y → ⊥) → Among z ys
+    other : {y : List ℕ} {ys : List (List ℕ)} (z : List ℕ) → IsIn z (y ∷ ys) → (z ≡ y → ⊥) → IsIn z ys
     other z first f = absurd (f refl)
     other z (later a) f = a
 among_except {x} (y ∷ ys) (later a) = let r = among_except ys a in (y ∷ r.0, ap suc r.1, λ z b f. keep r.2 z b f)
   where
-    keep : {x y : List ℕ} {ys zs : List (List ℕ)} → ((z : List ℕ) → Among z ys → (z ≡ x → ⊥) → Among z zs) → (z : List ℕ) → Among z (y ∷ ys) → (z ≡ x → ⊥) → Among z (y ∷ zs)
+    keep : {x y : List ℕ} {ys zs : List (List ℕ)} → ((z : List ℕ) → IsIn z ys → (z ≡ x → ⊥) → IsIn z zs) → (z : List ℕ) → IsIn z (y ∷ ys) → (z ≡ x → ⊥) → IsIn z (y ∷ zs)
     keep g z first f = first
     keep g z (later a) f = later (g z a f)
 
 -- distinct names that are all among ys are at most as many
-pub distinct_within : (xs ys : List (List ℕ)) → Distinct xs → ((x : List ℕ) → Among x xs → Among x ys) → length xs ≤ length ys
+pub distinct_within : (xs ys : List (List ℕ)) → Distinct xs → ((x : List ℕ) → IsIn x xs → IsIn x ys) → length xs ≤ length ys
 distinct_within [] ys d f = omega arith
 distinct_within (x ∷ xs) ys (distinct_more n d) f =
     let r = among_except ys (f x first) in
-    let h = distinct_within xs r.0 d (λ y a. r.2 y (f y (later a)) (λ e. n (subst (λ z. Among z xs) e a))) in
+    let h = distinct_within xs r.0 d (λ y a. r.2 y (f y (later a)) (λ e. n (subst (λ z. IsIn z xs) e a))) in
     omega (arith, h, r.1)
 
 -- the names of a map's keys
@@ -93,11 +93,11 @@ length-key_names (e ∷ es) = ap suc (length-key_names es)
 pub same_name : (x y : List ℕ) → is_eq (slice_cmp nat_cmp x y) ≡ true → x ≡ y
 same_name x y e = (bytes_eq-Decides x y).0 (sym (is_eq-slice_cmp x y) ∙ e)
 
-first_or : {A X : Type 0} {x : List ℕ} (e : String A × X) (es : List (String A × X)) (d : X) (b : Bool) → is_eq (slice_cmp nat_cmp x (string_bytes e.0)) ≡ b → cond b (Some e.1) (lookup (λ k. is_eq (slice_cmp nat_cmp x (string_bytes k))) es) ≡ Some d → (lookup (λ k. is_eq (slice_cmp nat_cmp x (string_bytes k))) es ≡ Some d → Among x (key_names es)) → Among x (string_bytes e.0 ∷ key_names es)
-first_or {x = x} e es d true q h f = subst (λ y. Among x (y ∷ key_names es)) (same_name x (string_bytes e.0) q) first
+first_or : {A X : Type 0} {x : List ℕ} (e : String A × X) (es : List (String A × X)) (d : X) (b : Bool) → is_eq (slice_cmp nat_cmp x (string_bytes e.0)) ≡ b → cond b (Some e.1) (lookup (λ k. is_eq (slice_cmp nat_cmp x (string_bytes k))) es) ≡ Some d → (lookup (λ k. is_eq (slice_cmp nat_cmp x (string_bytes k))) es ≡ Some d → IsIn x (key_names es)) → IsIn x (string_bytes e.0 ∷ key_names es)
+first_or {x = x} e es d true q h f = subst (λ y. IsIn x (y ∷ key_names es)) (same_name x (string_bytes e.0) q) first
 first_or e es d false q h f = later (f h)
 
-pub found_among : {A X : Type 0} (x : List ℕ) (es : List (String A × X)) (d : X) → lookup (λ k. is_eq (slice_cmp nat_cmp x (string_bytes k))) es ≡ Some d → Among x (key_names es)
+pub found_among : {A X : Type 0} (x : List ℕ) (es : List (String A × X)) (d : X) → lookup (λ k. is_eq (slice_cmp nat_cmp x (string_bytes k))) es ≡ Some d → IsIn x (key_names es)
 found_among x [] d h = cc
 found_among x (e ∷ es) d h = first_or e es d (is_eq (slice_cmp nat_cmp x (string_bytes e.0))) refl h (λ k. found_among x es d k)
 
@@ -106,7 +106,7 @@ shape_some None s h = cc
 shape_some (Some d) s h = (d, refl)
 
 -- names with definitions are at most as many as the definitions
-pub names_within : {A : Type 0} (m : BTreeMap (String A) Definition) (xs : List (List ℕ)) → Distinct xs → ((x : List ℕ) → Among x xs → (d : Shape) × (option_map shape_of (get_by_text m x) ≡ Some d)) → length xs ≤ btree_map_len m
+pub names_within : {A : Type 0} (m : BTreeMap (String A) Definition) (xs : List (List ℕ)) → Distinct xs → ((x : List ℕ) → IsIn x xs → (d : Shape) × (option_map shape_of (get_by_text m x) ≡ Some d)) → length xs ≤ btree_map_len m
 names_within m xs d f =
     let h = distinct_within xs (key_names m.entries) d (λ x a. let r = f x a in let s = shape_some (get_by_text m x) r.0 r.1 in found_among x m.entries s.0 s.1) in
     omega (arith, h, length-key_names m.entries)
@@ -118,10 +118,10 @@ found_shape m n x d e h = ap (λ k. option_map shape_of (get_by_text k.now x)) (
 pub found_none : {A : Type 0} (m n : Bor (BTreeMap (String A) Definition)) (x : List ℕ) → m ≡ n → None ≡ get_by_text m.now x → option_map shape_of (get_by_text n.now x) ≡ None
 found_none m n x e h = ap (λ k. option_map shape_of (get_by_text k.now x)) (sym e) ∙ ap (λ o. option_map shape_of o) (sym h)
 
-pub only_root : (C : List ℕ → Option Shape) {root : List ℕ} (d : Shape) → C root ≡ Some d → (x : List ℕ) → Among x (root ∷ []) → (c : Shape) × (C x ≡ Some c)
+pub only_root : (C : List ℕ → Option Shape) {root : List ℕ} (d : Shape) → C root ≡ Some d → (x : List ℕ) → IsIn x (root ∷ []) → (c : Shape) × (C x ≡ Some c)
 only_root C d e x first = (d, e)
 only_root C d e x (later a) = elim a [ ]
 
-pub also_defined : (C : List ℕ → Option Shape) {p : List ℕ} {L : List (List ℕ)} (d : Shape) → C p ≡ Some d → ((x : List ℕ) → Among x L → (c : Shape) × (C x ≡ Some c)) → (x : List ℕ) → Among x (p ∷ L) → (c : Shape) × (C x ≡ Some c)
+pub also_defined : (C : List ℕ → Option Shape) {p : List ℕ} {L : List (List ℕ)} (d : Shape) → C p ≡ Some d → ((x : List ℕ) → IsIn x L → (c : Shape) × (C x ≡ Some c)) → (x : List ℕ) → IsIn x (p ∷ L) → (c : Shape) × (C x ≡ Some c)
 also_defined C d e f x first = (d, e)
 also_defined C d e f x (later a) = f x a

@@ -3,13 +3,13 @@ use Rattle.std.proofs.Common.{◌≡◌, ℕ, suc, zero, ◌+◌, ◌<◌, List,
 use Rattle.std.specs.Prelude.{Option, slice_get}
 use Rattle.std.specs.Borrow.{Bor}
 use Rattle.std.specs.BTreeMap.{BTreeMap, btree_map_len}
-use Rattle.borsh_walks.specs.Container.{Shape, Among, first, later, Rule, Breaks, Reached, mentions, stays, onward}
+use Rattle.borsh_walks.specs.Container.{Shape, IsIn, first, later, Rule, Breaks, Reached, references, stays, onward}
 use Rattle.borsh_walks.specs.Definitions.{spot_shape}
-use Rattle.borsh_walks.specs.Counts.{raised_for}
+use Rattle.borsh_walks.specs.Counts.{add_to}
 use Rattle.borsh_walks.specs.ZeroAnswer.{ZeroTable}
 use Rattle.borsh_walks.specs.Tables.{mark_of}
 use Rattle.borsh_walks.specs.RulesAnswer.{checked_element, ElementMarked}
-use Rattle.borsh_walks.specs.RulesState.{RulesState, AllSpots, waiting}
+use Rattle.borsh_walks.specs.RulesState.{RulesState, AllSpots, pending}
 use Rattle.borsh_walks.specs.declared.counted.Question.TheVariants.{Zero as ZeroQuestion, Rules}
 use Rattle.borsh_walks.specs.declared.counted.Expansions.{Expansions}
 use Rattle.borsh_walks.specs.declared.way.Spot.{Spot}
@@ -19,8 +19,8 @@ use Rattle.borsh_walks.proofs.Tables.{Updated, marks_none, marks_start, marks_mo
 use Rattle.borsh_walks.proofs.Spots.{moved}
 use Rattle.borsh_walks.proofs.Counting.{raised-more}
 
-pub both_more : (j k : ℕ) (a b e : Expansions) → a ≡ raised_for Rules j (raised_for ZeroQuestion k e) → b ≡ raised_for Rules 1 a → b ≡ raised_for ZeroQuestion k (raised_for Rules (suc j) e)
-both_more j k a b e p q = q ∙ ap (λ s. raised_for Rules 1 s) p ∙ ap (λ s. raised_for ZeroQuestion k (record e { rules = s })) (raised-more e.rules j)
+pub both_more : (j k : ℕ) (a b e : Expansions) → a ≡ add_to Rules j (add_to ZeroQuestion k e) → b ≡ add_to Rules 1 a → b ≡ add_to ZeroQuestion k (add_to Rules (suc j) e)
+both_more j k a b e p q = q ∙ ap (λ s. add_to Rules 1 s) p ∙ ap (λ s. add_to ZeroQuestion k (record e { rules = s })) (raised-more e.rules j)
 
 module _ (C : List ℕ → Option Shape) (root : List ℕ) where
   -- a name is seen: it is reached, has a definition and keeps its rules
@@ -31,20 +31,20 @@ module _ (C : List ℕ → Option Shape) (root : List ℕ) where
         marks = marks_more s.marks u none (reached, keeps, (spot_shape g, c));
         len = len ∙ ap (λ k. suc k) s.len;
         spots = subst (λ l. AllSpots C root l) (sym pushed) ((c, reached, omega (arith, next)), s.spots);
-        closed = λ x d y a e m. subst (λ l. Among y (g.name.now ∷ s.names) ⊎ Among y [] ⊎ Among y (waiting l)) (sym pushed) (closed_new x d y a e m);
+        closed = λ x d y a e m. subst (λ l. IsIn y (g.name.now ∷ s.names) ⊎ IsIn y [] ⊎ IsIn y (pending l)) (sym pushed) (closed_new x d y a e m);
         zero = table;
         elements = λ x d e a q k f. elements_new x d e a q k f;
       }
     where
-      closed_new : (x : List ℕ) (d : Shape) (y : List ℕ) → Among x (g.name.now ∷ s.names) → C x ≡ Some d → Among y (mentions d) → Among y (g.name.now ∷ s.names) ⊎ Among y [] ⊎ Among y (waiting (g ∷ way))
-      closed_new x d y first e m = inr (inr (among_left (drop g.next (mentions (spot_shape g))) (waiting way) (subst (λ k. Among y (drop k (mentions (spot_shape g)))) (sym next) (subst (λ h. Among y (mentions h)) (one_definition e c) m))))
-      closed_new x d y (later a) e m = elim (s.closed x d y a e m) [ inl b ↦ inl (later b) | inr b ↦ (elim b [ inl h ↦ inl (at_one h) | inr h ↦ inr (inr (among_right (drop g.next (mentions (spot_shape g))) (waiting way) h)) ]) ]
+      closed_new : (x : List ℕ) (d : Shape) (y : List ℕ) → IsIn x (g.name.now ∷ s.names) → C x ≡ Some d → IsIn y (references d) → IsIn y (g.name.now ∷ s.names) ⊎ IsIn y [] ⊎ IsIn y (pending (g ∷ way))
+      closed_new x d y first e m = inr (inr (among_left (drop g.next (references (spot_shape g))) (pending way) (subst (λ k. IsIn y (drop k (references (spot_shape g)))) (sym next) (subst (λ h. IsIn y (references h)) (one_definition e c) m))))
+      closed_new x d y (later a) e m = elim (s.closed x d y a e m) [ inl b ↦ inl (later b) | inr b ↦ (elim b [ inl h ↦ inl (at_one h) | inr h ↦ inr (inr (among_right (drop g.next (references (spot_shape g))) (pending way) h)) ]) ]
         where
-          at_one : {z n : List ℕ} {xs : List (List ℕ)} → Among z (n ∷ []) → Among z (n ∷ xs)
+          at_one : {z n : List ℕ} {xs : List (List ℕ)} → IsIn z (n ∷ []) → IsIn z (n ∷ xs)
           at_one first = first
           at_one (later h) = elim h [ ]
 
-      elements_new : (x : List ℕ) (d : Shape) (e : List ℕ) → Among x (g.name.now ∷ s.names) → C x ≡ Some d → checked_element d ≡ Some e → (C e ≡ None → ⊥) → mark_of zn e ≡ None → ⊥
+      elements_new : (x : List ℕ) (d : Shape) (e : List ℕ) → IsIn x (g.name.now ∷ s.names) → C x ≡ Some d → checked_element d ≡ Some e → (C e ≡ None → ⊥) → mark_of zn e ≡ None → ⊥
       elements_new x d e first q k f = marks.1 e (ap checked_element (sym (one_definition q c)) ∙ k) f
       elements_new x d e (later a) q k f = marks.0 e (s.elements x d e a q k f)
 
@@ -59,7 +59,7 @@ drop_some [] i e = cc
 drop_some {p} (x ∷ xs) zero e = let q : x ≡ p = cc in ap (λ y. y ∷ xs) q
 drop_some (x ∷ xs) (suc i) e = drop_some xs i e
 
-no_one : {z : List ℕ} → Among z [] → ⊥
+no_one : {z : List ℕ} → IsIn z [] → ⊥
 no_one b = elim b [ ]
 
 pub empty_table : (C : List ℕ → Option Shape) (m : BTreeMap (Bor (List ℕ)) Bool) → m.entries ≡ [] → ZeroTable C m
@@ -71,16 +71,16 @@ empty_table C m e = record {
   not_zero_is = λ x h. let n = marks_none m e x in cc;
 }
 
-or_first : {x p : List ℕ} {xs : List (List ℕ)} → Among x (p ∷ xs) → Among x (p ∷ []) ⊎ Among x xs
+or_first : {x p : List ℕ} {xs : List (List ℕ)} → IsIn x (p ∷ xs) → IsIn x (p ∷ []) ⊎ IsIn x xs
 or_first first = inl first
 or_first (later a) = inr a
 
 module _ (C : List ℕ → Option Shape) (root : List ℕ) where
-  pub rules_reached : {seen zeros : BTreeMap (Bor (List ℕ)) Bool} (fs : List Spot) (f : Spot) (p : List ℕ) {extra : List (List ℕ)} → RulesState C root extra seen (f ∷ fs) zeros → slice_get (mentions (spot_shape f)) f.next ≡ Some p → Reached C root p
-  rules_reached fs f p s e = onward (spot_shape f) s.spots.0.1 s.spots.0.0 (among_get (mentions (spot_shape f)) f.next e)
+  pub rules_reached : {seen zeros : BTreeMap (Bor (List ℕ)) Bool} (fs : List Spot) (f : Spot) (p : List ℕ) {extra : List (List ℕ)} → RulesState C root extra seen (f ∷ fs) zeros → slice_get (references (spot_shape f)) f.next ≡ Some p → Reached C root p
+  rules_reached fs f p s e = onward (spot_shape f) s.spots.0.1 s.spots.0.0 (among_get (references (spot_shape f)) f.next e)
 
   -- a name whose mentions are all seen leaves the way
-  pub rules_pop : {seen zeros : BTreeMap (Bor (List ℕ)) Bool} (fs : List Spot) (f : Spot) → RulesState C root [] seen (f ∷ fs) zeros → slice_get (mentions (spot_shape f)) f.next ≡ None → RulesState C root [] seen fs zeros
+  pub rules_pop : {seen zeros : BTreeMap (Bor (List ℕ)) Bool} (fs : List Spot) (f : Spot) → RulesState C root [] seen (f ∷ fs) zeros → slice_get (references (spot_shape f)) f.next ≡ None → RulesState C root [] seen fs zeros
   rules_pop {seen} {zeros} fs f s e = record {
     names = s.names;
     marks = s.marks;
@@ -91,34 +91,34 @@ module _ (C : List ℕ → Option Shape) (root : List ℕ) where
     elements = s.elements;
   }
     where
-      at_last : (y : List ℕ) → Among y (waiting (f ∷ fs)) → Among y s.names ⊎ Among y [] ⊎ Among y (waiting fs)
-      at_last y c = elim (among_append (drop f.next (mentions (spot_shape f))) (waiting fs) c) [ inl b ↦ inr (inl (subst (λ l. Among y l) (drop_none (mentions (spot_shape f)) f.next e) b)) | inr b ↦ inr (inr b) ]
+      at_last : (y : List ℕ) → IsIn y (pending (f ∷ fs)) → IsIn y s.names ⊎ IsIn y [] ⊎ IsIn y (pending fs)
+      at_last y c = elim (among_append (drop f.next (references (spot_shape f))) (pending fs) c) [ inl b ↦ inr (inl (subst (λ l. IsIn y l) (drop_none (references (spot_shape f)) f.next e) b)) | inr b ↦ inr (inr b) ]
 
   -- its next mention is taken off the way
-  pub rules_take : {seen zeros : BTreeMap (Bor (List ℕ)) Bool} (fs wn : List Spot) (f : Spot) (p : List ℕ) → RulesState C root [] seen (f ∷ fs) zeros → slice_get (mentions (spot_shape f)) f.next ≡ Some p → wn ≡ moved f ∷ fs → RulesState C root (p ∷ []) seen wn zeros
+  pub rules_take : {seen zeros : BTreeMap (Bor (List ℕ)) Bool} (fs wn : List Spot) (f : Spot) (p : List ℕ) → RulesState C root [] seen (f ∷ fs) zeros → slice_get (references (spot_shape f)) f.next ≡ Some p → wn ≡ moved f ∷ fs → RulesState C root (p ∷ []) seen wn zeros
   rules_take {seen} {zeros} fs wn f p s e pushed = record {
     names = s.names;
     marks = s.marks;
     len = s.len;
     spots = subst (λ l. AllSpots C root l) (sym pushed) ((s.spots.0.0, s.spots.0.1, omega (arith, below)), s.spots.1);
-    closed = λ x d y a q m. elim (s.closed x d y a q m) [ inl b ↦ inl b | inr b ↦ (elim b [ inl c ↦ absurd (no_one c) | inr c ↦ subst (λ l. Among y s.names ⊎ Among y (p ∷ []) ⊎ Among y (waiting l)) (sym pushed) (at_last y c) ]) ];
+    closed = λ x d y a q m. elim (s.closed x d y a q m) [ inl b ↦ inl b | inr b ↦ (elim b [ inl c ↦ absurd (no_one c) | inr c ↦ subst (λ l. IsIn y s.names ⊎ IsIn y (p ∷ []) ⊎ IsIn y (pending l)) (sym pushed) (at_last y c) ]) ];
     zero = s.zero;
     elements = s.elements;
   }
     where
-      below : f.next < length (mentions (spot_shape f))
-      below = next_below (mentions (spot_shape f)) f.next p e
+      below : f.next < length (references (spot_shape f))
+      below = next_below (references (spot_shape f)) f.next p e
 
       rest : List (List ℕ)
-      rest = drop (f.next + 1) (mentions (spot_shape f))
+      rest = drop (f.next + 1) (references (spot_shape f))
 
-      cut : drop f.next (mentions (spot_shape f)) ≡ p ∷ rest
-      cut = drop_some (mentions (spot_shape f)) f.next e ∙ ap (λ k. p ∷ drop k (mentions (spot_shape f))) (sym (add-one f.next))
+      cut : drop f.next (references (spot_shape f)) ≡ p ∷ rest
+      cut = drop_some (references (spot_shape f)) f.next e ∙ ap (λ k. p ∷ drop k (references (spot_shape f))) (sym (add-one f.next))
 
-      at_last : (y : List ℕ) → Among y (waiting (f ∷ fs)) → Among y s.names ⊎ Among y (p ∷ []) ⊎ Among y (waiting (moved f ∷ fs))
-      at_last y c = elim (among_append (drop f.next (mentions (spot_shape f))) (waiting fs) c) [
-        | inl b ↦ inr (elim (or_first (subst (λ l. Among y l) cut b)) [ inl h ↦ inl h | inr h ↦ inr (among_left rest (waiting fs) h) ])
-        | inr b ↦ inr (inr (among_right rest (waiting fs) b))
+      at_last : (y : List ℕ) → IsIn y (pending (f ∷ fs)) → IsIn y s.names ⊎ IsIn y (p ∷ []) ⊎ IsIn y (pending (moved f ∷ fs))
+      at_last y c = elim (among_append (drop f.next (references (spot_shape f))) (pending fs) c) [
+        | inl b ↦ inr (elim (or_first (subst (λ l. IsIn y l) cut b)) [ inl h ↦ inl h | inr h ↦ inr (among_left rest (pending fs) h) ])
+        | inr b ↦ inr (inr (among_right rest (pending fs) b))
       ]
 
   -- a mention that was seen before
@@ -128,7 +128,7 @@ module _ (C : List ℕ → Option Shape) (root : List ℕ) where
     marks = s.marks;
     len = s.len;
     spots = s.spots;
-    closed = λ x d y a q m. elim (s.closed x d y a q m) [ inl b ↦ inl b | inr b ↦ (elim b [ inl c ↦ inl (subst (λ z. Among z s.names) (sym (among_one c)) (s.marks.marked p (has_mark (mark_of seen p) f).0 (has_mark (mark_of seen p) f).1)) | inr c ↦ inr (inr c) ]) ];
+    closed = λ x d y a q m. elim (s.closed x d y a q m) [ inl b ↦ inl b | inr b ↦ (elim b [ inl c ↦ inl (subst (λ z. IsIn z s.names) (sym (among_one c)) (s.marks.marked p (has_mark (mark_of seen p) f).0 (has_mark (mark_of seen p) f).1)) | inr c ↦ inr (inr c) ]) ];
     zero = s.zero;
     elements = s.elements;
   }
@@ -145,9 +145,9 @@ module _ (C : List ℕ → Option Shape) (root : List ℕ) where
     elements = λ x d k a. elim a [ ];
   }
 
-  pub rules_all : {seen zeros : BTreeMap (Bor (List ℕ)) Bool} (way : List Spot) (s : RulesState C root [] seen way zeros) → way ≡ [] → (mark_of seen root ≡ None → ⊥) → {x : List ℕ} → Reached C root x → Among x s.names
+  pub rules_all : {seen zeros : BTreeMap (Bor (List ℕ)) Bool} (way : List Spot) (s : RulesState C root [] seen way zeros) → way ≡ [] → (mark_of seen root ≡ None → ⊥) → {x : List ℕ} → Reached C root x → IsIn x s.names
   rules_all {seen} way s w f stays = s.marks.marked root (has_mark (mark_of seen root) f).0 (has_mark (mark_of seen root) f).1
   rules_all way s w f (onward {y = y} {z = z} d l q a) =
-      let go : Among z s.names ⊎ Among z [] ⊎ Among z (waiting way) → Among z s.names =
-      elim [ inl b ↦ b | inr b ↦ (elim b [ inl c ↦ absurd (no_one c) | inr c ↦ absurd (no_one (subst (λ l. Among z (waiting l)) w c)) ]) ] in
+      let go : IsIn z s.names ⊎ IsIn z [] ⊎ IsIn z (pending way) → IsIn z s.names =
+      elim [ inl b ↦ b | inr b ↦ (elim b [ inl c ↦ absurd (no_one c) | inr c ↦ absurd (no_one (subst (λ l. IsIn z (pending l)) w c)) ]) ] in
       go (s.closed y d z (rules_all way s w f l) q a)

@@ -1,7 +1,7 @@
 -- The local rules, from the tests that the code makes.
 use Rattle.std.proofs.Common.{◌≡◌, ℕ, ◌^◌, ◌≤◌, List, [], ◌∷◌, Some, None, refl, sym, ◌∙◌, subst, arith, ◌⊎◌, inl, inr, eq-eqb, eqb→eq, Bool, true, false}
 use Rattle.std.specs.Prelude.{Option, eqb, ◌&&◌, cond, T}
-use Rattle.borsh_walks.specs.Container.{Shape, primitive, sequence, parts, choice, Among, first, mentions, Rule, zst_sequence, tag_too_wide, tag_too_narrow, tag_not_power_of_two, missing_definition, empty_length_range, Breaks, is_missing, is_empty, is_not_power, is_too_wide, is_too_narrow, is_zst_sequence, is_wide_choice, IsFixed, Zero, Reached}
+use Rattle.borsh_walks.specs.Container.{Shape, primitive, sequence, product, choice, IsIn, first, references, Rule, zst_sequence, tag_too_wide, tag_too_narrow, tag_not_power_of_two, missing_definition, empty_length_range, Breaks, is_missing, is_empty, is_not_power, is_too_wide, is_too_narrow, is_zst_sequence, is_wide_choice, IsFixed, IsZeroSize, Reached}
 use Rattle.borsh_walks.specs.RulesAnswer.{IsWidth, KeepsWidths, BreaksShape, BreaksWidth, checked_element, RulesFault, IsRulesError}
 use Rattle.borsh_walks.specs.declared.error.SchemaContainerValidateError.{SchemaContainerValidateError}
 use Rattle.borsh_walks.specs.declared.error.SchemaContainerValidateError.TheVariants.{ZSTSequence, TagTooWide, TagTooNarrow, TagNotPowerOfTwo, MissingDefinition, EmptyLengthRange, OutOfMemory}
@@ -46,7 +46,7 @@ module _ (C : List ℕ → Option Shape) where
   breaks (sequence w lo hi el) e tag_not_power_of_two b = is_not_power e b
   breaks (sequence w lo hi el) e missing_definition b = absurd b
   breaks (sequence w lo hi el) e empty_length_range b = is_empty e b
-  breaks (parts ps) e r b = absurd b
+  breaks (product ps) e r b = absurd b
   breaks (choice w vs) e zst_sequence b = absurd b
   breaks (choice w vs) e tag_too_wide b = is_wide_choice e b
   breaks (choice w vs) e tag_too_narrow b = absurd b
@@ -55,17 +55,17 @@ module _ (C : List ℕ → Option Shape) where
   breaks (choice w vs) e empty_length_range b = absurd b
 
   -- an element of zero size breaks the rule
-  pub breaks_zero : {x p : List ℕ} (d : Shape) → C x ≡ Some d → checked_element d ≡ Some p → Zero C p → Breaks C zst_sequence x
+  pub breaks_zero : {x p : List ℕ} (d : Shape) → C x ≡ Some d → checked_element d ≡ Some p → IsZeroSize C p → Breaks C zst_sequence x
   breaks_zero (primitive n) e h z = cc
-  breaks_zero {p = p} (sequence w lo hi el) e h z = let k = element_fixed w lo hi el p h in is_zst_sequence e k.1 (subst (λ y. Zero C y) (sym k.0) z)
-  breaks_zero (parts ps) e h z = cc
+  breaks_zero {p = p} (sequence w lo hi el) e h z = let k = element_fixed w lo hi el p h in is_zst_sequence e k.1 (subst (λ y. IsZeroSize C y) (sym k.0) z)
+  breaks_zero (product ps) e h z = cc
   breaks_zero (choice w vs) e h z = cc
 
   seq_parts : {w lo hi v mo hj : ℕ} {e f : List ℕ} → sequence w lo hi e ≡ sequence v mo hj f → (w ≡ v) × (lo ≡ mo) × (hi ≡ hj) × (e ≡ f)
   seq_parts q = (cc, cc, cc, cc)
 
   -- a name with a definition that keeps its widths, and whose checked element is not of zero size, breaks no rule
-  pub keeps_all : {x : List ℕ} (d : Shape) → C x ≡ Some d → KeepsWidths d → ((p : List ℕ) → checked_element d ≡ Some p → Zero C p → ⊥) → (r : Rule) → Breaks C r x → ⊥
+  pub keeps_all : {x : List ℕ} (d : Shape) → C x ≡ Some d → KeepsWidths d → ((p : List ℕ) → checked_element d ≡ Some p → IsZeroSize C p → ⊥) → (r : Rule) → Breaks C r x → ⊥
   keeps_all d e k z _ (is_missing q) = cc
   keeps_all (primitive n) e k z _ (is_empty q h) = let a = one_definition e q in cc
   keeps_all (primitive n) e k z _ (is_not_power q h) = let a = one_definition e q in cc
@@ -73,12 +73,12 @@ module _ (C : List ℕ → Option Shape) where
   keeps_all (primitive n) e k z _ (is_too_narrow q h i) = let a = one_definition e q in cc
   keeps_all (primitive n) e k z _ (is_zst_sequence q h i) = let a = one_definition e q in cc
   keeps_all (primitive n) e k z _ (is_wide_choice q h) = let a = one_definition e q in cc
-  keeps_all (parts ps) e k z _ (is_empty q h) = let a = one_definition e q in cc
-  keeps_all (parts ps) e k z _ (is_not_power q h) = let a = one_definition e q in cc
-  keeps_all (parts ps) e k z _ (is_too_wide q h) = let a = one_definition e q in cc
-  keeps_all (parts ps) e k z _ (is_too_narrow q h i) = let a = one_definition e q in cc
-  keeps_all (parts ps) e k z _ (is_zst_sequence q h i) = let a = one_definition e q in cc
-  keeps_all (parts ps) e k z _ (is_wide_choice q h) = let a = one_definition e q in cc
+  keeps_all (product ps) e k z _ (is_empty q h) = let a = one_definition e q in cc
+  keeps_all (product ps) e k z _ (is_not_power q h) = let a = one_definition e q in cc
+  keeps_all (product ps) e k z _ (is_too_wide q h) = let a = one_definition e q in cc
+  keeps_all (product ps) e k z _ (is_too_narrow q h i) = let a = one_definition e q in cc
+  keeps_all (product ps) e k z _ (is_zst_sequence q h i) = let a = one_definition e q in cc
+  keeps_all (product ps) e k z _ (is_wide_choice q h) = let a = one_definition e q in cc
   keeps_all (choice w vs) e k z _ (is_empty q h) = let a = one_definition e q in cc
   keeps_all (choice w vs) e k z _ (is_not_power q h) = let a = one_definition e q in cc
   keeps_all (choice w vs) e k z _ (is_too_wide q h) = let a = one_definition e q in cc
@@ -89,7 +89,7 @@ module _ (C : List ℕ → Option Shape) where
   keeps_all (sequence w lo hi el) e k z _ (is_not_power q h) = let s = seq_parts (one_definition e q) in omega (arith, s.0, h, k.1)
   keeps_all (sequence w lo hi el) e k z _ (is_too_wide q h) = let s = seq_parts (one_definition e q) in omega (arith, s.0, h, k.1)
   keeps_all (sequence w lo hi el) e k z _ (is_too_narrow {w = v} {hi = hj} q h i) = let s = seq_parts (one_definition e q) in width_keeps w hi k.1 (subst (λ n. BreaksWidth tag_too_narrow n hi) (sym s.0) (subst (λ n. BreaksWidth tag_too_narrow v n) (sym s.2) (not_narrow v hj h i)))
-  keeps_all (sequence w lo hi el) e k z _ (is_zst_sequence {w = v} {lo = mo} {hi = hj} {e = f} q h i) = let s = seq_parts (one_definition e q) in z el (element_is w lo hi el (λ g. h (sym s.0 ∙ g.0, sym s.1 ∙ g.1 ∙ s.2))) (subst (λ y. Zero C y) (sym s.3) i)
+  keeps_all (sequence w lo hi el) e k z _ (is_zst_sequence {w = v} {lo = mo} {hi = hj} {e = f} q h i) = let s = seq_parts (one_definition e q) in z el (element_is w lo hi el (λ g. h (sym s.0 ∙ g.0, sym s.1 ∙ g.1 ∙ s.2))) (subst (λ y. IsZeroSize C y) (sym s.3) i)
   keeps_all (sequence w lo hi el) e k z _ (is_wide_choice q h) = let a = one_definition e q in cc
 
   -- the error of a reached name that breaks the rule
@@ -103,8 +103,8 @@ module _ (C : List ℕ → Option Shape) where
   rules_fault root x r OutOfMemory h l b = tt
 
 -- the element that is checked is mentioned
-pub checked_mentioned : (d : Shape) (e : List ℕ) → checked_element d ≡ Some e → Among e (mentions d)
+pub checked_mentioned : (d : Shape) (e : List ℕ) → checked_element d ≡ Some e → IsIn e (references d)
 checked_mentioned (primitive n) e h = cc
-checked_mentioned (sequence w lo hi el) e h = let k = element_fixed w lo hi el e h in subst (λ y. Among e (y ∷ [])) (sym k.0) first
-checked_mentioned (parts ps) e h = cc
+checked_mentioned (sequence w lo hi el) e h = let k = element_fixed w lo hi el e h in subst (λ y. IsIn e (y ∷ [])) (sym k.0) first
+checked_mentioned (product ps) e h = cc
 checked_mentioned (choice w vs) e h = cc

@@ -3,7 +3,7 @@ use Rattle.std.proofs.Common.{◌≡◌, ℕ, suc, zero, ◌+◌, ◌≤◌, Lis
 use Rattle.std.specs.Prelude.{Option, String}
 use Rattle.std.specs.BTreeMap.{BTreeMap, get_by_text}
 use Rattle.borsh_walks.specs.declared.definition.Definition.{Definition}
-use Rattle.borsh_walks.specs.Container.{Shape, Among, first, later, needs, PlainSize, sized, PlainSizes, no_sizes, more_sizes, total, Leads, stays, onward, Needed, NeededBack}
+use Rattle.borsh_walks.specs.Container.{Shape, IsIn, first, later, size_references, MaxSize, sized, MaxSizes, no_sizes, more_sizes, size_from_parts, Reaches, stays, onward, SizeReaches, IsRecursive}
 use Rattle.borsh_walks.specs.Definitions.{definitions_in}
 use Rattle.borsh_walks.specs.SizeAnswer.{Distinct, distinct_none, distinct_more, HasSize}
 use Rattle.borsh_walks.proofs.Names.{distinct_within, key_names, found_among, shape_some}
@@ -15,30 +15,30 @@ defined (Some d) f = (d, refl)
 module _ (C : List ℕ → Option Shape) where
   -- z leads to x by one or more mentions
   abbrev LeadsBelow : List ℕ → List ℕ → Type 0
-  LeadsBelow z x = (y : List ℕ) × (d : Shape) × Leads C needs z y × (C y ≡ Some d) × Among x (needs d)
+  LeadsBelow z x = (y : List ℕ) × (d : Shape) × Reaches C size_references z y × (C y ≡ Some d) × IsIn x (size_references d)
 
-  below_part : {x p z : List ℕ} {way : List (List ℕ)} (d : Shape) → C x ≡ Some d → Among p (needs d) → ((y : List ℕ) → Among y way → LeadsBelow y x) → Among z (x ∷ way) → LeadsBelow z p
+  below_part : {x p z : List ℕ} {way : List (List ℕ)} (d : Shape) → C x ≡ Some d → IsIn p (size_references d) → ((y : List ℕ) → IsIn y way → LeadsBelow y x) → IsIn z (x ∷ way) → LeadsBelow z p
   below_part {x = x} d e a f first = (x, d, stays, e, a)
   below_part {x = x} d e a f (later b) = let l = f _ b in (x, d, onward l.1 l.2 l.3 l.4, e, a)
 
-  sizes_of_parts : (ps : List (List ℕ)) → ((p : List ℕ) → Among p ps → (n : ℕ) × PlainSize C p n) → (ns : List ℕ) × PlainSizes C ps ns
+  sizes_of_parts : (ps : List (List ℕ)) → ((p : List ℕ) → IsIn p ps → (n : ℕ) × MaxSize C p n) → (ns : List ℕ) × MaxSizes C ps ns
   sizes_of_parts [] f = ([], no_sizes)
   sizes_of_parts (p ∷ ps) f =
       let s = f p first in
       let r = sizes_of_parts ps (λ q a. f q (later a)) in
       (s.0 ∷ r.0, more_sizes s.1 r.1)
 
-  also_within : {x z : List ℕ} {way all : List (List ℕ)} → Among x all → ((y : List ℕ) → Among y way → Among y all) → Among z (x ∷ way) → Among z all
+  also_within : {x z : List ℕ} {way all : List (List ℕ)} → IsIn x all → ((y : List ℕ) → IsIn y way → IsIn y all) → IsIn z (x ∷ way) → IsIn z all
   also_within a f first = a
   also_within a f (later b) = f _ b
 
-  module _ (root : List ℕ) (all : List (List ℕ)) (is_all : (x : List ℕ) (d : Shape) → C x ≡ Some d → Among x all) (missing : (x : List ℕ) → Needed C root x → C x ≡ None → ⊥) (back : NeededBack C root → ⊥) where
+  module _ (root : List ℕ) (all : List (List ℕ)) (is_all : (x : List ℕ) (d : Shape) → C x ≡ Some d → IsIn x all) (missing : (x : List ℕ) → SizeReaches C root x → C x ≡ None → ⊥) (back : IsRecursive C root → ⊥) where
     -- a name that the names of the way lead to isn't among them
-    longer : {way : List (List ℕ)} {x : List ℕ} → Distinct way → ((z : List ℕ) → Among z way → LeadsBelow z x) → Needed C root x → Distinct (x ∷ way)
+    longer : {way : List (List ℕ)} {x : List ℕ} → Distinct way → ((z : List ℕ) → IsIn z way → LeadsBelow z x) → SizeReaches C root x → Distinct (x ∷ way)
     longer {x = x} distinct below needed = distinct_more (λ a. back (x, needed, below x a)) distinct
 
     -- below a way of names that lead to x; `left` bounds the names that are not on it
-    size_below_way : (left : ℕ) (way : List (List ℕ)) (x : List ℕ) → Distinct way → ((z : List ℕ) → Among z way → Among z all) → ((z : List ℕ) → Among z way → LeadsBelow z x) → Needed C root x → length all ≤ left + length way → (n : ℕ) × PlainSize C x n
+    size_below_way : (left : ℕ) (way : List (List ℕ)) (x : List ℕ) → Distinct way → ((z : List ℕ) → IsIn z way → IsIn z all) → ((z : List ℕ) → IsIn z way → LeadsBelow z x) → SizeReaches C root x → length all ≤ left + length way → (n : ℕ) × MaxSize C x n
     size_below_way zero way x distinct within below needed room =
         let d = defined (C x) (missing x needed) in
         let few = distinct_within (x ∷ way) all (longer distinct below needed) (λ z a. also_within (is_all x d.0 d.1) within a) in
@@ -46,10 +46,10 @@ module _ (C : List ℕ → Option Shape) where
     size_below_way (suc left) way x distinct within below needed room =
         let d = defined (C x) (missing x needed) in
         let here = is_all x d.0 d.1 in
-        let parts = sizes_of_parts (needs d.0) (λ p a. size_below_way left (x ∷ way) p (longer distinct below needed) (λ z b. also_within here within b) (λ z b. below_part d.0 d.1 a below b) (onward d.0 needed d.1 a) (omega (arith, room))) in
-        (total d.0 parts.0, sized d.0 d.1 parts.1)
+        let parts = sizes_of_parts (size_references d.0) (λ p a. size_below_way left (x ∷ way) p (longer distinct below needed) (λ z b. also_within here within b) (λ z b. below_part d.0 d.1 a below b) (onward d.0 needed d.1 a) (omega (arith, room))) in
+        (size_from_parts d.0 parts.0, sized d.0 d.1 parts.1)
 
-    pub size_stands : (n : ℕ) × PlainSize C root n
+    pub size_stands : (n : ℕ) × MaxSize C root n
     size_stands = size_below_way (length all) [] root distinct_none (λ z a. elim a [ ]) (λ z a. elim a [ ]) stays (omega arith)
 
 -- over the finitely many definitions of a map

@@ -1,11 +1,11 @@
 -- The walk for a size: what its loop keeps, and each of its steps.
 use Rattle.std.proofs.Common.{◌≡◌, ℕ, suc, zero, ◌+◌, ◌*◌, ◌<◌, ◌≤◌, List, [], ◌∷◌, ◌++◌, length, replicate, take, drop, take-append-drop, Some, None, refl, sym, ◌∙◌, ap, subst, arith, inl, inr}
 use Rattle.std.specs.Prelude.{Option, max, slice_get, ⊤}
-use Rattle.borsh_walks.specs.Container.{Shape, primitive, sequence, parts, choice, Among, first, later, needs, sum_of, greatest, total, PlainSize, sized, PlainSizes, no_sizes, more_sizes, PartialSize, left_out, taken, PartialSizes, no_partial, more_partial, Leads, stays, onward, Needed, NeededBack}
+use Rattle.borsh_walks.specs.Container.{Shape, primitive, sequence, product, choice, IsIn, first, later, size_references, sum_of, greatest, size_from_parts, MaxSize, sized, MaxSizes, no_sizes, more_sizes, PartialSize, left_out, taken, PartialSizes, no_partial, more_partial, Reaches, stays, onward, SizeReaches, IsRecursive}
 use Rattle.borsh_walks.specs.Definitions.{spot_shape}
-use Rattle.borsh_walks.specs.SizeParts.{gathered_of, gathered_with, finished}
-use Rattle.borsh_walks.specs.SizeAnswer.{Distinct, distinct_none, distinct_more, AreNeeded}
-use Rattle.borsh_walks.specs.Tables.{IsDefined, Marks}
+use Rattle.borsh_walks.specs.SizeParts.{partial_size, add_part, size_of_parts}
+use Rattle.borsh_walks.specs.SizeAnswer.{Distinct, distinct_none, distinct_more, AreSizeReached}
+use Rattle.borsh_walks.specs.Tables.{IsDefined, Visited}
 use Rattle.borsh_walks.specs.declared.sizes.Frame.{Frame}
 use Rattle.borsh_walks.specs.declared.sizes.Mark.{Mark}
 use Rattle.borsh_walks.specs.declared.sizes.Mark.TheVariants.{Open, Finished}
@@ -30,10 +30,10 @@ abbrev pub gathered_more : Frame → ℕ → Frame
 gathered_more f n = record { spot = moved f.spot; gathered = n }
 
 -- ---- sizes one after another
-pub total_is : (d : Shape) (ns : List ℕ) → total d ns ≡ finished d (gathered_of d ns)
+pub total_is : (d : Shape) (ns : List ℕ) → size_from_parts d ns ≡ size_of_parts d (partial_size d ns)
 total_is (primitive n) ns = refl
 total_is (sequence w lo hi e) ns = refl
-total_is (parts ps) ns = refl
+total_is (product ps) ns = refl
 total_is (choice w vs) ns = refl
 
 sum-more : (ns : List ℕ) (n : ℕ) → sum_of (ns ++ n ∷ []) ≡ sum_of ns + n
@@ -44,10 +44,10 @@ greatest-more : (ns : List ℕ) (n : ℕ) → greatest (ns ++ n ∷ []) ≡ max 
 greatest-more [] n = omega arith
 greatest-more (m ∷ ns) n = let h = greatest-more ns n in omega arith
 
-pub gathered-one_more : (d : Shape) (ns : List ℕ) (n : ℕ) → gathered_of d (ns ++ n ∷ []) ≡ gathered_with d (gathered_of d ns) n
+pub gathered-one_more : (d : Shape) (ns : List ℕ) (n : ℕ) → partial_size d (ns ++ n ∷ []) ≡ add_part d (partial_size d ns) n
 gathered-one_more (primitive k) ns n = sum-more ns n
 gathered-one_more (sequence w lo hi e) ns n = sum-more ns n
-gathered-one_more (parts ps) ns n = sum-more ns n
+gathered-one_more (product ps) ns n = sum-more ns n
 gathered-one_more (choice w vs) ns n = greatest-more ns n
 
 sum-zeros : (ns : List ℕ) (k : ℕ) → sum_of (ns ++ replicate k 0) ≡ sum_of ns
@@ -65,28 +65,28 @@ sum-le-times : (hi s : ℕ) → 0 < hi → s ≤ hi * s
 sum-le-times zero s h = absurd (omega arith)
 sum-le-times (suc hi) s h = omega arith
 
-pub gathered-le_total : (d : Shape) {p : List ℕ} (ns : List ℕ) → Among p (needs d) → gathered_of d ns ≤ total d ns
+pub gathered-le_total : (d : Shape) {p : List ℕ} (ns : List ℕ) → IsIn p (size_references d) → partial_size d ns ≤ size_from_parts d ns
 gathered-le_total (primitive k) ns a = elim a [ ]
 gathered-le_total (sequence w lo zero e) ns a = elim a [ ]
 gathered-le_total (sequence w lo (suc hi) e) ns a = let h = sum-le-times (suc hi) (sum_of ns) (omega arith) in omega arith
-gathered-le_total (parts ps) ns a = omega arith
+gathered-le_total (product ps) ns a = omega arith
 gathered-le_total (choice w vs) ns a = omega arith
 
-pub gathered-zeros : (d : Shape) (ns : List ℕ) (k : ℕ) → gathered_of d (ns ++ replicate k 0) ≡ gathered_of d ns
+pub gathered-zeros : (d : Shape) (ns : List ℕ) (k : ℕ) → partial_size d (ns ++ replicate k 0) ≡ partial_size d ns
 gathered-zeros (primitive n) ns k = sum-zeros ns k
 gathered-zeros (sequence w lo hi e) ns k = sum-zeros ns k
-gathered-zeros (parts ps) ns k = sum-zeros ns k
+gathered-zeros (product ps) ns k = sum-zeros ns k
 gathered-zeros (choice w vs) ns k = greatest-zeros ns k
 
-pub gathered-none : (d : Shape) → gathered_of d [] ≡ 0
+pub gathered-none : (d : Shape) → partial_size d [] ≡ 0
 gathered-none (primitive n) = refl
 gathered-none (sequence w lo hi e) = refl
-gathered-none (parts ps) = refl
+gathered-none (product ps) = refl
 gathered-none (choice w vs) = refl
 
 -- ---- the walk
 module _ (C : List ℕ → Option Shape) where
-  sizes_snoc : {ps : List (List ℕ)} {ns : List ℕ} {p : List ℕ} {n : ℕ} → PlainSizes C ps ns → PlainSize C p n → PlainSizes C (ps ++ p ∷ []) (ns ++ n ∷ [])
+  sizes_snoc : {ps : List (List ℕ)} {ns : List ℕ} {p : List ℕ} {n : ℕ} → MaxSizes C ps ns → MaxSize C p n → MaxSizes C (ps ++ p ∷ []) (ns ++ n ∷ [])
   sizes_snoc no_sizes s = more_sizes s no_sizes
   sizes_snoc (more_sizes t ts) s = more_sizes t (sizes_snoc ts s)
 
@@ -105,36 +105,36 @@ module _ (C : List ℕ → Option Shape) where
   -- what the settled parts of a frame make
   pub record Made (f : Frame) : Type 0 where
     pub sizes : List ℕ
-    pub are : PlainSizes C (take f.spot.next (needs (shape f))) sizes
-    pub made : f.gathered ≡ gathered_of (shape f) sizes
+    pub are : MaxSizes C (take f.spot.next (size_references (shape f))) sizes
+    pub made : f.gathered ≡ partial_size (shape f) sizes
 
   abbrev pub AllMade : List Frame → Type 0
   AllMade [] = ⊤
   AllMade (f ∷ fs) = Made f × AllMade fs
 
   made_none : {f : Frame} → f.spot.next ≡ 0 → f.gathered ≡ 0 → Made f
-  made_none {f} next made = record { sizes = []; are = subst (λ i. PlainSizes C (take i (needs (shape f))) []) (sym next) no_sizes; made = made ∙ sym (gathered-none (shape f)) }
+  made_none {f} next made = record { sizes = []; are = subst (λ i. MaxSizes C (take i (size_references (shape f))) []) (sym next) no_sizes; made = made ∙ sym (gathered-none (shape f)) }
 
-  needed_finished : {U : List ℕ → Option Mark} (root : List ℕ) → IsFinished U root → ((x : List ℕ) (n : ℕ) (d : Shape) → U x ≡ Some (Finished n) → C x ≡ Some d → (y : List ℕ) → Among y (needs d) → IsFinished U y) → {x : List ℕ} → Needed C root x → IsFinished U x
+  needed_finished : {U : List ℕ → Option Mark} (root : List ℕ) → IsFinished U root → ((x : List ℕ) (n : ℕ) (d : Shape) → U x ≡ Some (Finished n) → C x ≡ Some d → (y : List ℕ) → IsIn y (size_references d) → IsFinished U y) → {x : List ℕ} → SizeReaches C root x → IsFinished U x
   needed_finished root r closed stays = r
   needed_finished root r closed (onward {y = y} {z = z} d l p a) = let k = needed_finished root r closed l in closed y k.0 d k.1 p z a
 
-  lead_trans : {x y z : List ℕ} → Leads C needs x y → Leads C needs y z → Leads C needs x z
+  lead_trans : {x y z : List ℕ} → Reaches C size_references x y → Reaches C size_references y z → Reaches C size_references x z
   lead_trans l stays = l
   lead_trans l (onward d m p a) = onward d (lead_trans l m) p a
 
   -- the finished parts of a frame do not lead back to the way
-  frame_apart : {f : Frame} (m : Made f) (way : List (List ℕ)) → C f.spot.name.now ≡ Some (shape f) → ((z : List ℕ) → Among z (f.spot.name.now ∷ way) → Leads C needs z f.spot.name.now) → (y : List ℕ) → Among y (take f.spot.next (needs (shape f))) → (z : List ℕ) → Leads C needs y z → Among z (f.spot.name.now ∷ way) → ⊥
+  frame_apart : {f : Frame} (m : Made f) (way : List (List ℕ)) → C f.spot.name.now ≡ Some (shape f) → ((z : List ℕ) → IsIn z (f.spot.name.now ∷ way) → Reaches C size_references z f.spot.name.now) → (y : List ℕ) → IsIn y (take f.spot.next (size_references (shape f))) → (z : List ℕ) → Reaches C size_references y z → IsIn z (f.spot.name.now ∷ way) → ⊥
   frame_apart {f} m way defined ups y a z l b =
       let s = sizes_among C a m.are in
-      let in_needs = subst (λ l. Among y l) (take-append-drop f.spot.next (needs (shape f))) (among_left (take f.spot.next (needs (shape f))) (drop f.spot.next (needs (shape f))) a) in
+      let in_needs = subst (λ l. IsIn y l) (take-append-drop f.spot.next (size_references (shape f))) (among_left (take f.spot.next (size_references (shape f))) (drop f.spot.next (size_references (shape f))) a) in
       no_cycle C s.1 (f.spot.name.now, shape f, lead_trans l (ups z b), defined, in_needs)
 
   -- a partial size of a frame's name, from one of its next part
-  frame_partial : {f : Frame} (m : Made f) (limit : ℕ) (way : List (List ℕ)) (p : List ℕ) (k : ℕ) → C f.spot.name.now ≡ Some (shape f) → ((z : List ℕ) → Among z (f.spot.name.now ∷ way) → Leads C needs z f.spot.name.now) → (Among f.spot.name.now way → ⊥) → slice_get (needs (shape f)) f.spot.next ≡ Some p → PartialSize C (f.spot.name.now ∷ way) p k → limit ≤ gathered_of (shape f) (m.sizes ++ k ∷ []) → (n : ℕ) × PartialSize C way f.spot.name.now n × (limit ≤ n)
+  frame_partial : {f : Frame} (m : Made f) (limit : ℕ) (way : List (List ℕ)) (p : List ℕ) (k : ℕ) → C f.spot.name.now ≡ Some (shape f) → ((z : List ℕ) → IsIn z (f.spot.name.now ∷ way) → Reaches C size_references z f.spot.name.now) → (IsIn f.spot.name.now way → ⊥) → slice_get (size_references (shape f)) f.spot.next ≡ Some p → PartialSize C (f.spot.name.now ∷ way) p k → limit ≤ partial_size (shape f) (m.sizes ++ k ∷ []) → (n : ℕ) × PartialSize C way f.spot.name.now n × (limit ≤ n)
   frame_partial {f} m limit way p k defined ups far e s low =
       let i = f.spot.next in
-      let ps = needs (shape f) in
+      let ps = size_references (shape f) in
       let rest = drop (i + 1) ps in
       let ns = (m.sizes ++ k ∷ []) ++ replicate (length rest) 0 in
       let whole : ps ≡ (take i ps ++ p ∷ []) ++ rest = sym (take-append-drop (i + 1) ps) ∙ ap (λ u. u ++ rest) (take_more ps i e) in
@@ -142,49 +142,49 @@ module _ (C : List ℕ → Option Shape) where
       let all = partial_append (partial_append front (more_partial s no_partial)) (partial_zeros (f.spot.name.now ∷ way) rest) in
       let large = gathered-le_total (shape f) ns (among_get ps i e) in
       let same = gathered-zeros (shape f) (m.sizes ++ k ∷ []) (length rest) in
-      (total (shape f) ns, taken (shape f) far defined (subst (λ u. PartialSizes C (f.spot.name.now ∷ way) u ns) (sym whole) all), omega (arith, large, same, low))
+      (size_from_parts (shape f) ns, taken (shape f) far defined (subst (λ u. PartialSizes C (f.spot.name.now ∷ way) u ns) (sym whole) all), omega (arith, large, same, low))
 
-  part_large : (d : Shape) (ms : List ℕ) (k : ℕ) → k ≤ gathered_of d (ms ++ k ∷ [])
+  part_large : (d : Shape) (ms : List ℕ) (k : ℕ) → k ≤ partial_size d (ms ++ k ∷ [])
   part_large (primitive n) ms k = rw sum-more (omega arith)
   part_large (sequence w lo hi e) ms k = rw sum-more (omega arith)
-  part_large (parts ps) ms k = rw sum-more (omega arith)
+  part_large (product ps) ms k = rw sum-more (omega arith)
   part_large (choice w vs) ms k = rw greatest-more (omega arith)
 
-  far_from : {x : List ℕ} {xs : List (List ℕ)} → Distinct (x ∷ xs) → (Among x xs → ⊥) × Distinct xs
+  far_from : {x : List ℕ} {xs : List (List ℕ)} → Distinct (x ∷ xs) → (IsIn x xs → ⊥) × Distinct xs
   far_from (distinct_more n d) = (n, d)
 
   -- a partial size of the end lifts to one of the root
-  lifted : (S : List ℕ → Type 0) {root : List ℕ} (y : List ℕ) (limit : ℕ) (fs : List Frame) → Chain C needs S root (spots_of fs) y → AllMade fs → Distinct (names_of (spots_of fs)) → ((k : ℕ) × PartialSize C (names_of (spots_of fs)) y k × (limit ≤ k)) → (k : ℕ) × PartialSize C [] root k × (limit ≤ k)
+  lifted : (S : List ℕ → Type 0) {root : List ℕ} (y : List ℕ) (limit : ℕ) (fs : List Frame) → Chain C size_references S root (spots_of fs) y → AllMade fs → Distinct (names_of (spots_of fs)) → ((k : ℕ) × PartialSize C (names_of (spots_of fs)) y k × (limit ≤ k)) → (k : ℕ) × PartialSize C [] root k × (limit ≤ k)
   lifted S y limit [] c m apart s = (s.0, subst (λ z. PartialSize C [] z s.0) (sym c) s.1, s.2)
   lifted S y limit (f ∷ fs) c m apart s =
       let large = part_large (shape f) m.0.sizes s.0 in
       let far = far_from apart in
-      lifted S f.spot.name.now limit fs c.2 m.1 far.1 (frame_partial m.0 limit (names_of (spots_of fs)) y s.0 c.0.defined (λ z a. (path_leads C needs S (spots_of fs) c.2 a).1) far.0 c.1 s.1 (omega (arith, large, s.2)))
+      lifted S f.spot.name.now limit fs c.2 m.1 far.1 (frame_partial m.0 limit (names_of (spots_of fs)) y s.0 c.0.defined (λ z a. (path_leads C size_references S (spots_of fs) c.2 a).1) far.0 c.1 s.1 (omega (arith, large, s.2)))
 
   -- ---- what the loop keeps: T marks the names, fs is the way down and f its last frame, L the names looked at
   pub record State (root : List ℕ) (T : List ℕ → Option Mark) (fs : List Frame) (f : Frame) (L : List (List ℕ)) : Type 0 where
-    pub chain : Chain C needs (IsFinished T) root (spots_of fs) f.spot.name.now
-    pub ok : SpotOk C needs (IsFinished T) f.spot
+    pub chain : Chain C size_references (IsFinished T) root (spots_of fs) f.spot.name.now
+    pub ok : SpotOk C size_references (IsFinished T) f.spot
     pub made : AllMade (f ∷ fs)
     pub apart : Distinct (path_of f fs)
-    pub opened : (x : List ℕ) → Among x (path_of f fs) → T x ≡ Some Open
-    pub open_is : (x : List ℕ) → T x ≡ Some Open → Among x (path_of f fs)
-    pub size_is : (x : List ℕ) (n : ℕ) → T x ≡ Some (Finished n) → PlainSize C x n
-    pub closed : (x : List ℕ) (n : ℕ) (d : Shape) → T x ≡ Some (Finished n) → C x ≡ Some d → (y : List ℕ) → Among y (needs d) → IsFinished T y
-    pub marks : Marks (λ x. Needed C root x × IsDefined C x) T L
+    pub opened : (x : List ℕ) → IsIn x (path_of f fs) → T x ≡ Some Open
+    pub open_is : (x : List ℕ) → T x ≡ Some Open → IsIn x (path_of f fs)
+    pub size_is : (x : List ℕ) (n : ℕ) → T x ≡ Some (Finished n) → MaxSize C x n
+    pub closed : (x : List ℕ) (n : ℕ) (d : Shape) → T x ≡ Some (Finished n) → C x ≡ Some d → (y : List ℕ) → IsIn y (size_references d) → IsFinished T y
+    pub marks : Visited (λ x. SizeReaches C root x × IsDefined C x) T L
 
   -- the next part is finished
-  pub step_add : {root : List ℕ} {T : List ℕ → Option Mark} {fs : List Frame} {f : Frame} {L : List (List ℕ)} (p : List ℕ) (n m : ℕ) → State root T fs f L → slice_get (needs (shape f)) f.spot.next ≡ Some p → T p ≡ Some (Finished n) → m ≡ gathered_with (shape f) f.gathered n → State root T fs (gathered_more f m) L
+  pub step_add : {root : List ℕ} {T : List ℕ → Option Mark} {fs : List Frame} {f : Frame} {L : List (List ℕ)} (p : List ℕ) (n m : ℕ) → State root T fs f L → slice_get (size_references (shape f)) f.spot.next ≡ Some p → T p ≡ Some (Finished n) → m ≡ add_part (shape f) f.gathered n → State root T fs (gathered_more f m) L
   step_add {root} {T} {fs} {f} {L} p n m s e t made =
       let o = s.made.0 in
       record {
         chain = s.chain;
-        ok = spot_moved C needs s.ok e (n, t);
+        ok = spot_moved C size_references s.ok e (n, t);
         made = (
           record {
             sizes = o.sizes ++ n ∷ [];
-            are = subst (λ l. PlainSizes C l (o.sizes ++ n ∷ [])) (sym (take_more (needs (shape f)) f.spot.next e)) (sizes_snoc o.are (s.size_is p n t));
-            made = made ∙ ap (λ a. gathered_with (shape f) a n) o.made ∙ sym (gathered-one_more (shape f) o.sizes n);
+            are = subst (λ l. MaxSizes C l (o.sizes ++ n ∷ [])) (sym (take_more (size_references (shape f)) f.spot.next e)) (sizes_snoc o.are (s.size_is p n t));
+            made = made ∙ ap (λ a. add_part (shape f) a n) o.made ∙ sym (gathered-one_more (shape f) o.sizes n);
           },
           s.made.1,
         );
@@ -200,22 +200,22 @@ module _ (C : List ℕ → Option Shape) where
   updated_finished {T} {U} {p} u x n h =
       elim (name_cases x p) [ inl q ↦ (let a = u.here in let b = ap U q in cc) | inr q ↦ sym (u.others x q) ∙ h ]
 
-  push_opened : {T U : List ℕ → Option Mark} {p : List ℕ} {path : List (List ℕ)} → Updated T U p Open → T p ≡ None → ((x : List ℕ) → Among x path → T x ≡ Some Open) → (x : List ℕ) → Among x (p ∷ path) → U x ≡ Some Open
+  push_opened : {T U : List ℕ → Option Mark} {p : List ℕ} {path : List (List ℕ)} → Updated T U p Open → T p ≡ None → ((x : List ℕ) → IsIn x path → T x ≡ Some Open) → (x : List ℕ) → IsIn x (p ∷ path) → U x ≡ Some Open
   push_opened u t o x first = u.here
   push_opened {T} u t o x (later a) = u.others x (λ q. let b = ap T q in let c = o x a in cc) ∙ o x a
 
-  push_open_is : {T U : List ℕ → Option Mark} {p : List ℕ} {path : List (List ℕ)} → Updated T U p Open → ((x : List ℕ) → T x ≡ Some Open → Among x path) → (x : List ℕ) → U x ≡ Some Open → Among x (p ∷ path)
-  push_open_is {p = p} {path = path} u o x h = elim (name_cases x p) [ inl q ↦ subst (λ y. Among y (p ∷ path)) (sym q) first | inr q ↦ later (o x (sym (u.others x q) ∙ h)) ]
+  push_open_is : {T U : List ℕ → Option Mark} {p : List ℕ} {path : List (List ℕ)} → Updated T U p Open → ((x : List ℕ) → T x ≡ Some Open → IsIn x path) → (x : List ℕ) → U x ≡ Some Open → IsIn x (p ∷ path)
+  push_open_is {p = p} {path = path} u o x h = elim (name_cases x p) [ inl q ↦ subst (λ y. IsIn y (p ∷ path)) (sym q) first | inr q ↦ later (o x (sym (u.others x q) ∙ h)) ]
 
   -- the next part is new
-  pub step_push : {root : List ℕ} {T U : List ℕ → Option Mark} {fs : List Frame} {f g : Frame} {L : List (List ℕ)} → State root T fs f L → slice_get (needs (shape f)) f.spot.next ≡ Some g.spot.name.now → T g.spot.name.now ≡ None → C g.spot.name.now ≡ Some (shape g) → Updated T U g.spot.name.now Open → g.spot.next ≡ 0 → g.gathered ≡ 0 → State root U (f ∷ fs) g (g.spot.name.now ∷ L)
+  pub step_push : {root : List ℕ} {T U : List ℕ → Option Mark} {fs : List Frame} {f g : Frame} {L : List (List ℕ)} → State root T fs f L → slice_get (size_references (shape f)) f.spot.next ≡ Some g.spot.name.now → T g.spot.name.now ≡ None → C g.spot.name.now ≡ Some (shape g) → Updated T U g.spot.name.now Open → g.spot.next ≡ 0 → g.gathered ≡ 0 → State root U (f ∷ fs) g (g.spot.name.now ∷ L)
   step_push {root} {T} {U} {fs} {f} {g} {L} s e t c u next made =
       let p = g.spot.name.now in
       let keeps : (x : List ℕ) → IsFinished T x → IsFinished U x = λ x h. (h.0, u.others x (λ q. let a = h.1 in let b = ap T q in cc) ∙ h.1) in
-      let needed : Needed C root p = onward (shape f) (chain_leads C needs (IsFinished T) (spots_of fs) s.chain) s.ok.defined (among_get (needs (shape f)) f.spot.next e) in
+      let needed : SizeReaches C root p = onward (shape f) (chain_leads C size_references (IsFinished T) (spots_of fs) s.chain) s.ok.defined (among_get (size_references (shape f)) f.spot.next e) in
       record {
-        chain = (spot_kept C needs keeps s.ok, e, chain_kept C needs keeps root f.spot.name.now (spots_of fs) s.chain);
-        ok = spot_new C needs c next;
+        chain = (spot_kept C size_references keeps s.ok, e, chain_kept C size_references keeps root f.spot.name.now (spots_of fs) s.chain);
+        ok = spot_new C size_references c next;
         made = (made_none next made, s.made);
         apart = distinct_more (λ a. let b = s.opened p a in cc) s.apart;
         opened = λ x a. push_opened u t s.opened x a;
@@ -228,20 +228,20 @@ module _ (C : List ℕ → Option Shape) where
   -- the last name has all its parts
   pub record Whole (root : List ℕ) (T U : List ℕ → Option Mark) (L : List (List ℕ)) : Type 0 where
     pub keeps : (x : List ℕ) → IsFinished T x → IsFinished U x
-    pub size_is : (x : List ℕ) (n : ℕ) → U x ≡ Some (Finished n) → PlainSize C x n
-    pub closed : (x : List ℕ) (n : ℕ) (d : Shape) → U x ≡ Some (Finished n) → C x ≡ Some d → (y : List ℕ) → Among y (needs d) → IsFinished U y
-    pub marks : Marks (λ x. Needed C root x × IsDefined C x) U L
+    pub size_is : (x : List ℕ) (n : ℕ) → U x ≡ Some (Finished n) → MaxSize C x n
+    pub closed : (x : List ℕ) (n : ℕ) (d : Shape) → U x ≡ Some (Finished n) → C x ≡ Some d → (y : List ℕ) → IsIn y (size_references d) → IsFinished U y
+    pub marks : Visited (λ x. SizeReaches C root x × IsDefined C x) U L
 
-  frame_whole : {f : Frame} (m : Made f) → slice_get (needs (shape f)) f.spot.next ≡ None → PlainSizes C (needs (shape f)) m.sizes
-  frame_whole {f} m e = subst (λ l. PlainSizes C l m.sizes) (take_whole (needs (shape f)) f.spot.next e) m.are
+  frame_whole : {f : Frame} (m : Made f) → slice_get (size_references (shape f)) f.spot.next ≡ None → MaxSizes C (size_references (shape f)) m.sizes
+  frame_whole {f} m e = subst (λ l. MaxSizes C l m.sizes) (take_whole (size_references (shape f)) f.spot.next e) m.are
 
-  frame_total : {f : Frame} (m : Made f) → total (shape f) m.sizes ≡ finished (shape f) f.gathered
-  frame_total {f} m = total_is (shape f) m.sizes ∙ ap (λ g. finished (shape f) g) (sym m.made)
+  frame_total : {f : Frame} (m : Made f) → size_from_parts (shape f) m.sizes ≡ size_of_parts (shape f) f.gathered
+  frame_total {f} m = total_is (shape f) m.sizes ∙ ap (λ g. size_of_parts (shape f) g) (sym m.made)
 
-  frame_size : {f : Frame} (m : Made f) (n : ℕ) → C f.spot.name.now ≡ Some (shape f) → slice_get (needs (shape f)) f.spot.next ≡ None → n ≡ finished (shape f) f.gathered → PlainSize C f.spot.name.now n
-  frame_size {f} m n defined e q = subst (λ k. PlainSize C f.spot.name.now k) (frame_total m ∙ sym q) (sized (shape f) defined (frame_whole m e))
+  frame_size : {f : Frame} (m : Made f) (n : ℕ) → C f.spot.name.now ≡ Some (shape f) → slice_get (size_references (shape f)) f.spot.next ≡ None → n ≡ size_of_parts (shape f) f.gathered → MaxSize C f.spot.name.now n
+  frame_size {f} m n defined e q = subst (λ k. MaxSize C f.spot.name.now k) (frame_total m ∙ sym q) (sized (shape f) defined (frame_whole m e))
 
-  step_whole : {root : List ℕ} {T U : List ℕ → Option Mark} {fs : List Frame} {f : Frame} {L : List (List ℕ)} (n : ℕ) → State root T fs f L → slice_get (needs (shape f)) f.spot.next ≡ None → n ≡ finished (shape f) f.gathered → Updated T U f.spot.name.now (Finished n) → Whole root T U L
+  step_whole : {root : List ℕ} {T U : List ℕ → Option Mark} {fs : List Frame} {f : Frame} {L : List (List ℕ)} (n : ℕ) → State root T fs f L → slice_get (size_references (shape f)) f.spot.next ≡ None → n ≡ size_of_parts (shape f) f.gathered → Updated T U f.spot.name.now (Finished n) → Whole root T U L
   step_whole {root} {T} {U} {fs} {f} {L} n s e q u =
       let name = f.spot.name.now in
       let open_now : T name ≡ Some Open = s.opened name first in
@@ -249,25 +249,25 @@ module _ (C : List ℕ → Option Shape) where
       let size = frame_size s.made.0 n s.ok.defined e q in
       record {
         keeps = keeps;
-        size_is = λ x k h. elim (name_cases x name) [ inl r ↦ (let m : n ≡ k = (let a = u.here in let b = ap U r in cc) in subst (λ k. PlainSize C x k) m (subst (λ y. PlainSize C y n) (sym r) size)) | inr r ↦ s.size_is x k (sym (u.others x r) ∙ h) ];
+        size_is = λ x k h. elim (name_cases x name) [ inl r ↦ (let m : n ≡ k = (let a = u.here in let b = ap U r in cc) in subst (λ k. MaxSize C x k) m (subst (λ y. MaxSize C y n) (sym r) size)) | inr r ↦ s.size_is x k (sym (u.others x r) ∙ h) ];
         closed = λ x k d h p y a. elim (name_cases x name) [
-          | inl r ↦ (let same : d ≡ shape f = one_definition p (ap C r ∙ s.ok.defined) in keeps y (all_settled C needs s.ok e y (subst (λ c. Among y (needs c)) same a)))
+          | inl r ↦ (let same : d ≡ shape f = one_definition p (ap C r ∙ s.ok.defined) in keeps y (all_settled C size_references s.ok e y (subst (λ c. IsIn y (size_references c)) same a)))
           | inr r ↦ keeps y (s.closed x k d (sym (u.others x r) ∙ h) p y a)
         ];
         marks = marks_again s.marks u (s.marks.marked name Open open_now);
       }
 
   -- the name above goes on
-  pub step_pop : {root : List ℕ} {T U : List ℕ → Option Mark} {fs : List Frame} {f h : Frame} {L : List (List ℕ)} (n : ℕ) → State root T (h ∷ fs) f L → slice_get (needs (shape f)) f.spot.next ≡ None → n ≡ finished (shape f) f.gathered → Updated T U f.spot.name.now (Finished n) → State root U fs h L
+  pub step_pop : {root : List ℕ} {T U : List ℕ → Option Mark} {fs : List Frame} {f h : Frame} {L : List (List ℕ)} (n : ℕ) → State root T (h ∷ fs) f L → slice_get (size_references (shape f)) f.spot.next ≡ None → n ≡ size_of_parts (shape f) f.gathered → Updated T U f.spot.name.now (Finished n) → State root U fs h L
   step_pop {root} {T} {U} {fs} {f} {h} {L} n s e q u =
       let w = step_whole n s e q u in
       let far = far_from s.apart in
       record {
-        chain = chain_kept C needs w.keeps root h.spot.name.now (spots_of fs) s.chain.2;
-        ok = spot_kept C needs w.keeps s.chain.0;
+        chain = chain_kept C size_references w.keeps root h.spot.name.now (spots_of fs) s.chain.2;
+        ok = spot_kept C size_references w.keeps s.chain.0;
         made = s.made.1;
         apart = far.1;
-        opened = λ x a. u.others x (λ q. far.0 (subst (λ y. Among y (path_of h fs)) q a)) ∙ s.opened x (later a);
+        opened = λ x a. u.others x (λ q. far.0 (subst (λ y. IsIn y (path_of h fs)) q a)) ∙ s.opened x (later a);
         open_is = λ x a. elim (name_cases x f.spot.name.now) [ inl r ↦ (let b = u.here in let c = ap U r in cc) | inr r ↦ other_one r (s.open_is x (sym (u.others x r) ∙ a)) ];
         size_is = w.size_is;
         closed = w.closed;
@@ -275,39 +275,39 @@ module _ (C : List ℕ → Option Shape) where
       }
 
   -- the root is finished
-  pub step_end : {root : List ℕ} {T U : List ℕ → Option Mark} {f : Frame} {L : List (List ℕ)} (n : ℕ) → State root T [] f L → slice_get (needs (shape f)) f.spot.next ≡ None → n ≡ finished (shape f) f.gathered → Updated T U f.spot.name.now (Finished n) → PlainSize C root n × AreNeeded C root L
+  pub step_end : {root : List ℕ} {T U : List ℕ → Option Mark} {f : Frame} {L : List (List ℕ)} (n : ℕ) → State root T [] f L → slice_get (size_references (shape f)) f.spot.next ≡ None → n ≡ size_of_parts (shape f) f.gathered → Updated T U f.spot.name.now (Finished n) → MaxSize C root n × AreSizeReached C root L
   step_end {root} {T} {U} {f} {L} n s e q u =
       let w = step_whole n s e q u in
       let at_root : IsFinished U root = (n, ap U s.chain ∙ u.here) in
-      let all : (x : List ℕ) → Needed C root x → Among x L = λ x l. let k = needed_finished root at_root w.closed l in w.marks.marked x (Finished k.0) k.1 in
-      (subst (λ x. PlainSize C x n) (sym s.chain) (frame_size s.made.0 n s.ok.defined e q), (w.marks.distinct, λ x. ((λ a. (w.marks.looked x a).1.0), all x)))
+      let all : (x : List ℕ) → SizeReaches C root x → IsIn x L = λ x l. let k = needed_finished root at_root w.closed l in w.marks.marked x (Finished k.0) k.1 in
+      (subst (λ x. MaxSize C x n) (sym s.chain) (frame_size s.made.0 n s.ok.defined e q), (w.marks.distinct, λ x. ((λ a. (w.marks.looked x a).1.0), all x)))
 
   -- ---- the answers
-  pub fault_gather : {root : List ℕ} {T : List ℕ → Option Mark} {fs : List Frame} {f : Frame} {L : List (List ℕ)} (limit : ℕ) (p : List ℕ) (n : ℕ) → State root T fs f L → slice_get (needs (shape f)) f.spot.next ≡ Some p → T p ≡ Some (Finished n) → limit ≤ gathered_with (shape f) f.gathered n → (k : ℕ) × PartialSize C [] root k × (limit ≤ k)
+  pub fault_gather : {root : List ℕ} {T : List ℕ → Option Mark} {fs : List Frame} {f : Frame} {L : List (List ℕ)} (limit : ℕ) (p : List ℕ) (n : ℕ) → State root T fs f L → slice_get (size_references (shape f)) f.spot.next ≡ Some p → T p ≡ Some (Finished n) → limit ≤ add_part (shape f) f.gathered n → (k : ℕ) × PartialSize C [] root k × (limit ≤ k)
   fault_gather {root} {T} {fs} {f} limit p n s e t low =
       let m = s.made.0 in
       let far = far_from s.apart in
       let size = s.size_is p n t in
-      let back : (z : List ℕ) → Leads C needs p z → Among z (path_of f fs) → ⊥ = λ z l a. no_cycle C size (f.spot.name.now, shape f, lead_trans l (path_leads C needs (IsFinished T) (spots_of fs) s.chain a).1, s.ok.defined, among_get (needs (shape f)) f.spot.next e) in
-      let same : gathered_of (shape f) (m.sizes ++ n ∷ []) ≡ gathered_with (shape f) f.gathered n = gathered-one_more (shape f) m.sizes n ∙ ap (λ g. gathered_with (shape f) g n) (sym m.made) in
-      lifted (IsFinished T) f.spot.name.now limit fs s.chain s.made.1 far.1 (frame_partial m limit (names_of (spots_of fs)) p n s.ok.defined (λ z a. (path_leads C needs (IsFinished T) (spots_of fs) s.chain a).1) far.0 e (size_partial C (path_of f fs) size back) (omega (arith, same, low)))
+      let back : (z : List ℕ) → Reaches C size_references p z → IsIn z (path_of f fs) → ⊥ = λ z l a. no_cycle C size (f.spot.name.now, shape f, lead_trans l (path_leads C size_references (IsFinished T) (spots_of fs) s.chain a).1, s.ok.defined, among_get (size_references (shape f)) f.spot.next e) in
+      let same : partial_size (shape f) (m.sizes ++ n ∷ []) ≡ add_part (shape f) f.gathered n = gathered-one_more (shape f) m.sizes n ∙ ap (λ g. add_part (shape f) g n) (sym m.made) in
+      lifted (IsFinished T) f.spot.name.now limit fs s.chain s.made.1 far.1 (frame_partial m limit (names_of (spots_of fs)) p n s.ok.defined (λ z a. (path_leads C size_references (IsFinished T) (spots_of fs) s.chain a).1) far.0 e (size_partial C (path_of f fs) size back) (omega (arith, same, low)))
 
-  pub fault_finish : {root : List ℕ} {T : List ℕ → Option Mark} {fs : List Frame} {f : Frame} {L : List (List ℕ)} (limit : ℕ) → State root T fs f L → slice_get (needs (shape f)) f.spot.next ≡ None → limit ≤ finished (shape f) f.gathered → (k : ℕ) × PartialSize C [] root k × (limit ≤ k)
+  pub fault_finish : {root : List ℕ} {T : List ℕ → Option Mark} {fs : List Frame} {f : Frame} {L : List (List ℕ)} (limit : ℕ) → State root T fs f L → slice_get (size_references (shape f)) f.spot.next ≡ None → limit ≤ size_of_parts (shape f) f.gathered → (k : ℕ) × PartialSize C [] root k × (limit ≤ k)
   fault_finish {root} {T} {fs} {f} limit s e low =
       let m = s.made.0 in
       let far = far_from s.apart in
-      let ups : (z : List ℕ) → Among z (path_of f fs) → Leads C needs z f.spot.name.now = λ z a. (path_leads C needs (IsFinished T) (spots_of fs) s.chain a).1 in
-      let settled = take_whole (needs (shape f)) f.spot.next e in
-      let parts = subst (λ l. PartialSizes C (path_of f fs) l m.sizes) settled (sizes_partial C (path_of f fs) m.are (frame_apart m (names_of (spots_of fs)) s.ok.defined ups)) in
-      lifted (IsFinished T) f.spot.name.now limit fs s.chain s.made.1 far.1 (total (shape f) m.sizes, taken (shape f) far.0 s.ok.defined parts, omega (arith, frame_total m, low))
+      let ups : (z : List ℕ) → IsIn z (path_of f fs) → Reaches C size_references z f.spot.name.now = λ z a. (path_leads C size_references (IsFinished T) (spots_of fs) s.chain a).1 in
+      let settled = take_whole (size_references (shape f)) f.spot.next e in
+      let product = subst (λ l. PartialSizes C (path_of f fs) l m.sizes) settled (sizes_partial C (path_of f fs) m.are (frame_apart m (names_of (spots_of fs)) s.ok.defined ups)) in
+      lifted (IsFinished T) f.spot.name.now limit fs s.chain s.made.1 far.1 (size_from_parts (shape f) m.sizes, taken (shape f) far.0 s.ok.defined product, omega (arith, frame_total m, low))
 
-  pub part_needed : {root : List ℕ} {T : List ℕ → Option Mark} {fs : List Frame} {f : Frame} {L : List (List ℕ)} (p : List ℕ) → State root T fs f L → slice_get (needs (shape f)) f.spot.next ≡ Some p → Needed C root p
-  part_needed {T = T} {fs = fs} {f = f} p s e = onward (shape f) (chain_leads C needs (IsFinished T) (spots_of fs) s.chain) s.ok.defined (among_get (needs (shape f)) f.spot.next e)
+  pub part_needed : {root : List ℕ} {T : List ℕ → Option Mark} {fs : List Frame} {f : Frame} {L : List (List ℕ)} (p : List ℕ) → State root T fs f L → slice_get (size_references (shape f)) f.spot.next ≡ Some p → SizeReaches C root p
+  part_needed {T = T} {fs = fs} {f = f} p s e = onward (shape f) (chain_leads C size_references (IsFinished T) (spots_of fs) s.chain) s.ok.defined (among_get (size_references (shape f)) f.spot.next e)
 
-  pub fault_cycle : {root : List ℕ} {T : List ℕ → Option Mark} {fs : List Frame} {f : Frame} {L : List (List ℕ)} (p : List ℕ) → State root T fs f L → slice_get (needs (shape f)) f.spot.next ≡ Some p → T p ≡ Some Open → NeededBack C root
+  pub fault_cycle : {root : List ℕ} {T : List ℕ → Option Mark} {fs : List Frame} {f : Frame} {L : List (List ℕ)} (p : List ℕ) → State root T fs f L → slice_get (size_references (shape f)) f.spot.next ≡ Some p → T p ≡ Some Open → IsRecursive C root
   fault_cycle {T = T} {fs = fs} {f = f} p s e t =
-      let r = path_leads C needs (IsFinished T) (spots_of fs) s.chain (s.open_is p t) in
-      (p, r.0, (f.spot.name.now, shape f, r.1, s.ok.defined, among_get (needs (shape f)) f.spot.next e))
+      let r = path_leads C size_references (IsFinished T) (spots_of fs) s.chain (s.open_is p t) in
+      (p, r.0, (f.spot.name.now, shape f, r.1, s.ok.defined, among_get (size_references (shape f)) f.spot.next e))
 
   -- the walk begins at the root
   pub step_start : {T U : List ℕ → Option Mark} {f : Frame} → ((x : List ℕ) → T x ≡ None) → Updated T U f.spot.name.now Open → C f.spot.name.now ≡ Some (shape f) → f.spot.next ≡ 0 → f.gathered ≡ 0 → State f.spot.name.now U [] f (f.spot.name.now ∷ [])
@@ -315,7 +315,7 @@ module _ (C : List ℕ → Option Shape) where
       let no_finished : (x : List ℕ) (n : ℕ) → U x ≡ Some (Finished n) → ⊥ = λ x n h. let a = updated_finished u x n h in let b = empty x in cc in
       record {
         chain = refl;
-        ok = spot_new C needs c next;
+        ok = spot_new C size_references c next;
         made = (made_none next made, tt);
         apart = distinct_more (λ a. elim a [ ]) distinct_none;
         opened = λ x a. ap U (among_one a) ∙ u.here;

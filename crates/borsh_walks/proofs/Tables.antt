@@ -8,11 +8,11 @@ use Rattle.std.specs.Cmp.Lexicographic.{slice_cmp}
 use Rattle.std.specs.Ordering.{nat_cmp, is_eq}
 use Rattle.std.proofs.lemmas.Map.Text.{btree_map_updates_str}
 use Rattle.std.proofs.lemmas.Slice.Eq.{bytes_eq-Decides}
-use Rattle.borsh_walks.specs.Container.{Shape, Among, first, later}
+use Rattle.borsh_walks.specs.Container.{Shape, IsIn, first, later}
 use Rattle.borsh_walks.specs.Definitions.{definitions_in}
 use Rattle.borsh_walks.specs.declared.definition.Definition.{Definition}
 use Rattle.borsh_walks.specs.SizeAnswer.{Distinct, distinct_none, distinct_more}
-use Rattle.borsh_walks.specs.Tables.{mark_of, IsDefined, Marks}
+use Rattle.borsh_walks.specs.Tables.{mark_of, IsDefined, Visited}
 use Rattle.borsh_walks.proofs.Names.{name_cases, also_defined, names_within}
 
 -- p is marked m from now on, and no other name changed
@@ -61,40 +61,40 @@ no_items [] e = refl
 no_items (x ∷ xs) e = absurd (omega arith)
 
 -- ---- the names of a table
-module _ {M : Type 0} {K : List ℕ → Type 0} {T U : List ℕ → Option M} {p : List ℕ} {m : M} {L : List (List ℕ)} (s : Marks K T L) where
+module _ {M : Type 0} {K : List ℕ → Type 0} {T U : List ℕ → Option M} {p : List ℕ} {m : M} {L : List (List ℕ)} (s : Visited K T L) where
   -- p had no mark
-  pub marks_more : Updated T U p m → T p ≡ None → K p → Marks K U (p ∷ L)
+  pub marks_more : Updated T U p m → T p ≡ None → K p → Visited K U (p ∷ L)
   marks_more u none known = record {
     distinct = distinct_more (λ a. (s.looked p a).0 none) s.distinct;
-    marked = λ x k h. elim (name_cases x p) [ inl q ↦ subst (λ y. Among y (p ∷ L)) (sym q) first | inr q ↦ later (s.marked x k (sym (u.others x q) ∙ h)) ];
+    marked = λ x k h. elim (name_cases x p) [ inl q ↦ subst (λ y. IsIn y (p ∷ L)) (sym q) first | inr q ↦ later (s.marked x k (sym (u.others x q) ∙ h)) ];
     looked = λ x a. looked_more u known s.looked x a;
   }
     where
-      looked_more : {T U : List ℕ → Option M} {p : List ℕ} {m : M} {L : List (List ℕ)} → Updated T U p m → K p → ((x : List ℕ) → Among x L → (T x ≡ None → ⊥) × K x) → (x : List ℕ) → Among x (p ∷ L) → (U x ≡ None → ⊥) × K x
+      looked_more : {T U : List ℕ → Option M} {p : List ℕ} {m : M} {L : List (List ℕ)} → Updated T U p m → K p → ((x : List ℕ) → IsIn x L → (T x ≡ None → ⊥) × K x) → (x : List ℕ) → IsIn x (p ∷ L) → (U x ≡ None → ⊥) × K x
       looked_more u known o x first = ((λ h. let a = u.here in cc), known)
       looked_more u known o x (later a) = let k = o x a in (still u x k.0, k.1)
 
   -- p had one
-  pub marks_again : Updated T U p m → Among p L → Marks K U L
+  pub marks_again : Updated T U p m → IsIn p L → Visited K U L
   marks_again u a = record {
     distinct = s.distinct;
-    marked = λ x k h. elim (name_cases x p) [ inl q ↦ subst (λ y. Among y L) (sym q) a | inr q ↦ s.marked x k (sym (u.others x q) ∙ h) ];
+    marked = λ x k h. elim (name_cases x p) [ inl q ↦ subst (λ y. IsIn y L) (sym q) a | inr q ↦ s.marked x k (sym (u.others x q) ∙ h) ];
     looked = λ x b. let k = s.looked x b in (still u x k.0, k.1);
   }
 
-pub marks_start : {M : Type 0} {K : List ℕ → Type 0} {T : List ℕ → Option M} → ((x : List ℕ) → T x ≡ None) → Marks K T []
+pub marks_start : {M : Type 0} {K : List ℕ → Type 0} {T : List ℕ → Option M} → ((x : List ℕ) → T x ≡ None) → Visited K T []
 marks_start empty = record { distinct = distinct_none; marked = λ x m h. let n = empty x in cc; looked = λ x a. elim a [ ] }
 
 -- the names of a table are defined, also with one that is not marked yet
-module _ (C : List ℕ → Option Shape) {M : Type 0} {K : List ℕ → Type 0} {T : List ℕ → Option M} {L : List (List ℕ)} (known : (x : List ℕ) → K x → IsDefined C x) (s : Marks K T L) where
-  pub all_defined : (x : List ℕ) → Among x L → IsDefined C x
+module _ (C : List ℕ → Option Shape) {M : Type 0} {K : List ℕ → Type 0} {T : List ℕ → Option M} {L : List (List ℕ)} (known : (x : List ℕ) → K x → IsDefined C x) (s : Visited K T L) where
+  pub all_defined : (x : List ℕ) → IsIn x L → IsDefined C x
   all_defined x a = known x (s.looked x a).1
 
-  pub more_names : {p : List ℕ} {d : Shape} → T p ≡ None → C p ≡ Some d → Distinct (p ∷ L) × ((x : List ℕ) → Among x (p ∷ L) → IsDefined C x)
+  pub more_names : {p : List ℕ} {d : Shape} → T p ≡ None → C p ≡ Some d → Distinct (p ∷ L) × ((x : List ℕ) → IsIn x (p ∷ L) → IsDefined C x)
   more_names {p} {d} none e = (distinct_more (λ a. (s.looked p a).0 none) s.distinct, also_defined C d e all_defined)
 
 -- and so they are at most as many as the definitions
-module _ {A : Type 0} (m : BTreeMap (String A) Definition) {M : Type 0} {K : List ℕ → Type 0} {T : List ℕ → Option M} {L : List (List ℕ)} (known : (x : List ℕ) → K x → IsDefined (definitions_in m) x) (s : Marks K T L) where
+module _ {A : Type 0} (m : BTreeMap (String A) Definition) {M : Type 0} {K : List ℕ → Type 0} {T : List ℕ → Option M} {L : List (List ℕ)} (known : (x : List ℕ) → K x → IsDefined (definitions_in m) x) (s : Visited K T L) where
   pub few_names : length L ≤ btree_map_len m
   few_names = names_within m L s.distinct (all_defined (definitions_in m) known s)
 

@@ -37,12 +37,12 @@ abbrev pub LooksOn : Counted → Counted → Type 0
 LooksOn old new = (new.map ≡ old.map) × (new.counts.ghost_name ≡ old.counts.ghost_name)
 
 -- n raised by k; a count at its greatest value stays
-abbrev pub raised : ℕ → ℕ → ℕ
-raised n zero = n
-raised n (suc k) = min (n + suc k) 18446744073709551615
+abbrev pub add_saturating : ℕ → ℕ → ℕ
+add_saturating n zero = n
+add_saturating n (suc k) = min (n + suc k) 18446744073709551615
 
 -- the counts with that of the question raised by k
-abbrev pub raised_for : Question → ℕ → Expansions → Expansions
-raised_for Size k e = record e { size = raised e.size k }
-raised_for Zero k e = record e { zero = raised e.zero k }
-raised_for Rules k e = record e { rules = raised e.rules k }
+abbrev pub add_to : Question → ℕ → Expansions → Expansions
+add_to Size k e = record e { size = add_saturating e.size k }
+add_to Zero k e = record e { zero = add_saturating e.zero k }
+add_to Rules k e = record e { rules = add_saturating e.rules k }

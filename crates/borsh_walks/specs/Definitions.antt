@@ -6,7 +6,7 @@ use Rattle.borsh_walks.specs.declared.definition.Definition.TheVariants.{Primiti
 use Rattle.borsh_walks.specs.declared.definition.Fields.{Fields}
 use Rattle.borsh_walks.specs.declared.definition.Fields.TheVariants.{NamedFields, UnnamedFields, Empty}
 use Rattle.borsh_walks.specs.declared.way.Spot.{Spot}
-use Rattle.borsh_walks.specs.Container.{Shape, primitive, sequence, parts, choice}
+use Rattle.borsh_walks.specs.Container.{Shape, primitive, sequence, product, choice}
 
 -- the names of the fields' types, in order
 abbrev pub names_of_fields : Fields → List (List ℕ)
@@ -18,9 +18,9 @@ names_of_fields Empty = []
 abbrev pub shape_of : Definition → Shape
 shape_of (Primitive n) = primitive n
 shape_of (Sequence w r e) = sequence w r.start r.end (string_bytes e)
-shape_of (Tuple es) = parts (map (λ e. string_bytes e) es.items)
+shape_of (Tuple es) = product (map (λ e. string_bytes e) es.items)
 shape_of (Enum w vs) = choice w (map (λ v. (v.0, string_bytes v.2)) vs.items)
-shape_of (Struct fs) = parts (names_of_fields fs)
+shape_of (Struct fs) = product (names_of_fields fs)
 
 abbrev pub spot_shape : Spot → Shape
 spot_shape f = shape_of f.definition.now

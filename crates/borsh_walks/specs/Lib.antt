@@ -6,6 +6,7 @@ pub mod Errors
 pub mod Tables
 pub mod SizeParts
 pub mod SizeAnswer
+pub mod SizeOutcome
 pub mod ZeroAnswer
 pub mod RulesAnswer
 pub mod RulesState

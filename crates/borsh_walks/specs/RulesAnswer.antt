@@ -7,7 +7,7 @@ use Rattle.borsh_walks.specs.declared.rules.Broken.{Broken}
 use Rattle.borsh_walks.specs.declared.rules.Broken.TheVariants.{ZeroSized, Wide, Narrow, NotPowerOfTwo, Missing, EmptyRange}
 use Rattle.borsh_walks.specs.declared.error.SchemaContainerValidateError.{SchemaContainerValidateError}
 use Rattle.borsh_walks.specs.declared.error.SchemaContainerValidateError.TheVariants.{ZSTSequence, TagTooWide, TagTooNarrow, TagNotPowerOfTwo, MissingDefinition, EmptyLengthRange, OutOfMemory}
-use Rattle.borsh_walks.specs.Container.{Shape, primitive, sequence, parts, choice, Rule, zst_sequence, tag_too_wide, tag_too_narrow, tag_not_power_of_two, missing_definition, empty_length_range, Breaks, IsValid, Reached}
+use Rattle.borsh_walks.specs.Container.{Shape, primitive, sequence, product, choice, Rule, zst_sequence, tag_too_wide, tag_too_narrow, tag_not_power_of_two, missing_definition, empty_length_range, Breaks, IsValid, Reached}
 
 abbrev pub rule_of : Broken → Rule
 rule_of ZeroSized = zst_sequence
@@ -50,20 +50,20 @@ BreaksChoice empty_length_range w = ⊥
 abbrev pub KeepsWidths : Shape → Type 0
 KeepsWidths (primitive n) = ⊤
 KeepsWidths (sequence w lo hi e) = (lo ≤ hi) × IsWidth w hi
-KeepsWidths (parts ps) = ⊤
+KeepsWidths (product ps) = ⊤
 KeepsWidths (choice w vs) = w ≤ 8
 
 abbrev pub BreaksShape : Rule → Shape → Type 0
 BreaksShape r (primitive n) = ⊥
 BreaksShape r (sequence w lo hi e) = BreaksSequence r w lo hi
-BreaksShape r (parts ps) = ⊥
+BreaksShape r (product ps) = ⊥
 BreaksShape r (choice w vs) = BreaksChoice r w
 
 -- the element of a sequence that must not be of zero size
 abbrev pub checked_element : Shape → Option (List ℕ)
 checked_element (primitive n) = None
 checked_element (sequence w lo hi e) = cond (eqb w 0 && eqb lo hi) None (Some e)
-checked_element (parts ps) = None
+checked_element (product ps) = None
 checked_element (choice w vs) = None
 
 module _ (C : List ℕ → Option Shape) where
@@ -87,8 +87,8 @@ module _ (C : List ℕ → Option Shape) where
     RulesFault OutOfMemory = ⊤
 
     -- a valid container is not refused, memory aside
-    abbrev pub IsRulesDue : Result (Unit {0}) SchemaContainerValidateError → Type 0
-    IsRulesDue r = IsValid C root → MatchResult r (λ _. ⊤) (λ e. e ≡ OutOfMemory)
+    abbrev pub AcceptsIfValid : Result (Unit {0}) SchemaContainerValidateError → Type 0
+    AcceptsIfValid r = IsValid C root → MatchResult r (λ _. ⊤) (λ e. e ≡ OutOfMemory)
 
 -- the error says that the name breaks the rule, or memory was refused for its text
 abbrev pub IsRulesError : Rule → List ℕ → SchemaContainerValidateError → Type 0

@@ -2,12 +2,12 @@
 use Rattle.std.specs.Prelude.{◌≡◌, ℕ, ◌+◌, ◌≤◌, ◌↔◌, ◌⊎◌, ◌++◌, List, [], ◌∷◌, length, drop, Option, Some, None, Bool, Result, OnOk, Ok, Err, ⊤}
 use Rattle.std.specs.Borrow.{Bor}
 use Rattle.std.specs.BTreeMap.{BTreeMap, btree_map_len}
-use Rattle.borsh_walks.specs.Container.{Shape, Among, Rule, Breaks, Reached, mentions}
+use Rattle.borsh_walks.specs.Container.{Shape, IsIn, Rule, Breaks, Reached, references}
 use Rattle.borsh_walks.specs.Definitions.{spot_shape}
-use Rattle.borsh_walks.specs.Counts.{counts_of, definition_at, definition_count, definitions_of, raised_for}
+use Rattle.borsh_walks.specs.Counts.{counts_of, definition_at, definition_count, definitions_of, add_to}
 use Rattle.borsh_walks.specs.SizeAnswer.{Distinct}
 use Rattle.borsh_walks.specs.ZeroAnswer.{ZeroTable}
-use Rattle.borsh_walks.specs.Tables.{mark_of, IsDefined, Marks}
+use Rattle.borsh_walks.specs.Tables.{mark_of, IsDefined, Visited}
 use Rattle.borsh_walks.specs.RulesAnswer.{RulesFault, checked_element}
 use Rattle.borsh_walks.specs.declared.counted.Counted.{Counted}
 use Rattle.borsh_walks.specs.declared.counted.Expansions.{Expansions}
@@ -16,28 +16,28 @@ use Rattle.borsh_walks.specs.declared.way.Spot.{Spot}
 use Rattle.borsh_walks.specs.declared.error.SchemaContainerValidateError.{SchemaContainerValidateError}
 
 -- the mentions that wait on the way, whose last spot comes first
-abbrev pub waiting : List Spot → List (List ℕ)
-waiting [] = []
-waiting (f ∷ fs) = drop f.next (mentions (spot_shape f)) ++ waiting fs
+abbrev pub pending : List Spot → List (List ℕ)
+pending [] = []
+pending (f ∷ fs) = drop f.next (references (spot_shape f)) ++ pending fs
 
 module _ (C : List ℕ → Option Shape) (root : List ℕ) where
   abbrev pub AllSpots : List Spot → Type 0
   AllSpots [] = ⊤
-  AllSpots (f ∷ fs) = ((C f.name.now ≡ Some (spot_shape f)) × Reached C root f.name.now × (f.next ≤ length (mentions (spot_shape f)))) × AllSpots fs
+  AllSpots (f ∷ fs) = ((C f.name.now ≡ Some (spot_shape f)) × Reached C root f.name.now × (f.next ≤ length (references (spot_shape f)))) × AllSpots fs
 
   -- the names seen are reached and keep their rules, and what they mention is seen, waits on the way, or is among `extra`
   pub record RulesState (extra : List (List ℕ)) (seen : BTreeMap (Bor (List ℕ)) Bool) (way : List Spot) (zeros : BTreeMap (Bor (List ℕ)) Bool) : Type 0 where
     pub names : List (List ℕ)
-    pub marks : Marks (λ x. Reached C root x × ((r : Rule) → Breaks C r x → ⊥) × IsDefined C x) (mark_of seen) names
+    pub marks : Visited (λ x. Reached C root x × ((r : Rule) → Breaks C r x → ⊥) × IsDefined C x) (mark_of seen) names
     pub len : btree_map_len seen ≡ length names
     pub spots : AllSpots way
-    pub closed : (x : List ℕ) (d : Shape) (y : List ℕ) → Among x names → C x ≡ Some d → Among y (mentions d) → Among y names ⊎ Among y extra ⊎ Among y (waiting way)
+    pub closed : (x : List ℕ) (d : Shape) (y : List ℕ) → IsIn x names → C x ≡ Some d → IsIn y (references d) → IsIn y names ⊎ IsIn y extra ⊎ IsIn y (pending way)
     pub zero : ZeroTable C zeros
-    pub elements : (x : List ℕ) (d : Shape) (e : List ℕ) → Among x names → C x ≡ Some d → checked_element d ≡ Some e → (C e ≡ None → ⊥) → mark_of zeros e ≡ None → ⊥
+    pub elements : (x : List ℕ) (d : Shape) (e : List ℕ) → IsIn x names → C x ≡ Some d → checked_element d ≡ Some e → (C e ≡ None → ⊥) → mark_of zeros e ≡ None → ⊥
 
 -- `rules` and `zero` have counted j and k names
 abbrev pub IsBothCount : Counted → ℕ → ℕ → Expansions → Type 0
-IsBothCount c j k base = counts_of c ≡ raised_for Rules j (raised_for Zero k base)
+IsBothCount c j k base = counts_of c ≡ add_to Rules j (add_to Zero k base)
 
 abbrev pub RulesCounted : {E : Type 0} → Counted → Counted → BTreeMap (Bor (List ℕ)) Bool → BTreeMap (Bor (List ℕ)) Bool → BTreeMap (Bor (List ℕ)) Bool → BTreeMap (Bor (List ℕ)) Bool → Result (Unit {0}) E → Type 0
 RulesCounted old new s t u v r = (base : Expansions) → IsBothCount old (btree_map_len s) (btree_map_len u) base → (j : ℕ) × (k : ℕ) × (j ≤ definition_count old) × (k ≤ definition_count old) × IsBothCount new j k base × OnOk r ((j ≡ btree_map_len t) × (k ≡ btree_map_len v))
@@ -57,6 +57,6 @@ IsVisited old new name s t way ways u v root (Err e) = RulesFault (definitions_o
 
 -- on a yes `rules` rises by the number of reached names, and `zero` by at least the number of elements that are checked
 abbrev pub RulesCountedOnYes : Counted → Counted → List ℕ → Type 0
-RulesCountedOnYes old new root = (xs : List (List ℕ)) × (zs : List (List ℕ)) × Distinct xs × Distinct zs × ((x : List ℕ) → Among x xs ↔ Reached (definitions_of old) root x)
-    × ((x : List ℕ) (d : Shape) (e : List ℕ) → Reached (definitions_of old) root x → definitions_of old x ≡ Some d → checked_element d ≡ Some e → Among e zs)
-    × (counts_of new ≡ raised_for Rules (length xs) (raised_for Zero (length zs) (counts_of old)))
+RulesCountedOnYes old new root = (xs : List (List ℕ)) × (zs : List (List ℕ)) × Distinct xs × Distinct zs × ((x : List ℕ) → IsIn x xs ↔ Reached (definitions_of old) root x)
+    × ((x : List ℕ) (d : Shape) (e : List ℕ) → Reached (definitions_of old) root x → definitions_of old x ≡ Some d → checked_element d ≡ Some e → IsIn e zs)
+    × (counts_of new ≡ add_to Rules (length xs) (add_to Zero (length zs) (counts_of old)))

@@ -4,15 +4,15 @@ use Rattle.borsh_walks.specs.declared.error.SchemaMaxSerializedSizeError.{Schema
 use Rattle.borsh_walks.specs.declared.error.SchemaMaxSerializedSizeError.TheVariants.{Overflow, Recursive, MissingDefinition, OutOfMemory, Redefinition}
 use Rattle.borsh_walks.specs.declared.counted.Counted.{Counted}
 use Rattle.borsh_walks.specs.declared.counted.Question.TheVariants.{Size}
-use Rattle.borsh_walks.specs.Container.{Shape, Among, Member, PlainSize, PartialSize, Needed, NeededBack, IsValid, HasVariants, IsLongest}
-use Rattle.borsh_walks.specs.Counts.{raised_for, counts_of}
+use Rattle.borsh_walks.specs.Container.{Shape, IsIn, Member, MaxSize, PartialSize, SizeReaches, IsRecursive, IsValid, HasVariants, IsLongest}
+use Rattle.borsh_walks.specs.Counts.{add_to, counts_of}
 
 -- no name twice
 pub data Distinct : List (List ℕ) → Type 0 where
   distinct_none : Distinct []
-  distinct_more : {x : List ℕ} {xs : List (List ℕ)} → (Among x xs → ⊥) → Distinct xs → Distinct (x ∷ xs)
+  distinct_more : {x : List ℕ} {xs : List (List ℕ)} → (IsIn x xs → ⊥) → Distinct xs → Distinct (x ∷ xs)
 
--- the error of a name without a definition, or want of memory for its text
+-- the error of a name without a definition, or out of memory if the name could not be copied
 abbrev pub IsMissing : List ℕ → SchemaMaxSerializedSizeError → Type 0
 IsMissing name Overflow = ⊥
 IsMissing name Recursive = ⊥
@@ -24,26 +24,26 @@ module _ (C : List ℕ → Option Shape) (root : List ℕ) where
   -- the cause that an error stands for
   abbrev pub SizeFault : SchemaMaxSerializedSizeError → Type 0
   SizeFault Overflow = (k : ℕ) × PartialSize C [] root k × (2 ^ 64 ≤ k)
-  SizeFault Recursive = NeededBack C root
-  SizeFault (MissingDefinition m) = Needed C root (string_bytes m) × (C (string_bytes m) ≡ None)
+  SizeFault Recursive = IsRecursive C root
+  SizeFault (MissingDefinition m) = SizeReaches C root (string_bytes m) × (C (string_bytes m) ≡ None)
   SizeFault OutOfMemory = ⊤
   SizeFault (Redefinition m) = ⊥
 
   -- the names that the size needs, each once
-  abbrev pub AreNeeded : List (List ℕ) → Type 0
-  AreNeeded xs = Distinct xs × ((x : List ℕ) → Among x xs ↔ Needed C root x)
+  abbrev pub AreSizeReached : List (List ℕ) → Type 0
+  AreSizeReached xs = Distinct xs × ((x : List ℕ) → IsIn x xs ↔ SizeReaches C root x)
 
   -- a size answered is the plain size; an error has its cause
   abbrev pub IsSizeAnswer : Result ℕ SchemaMaxSerializedSizeError → Type 0
-  IsSizeAnswer r = MatchResult r (λ n. PlainSize C root n) (λ e. SizeFault e)
+  IsSizeAnswer r = MatchResult r (λ n. MaxSize C root n) (λ e. SizeFault e)
 
   -- `size` rose by the number of names looked at, each once and each defined; where a size is answered these are the needed names
   abbrev pub IsCounted : Counted → Counted → Result ℕ SchemaMaxSerializedSizeError → Type 0
-  IsCounted old new r = (xs : List (List ℕ)) × Distinct xs × ((x : List ℕ) → Among x xs → (d : Shape) × (C x ≡ Some d)) × (counts_of new ≡ raised_for Size (length xs) (counts_of old)) × OnOk r (AreNeeded xs)
+  IsCounted old new r = (xs : List (List ℕ)) × Distinct xs × ((x : List ℕ) → IsIn x xs → (d : Shape) × (C x ≡ Some d)) × (counts_of new ≡ add_to Size (length xs) (counts_of old)) × OnOk r (AreSizeReached xs)
 
   -- where the plain size fits, it is answered, memory aside; where it does not, `Overflow`
-  abbrev pub IsDue : Result ℕ SchemaMaxSerializedSizeError → Type 0
-  IsDue r = ((n : ℕ) → PlainSize C root n → n < 2 ^ 64 → MatchResult r (λ m. m ≡ n) (λ e. e ≡ OutOfMemory)) × ((n : ℕ) → PlainSize C root n → 2 ^ 64 ≤ n → MatchResult r (λ m. ⊥) (λ e. (e ≡ Overflow) ⊎ (e ≡ OutOfMemory)))
+  abbrev pub AnswersIfFits : Result ℕ SchemaMaxSerializedSizeError → Type 0
+  AnswersIfFits r = ((n : ℕ) → MaxSize C root n → n < 2 ^ 64 → MatchResult r (λ m. m ≡ n) (λ e. e ≡ OutOfMemory)) × ((n : ℕ) → MaxSize C root n → 2 ^ 64 ≤ n → MatchResult r (λ m. ⊥) (λ e. (e ≡ Overflow) ⊎ (e ≡ OutOfMemory)))
 
   -- no member is longer than the answer, and where the container is valid and each reached enum has a variant, some member is that long
   abbrev pub IsBound : Result ℕ SchemaMaxSerializedSizeError → Type 0
@@ -51,4 +51,4 @@ module _ (C : List ℕ → Option Shape) (root : List ℕ) where
 
   -- where no needed name is missing or leads back to itself, a size stands
   abbrev pub HasSize : Type 0
-  HasSize = ((x : List ℕ) → Needed C root x → C x ≡ None → ⊥) → (NeededBack C root → ⊥) → (n : ℕ) × PlainSize C root n
+  HasSize = ((x : List ℕ) → SizeReaches C root x → C x ≡ None → ⊥) → (IsRecursive C root → ⊥) → (n : ℕ) × MaxSize C root n

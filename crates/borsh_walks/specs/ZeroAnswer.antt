@@ -3,27 +3,27 @@ use Rattle.std.specs.Prelude.{◌≡◌, ℕ, List, [], length, Option, Some, No
 use Rattle.borsh_walks.specs.declared.counted.Counted.{Counted}
 use Rattle.borsh_walks.specs.declared.counted.Expansions.{Expansions}
 use Rattle.borsh_walks.specs.declared.counted.Question.TheVariants.{Zero as ZeroQuestion}
-use Rattle.borsh_walks.specs.Counts.{counts_of, definition_count, raised_for}
+use Rattle.borsh_walks.specs.Counts.{counts_of, definition_count, add_to}
 use Rattle.std.specs.Borrow.{Bor}
 use Rattle.std.specs.BTreeMap.{BTreeMap, btree_map_len}
-use Rattle.borsh_walks.specs.Container.{Shape, Zero, zero_asks}
-use Rattle.borsh_walks.specs.Tables.{mark_of, IsDefined, Marks}
+use Rattle.borsh_walks.specs.Container.{Shape, IsZeroSize, zero_size_references}
+use Rattle.borsh_walks.specs.Tables.{mark_of, IsDefined, Visited}
 
 -- the parts that a definition asks for, none where it is never of zero size
 abbrev pub asked : Shape → List (List ℕ)
-asked d = unwrap_or (zero_asks d) []
+asked d = unwrap_or (zero_size_references d) []
 
 -- what a table of zero size keeps between two walks: `true` marks a name of zero size, `false` one that is not; the names of its keys are defined
 pub record ZeroTable (C : List ℕ → Option Shape) (t : BTreeMap (Bor (List ℕ)) Bool) : Type 0 where
   pub names : List (List ℕ)
-  pub marks : Marks (IsDefined C) (mark_of t) names
+  pub marks : Visited (IsDefined C) (mark_of t) names
   pub len : btree_map_len t ≡ length names
-  pub zero_is : (x : List ℕ) → mark_of t x ≡ Some true → Zero C x
-  pub not_zero_is : (x : List ℕ) → mark_of t x ≡ Some false → Zero C x → ⊥
+  pub zero_is : (x : List ℕ) → mark_of t x ≡ Some true → IsZeroSize C x
+  pub not_zero_is : (x : List ℕ) → mark_of t x ≡ Some false → IsZeroSize C x → ⊥
 
 -- `zero` has counted the names of the table, beside the counts `base`
 abbrev pub IsZeroCount : Counted → ℕ → Expansions → Type 0
-IsZeroCount c k base = counts_of c ≡ raised_for ZeroQuestion k base
+IsZeroCount c k base = counts_of c ≡ add_to ZeroQuestion k base
 
 -- `zero` rises by the number of names that the table gains, and at the most to the number of definitions
 abbrev pub ZeroCounted : {A E : Type 0} → Counted → Counted → BTreeMap (Bor (List ℕ)) Bool → BTreeMap (Bor (List ℕ)) Bool → Result A E → Type 0

@@ -1,5 +1,5 @@
 // How many definitions a walk looks into.
-ghost use Rattle.borsh_walks.specs.Counts.{counts_of, definition_at, IsCounting, LooksOn, raised_for};
+ghost use Rattle.borsh_walks.specs.Counts.{counts_of, definition_at, IsCounting, LooksOn, add_to};
 ghost use Rattle.std.specs.Prelude.{◌≡◌, if◌then◌else◌, is_some, option_map};
 
 use crate::definition::Definition;
@@ -28,8 +28,8 @@ pub enum Question {
 /// A map of definitions that are counted where they are looked into.
 #[derive(Drop)]
 pub struct Counted<'a, 'b> {
-    map: &'a BTreeMap<String, Definition>,
-    counts: &'b mut Expansions,
+    pub(crate) map: &'a BTreeMap<String, Definition>,
+    pub(crate) counts: &'b mut Expansions,
 }
 
 impl<'a, 'b> Counted<'a, 'b> {
@@ -44,7 +44,7 @@ impl<'a, 'b> Counted<'a, 'b> {
     pub fn look(&mut self, question: Question, name: &str) -> Option<&'a Definition>
         ensures same { LooksOn self.old self.new }
         ensures found { option_map (λ d. d.now) result ≡ definition_at self.old name.now }
-        ensures counts { counts_of self.new ≡ (if is_some result then raised_for question 1 (counts_of self.old) else counts_of self.old) }
+        ensures counts { counts_of self.new ≡ (if is_some result then add_to question 1 (counts_of self.old) else counts_of self.old) }
     {
         let found = self.map.get(name);
         if found.is_some() {

@@ -4,6 +4,8 @@ ghost use Rattle.std.specs.Prelude.{◌≡◌};
 
 use crate::definition::Declaration;
 use std::alloc::{AllocError, AllocFailed};
+use std::error::Error;
+use std::fmt;
 
 /// The rule that a reached name breaks.
 #[derive(Clone, Debug, PartialEq, Eq, Drop)]
@@ -70,3 +72,57 @@ impl<T: Drop> From<AllocFailed<T>> for SchemaMaxSerializedSizeError {
         SchemaMaxSerializedSizeError::OutOfMemory
     }
 }
+
+impl fmt::Display for SchemaContainerValidateError {
+    fn fmt<W: fmt::Write>(&self, f: &mut fmt::Formatter<W>) -> fmt::Result {
+        match self {
+            SchemaContainerValidateError::ZSTSequence(name) => {
+                write!(f, "the elements of the sequence `{name}` have no bytes")
+            }
+            SchemaContainerValidateError::TagTooWide(name) => {
+                write!(f, "the length or tag of `{name}` is wider than eight bytes")
+            }
+            SchemaContainerValidateError::TagTooNarrow(name) => {
+                write!(
+                    f,
+                    "the greatest length of `{name}` doesn't fit its length prefix"
+                )
+            }
+            SchemaContainerValidateError::TagNotPowerOfTwo(name) => {
+                write!(
+                    f,
+                    "the length prefix of `{name}` is three, five, six or seven bytes wide"
+                )
+            }
+            SchemaContainerValidateError::MissingDefinition(name) => {
+                write!(f, "`{name}` has no definition")
+            }
+            SchemaContainerValidateError::EmptyLengthRange(name) => {
+                write!(f, "the least length of `{name}` is above the greatest")
+            }
+            SchemaContainerValidateError::OutOfMemory => write!(f, "out of memory"),
+        }
+    }
+}
+
+impl Error for SchemaContainerValidateError {}
+
+impl fmt::Display for SchemaMaxSerializedSizeError {
+    fn fmt<W: fmt::Write>(&self, f: &mut fmt::Formatter<W>) -> fmt::Result {
+        match self {
+            SchemaMaxSerializedSizeError::Overflow => {
+                write!(f, "the greatest size is above 18446744073709551615 bytes")
+            }
+            SchemaMaxSerializedSizeError::Recursive => { write!(f, "a definition contains itself") }
+            SchemaMaxSerializedSizeError::MissingDefinition(name) => {
+                write!(f, "`{name}` has no definition")
+            }
+            SchemaMaxSerializedSizeError::OutOfMemory => write!(f, "out of memory"),
+            SchemaMaxSerializedSizeError::Redefinition(name) => {
+                write!(f, "`{name}` has two different definitions")
+            }
+        }
+    }
+}
+
+impl Error for SchemaMaxSerializedSizeError {}

@@ -1,5 +1,5 @@
 // The parts of a definition, by place.
-ghost use Rattle.borsh_walks.specs.Container.{mentions, needs};
+ghost use Rattle.borsh_walks.specs.Container.{references, size_references};
 ghost use Rattle.borsh_walks.specs.Definitions.{names_of_fields, shape_of};
 ghost use Rattle.borsh_walks.specs.ZeroAnswer.{asked};
 ghost use Rattle.std.specs.Prelude.{◌<◌, ◌≡◌, ℕ, OnSome, map, option_map, slice_get, string_bytes};
@@ -40,7 +40,7 @@ fn variant_at(
 
 /// The part at `index` that the definition mentions.
 pub fn mentioned_part(definition: &Definition, index: usize) -> Option<&str>
-    ensures part { option_map (λ p. p.now) result ≡ slice_get (mentions (shape_of definition.now)) index }
+    ensures part { option_map (λ p. p.now) result ≡ slice_get (references (shape_of definition.now)) index }
     ensures small { OnSome result (index < 18446744073709551615) }
 {
     match definition {
@@ -63,7 +63,7 @@ pub fn mentioned_part(definition: &Definition, index: usize) -> Option<&str>
 
 /// The part at `index` that the size needs.
 pub fn needed_part(definition: &Definition, index: usize) -> Option<&str>
-    ensures part { option_map (λ p. p.now) result ≡ slice_get (needs (shape_of definition.now)) index }
+    ensures part { option_map (λ p. p.now) result ≡ slice_get (size_references (shape_of definition.now)) index }
     ensures small { OnSome result (index < 18446744073709551615) }
 {
     match definition {

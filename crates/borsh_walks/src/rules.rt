@@ -1,7 +1,7 @@
 // Whether the names that are reached keep the rules.
 ghost use Rattle.borsh_walks.specs.Container.{IsValid, Reached};
-ghost use Rattle.borsh_walks.specs.Counts.{counts_of, definition_count, definitions_of, LooksOn, raised_for};
-ghost use Rattle.borsh_walks.specs.RulesAnswer.{IsRulesDue, IsRulesError, RulesFault, IsWidth, KeepsWidths, BreaksShape, BreaksWidth, ElementMarked, RuleAnswer, rule_of, checked_element};
+ghost use Rattle.borsh_walks.specs.Counts.{counts_of, definition_count, definitions_of, LooksOn, add_to};
+ghost use Rattle.borsh_walks.specs.RulesAnswer.{AcceptsIfValid, IsRulesError, RulesFault, IsWidth, KeepsWidths, BreaksShape, BreaksWidth, ElementMarked, RuleAnswer, rule_of, checked_element};
 ghost use Rattle.borsh_walks.specs.Definitions.{shape_of};
 ghost use Rattle.borsh_walks.specs.ZeroAnswer.{ZeroCounted, ZeroTable};
 ghost use Rattle.borsh_walks.specs.Tables.{mark_of};
@@ -186,9 +186,9 @@ pub fn check_rules<'a>(
 ) -> Result<(), SchemaContainerValidateError>
     ensures same { LooksOn counted.old counted.new }
     ensures answer { MatchResult result (λ _. IsValid (definitions_of counted.old) root.now) (λ e. RulesFault (definitions_of counted.old) root.now e) }
-    ensures due { IsRulesDue (definitions_of counted.old) root.now result }
+    ensures due { AcceptsIfValid (definitions_of counted.old) root.now result }
     ensures counts { OnOk result (RulesCountedOnYes counted.old counted.new root.now) }
-    ensures few { (j : ℕ) × (k : ℕ) × (j ≤ definition_count counted.old) × (k ≤ definition_count counted.old) × (counts_of counted.new ≡ raised_for Rules j (raised_for Zero k (counts_of counted.old))) }
+    ensures few { (j : ℕ) × (k : ℕ) × (j ≤ definition_count counted.old) × (k ≤ definition_count counted.old) × (counts_of counted.new ≡ add_to Rules j (add_to Zero k (counts_of counted.old))) }
 {
     walk_rules(alloc, root, counted)
 }
@@ -203,7 +203,7 @@ fn walk_rules<'a>(
     ensures same { LooksOn counted.old counted.new }
     ensures answer { MatchResult result (λ _. IsValid (definitions_of counted.old) root.now) (λ e. RulesFault (definitions_of counted.old) root.now e) }
     ensures counts { OnOk result (RulesCountedOnYes counted.old counted.new root.now) }
-    ensures few { (j : ℕ) × (k : ℕ) × (j ≤ definition_count counted.old) × (k ≤ definition_count counted.old) × (counts_of counted.new ≡ raised_for Rules j (raised_for Zero k (counts_of counted.old))) }
+    ensures few { (j : ℕ) × (k : ℕ) × (j ≤ definition_count counted.old) × (k ≤ definition_count counted.old) × (counts_of counted.new ≡ add_to Rules j (add_to Zero k (counts_of counted.old))) }
 {
     let mut table: BTreeMap<&'a str, bool> = BTreeMap::new(alloc);
     let mut seen: BTreeMap<&'a str, bool> = BTreeMap::new(alloc);

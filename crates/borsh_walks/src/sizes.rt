@@ -1,8 +1,9 @@
 // The greatest length of a name's encodings.
-ghost use Rattle.borsh_walks.specs.Counts.{counts_of, definition_count, definitions_of, LooksOn, raised_for};
+ghost use Rattle.borsh_walks.specs.Counts.{counts_of, definition_count, definitions_of, LooksOn, add_to};
 ghost use Rattle.borsh_walks.specs.Definitions.{shape_of};
-ghost use Rattle.borsh_walks.specs.SizeAnswer.{AreNeeded, HasSize, IsBound, IsCounted, IsDue, IsMissing, IsSizeAnswer};
-ghost use Rattle.borsh_walks.specs.SizeParts.{gathered_with, finished};
+ghost use Rattle.borsh_walks.specs.SizeAnswer.{AreSizeReached, IsCounted, IsMissing, IsSizeAnswer};
+ghost use Rattle.borsh_walks.specs.SizeOutcome.{AnswersSize};
+ghost use Rattle.borsh_walks.specs.SizeParts.{add_part, size_of_parts};
 ghost use Rattle.borsh_walks.specs.declared.counted.Question.TheVariants.{Size};
 ghost use Rattle.std.specs.Prelude.{◌^◌, ◌≡◌, ◌<◌, ◌≤◌, ℕ, MatchOption, IfOk, List, length};
 
@@ -30,7 +31,7 @@ pub struct Frame<'a> {
 
 // What the sizes of the parts so far make, and the next part's.
 fn gather(definition: &Definition, gathered: usize, size: usize) -> Option<usize>
-    ensures { MatchOption result (2 ^ 64 ≤ gathered_with (shape_of definition.now) gathered size) (λ n. n ≡ gathered_with (shape_of definition.now) gathered size) }
+    ensures { MatchOption result (2 ^ 64 ≤ add_part (shape_of definition.now) gathered size) (λ n. n ≡ add_part (shape_of definition.now) gathered size) }
 {
     match definition {
         Definition::Enum { .. } => Some(gathered.max(size)),
@@ -40,7 +41,7 @@ fn gather(definition: &Definition, gathered: usize, size: usize) -> Option<usize
 
 // The size of a definition.
 fn finish(definition: &Definition, gathered: usize) -> Option<usize>
-    ensures { MatchOption result (2 ^ 64 ≤ finished (shape_of definition.now) gathered) (λ n. n ≡ finished (shape_of definition.now) gathered) }
+    ensures { MatchOption result (2 ^ 64 ≤ size_of_parts (shape_of definition.now) gathered) (λ n. n ≡ size_of_parts (shape_of definition.now) gathered) }
 {
     match definition {
         Definition::Primitive(size) => Some(usize::from(*size)),
@@ -67,20 +68,21 @@ fn finish(definition: &Definition, gathered: usize) -> Option<usize>
 /// (`Recursive`) and a needed name without a definition (`MissingDefinition`). Where several of these
 /// stand, the one that is met first on the way is answered. After a refusal `counted` has counted the
 /// definitions that were looked into, as after an answer.
-pub fn root_size<'a>(
+pub fn root_size(
     alloc: Global,
-    root: &'a str,
-    counted: &mut Counted<'a, '_>,
+    root: &str,
+    counted: &mut Counted<'_, '_>,
 ) -> Result<usize, SchemaMaxSerializedSizeError>
     ensures same { LooksOn counted.old counted.new }
-    ensures answer { IsSizeAnswer (definitions_of counted.old) root.now result }
-    ensures due { IsDue (definitions_of counted.old) root.now result }
-    ensures stands { HasSize (definitions_of counted.old) root.now }
-    ensures bound { IsBound (definitions_of counted.old) root.now result }
-    ensures counts { IfOk result (λ n. (xs : List (List ℕ)) × AreNeeded (definitions_of counted.old) root.now xs × (counts_of counted.new ≡ raised_for Size (length xs) (counts_of counted.old))) }
-    ensures few { (k : ℕ) × (k ≤ definition_count counted.old) × (counts_of counted.new ≡ raised_for Size k (counts_of counted.old)) }
+    ensures size { AnswersSize (definitions_of counted.old) root.now result }
+    ensures counts { IfOk result (λ n. (xs : List (List ℕ)) × AreSizeReached (definitions_of counted.old) root.now xs × (counts_of counted.new ≡ add_to Size (length xs) (counts_of counted.old))) }
+    ensures few { (k : ℕ) × (k ≤ definition_count counted.old) × (counts_of counted.new ≡ add_to Size k (counts_of counted.old)) }
 {
-    walk_sizes(alloc, root, counted)
+    let mut lent = Counted {
+        map: counted.map,
+        counts: &mut *counted.counts,
+    };
+    walk_sizes(alloc, root, &mut lent)
 }
 
 // The walk for the size of the root. A name on the way down is `Open`, and one with a size is `Finished`.

@@ -1,5 +1,5 @@
 // Whether all encodings of a name are empty.
-ghost use Rattle.borsh_walks.specs.Container.{zero_asks, Zero};
+ghost use Rattle.borsh_walks.specs.Container.{zero_size_references, IsZeroSize};
 ghost use Rattle.borsh_walks.specs.Counts.{definitions_of, LooksOn};
 ghost use Rattle.borsh_walks.specs.Definitions.{shape_of};
 ghost use Rattle.borsh_walks.specs.ZeroAnswer.{ZeroCounted, ZeroMarked, ZeroTable};
@@ -14,7 +14,7 @@ use std::collections::BTreeMap;
 
 // Whether the definition is never of zero size.
 fn never_zero(definition: &Definition) -> bool
-    ensures { result ≡ is_none (zero_asks (shape_of definition.now)) }
+    ensures { result ≡ is_none (zero_size_references (shape_of definition.now)) }
 {
     match definition {
         Definition::Primitive(size) => *size != 0,
@@ -34,7 +34,7 @@ pub fn is_zero<'a>(
 ) -> Result<bool, AllocError>
     requires { ZeroTable (definitions_of counted.old) table.old }
     ensures same { LooksOn counted.old counted.new }
-    ensures answer { IfOk result (λ b. Decides b (Zero (definitions_of counted.old) name.now)) }
+    ensures answer { IfOk result (λ b. Decides b (IsZeroSize (definitions_of counted.old) name.now)) }
     ensures table { OnOk result (ZeroTable (definitions_of counted.old) table.new) }
     ensures marked { OnOk result (ZeroMarked (definitions_of counted.old) name.now table.old table.new) }
     ensures counts { ZeroCounted counted.old counted.new table.old table.new result }

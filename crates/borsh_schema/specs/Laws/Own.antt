@@ -1,68 +1,68 @@
 -- The schema of schemas describes them.
 use Rattle.std.proofs.Common.{ℕ, ℤ, List, Option, refl, String, Global, Vec, string_bytes}
-use Rattle.borsh_types.specs.Shapes.{signed}
+use Rattle.borsh_codec.specs.Shapes.{signed}
 use Rattle.borsh_walks.specs.Container.{Shape, first_variant, later_variant}
 use Rattle.borsh_walks.specs.Codecs as codec
 use Rattle.borsh_walks.specs.declared.definition.Definition.{Definition}
 use Rattle.borsh_walks.specs.declared.definition.Fields.{Fields}
 use Rattle.borsh_walks.specs.declared.definition.LengthRange.{LengthRange}
 use Rattle.borsh_schema.specs.Language.{Holds, Describes}
-use Rattle.borsh_schema.specs.Own.{length_range_parts, length_range_name, fields_parts, definition_parts, texts_parts, texts_name, named_fields_parts, named_fields_name, variants_parts, variants_name, definition_map_parts, map_name, container_parts}
+use Rattle.borsh_schema.specs.Own.{length_range_definitions, length_range_name, fields_definitions, definition_definitions, texts_definitions, texts_name, named_fields_definitions, named_fields_name, variants_definitions, variants_name, definition_map_definitions, map_name, container_definitions}
 use Rattle.std.specs.BTreeMap.{BTreeMap}
 use Rattle.std.specs.String.{string_cmp}
 use Rattle.borsh_schema.specs.declared.container.BorshSchemaContainer.{BorshSchemaContainer}
 use Rattle.borsh_schema.specs.Codecs.{definition_map, container_pair, container}
-use Rattle.borsh_schema.specs.Types.{text_parts}
+use Rattle.borsh_schema.specs.Types.{text_definitions}
 use Rattle.std.specs.Prelude.{codes}
-use Rattle.borsh_schema.specs.Laws.Members.{describes_along, describes_number, describes_signed, describes_text, describes_elements, describes_parts, describes_refusing, describes_ordered, describes_choice, choice_more, choice_none, all_none, all_one, all_more}
+use Rattle.borsh_schema.specs.Laws.Members.{describes_contramap, describes_number, describes_signed, describes_text, describes_elements, describes_parts, describes_refused_if, describes_ordered, describes_choice, choice_more, choice_none, all_none, all_one, all_more}
 
 module _ (C : List ℕ → Option Shape) where
-  name_described : Holds C text_parts → Describes (String Global) C codec.name (codes "String")
-  name_described h = describes_along string_bytes (describes_text h.0 h.1.0.0)
+  name_described : Holds C text_definitions → Describes (String Global) C codec.name (codes "String")
+  name_described h = describes_contramap string_bytes (describes_text h.0 h.1.0.0)
 
-  pub length_range_described : Holds C length_range_parts → Describes LengthRange C codec.length_range length_range_name
-  length_range_described h = describes_along codec.ends (describes_parts h.0 (all_more (describes_number 8 h.1.0.0) (all_one (describes_number 8 h.1.0.0))))
+  pub length_range_described : Holds C length_range_definitions → Describes LengthRange C codec.length_range length_range_name
+  length_range_described h = describes_contramap codec.ends (describes_parts h.0 (all_more (describes_number 8 h.1.0.0) (all_one (describes_number 8 h.1.0.0))))
 
-  texts_described : Holds C texts_parts → Describes (Vec (String Global) Global) C (codec.list codec.name) texts_name
-  texts_described h = describes_along (λ v. v.items) (describes_elements h.0 (name_described h.1.0))
+  texts_described : Holds C texts_definitions → Describes (Vec (String Global) Global) C (codec.vec_of codec.name) texts_name
+  texts_described h = describes_contramap (λ v. v.items) (describes_elements h.0 (name_described h.1.0))
 
-  named_described : Holds C named_fields_parts → Describes (Vec (String Global × String Global) Global) C (codec.list codec.named) named_fields_name
+  named_described : Holds C named_fields_definitions → Describes (Vec (String Global × String Global) Global) C (codec.vec_of codec.named) named_fields_name
   named_described h =
-      describes_along (λ v. v.items) (describes_elements h.0 (describes_parts h.1.0.0 (all_more (name_described h.1.0.1.0) (all_one (name_described h.1.0.1.1.0)))))
+      describes_contramap (λ v. v.items) (describes_elements h.0 (describes_parts h.1.0.0 (all_more (name_described h.1.0.1.0) (all_one (name_described h.1.0.1.1.0)))))
 
-  pub fields_described : Holds C fields_parts → Describes Fields C codec.fields (codes "Fields")
+  pub fields_described : Holds C fields_definitions → Describes Fields C codec.fields (codes "Fields")
   fields_described h =
-      describes_along codec.fields_parts
+      describes_contramap codec.fields_view
       (describes_choice h.0
       (choice_more first_variant refl (describes_parts h.1.0.0 (all_one (named_described h.1.0.1.0)))
       (choice_more (later_variant first_variant) refl (describes_parts h.1.1.0.0 (all_one (texts_described h.1.1.0.1.0)))
       (choice_more (later_variant (later_variant first_variant)) refl (describes_parts h.1.1.1.0 all_none) choice_none))))
 
-  variants_described : Holds C variants_parts → Describes (Vec (ℤ × String Global × String Global) Global) C (codec.list (codec.three (signed 8) codec.name codec.name)) variants_name
+  variants_described : Holds C variants_definitions → Describes (Vec (ℤ × String Global × String Global) Global) C (codec.vec_of (codec.three (signed 8) codec.name codec.name)) variants_name
   variants_described h =
-      describes_along (λ v. v.items)
+      describes_contramap (λ v. v.items)
       (describes_elements h.0
-      (describes_along (λ t. (t.0, (t.1, t.2)))
+      (describes_contramap (λ t. (t.0, (t.1, t.2)))
       (describes_parts h.1.0.0 (all_more (describes_signed 8 h.1.0.1.0.0) (all_more (name_described h.1.0.1.1.0) (all_one (name_described h.1.0.1.1.1.0)))))))
 
-  pub definition_described : Holds C definition_parts → Describes Definition C codec.definition (codes "Definition")
+  pub definition_described : Holds C definition_definitions → Describes Definition C codec.definition (codes "Definition")
   definition_described h =
-      describes_along codec.definition_parts
+      describes_contramap codec.definition_view
       (describes_choice h.0
       (choice_more first_variant refl (describes_parts h.1.0.0 (all_one (describes_number 1 h.1.0.1.0.0)))
       (choice_more (later_variant first_variant) refl
-      (describes_along (λ t. (t.0, (t.1, t.2)))
+      (describes_contramap (λ t. (t.0, (t.1, t.2)))
       (describes_parts h.1.1.0.0 (all_more (describes_number 1 h.1.1.0.1.0.0) (all_more (length_range_described h.1.1.0.1.1.0) (all_one (name_described h.1.1.0.1.1.1.0))))))
       (choice_more (later_variant (later_variant first_variant)) refl (describes_parts h.1.1.1.0.0 (all_one (texts_described h.1.1.1.0.1.0)))
       (choice_more (later_variant (later_variant (later_variant first_variant))) refl
       (describes_parts h.1.1.1.1.0.0 (all_more (describes_number 1 h.1.1.1.1.0.1.0.0) (all_one (variants_described h.1.1.1.1.0.1.1.0))))
       (choice_more (later_variant (later_variant (later_variant (later_variant first_variant)))) refl (describes_parts h.1.1.1.1.1.0 (all_one (fields_described h.1.1.1.1.1.1.0))) choice_none))))))
 
-  map_described : Holds C definition_map_parts → Describes (BTreeMap (String Global) Definition) C definition_map map_name
+  map_described : Holds C definition_map_definitions → Describes (BTreeMap (String Global) Definition) C definition_map map_name
   map_described h =
-      describes_along (λ m. m.entries)
-      (describes_refusing codec.name.is_empty
+      describes_contramap (λ m. m.entries)
+      (describes_refused_if codec.name.is_zero_width
       (describes_ordered string_cmp h.0 (describes_parts h.1.0.0 (all_more (name_described h.1.0.1.0) (all_one (definition_described h.1.0.1.1.0))))))
 
-  pub container_described : Holds C container_parts → Describes BorshSchemaContainer C container (codes "BorshSchemaContainer")
-  container_described h = describes_along container_pair (describes_parts h.0 (all_more (name_described h.1.0) (all_one (map_described h.1.1.0))))
+  pub container_described : Holds C container_definitions → Describes BorshSchemaContainer C container (codes "BorshSchemaContainer")
+  container_described h = describes_contramap container_pair (describes_parts h.0 (all_more (name_described h.1.0) (all_one (map_described h.1.1.0))))

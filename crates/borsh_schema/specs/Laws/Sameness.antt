@@ -13,15 +13,15 @@ use Rattle.std.specs.declared.cmp.Ordering.TheVariants.{Less}
 use Rattle.std.specs.FinMap.Entries.{find, below_all, is_sorted, same_entries}
 use Rattle.std.proofs.lemmas.Cmp.{nat_list_cmp_total}
 use Rattle.std.proofs.lemmas.Map.Lookups.{exact_bytes}
-use Rattle.borsh_types.specs.Shapes.{pair}
-use Rattle.borsh_types.specs.Laws.Lists.{some_same}
+use Rattle.borsh_codec.specs.Shapes.{pair}
+use Rattle.borsh_codec.proofs.Laws.Lists.{some_same}
 use Rattle.borsh_walks.specs.Codecs.{name, definition, fields}
 use Rattle.borsh_walks.specs.declared.definition.Definition.{Definition}
 use Rattle.borsh_walks.specs.declared.definition.Definition.TheVariants.{Primitive, Sequence, Tuple, Enum, Struct}
 use Rattle.borsh_walks.specs.declared.definition.Fields.{Fields}
 use Rattle.borsh_walks.specs.declared.definition.Fields.TheVariants.{NamedFields, UnnamedFields, Empty}
-use Rattle.borsh_schema.specs.Described.{Described, field_bytes, variant_bytes, bytes, list, tuple, variants, named, unnamed, described_fields, described_of, Contents, contents_of, nothing_defined, Parts}
-use Rattle.borsh_schema.specs.Joined.{IsGiven, IsJoined}
+use Rattle.borsh_schema.specs.Described.{NamedDefinition, field_bytes, variant_bytes, bytes, list, tuple, variants, named, unnamed, named_fields, named_definition, DefinitionMap, definitions_by_name, nothing_defined, DefinitionTree}
+use Rattle.borsh_schema.specs.Joined.{IsDefinedIn, IsUnion}
 use Rattle.borsh_schema.specs.Codecs.{container, container-lawful}
 use Rattle.borsh_schema.specs.Containers.{map_of, root_of, defined_in, IsContainerOf}
 use Rattle.borsh_schema.specs.declared.container.BorshSchemaContainer.{BorshSchemaContainer}
@@ -40,13 +40,13 @@ zip_equal [] (y ∷ ys) z = absurd z
 zip_equal (x ∷ xs) [] z = absurd z
 zip_equal (x ∷ xs) (y ∷ ys) z = let h = z.0 in let t = zip_equal xs ys z.1 in cc
 
-name_same : (a b : String Global) → name.same a b → string_bytes a ≡ string_bytes b
+name_same : (a b : String Global) → name.equivalent a b → string_bytes a ≡ string_bytes b
 name_same a b s = zip_equal (string_bytes a) (string_bytes b) s
 
-field_same : (v w : String Global × String Global) → name.same v.0 w.0 × name.same v.1 w.1 → field_bytes v ≡ field_bytes w
+field_same : (v w : String Global × String Global) → name.equivalent v.0 w.0 × name.equivalent v.1 w.1 → field_bytes v ≡ field_bytes w
 field_same v w s = let h = name_same v.0 w.0 s.0 in let i = name_same v.1 w.1 s.1 in cc
 
-fields_same : (a b : Fields) → fields.same a b → described_fields a ≡ described_fields b
+fields_same : (a b : Fields) → fields.equivalent a b → named_fields a ≡ named_fields b
 fields_same (NamedFields a) (NamedFields b) s = ap named (zip_mapped field_bytes field_same a.items b.items s)
 fields_same (NamedFields a) (UnnamedFields b) s = absurd s
 fields_same (NamedFields a) Empty s = absurd s
@@ -57,10 +57,10 @@ fields_same Empty (NamedFields b) s = absurd s
 fields_same Empty (UnnamedFields b) s = absurd s
 fields_same Empty Empty s = refl
 
-variant_same : (v w : ℤ × String Global × String Global) → (v.0 ≡ w.0) × (name.same v.1 w.1 × name.same v.2 w.2) → variant_bytes v ≡ variant_bytes w
+variant_same : (v w : ℤ × String Global × String Global) → (v.0 ≡ w.0) × (name.equivalent v.1 w.1 × name.equivalent v.2 w.2) → variant_bytes v ≡ variant_bytes w
 variant_same v w s = let i = s.0 in let j = name_same v.1 w.1 s.1.0 in let k = name_same v.2 w.2 s.1.1 in cc
 
-definition_same : (d e : Definition) → definition.same d e → described_of d ≡ described_of e
+definition_same : (d e : Definition) → definition.equivalent d e → named_definition d ≡ named_definition e
 definition_same (Primitive m) (Primitive n) s = ap bytes s
 definition_same (Primitive m) (Sequence w r e) s = absurd s
 definition_same (Primitive m) (Tuple b) s = absurd s
@@ -93,29 +93,29 @@ abbrev pub Entry : Type 0
 Entry = String Global × Definition
 
 -- the bytes of a name, and what its definition says
-abbrev pub said_entry : Entry → List ℕ × Described
-said_entry e = (string_bytes e.0, described_of e.1)
+abbrev pub said_entry : Entry → List ℕ × NamedDefinition
+said_entry e = (string_bytes e.0, named_definition e.1)
 
-abbrev pub said : List Entry → List (List ℕ × Described)
+abbrev pub said : List Entry → List (List ℕ × NamedDefinition)
 said es = map said_entry es
 
-said_same : (es fs : List Entry) → AllZip (pair name definition).same es fs → said es ≡ said fs
+said_same : (es fs : List Entry) → AllZip (pair name definition).equivalent es fs → said es ≡ said fs
 said_same es fs s = zip_mapped said_entry (λ x y t. (let h = name_same x.0 y.0 t.0 in let i = definition_same x.1 y.1 t.1 in cc)) es fs s
 
 abbrev texts_cmp : List ℕ → List ℕ → Ordering
 texts_cmp = slice_cmp nat_cmp
 
 -- a look-up by name finds the same in what a map says
-found_said : (q : List ℕ) (es : List Entry) → option_map described_of (lookup (is_at (λ k. texts_cmp q (string_bytes k))) es) ≡ find texts_cmp q (said es)
+found_said : (q : List ℕ) (es : List Entry) → option_map named_definition (lookup (is_at (λ k. texts_cmp q (string_bytes k))) es) ≡ find texts_cmp q (said es)
 found_said q [] = refl
 found_said q (e ∷ es) =
-    elim (is_eq (texts_cmp q (string_bytes e.0))) as (λ b. option_map described_of (cond b (Some e.1) (lookup (is_at (λ k. texts_cmp q (string_bytes k))) es)) ≡ cond b (Some (described_of e.1)) (find texts_cmp q (said es))) [
+    elim (is_eq (texts_cmp q (string_bytes e.0))) as (λ b. option_map named_definition (cond b (Some e.1) (lookup (is_at (λ k. texts_cmp q (string_bytes k))) es)) ≡ cond b (Some (named_definition e.1)) (find texts_cmp q (said es))) [
       | true ↦ refl
       | false ↦ found_said q es
     ]
 
 -- maps that say the same define the same
-same_contents : (m n : BTreeMap (String Global) Definition) → said m.entries ≡ said n.entries → (q : List ℕ) → contents_of m q ≡ contents_of n q
+same_contents : (m n : BTreeMap (String Global) Definition) → said m.entries ≡ said n.entries → (q : List ℕ) → definitions_by_name m q ≡ definitions_by_name n q
 same_contents m n e q = found_said q m.entries ∙ ap (find texts_cmp q) e ∙ sym (found_said q n.entries)
 
 both_true : (a b : Bool) → T a → T b → T (a && b)
@@ -133,42 +133,42 @@ sorted_said [] s = tt
 sorted_said (e ∷ es) s = both_true _ _ (below_said (string_bytes e.0) es s.0) (sorted_said es s.1)
 
 -- maps by ascending name that define the same say the same
-said_once : (m n : BTreeMap (String Global) Definition) → IsOrdered string_cmp m → IsOrdered string_cmp n → ((q : List ℕ) → contents_of m q ≡ contents_of n q) → said m.entries ≡ said n.entries
+said_once : (m n : BTreeMap (String Global) Definition) → IsOrdered string_cmp m → IsOrdered string_cmp n → ((q : List ℕ) → definitions_by_name m q ≡ definitions_by_name n q) → said m.entries ≡ said n.entries
 said_once m n s t e =
     same_entries texts_cmp nat_list_cmp_total exact_bytes (said m.entries) (said n.entries) (sorted_said m.entries s) (sorted_said n.entries t)
     (λ q. sym (found_said q m.entries) ∙ e q ∙ found_said q n.entries)
 
 -- ---- containers
 
-pub given_in : {old new : Contents} {ps : Parts} {n : List ℕ} {d : Described} → IsJoined old ps new → IsGiven old ps n d → new n ≡ Some d
+pub given_in : {old new : DefinitionMap} {ps : DefinitionTree} {n : List ℕ} {d : NamedDefinition} → IsUnion old ps new → IsDefinedIn old ps n d → new n ≡ Some d
 given_in j (inl k) = j.keeps _ _ k
 given_in j (inr p) = j.has _ _ p
 
-same_found : (a b : Option Described) → ((d : Described) → a ≡ Some d → b ≡ Some d) → ((d : Described) → b ≡ Some d → a ≡ Some d) → a ≡ b
+same_found : (a b : Option NamedDefinition) → ((d : NamedDefinition) → a ≡ Some d → b ≡ Some d) → ((d : NamedDefinition) → b ≡ Some d → a ≡ Some d) → a ≡ b
 same_found None None f g = refl
 same_found None (Some d) f g = g d refl
 same_found (Some d) b f g = sym (f d refl)
 
 -- definitions are joined with those of a type in one way
-joined_once : {old a b : Contents} {ps : Parts} → IsJoined old ps a → IsJoined old ps b → (q : List ℕ) → a q ≡ b q
+joined_once : {old a b : DefinitionMap} {ps : DefinitionTree} → IsUnion old ps a → IsUnion old ps b → (q : List ℕ) → a q ≡ b q
 joined_once {a = a} {b = b} i j q = same_found (a q) (b q) (λ d h. given_in j (i.only q d h)) (λ d h. given_in i (j.only q d h))
 
-joined_as : {old a b : Contents} {ps : Parts} → ((q : List ℕ) → a q ≡ b q) → IsJoined old ps b → IsJoined old ps a
+joined_as : {old a b : DefinitionMap} {ps : DefinitionTree} → ((q : List ℕ) → a q ≡ b q) → IsUnion old ps b → IsUnion old ps a
 joined_as e j = record { keeps = λ n d k. e n ∙ j.keeps n d k; has = λ n d p. e n ∙ j.has n d p; only = λ n d h. j.only n d (sym (e n) ∙ h) }
 
 -- both containers have one root and say the same
 abbrev pub SayTheSame : BorshSchemaContainer → BorshSchemaContainer → Type 0
 SayTheSame a b = (root_of a ≡ root_of b) × (said (map_of a).entries ≡ said (map_of b).entries)
 
-pub container_as : {name : List ℕ} {ps : Parts} (a b : BorshSchemaContainer) → SayTheSame a b → IsContainerOf name ps b → IsContainerOf name ps a
+pub container_as : {name : List ℕ} {ps : DefinitionTree} (a b : BorshSchemaContainer) → SayTheSame a b → IsContainerOf name ps b → IsContainerOf name ps a
 container_as a b s h = record { root = s.0 ∙ h.root; definitions = joined_as (same_contents (map_of a) (map_of b) s.1) h.definitions }
 
 -- what is the same as bytes is the container of the same type
-pub container_same : {name : List ℕ} {ps : Parts} (a b : BorshSchemaContainer) → container.same a b → IsContainerOf name ps b → IsContainerOf name ps a
+pub container_same : {name : List ℕ} {ps : DefinitionTree} (a b : BorshSchemaContainer) → container.equivalent a b → IsContainerOf name ps b → IsContainerOf name ps a
 container_same a b s h = container_as a b (name_same a.declaration b.declaration s.0, said_same (map_of a).entries (map_of b).entries s.1) h
 
 -- the container of a type is one, by ascending name
-pub container_once : {name : List ℕ} {ps : Parts} (a b : BorshSchemaContainer) → IsOrdered string_cmp (map_of a) → IsOrdered string_cmp (map_of b) → IsContainerOf name ps a → IsContainerOf name ps b → SayTheSame a b
+pub container_once : {name : List ℕ} {ps : DefinitionTree} (a b : BorshSchemaContainer) → IsOrdered string_cmp (map_of a) → IsOrdered string_cmp (map_of b) → IsContainerOf name ps a → IsContainerOf name ps b → SayTheSame a b
 container_once a b s t h k = (h.root ∙ sym k.root, said_once (map_of a) (map_of b) s t (joined_once h.definitions k.definitions))
 
 -- ---- and what says the same is the same as bytes
@@ -186,13 +186,13 @@ zip_back f g [] (y ∷ ys) e = absurd (cc)
 zip_back f g (x ∷ xs) [] e = absurd (cc)
 zip_back f g (x ∷ xs) (y ∷ ys) e = (g x y (cc), zip_back f g xs ys (cc))
 
-said_variant : (v w : ℤ × String Global × String Global) → variant_bytes v ≡ variant_bytes w → (v.0 ≡ w.0) × (name.same v.1 w.1 × name.same v.2 w.2)
+said_variant : (v w : ℤ × String Global × String Global) → variant_bytes v ≡ variant_bytes w → (v.0 ≡ w.0) × (name.equivalent v.1 w.1 × name.equivalent v.2 w.2)
 said_variant v w e = (ap (λ t. t.0) e, (zip_from (ap (λ t. t.1) e), zip_from (ap (λ t. t.2) e)))
 
-said_field : (v w : String Global × String Global) → field_bytes v ≡ field_bytes w → name.same v.0 w.0 × name.same v.1 w.1
+said_field : (v w : String Global × String Global) → field_bytes v ≡ field_bytes w → name.equivalent v.0 w.0 × name.equivalent v.1 w.1
 said_field v w e = (zip_from (ap (λ t. t.0) e), zip_from (ap (λ t. t.1) e))
 
-said_definition : (d e : Definition) → described_of d ≡ described_of e → definition.same d e
+said_definition : (d e : Definition) → named_definition d ≡ named_definition e → definition.equivalent d e
 said_definition (Primitive a) (Primitive b) p = cc
 said_definition (Primitive a) (Sequence wb rb b) p = absurd (cc)
 said_definition (Primitive a) (Tuple b) p = absurd (cc)
@@ -243,16 +243,23 @@ said_definition (Struct Empty) (Struct (NamedFields b)) p = absurd (cc)
 said_definition (Struct Empty) (Struct (UnnamedFields b)) p = absurd (cc)
 said_definition (Struct Empty) (Struct Empty) p = refl
 
-said_entries : (x y : Entry) → said_entry x ≡ said_entry y → (pair name definition).same x y
+said_entries : (x y : Entry) → said_entry x ≡ said_entry y → (pair name definition).equivalent x y
 said_entries x y e = (zip_from (ap (λ t. t.0) e), said_definition x.1 y.1 (ap (λ t. t.1) e))
 
-same_from_said : (a b : BorshSchemaContainer) → SayTheSame a b → container.same a b
+same_from_said : (a b : BorshSchemaContainer) → SayTheSame a b → container.equivalent a b
 same_from_said a b s = (zip_from s.0, zip_back said_entry said_entries (map_of a).entries (map_of b).entries s.1)
 
 -- all containers of a type that have an encoding have one
-pub one_spelling : {name : List ℕ} {ps : Parts} (a b : BorshSchemaContainer) {x y : List ℕ} → IsContainerOf name ps a → IsContainerOf name ps b → container.encoding a ≡ Some x → container.encoding b ≡ Some y → x ≡ y
+pub one_spelling : {name : List ℕ} {ps : DefinitionTree} (a b : BorshSchemaContainer) {x y : List ℕ} → IsContainerOf name ps a → IsContainerOf name ps b → container.encoding a ≡ Some x → container.encoding b ≡ Some y → x ≡ y
 one_spelling a b {x = x} {y = y} h k e f =
-    let p = container-lawful.written true a x e in
-    let q = container-lawful.written true b y f in
-    let s = same_from_said a b (container_once a b p.right.reading.ordered q.right.reading.ordered h k) in
-    some_same x y (sym e ∙ container-lawful.same_encoding a b s ∙ f)
+    let p = container-lawful.round_trip true a x e in
+    let q = container-lawful.round_trip true b y f in
+    let s = same_from_said a b (container_once a b p.right.decodes.ordered q.right.decodes.ordered h k) in
+    some_same x y (sym e ∙ container-lawful.equivalent_encoding a b s ∙ f)
+
+-- where one container of a type has an encoding, each one by ascending name has it
+pub encoded_once : {name : List ℕ} {ps : DefinitionTree} (a b : BorshSchemaContainer) {y : List ℕ} → IsContainerOf name ps a → IsOrdered string_cmp (map_of a) → IsContainerOf name ps b → container.encoding b ≡ Some y → container.encoding a ≡ Some y
+encoded_once a b {y = y} h o k f =
+    let q = container-lawful.round_trip true b y f in
+    let s = same_from_said a b (container_once a b o q.right.decodes.ordered h k) in
+    container-lawful.equivalent_encoding a b s ∙ f

@@ -7,4 +7,4 @@ pub returns-clause-err : goal.returns-clause-err
 returns-clause-err g c =
     let t = g.T.BorshType.codec in
     let w = c.in_ok-serialize.ensures.ok in
-    no_length t.write_allocates (t.encoding c.args.value.now) w.bytes c.serialize.new.writer.len c.len.result c.from.result c.ok_or.result c.ok_or.ensures.value c.len.ensures (search rules) w.is (search rules)
+    no_length t.encoding_allocates (t.encoding c.args.value.now) w.bytes c.serialize.new.writer.len c.len.result c.from.result c.ok_or.result c.ok_or.ensures.value c.len.ensures (search rules) w.is (search rules)

@@ -1,6 +1,6 @@
 use Rattle.std.proofs.Common.{rules, ◌≡◌, false, true, sym, subst, ◌∙◌, true≢false}
 use Rattle.std.specs.List.Sorted.{IsStrictlySortedBy}
-use Rattle.borsh_types.proofs.ReadMaps.{keys-bare_entries}
+use Rattle.borsh_codec.proofs.ReadMaps.{keys-bare_entries}
 use Rattle.borsh_de.proofs.entries.check_keys.Goals as goal
 
 pub returns-then-not-keys_ascend-clause-why : goal.returns-then-not-keys_ascend-clause-why

@@ -1,7 +1,7 @@
 use Rattle.std.proofs.Common.{rules}
 use Rattle.std.specs.Ordering.{is_lt}
 use Rattle.std.proofs.lemmas.List.Sorted.{answers_always}
-use Rattle.borsh_types.proofs.KeyOrder.{ascends_answer}
+use Rattle.borsh_codec.proofs.KeyOrder.{ascends_answer}
 use Rattle.borsh_de.proofs.entries.entries_ascend.Goals as goal
 
 pub returns : goal.returns

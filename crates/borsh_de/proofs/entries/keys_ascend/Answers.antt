@@ -2,7 +2,7 @@ use Rattle.std.proofs.Common.{rules, ◌↔◌, IsTrue, subst}
 use Rattle.std.specs.Ordering.{is_lt}
 use Rattle.std.specs.List.Sorted.{IsStrictlySortedBy}
 use Rattle.std.proofs.lemmas.List.Sorted.{answers_always}
-use Rattle.borsh_types.proofs.KeyOrder.{ascends_answer, map-same}
+use Rattle.borsh_codec.proofs.KeyOrder.{ascends_answer, map-same}
 use Rattle.borsh_de.proofs.entries.keys_ascend.Goals as goal
 
 pub returns : goal.returns

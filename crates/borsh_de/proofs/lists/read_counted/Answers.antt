@@ -1,5 +1,5 @@
 use Rattle.std.proofs.lemmas.Result.{IfOk-weaker, IfErr-weaker}
-use Rattle.borsh_types.proofs.ReadRows.{reads_counted, denied_counted}
+use Rattle.borsh_codec.proofs.ReadRows.{reads_counted, denied_counted}
 use Rattle.borsh_de.proofs.lists.read_counted.Goals as goal
 
 pub returns-clause-ok : goal.returns-clause-ok

@@ -1,7 +1,7 @@
 use Rattle.std.proofs.Common.{arith, ◌∷◌, [], ◌+◌, length, refl, ap, ◌∙◌, length-append}
 use Rattle.std.proofs.lemmas.Result.{err_from_is_err_and}
-use Rattle.borsh_types.proofs.ReadSteps.{denied_memory}
-use Rattle.borsh_types.proofs.ReadRows.{row_more, denied_listed}
+use Rattle.borsh_codec.proofs.ReadSteps.{denied_memory}
+use Rattle.borsh_codec.proofs.ReadRows.{row_more, denied_listed}
 use Rattle.borsh_de.proofs.lists.read_elements.Goals as goal
 
 pub returns-in_err-deserialize_reader-clause-err : goal.returns-in_err-deserialize_reader-clause-err

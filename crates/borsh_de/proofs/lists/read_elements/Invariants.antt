@@ -1,6 +1,6 @@
 -- As many elements were read as the list has.
 use Rattle.std.proofs.Common.{◌≡◌, length}
-use Rattle.borsh_types.proofs.ReadRows.{RowSoFar}
+use Rattle.borsh_codec.proofs.ReadRows.{RowSoFar}
 use Rattle.borsh_de.proofs.lists.read_elements.Given as goal
 
 abbrev pub invariant-loop-i : goal.invariant-loop-i

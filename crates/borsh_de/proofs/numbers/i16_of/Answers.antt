@@ -1,8 +1,8 @@
 use Rattle.std.proofs.Common.{refl, rules, ap, ◌∙◌, SFits}
 use Rattle.std.specs.Int.{w16}
 use Rattle.std.proofs.lemmas.Int.{to_z-of_z}
-use Rattle.borsh_types.specs.Shapes.{signed_encoding}
-use Rattle.borsh_types.proofs.NumberBytes.{signed_of}
+use Rattle.borsh_codec.specs.Shapes.{signed_encoding}
+use Rattle.borsh_codec.proofs.NumberBytes.{signed_of}
 use Rattle.borsh_de.proofs.numbers.i16_of.Goals as goal
 
 pub returns : goal.returns

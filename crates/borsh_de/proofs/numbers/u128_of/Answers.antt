@@ -1,5 +1,5 @@
 use Rattle.std.proofs.Common.{rules}
-use Rattle.borsh_types.proofs.NumberBytes.{number_of}
+use Rattle.borsh_codec.proofs.NumberBytes.{number_of}
 use Rattle.borsh_de.proofs.numbers.u128_of.Goals as goal
 
 pub returns : goal.returns

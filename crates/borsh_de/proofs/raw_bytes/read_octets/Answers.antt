@@ -1,6 +1,6 @@
 use Rattle.std.proofs.Common.{rules}
 use Rattle.std.proofs.lemmas.Result.{err_from_is_err_and}
-use Rattle.borsh_types.proofs.ReadBytes.{reads_byte_row, denied_byte_row}
+use Rattle.borsh_codec.proofs.ReadBytes.{reads_byte_row, denied_byte_row}
 use Rattle.borsh_de.proofs.raw_bytes.read_octets.Goals as goal
 
 pub returns-in_err-bytes-clause-err : goal.returns-in_err-bytes-clause-err

@@ -1,8 +1,8 @@
 use Rattle.std.proofs.Common.{arith, ◌≡◌, ◌-◌, ◌≤◌, ◌++◌, length, take, drop, refl, sym, ◌∙◌, ap, length-append}
 use Rattle.std.proofs.lemmas.List.{length-take, length-drop, take_all, take_at}
 use Rattle.std.proofs.lemmas.Result.{err_from_is_err_and}
-use Rattle.borsh_types.proofs.ReadSteps.{took_weaker, took_nothing, took_then}
-use Rattle.borsh_types.proofs.ReadBytes.{reads_bytes, denied_bytes}
+use Rattle.borsh_codec.proofs.ReadSteps.{took_weaker, took_nothing, took_then}
+use Rattle.borsh_codec.proofs.ReadBytes.{reads_bytes, denied_bytes}
 use Rattle.borsh_de.proofs.Pieces.{grown, fits_both}
 use Rattle.borsh_de.proofs.raw_bytes.read_vec.Goals as goal
 

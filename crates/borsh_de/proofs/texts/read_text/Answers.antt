@@ -2,10 +2,10 @@ use Rattle.std.proofs.Common.{subst, sym, true≢false}
 use Rattle.std.specs.Str.{IsUtf8, is_utf8}
 use Rattle.std.proofs.lemmas.Result.{err_from_is_err_and}
 use Rattle.std.proofs.lemmas.Str.{IsUtf8-string_bytes, IsUtf8-from_is_utf8, is_utf8-from_IsUtf8}
-use Rattle.borsh_types.specs.Laws.Numbers.{number-lawful}
-use Rattle.borsh_types.specs.Laws.Rows.{counted-lawful}
-use Rattle.borsh_types.specs.Types.Texts.{utf8_respects}
-use Rattle.borsh_types.proofs.ReadParts.{reads_passed, denied_passed, denied_failed}
+use Rattle.borsh_codec.proofs.Laws.Numbers.{unsigned-lawful}
+use Rattle.borsh_codec.proofs.Laws.Rows.{length_prefixed-lawful}
+use Rattle.borsh_codec.proofs.Laws.Types.{utf8_respects}
+use Rattle.borsh_codec.proofs.ReadParts.{reads_passed, denied_passed, denied_failed}
 use Rattle.borsh_de.proofs.texts.read_text.Goals as goal
 
 pub returns-in_err-bytes-clause-err : goal.returns-in_err-bytes-clause-err
@@ -20,4 +20,4 @@ returns-in-Ok-clause-ok g c =
 
 pub returns-in-Err-clause-err : goal.returns-in-Err-clause-err
 returns-in-Err-clause-err g c =
-    denied_failed is_utf8 utf8_respects (counted-lawful (number-lawful 1)) c.in_ok-bytes.ensures.ok c.invalid_data.ensures (λ e. true≢false (sym (c.in-Err.ensures.succeeds (IsUtf8-from_is_utf8 _ e))))
+    denied_failed is_utf8 utf8_respects (length_prefixed-lawful (unsigned-lawful 1)) c.in_ok-bytes.ensures.ok c.invalid_data.ensures (λ e. true≢false (sym (c.in-Err.ensures.succeeds (IsUtf8-from_is_utf8 _ e))))

@@ -1,7 +1,5 @@
-use Rattle.std.proofs.Common.{rules, ◌≡◌, ℕ, ◌<◌, ◌+◌, ◌++◌, ◌∷◌, [], List, cond, ◌==◌, length, take, drop, get_or, sym, subst}
+use Rattle.std.proofs.Common.{rules, ◌≡◌, ◌<◌, ◌+◌, cond, ◌==◌, length, drop, get_or}
 use Rattle.std.proofs.lemmas.Result.{err_from_is_err_and}
-use Rattle.borsh.specs.Errors.{error_kind}
-use Rattle.borsh.specs.Sink.{Writes, WriteRefused}
 use Rattle.borsh.proofs.WriteLaws.{Writes-trans, Refused-after, Refused-before}
 use Rattle.borsh_lines.specs.Runs.{spaced}
 use Rattle.borsh_lines.proofs.LineSteps.{spaced-more, spaced-split}

@@ -1,28 +1,28 @@
-use Rattle.std.proofs.Common.{rules, ◌≡◌, ◌≢◌, ◌<◌, ◌++◌, ◌∷◌, [], length, get_or}
+use Rattle.std.proofs.Common.{rules, ◌≡◌}
 use Rattle.borsh_answers.specs.Answers.{Answers}
-use Rattle.borsh_lines.specs.Lines.{Replies}
-use Rattle.borsh_lines.proofs.LineSteps.{continues-none, turn-byte, turn-feed}
+use Rattle.borsh_lines.proofs.LineSteps.{chunk-none, chunk-byte, chunk-feed, chunk-stops}
 use Rattle.borsh_lines.proofs.replies.answer_chunk.Goals as goal
 
 pub loop-byte-init : goal.loop-byte-init
-loop-byte-init c = search (rules, continues-none {answers = Answers} c.args.line.now.items)
+loop-byte-init c = chunk-none {answers = Answers} _ _ _
+
+pub returns-in_err-push : goal.returns-in_err-push
+returns-in_err-push c =
+    let line : c.push.new.self.items ≡ c.loop-byte.line.items = c.in_err-push.ensures.items in
+    rw line (chunk-stops c.args.chunk.now c.loop-byte.byte-index c.from_residual.result c.from_residual.ensures.0 c.loop-byte.invariant)
 
 pub loop-byte-preserved-then-byte-ne10 : goal.loop-byte-preserved-then-byte-ne10
 loop-byte-preserved-then-byte-ne10 c =
     let chunk = c.args.chunk.now in
     let i = c.loop-byte.byte-index in
-    let h : i < length chunk = search rules in
-    let ne : get_or chunk i 0 ≢ 10 = search rules in
-    let e : c.push.new.self.items ≡ c.loop-byte.line.items ++ get_or chunk i 0 ∷ [] = search rules in
-    turn-byte chunk i h ne e c.loop-byte.invariant
+    chunk-byte chunk i (search rules) (search rules) (search rules) c.loop-byte.invariant
+
+pub returns-in_err-answer : goal.returns-in_err-answer
+returns-in_err-answer c =
+    rw (c.in_err-answer.ensures.kept, c.in_err-answer.ensures.uncounted) (chunk-stops c.args.chunk.now c.loop-byte.byte-index c.from_residual-in_err-answer.result c.from_residual-in_err-answer.ensures.0 c.loop-byte.invariant)
 
 pub loop-byte-preserved : goal.loop-byte-preserved
 loop-byte-preserved c =
     let chunk = c.args.chunk.now in
     let i = c.loop-byte.byte-index in
-    let h : i < length chunk = search rules in
-    let is : get_or chunk i 0 ≡ 10 = search rules in
-    let none : c.clear.new.self.items ≡ [] = search rules in
-    let e : c.extend_from_slice.new.self.items ≡ c.loop-byte.out.items ++ c.in_ok-added.added.items = search rules in
-    let replies : Replies Answers c.loop-byte.line.items c.in_ok-added.added.items = search rules in
-    turn-feed chunk i h is none e replies c.loop-byte.invariant
+    chunk-feed chunk i (search rules) (search rules) (search rules) (search rules) (search rules) c.loop-byte.invariant

@@ -1,90 +1,74 @@
-use Rattle.std.proofs.Common.{rules, arith, ◌≡◌, ℕ, ◌+◌, ◌<◌, ◌≤◌, ◌++◌, ◌∷◌, [], List, length, take, drop, subst, sym, ap, ◌∙◌, refl, length-append}
-use Rattle.std.proofs.lemmas.Result.{err_from_is_err_and, on_ok_weaker, IfErr-weaker}
-use Rattle.std.specs.Io.KnownBytes.{IsAtEnd}
-use Rattle.borsh.specs.Stream.{Takes}
-use Rattle.borsh_lines.specs.Lines.{Continues, Replies}
+use Rattle.std.proofs.Common.{rules, arith, ◌≡◌, ◌<◌, ◌++◌, [], length, take, ap}
+use Rattle.std.proofs.lemmas.Result.{err_from_is_err_and}
 use Rattle.borsh_answers.specs.Answers.{Answers}
-use Rattle.borsh_answers.specs.Lines.{IsLine}
-use Rattle.borsh_lines.specs.Runs.{Ran, Stopped}
-use Rattle.borsh_lines.proofs.Turns.{SoFar, starts, goes_on, stops-first, stops-memory, stops-reader, stops-writer, stops-last, ran-at_end, ran-at_last}
-use Rattle.borsh_lines.proofs.LineSteps.{not_empty, front-filled}
+use Rattle.borsh_lines.specs.Counts.{line_count}
+use Rattle.borsh_lines.specs.Lines.{Appends}
+use Rattle.borsh_lines.proofs.Turns.{starts, takes-more, goes_on, goes_on-whole, stops-first, stops-memory, stops-reader, stops-writer, ran-at_end, ends-at_last}
+use Rattle.borsh_lines.proofs.LineSteps.{not_empty, on_success, chunk-taken}
 use Rattle.borsh_lines.proofs.runner.run_lines.Goals as goal
 
-pub returns-in_err-buffer-clause-stopped : goal.returns-in_err-buffer-clause-stopped
-returns-in_err-buffer-clause-stopped g c =
+pub returns-in_err-buffer : goal.returns-in_err-buffer
+returns-in_err-buffer g c =
     let p = err_from_is_err_and c.from_residual.result c.from_residual.ensures.1 in
-    rw p.1 (stops-first {answers = Answers} g.met.W.Write.lawful (g.R.Read.stream c.args.reader.now) c.args.writer.now p.2.0)
+    rw p.1 (stops-first {answers = Answers} g.met.W.Write.lawful (g.R.Read.stream c.args.reader.now) c.args.writer.now _ p.2.0)
 
 pub chunks-init : goal.chunks-init
 chunks-init g c = record {
-  taken = [];
+  done = [];
+  lines = [];
   out = [];
   room = search rules;
-  so_far = search (rules, starts {answers = Answers} g.met.W.Write.lawful (g.R.Read.stream c.args.reader.now) c.args.writer.now);
+  so_far = search (rules, starts {answers = Answers} g.met.W.Write.lawful (g.R.Read.stream c.args.reader.now) c.args.writer.now (line_count c.args.answerer.now));
 }
 
-pub returns-in_err-n-clause-stopped : goal.returns-in_err-n-clause-stopped
-returns-in_err-n-clause-stopped g c =
+pub returns-in_err-n : goal.returns-in_err-n
+returns-in_err-n g c =
     let p = err_from_is_err_and c.from_residual-in_err-n.result c.from_residual-in_err-n.ensures.1 in
     rw p.1 (stops-reader g.met.W.Write.lawful c.chunks.invariant.so_far c.in_err-n.ensures.failed)
 
-pub returns-in_err-last-clause-stopped : goal.returns-in_err-last-clause-stopped
-returns-in_err-last-clause-stopped g c =
-    let p = err_from_is_err_and c.from_residual-in_err-last.result c.from_residual-in_err-last.ensures.1 in
-    rw p.1 (stops-memory g.met.W.Write.lawful c.chunks.invariant.so_far c.in_ok-n.ensures.takes p.2.0)
-
-pub returns-then-is_empty-clause-ran : goal.returns-then-is_empty-clause-ran
-returns-then-is_empty-clause-ran g c =
+pub returns-then-is_empty : goal.returns-then-is_empty
+returns-then-is_empty g c =
     let zero : c.in_ok-n.n ≡ 0 = search rules in
     let none : take c.in_ok-n.n c.read_some.new.buf ≡ [] = ap (λ k. take k c.read_some.new.buf) zero in
     ran-at_end g.met.W.Write.lawful _ c.chunks.invariant.so_far c.in_ok-n.ensures.takes none (c.in_ok-n.ensures.some zero (search rules)) (search rules)
 
-pub returns-then-n-eq0-clause-ran : goal.returns-then-n-eq0-clause-ran
-returns-then-n-eq0-clause-ran g c =
+pub returns-in_err-answer : goal.returns-in_err-answer
+returns-in_err-answer g c =
+    let p = err_from_is_err_and c.from_residual-in_err-answer.result c.from_residual-in_err-answer.ensures.1 in
+    rw (p.1, c.in_err-answer.ensures.uncounted) (stops-memory g.met.W.Write.lawful (takes-more g.met.W.Write.lawful _ c.chunks.invariant.so_far c.in_ok-n.ensures.takes) p.2.0)
+
+pub returns-then-n-eq0 : goal.returns-then-n-eq0
+returns-then-n-eq0 g c =
     let zero : c.in_ok-n.n ≡ 0 = search rules in
     let none : take c.in_ok-n.n c.read_some.new.buf ≡ [] = ap (λ k. take k c.read_some.new.buf) zero in
-    let line : c.as_slice.result.now ≡ c.chunks.line.items = search rules in
-    let added : c.as_slice-then-n-eq0.result.now ≡ c.in_ok-last.last.items = search rules in
-    on_ok_weaker c.write_all.result (λ y. ran-at_last g.met.W.Write.lawful _ c.chunks.invariant.so_far c.in_ok-n.ensures.takes none (c.in_ok-n.ensures.some zero (search rules)) (omega (arith, c.chunks.line.ok.0, not_empty _ _ c.is_empty.ensures c.if-is_empty.false)) (rw line at c.in_ok-last.ensures) (rw added at y)) c.write_all.ensures.writes
+    let left : 0 < length c.chunks.line.items = omega (arith, c.chunks.line.ok.0, not_empty _ _ c.is_empty.ensures c.if-is_empty.false) in
+    let appends : Appends Answers c.chunks.line.items [] c.answer.new.out.items = search rules in
+    ends-at_last g.met.W.Write.lawful {d = c.write_all.new.self} {k = line_count c.answer.new.self} c.write_all.result c.chunks.invariant.so_far c.in_ok-n.ensures.takes none (c.in_ok-n.ensures.some zero (search rules)) left appends (search rules) (search rules) (search rules)
 
-pub returns-then-n-eq0-clause-stopped : goal.returns-then-n-eq0-clause-stopped
-returns-then-n-eq0-clause-stopped g c =
-    let zero : c.in_ok-n.n ≡ 0 = search rules in
-    let none : take c.in_ok-n.n c.read_some.new.buf ≡ [] = ap (λ k. take k c.read_some.new.buf) zero in
-    let line : c.as_slice.result.now ≡ c.chunks.line.items = search rules in
-    let added : c.as_slice-then-n-eq0.result.now ≡ c.in_ok-last.last.items = search rules in
-    IfErr-weaker c.write_all.result _ _ (λ e r. stops-last g.met.W.Write.lawful c.chunks.invariant.so_far c.in_ok-n.ensures.takes none (c.in_ok-n.ensures.some zero (search rules)) (omega (arith, c.chunks.line.ok.0, not_empty _ _ c.is_empty.ensures c.if-is_empty.false)) (rw line at c.in_ok-last.ensures) (rw added at r)) c.write_all.ensures.refused
-
-pub returns-in_err-answers-clause-stopped : goal.returns-in_err-answers-clause-stopped
-returns-in_err-answers-clause-stopped g c =
-    let p = err_from_is_err_and c.from_residual-in_err-answers.result c.from_residual-in_err-answers.ensures.1 in
-    rw p.1 (stops-memory g.met.W.Write.lawful c.chunks.invariant.so_far c.in_ok-n.ensures.takes p.2.0)
-
-pub returns-in_err-write_all-clause-stopped : goal.returns-in_err-write_all-clause-stopped
-returns-in_err-write_all-clause-stopped g c =
+pub returns-in_err-write_all : goal.returns-in_err-write_all
+returns-in_err-write_all g c =
     let p = err_from_is_err_and c.from_residual-in_err-write_all.result c.from_residual-in_err-write_all.ensures.1 in
-    let n = c.in_ok-n.n in
-    let buf = c.read_some.new.buf in
-    let full : length buf ≡ c.chunks.buffer.len = search rules in
-    let value : c.as_slice-in-chunks.result.now ≡ take c.chunks.buffer.len (buf ++ drop (length buf) c.chunks.buffer.items) = search rules in
-    let same : take n c.as_slice-in-chunks.result.now ≡ take n buf = ap (take n) value ∙ front-filled n c.chunks.buffer.len buf c.chunks.buffer.items c.in_ok-n.ensures.bound (omega arith) in
-    let continues : Continues Answers c.chunks.line.items (take n buf) c.answer_chunk.new.line.items c.in_ok-answers.answers.items = rw same at c.in_ok-answers.ensures in
-    let added : c.as_slice-in-chunks-2.result.now ≡ c.in_ok-answers.answers.items = search rules in
-    rw (p.1, p.2) (stops-writer g.met.W.Write.lawful c.chunks.invariant.so_far c.in_ok-n.ensures.takes continues (rw added at c.in_err-write_all.ensures.refused))
+    let answered = chunk-taken {answers = Answers} c.in_ok-n.n c.chunks.buffer.len c.read_some.new.buf c.chunks.buffer.items _ _ (search rules) c.in_ok-n.ensures.bound (search rules) (search rules) c.answer_chunk-outcome.ensures in
+    let added : c.as_slice-in-chunks-2.result.now ≡ c.answer_chunk-outcome.new.out.items = search rules in
+    rw (p.1, p.2) (stops-writer g.met.W.Write.lawful {d = c.write_all-in-chunks.new.self} c.chunks.invariant.so_far c.in_ok-n.ensures.takes answered (rw added at c.in_err-write_all.ensures.refused))
+
+pub returns-in_err-outcome : goal.returns-in_err-outcome
+returns-in_err-outcome g c =
+    let p = err_from_is_err_and c.from_residual-in_err-outcome.result c.from_residual-in_err-outcome.ensures.1 in
+    let answered = chunk-taken {answers = Answers} c.in_ok-n.n c.chunks.buffer.len c.read_some.new.buf c.chunks.buffer.items _ _ (search rules) c.in_ok-n.ensures.bound (search rules) (search rules) c.answer_chunk-outcome.ensures in
+    let added : c.as_slice-in-chunks-2.result.now ≡ c.answer_chunk-outcome.new.out.items = search rules in
+    rw p.1 (stops-memory g.met.W.Write.lawful (goes_on g.met.W.Write.lawful {d = c.write_all-in-chunks.new.self} c.chunks.invariant.so_far c.in_ok-n.ensures.takes answered (rw added at c.in_ok-write_all.ensures.writes)) p.2.0)
 
 pub chunks-preserved : goal.chunks-preserved
 chunks-preserved g c =
     let i = c.chunks.invariant in
-    let n = c.in_ok-n.n in
-    let buf = c.read_some.new.buf in
-    let full : length buf ≡ c.chunks.buffer.len = search rules in
-    let value : c.as_slice-in-chunks.result.now ≡ take c.chunks.buffer.len (buf ++ drop (length buf) c.chunks.buffer.items) = search rules in
-    let same : take n c.as_slice-in-chunks.result.now ≡ take n buf = ap (take n) value ∙ front-filled n c.chunks.buffer.len buf c.chunks.buffer.items c.in_ok-n.ensures.bound (omega arith) in
-    let continues : Continues Answers c.chunks.line.items (take n buf) c.answer_chunk.new.line.items c.in_ok-answers.answers.items = rw same at c.in_ok-answers.ensures in
-    let added : c.as_slice-in-chunks-2.result.now ≡ c.in_ok-answers.answers.items = search rules in
+    let answered = chunk-taken {answers = Answers} c.in_ok-n.n c.chunks.buffer.len c.read_some.new.buf c.chunks.buffer.items _ _ (search rules) c.in_ok-n.ensures.bound (search rules) (search rules) c.answer_chunk-outcome.ensures in
+    let added : c.as_slice-in-chunks-2.result.now ≡ c.answer_chunk-outcome.new.out.items = search rules in
+    let complete : answered.rest ≡ [] = on_success c.answer_chunk-outcome.result (search rules) answered.complete in
     record {
-      taken = i.taken ++ take n buf;
-      out = i.out ++ c.in_ok-answers.answers.items;
+      done = i.done ++ answered.front;
+      lines = i.lines ++ answered.lines;
+      out = i.out ++ c.answer_chunk-outcome.new.out.items;
       room = search rules;
-      so_far = goes_on g.met.W.Write.lawful i.so_far c.in_ok-n.ensures.takes continues (rw added at c.in_ok-write_all.ensures.writes);
+      so_far = goes_on-whole g.met.W.Write.lawful complete (goes_on g.met.W.Write.lawful {d = c.write_all-in-chunks.new.self} i.so_far c.in_ok-n.ensures.takes answered (rw added at c.in_ok-write_all.ensures.writes));
     }

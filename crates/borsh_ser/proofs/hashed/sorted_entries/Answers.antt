@@ -2,7 +2,7 @@ use Rattle.std.proofs.Common.{rules}
 use Rattle.std.specs.Ordering.{is_lt}
 use Rattle.std.specs.Map.Iter.{deref_pair}
 use Rattle.std.proofs.lemmas.List.Sorted.{answers_always, ranks_by}
-use Rattle.borsh_types.proofs.SortedRefs.{sorted_refs}
+use Rattle.borsh_codec.proofs.SortedRefs.{sorted_refs}
 use Rattle.borsh_ser.proofs.hashed.sorted_entries.Goals as goal
 
 pub returns : goal.returns

@@ -1,4 +1,4 @@
-use Rattle.borsh_types.proofs.SortedRefs.{sorted_key_refs}
+use Rattle.borsh_codec.proofs.SortedRefs.{sorted_key_refs}
 use Rattle.borsh_ser.proofs.hashed.sorted_keys.Goals as goal
 
 pub returns : goal.returns

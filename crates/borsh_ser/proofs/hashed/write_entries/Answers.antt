@@ -1,9 +1,9 @@
 use Rattle.std.proofs.Common.{arith, ◌≡◌, ◌+◌, drop, sym, ap}
 use Rattle.std.specs.Map.Iter.{deref_pair}
 use Rattle.std.proofs.lemmas.Result.{err_from_is_err_and}
-use Rattle.borsh_types.specs.Shapes.{pair}
-use Rattle.borsh_types.proofs.WriteSteps.{write_denied_as, write_denied_first, so_far_none, so_far_more, so_far_denied}
-use Rattle.borsh_types.proofs.WriteMaps.{all_joined_map-next}
+use Rattle.borsh_codec.specs.Shapes.{pair}
+use Rattle.borsh_codec.proofs.WriteSteps.{write_denied_as, write_denied_first, so_far_none, so_far_more, so_far_denied}
+use Rattle.borsh_codec.proofs.WriteMaps.{all_joined_map-next}
 use Rattle.borsh_ser.proofs.hashed.write_entries.Goals as goal
 
 pub loop-e-init : goal.loop-e-init

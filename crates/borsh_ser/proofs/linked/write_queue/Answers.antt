@@ -1,6 +1,6 @@
 use Rattle.std.proofs.Common.{sym, ◌∙◌, true≢false}
 use Rattle.std.proofs.lemmas.Result.{err_from_is_err_and, on_ok_weaker, IfErr-weaker}
-use Rattle.borsh_types.proofs.WriteSteps.{writes_as, writes_both, write_denied_as, write_denied_own, write_denied_first, write_denied_second}
+use Rattle.borsh_codec.proofs.WriteSteps.{writes_as, writes_both, write_denied_as, write_denied_own, write_denied_first, write_denied_second}
 use Rattle.borsh_ser.proofs.Halves.{parts_count, parts_joined}
 use Rattle.borsh_ser.proofs.linked.write_queue.Goals as goal
 

@@ -1,9 +1,9 @@
 use Rattle.std.proofs.Common.{arith, ◌≡◌, ◌+◌, drop, sym, ap}
 use Rattle.std.proofs.lemmas.List.{drop_all}
 use Rattle.std.proofs.lemmas.Result.{err_from_is_err_and}
-use Rattle.borsh_types.specs.Shapes.{all_joined}
-use Rattle.borsh_types.proofs.WriteSteps.{write_denied_as, write_denied_first, so_far_none, so_far_more, so_far_done, so_far_denied}
-use Rattle.borsh_types.proofs.WriteRows.{all_joined-next}
+use Rattle.borsh_codec.specs.Shapes.{concat_encodings}
+use Rattle.borsh_codec.proofs.WriteSteps.{write_denied_as, write_denied_first, so_far_none, so_far_more, so_far_done, so_far_denied}
+use Rattle.borsh_codec.proofs.WriteRows.{all_joined-next}
 use Rattle.borsh_ser.proofs.lists.write_elements.Goals as goal
 
 pub loop-item-init : goal.loop-item-init

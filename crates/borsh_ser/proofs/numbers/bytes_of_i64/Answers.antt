@@ -1,11 +1,11 @@
 use Rattle.std.proofs.Common.{refl, sym, ap, ◌∙◌, of_z}
 use Rattle.std.specs.Int.{w64}
 use Rattle.std.proofs.lemmas.Int.{to_z-of_z}
-use Rattle.borsh_types.specs.Shapes.{number_encoding}
-use Rattle.borsh_types.proofs.NumberBytes.{signed_by_bits}
+use Rattle.borsh_codec.specs.Shapes.{unsigned_encoding}
+use Rattle.borsh_codec.proofs.NumberBytes.{signed_by_bits}
 use Rattle.borsh_ser.proofs.numbers.bytes_of_i64.Goals as goal
 
 pub returns : goal.returns
 returns c =
     let e = c.cast_unsigned.ensures ∙ ap (of_z w64) (to_z-of_z w64 c.args.n c.ranges.n) in
-    signed_by_bits w64 8 c.args.n refl refl refl c.ranges.n (ap (number_encoding 8) (sym e) ∙ c.bytes_of_u64.ensures)
+    signed_by_bits w64 8 c.args.n refl refl refl c.ranges.n (ap (unsigned_encoding 8) (sym e) ∙ c.bytes_of_u64.ensures)

@@ -1,5 +1,5 @@
 use Rattle.std.proofs.Common.{arith}
-use Rattle.borsh_types.proofs.NumberBytes.{bytes_of}
+use Rattle.borsh_codec.proofs.NumberBytes.{bytes_of}
 use Rattle.borsh_ser.proofs.numbers.bytes_of_u128.Goals as goal
 
 pub returns : goal.returns

@@ -1,5 +1,5 @@
 use Rattle.std.proofs.Common.{arith}
-use Rattle.borsh_types.proofs.NumberBytes.{byte_of}
+use Rattle.borsh_codec.proofs.NumberBytes.{byte_of}
 use Rattle.borsh_ser.proofs.numbers.bytes_of_u8.Goals as goal
 
 pub returns : goal.returns

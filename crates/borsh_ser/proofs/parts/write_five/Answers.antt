@@ -1,6 +1,6 @@
 use Rattle.std.proofs.lemmas.Result.{err_from_is_err_and, IfErr-weaker}
-use Rattle.borsh_types.specs.Laws.Lists.{or_left, or_right}
-use Rattle.borsh_types.proofs.WriteSteps.{write_denied_own, write_denied_first, write_denied_second}
+use Rattle.borsh_codec.proofs.Laws.Lists.{or_left, or_right}
+use Rattle.borsh_codec.proofs.WriteSteps.{write_denied_own, write_denied_first, write_denied_second}
 use Rattle.borsh_ser.proofs.parts.write_five.Goals as goal
 
 pub returns-in_err-serialize-clause-err : goal.returns-in_err-serialize-clause-err

@@ -1,6 +1,6 @@
 use Rattle.std.proofs.lemmas.Result.{on_ok_weaker, IfErr-weaker}
-use Rattle.borsh_types.proofs.WriteSteps.{writes_as, write_denied_as}
-use Rattle.borsh_types.proofs.TextBytes.{text_encoding}
+use Rattle.borsh_codec.proofs.WriteSteps.{writes_as, write_denied_as}
+use Rattle.borsh_codec.proofs.TextBytes.{text_encoding}
 use Rattle.borsh_ser.proofs.texts.write_text.Goals as goal
 
 pub returns-clause-ok : goal.returns-clause-ok

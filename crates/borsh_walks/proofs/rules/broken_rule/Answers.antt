@@ -1,7 +1,7 @@
 use Rattle.std.proofs.Common.{◌≡◌, refl, sym, subst, arith}
 use Rattle.std.specs.BTreeMap.{btree_map_len}
 use Rattle.borsh_walks.specs.Counts.{definitions_of}
-use Rattle.borsh_walks.specs.Container.{Zero}
+use Rattle.borsh_walks.specs.Container.{IsZeroSize}
 use Rattle.borsh_walks.specs.Definitions.{shape_of}
 use Rattle.borsh_walks.proofs.RulesLaws.{breaks, breaks_zero, keeps_all}
 use Rattle.borsh_walks.proofs.Tables.{few_names}
@@ -23,7 +23,7 @@ pub returns-else-branch-clause-answer : goal.returns-else-branch-clause-answer
 returns-else-branch-clause-answer c = λ x e r b.
     keeps_all (definitions_of c.args.counted.now) (shape_of c.args.definition.now) e c.in_default.ensures
     (λ p h z. let q : c.in-Some-element_to_check.element.now ≡ p = (let a = c.in-Some-element_to_check.ensures in cc) in
-    let w = c.in_ok-is_zero.ensures.answer.1 (subst (λ y. Zero (definitions_of c.args.counted.now) y) (sym q) z) in let n = c.if-branch.false in cc) r b
+    let w = c.in_ok-is_zero.ensures.answer.1 (subst (λ y. IsZeroSize (definitions_of c.args.counted.now) y) (sym q) z) in let n = c.if-branch.false in cc) r b
 
 pub returns-in_default-element_to_check-clause-counts : goal.returns-in_default-element_to_check-clause-counts
 returns-in_default-element_to_check-clause-counts c = λ base h.

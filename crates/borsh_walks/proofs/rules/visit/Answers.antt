@@ -2,7 +2,7 @@ use Rattle.std.proofs.Common.{◌≡◌, suc, ◌≤◌, ◌∷◌, reverse, Som
 use Rattle.std.specs.Prelude.{Option, MatchOption}
 use Rattle.std.specs.BTreeMap.{btree_map_len}
 use Rattle.borsh_walks.specs.Container.{is_missing, missing_definition}
-use Rattle.borsh_walks.specs.Counts.{counts_of, definitions_of, raised_for}
+use Rattle.borsh_walks.specs.Counts.{counts_of, definitions_of, add_to}
 use Rattle.borsh_walks.specs.Definitions.{definitions_in, shape_of}
 use Rattle.borsh_walks.specs.declared.counted.Question.TheVariants.{Rules}
 use Rattle.borsh_walks.specs.ZeroAnswer.{ZeroTable}
@@ -35,7 +35,7 @@ returns-in_err-broken-clause-counts c = λ root s n base h.
     let C = definitions_of c.args.counted.now in
     let e = found_shape c.args.counted.now.map c.args.counted.now.map c.args.name.now c.in-Some.definition.now refl c.in-Some.ensures.found in
     let few = few_more c.args.counted.now.map.now (λ x k. k.2) s.marks n e in
-    let k = c.in_err-broken.ensures.counts (raised_for Rules (suc (btree_map_len c.args.seen.now)) base) (both_more (btree_map_len c.args.seen.now) (btree_map_len c.args.table.now) (counts_of c.args.counted.now) (counts_of c.look.new.self) base h c.in-Some.ensures.counts) in
+    let k = c.in_err-broken.ensures.counts (add_to Rules (suc (btree_map_len c.args.seen.now)) base) (both_more (btree_map_len c.args.seen.now) (btree_map_len c.args.table.now) (counts_of c.args.counted.now) (counts_of c.look.new.self) base h c.in-Some.ensures.counts) in
     (suc (btree_map_len c.args.seen.now), k.0, omega (arith, few, s.len), subst (λ m. k.0 ≤ btree_map_len m.now) c.in-Some.ensures.same.0 k.1, k.2, on_err _ c.from_residual.result c.from_residual.ensures.0)
 
 pub returns-in-Some-2-clause-visited : goal.returns-in-Some-2-clause-visited
@@ -51,7 +51,7 @@ returns-in-Some-2-clause-counts c = λ root s n base h.
     let C = definitions_of c.args.counted.now in
     let e = found_shape c.args.counted.now.map c.args.counted.now.map c.args.name.now c.in-Some.definition.now refl c.in-Some.ensures.found in
     let few = few_more c.args.counted.now.map.now (λ x k. k.2) s.marks n e in
-    let k = c.in_ok-broken.ensures.counts (raised_for Rules (suc (btree_map_len c.args.seen.now)) base) (both_more (btree_map_len c.args.seen.now) (btree_map_len c.args.table.now) (counts_of c.args.counted.now) (counts_of c.look.new.self) base h c.in-Some.ensures.counts) in
+    let k = c.in_ok-broken.ensures.counts (add_to Rules (suc (btree_map_len c.args.seen.now)) base) (both_more (btree_map_len c.args.seen.now) (btree_map_len c.args.table.now) (counts_of c.args.counted.now) (counts_of c.look.new.self) base h c.in-Some.ensures.counts) in
     (suc (btree_map_len c.args.seen.now), k.0, omega (arith, few, s.len), subst (λ m. k.0 ≤ btree_map_len m.now) c.in-Some.ensures.same.0 k.1, k.2, tt)
 
 pub returns-in_err-insert-clause-counts : goal.returns-in_err-insert-clause-counts
@@ -59,7 +59,7 @@ returns-in_err-insert-clause-counts c = λ root s n base h.
     let C = definitions_of c.args.counted.now in
     let e = found_shape c.args.counted.now.map c.args.counted.now.map c.args.name.now c.in-Some.definition.now refl c.in-Some.ensures.found in
     let few = few_more c.args.counted.now.map.now (λ x k. k.2) s.marks n e in
-    let k = c.in_ok-broken.ensures.counts (raised_for Rules (suc (btree_map_len c.args.seen.now)) base) (both_more (btree_map_len c.args.seen.now) (btree_map_len c.args.table.now) (counts_of c.args.counted.now) (counts_of c.look.new.self) base h c.in-Some.ensures.counts) in
+    let k = c.in_ok-broken.ensures.counts (add_to Rules (suc (btree_map_len c.args.seen.now)) base) (both_more (btree_map_len c.args.seen.now) (btree_map_len c.args.table.now) (counts_of c.args.counted.now) (counts_of c.look.new.self) base h c.in-Some.ensures.counts) in
     (suc (btree_map_len c.args.seen.now), k.0, omega (arith, few, s.len), subst (λ m. k.0 ≤ btree_map_len m.now) c.in-Some.ensures.same.0 k.1, k.2, on_err _ c.from_residual-in_err-insert.result c.from_residual-in_err-insert.ensures.0)
 
 pub returns-in_err-push-clause-counts : goal.returns-in_err-push-clause-counts
@@ -67,7 +67,7 @@ returns-in_err-push-clause-counts c = λ root s n base h.
     let C = definitions_of c.args.counted.now in
     let e = found_shape c.args.counted.now.map c.args.counted.now.map c.args.name.now c.in-Some.definition.now refl c.in-Some.ensures.found in
     let few = few_more c.args.counted.now.map.now (λ x k. k.2) s.marks n e in
-    let k = c.in_ok-broken.ensures.counts (raised_for Rules (suc (btree_map_len c.args.seen.now)) base) (both_more (btree_map_len c.args.seen.now) (btree_map_len c.args.table.now) (counts_of c.args.counted.now) (counts_of c.look.new.self) base h c.in-Some.ensures.counts) in
+    let k = c.in_ok-broken.ensures.counts (add_to Rules (suc (btree_map_len c.args.seen.now)) base) (both_more (btree_map_len c.args.seen.now) (btree_map_len c.args.table.now) (counts_of c.args.counted.now) (counts_of c.look.new.self) base h c.in-Some.ensures.counts) in
     (suc (btree_map_len c.args.seen.now), k.0, omega (arith, few, s.len), subst (λ m. k.0 ≤ btree_map_len m.now) c.in-Some.ensures.same.0 k.1, k.2, on_err _ c.from_residual-in_err-push.result c.from_residual-in_err-push.ensures.0)
 
 none_from : {X : Type 0} (o : Option X) → ((x : X) → o ≡ Some x → ⊥) → o ≡ None
@@ -99,6 +99,6 @@ returns-clause-counts c = λ root s n base h.
     let C = definitions_of c.args.counted.now in
     let e = found_shape c.args.counted.now.map c.args.counted.now.map c.args.name.now c.in-Some.definition.now refl c.in-Some.ensures.found in
     let few = few_more c.args.counted.now.map.now (λ x k. k.2) s.marks n e in
-    let k = c.in_ok-broken.ensures.counts (raised_for Rules (suc (btree_map_len c.args.seen.now)) base) (both_more (btree_map_len c.args.seen.now) (btree_map_len c.args.table.now) (counts_of c.args.counted.now) (counts_of c.look.new.self) base h c.in-Some.ensures.counts) in
+    let k = c.in_ok-broken.ensures.counts (add_to Rules (suc (btree_map_len c.args.seen.now)) base) (both_more (btree_map_len c.args.seen.now) (btree_map_len c.args.table.now) (counts_of c.args.counted.now) (counts_of c.look.new.self) base h c.in-Some.ensures.counts) in
     let len = grown c.in_ok-insert.field-0 c.in_ok-insert.ensures.len (c.in_ok-insert.ensures.old ∙ n) in
     (suc (btree_map_len c.args.seen.now), k.0, omega (arith, few, s.len), subst (λ m. k.0 ≤ btree_map_len m.now) c.in-Some.ensures.same.0 k.1, k.2, (sym len, k.3))

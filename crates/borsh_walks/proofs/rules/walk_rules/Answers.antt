@@ -1,8 +1,8 @@
 use Rattle.std.proofs.Common.{◌≡◌, ℕ, suc, ◌+◌, ◌-◌, ◌*◌, ◌≤◌, List, [], ◌∷◌, reverse, add-one, Some, None, refl, sym, ◌∙◌, ap, subst, arith, true, false}
 use Rattle.std.specs.Prelude.{Option, is_some, Result, Ok, Err, IsErr, IsErrAnd, MatchResult, option_map}
 use Rattle.std.specs.BTreeMap.{btree_map_len, get_by_text}
-use Rattle.borsh_walks.specs.Container.{Among, Reached, stays, onward, mentions, IsValid}
-use Rattle.borsh_walks.specs.Counts.{counts_of, definitions_of, raised_for}
+use Rattle.borsh_walks.specs.Container.{IsIn, Reached, stays, onward, references, IsValid}
+use Rattle.borsh_walks.specs.Counts.{counts_of, definitions_of, add_to}
 use Rattle.borsh_walks.specs.Definitions.{definitions_in, shape_of}
 use Rattle.borsh_walks.specs.ZeroAnswer.{ZeroTable}
 use Rattle.borsh_walks.specs.Tables.{mark_of}
@@ -21,11 +21,11 @@ err_is : {E : Type 0} (P : Unit {0} → Type 0) (Q : E → Type 0) (r : Result (
 err_is P Q (Ok u) e h k q = cc
 err_is P Q (Err x) e h k q = subst Q (sym k) q
 
-both_none : (j k : ℕ) (e : Expansions) → j ≡ 0 → k ≡ 0 → e ≡ raised_for Rules j (raised_for Zero k e)
-both_none j k e p q = subst (λ i. e ≡ raised_for Rules i (raised_for Zero k e)) (sym p) (subst (λ i. e ≡ raised_for Rules 0 (raised_for Zero i e)) (sym q) refl)
+both_none : (j k : ℕ) (e : Expansions) → j ≡ 0 → k ≡ 0 → e ≡ add_to Rules j (add_to Zero k e)
+both_none j k e p q = subst (λ i. e ≡ add_to Rules i (add_to Zero k e)) (sym p) (subst (λ i. e ≡ add_to Rules 0 (add_to Zero i e)) (sym q) refl)
 
-both_at : (j k a b : ℕ) (c e : Expansions) → c ≡ raised_for Rules j (raised_for Zero k e) → j ≡ a → k ≡ b → c ≡ raised_for Rules a (raised_for Zero b e)
-both_at j k a b c e h p q = h ∙ ap (λ i. raised_for Rules i (raised_for Zero k e)) p ∙ ap (λ i. raised_for Rules a (raised_for Zero i e)) q
+both_at : (j k a b : ℕ) (c e : Expansions) → c ≡ add_to Rules j (add_to Zero k e) → j ≡ a → k ≡ b → c ≡ add_to Rules a (add_to Zero b e)
+both_at j k a b c e h p q = h ∙ ap (λ i. add_to Rules i (add_to Zero k e)) p ∙ ap (λ i. add_to Rules a (add_to Zero i e)) q
 
 seen_some : {X : Type 0} (o : Option X) → true ≡ is_some o → o ≡ None → ⊥
 seen_some None e h = cc
@@ -71,7 +71,7 @@ loop-spot-smaller-in_default-mentioned_part c =
     let C = definitions_of c.args.counted.now in
     let items = last_first c.pop.new.self.items c.loop-spot.way.items c.in-Some.spot c.in-Some.ensures.items in
     let s = subst (λ l. RulesState C c.args.root.now [] c.loop-spot.seen l c.loop-spot.table) items i.state in
-    left_popped mentions c.loop-spot.counted.map.now (btree_map_len c.loop-spot.seen) (btree_map_len c.loop-spot.seen) c.in-Some.spot (reverse c.pop.new.self.items) (reverse c.loop-spot.way.items) refl items s.spots.0.2
+    left_popped references c.loop-spot.counted.map.now (btree_map_len c.loop-spot.seen) (btree_map_len c.loop-spot.seen) c.in-Some.spot (reverse c.pop.new.self.items) (reverse c.loop-spot.way.items) refl items s.spots.0.2
 
 pub loop-spot-preserved-in_default-mentioned_part : goal.loop-spot-preserved-in_default-mentioned_part
 loop-spot-preserved-in_default-mentioned_part c =
@@ -89,8 +89,8 @@ pub loop-spot-smaller : goal.loop-spot-smaller
 loop-spot-smaller c =
     let items = last_first c.pop.new.self.items c.loop-spot.way.items c.in-Some.spot c.in-Some.ensures.items in
     let back = last_first c.pop.new.self.items c.push.new.self.items (moved c.in-Some.spot) c.in_ok-push.ensures.items in
-    let step = rests_moved mentions ((btree_map_len c.loop-spot.counted.map.now - btree_map_len c.loop-spot.seen) * (2 + work mentions c.loop-spot.counted.map.now.entries)) c.in-Some.spot (reverse c.pop.new.self.items) c.in-Some-mentioned_part.part.now (sym c.in-Some-mentioned_part.ensures.part) in
-    omega (arith, step, ap (λ l. rests mentions l) items, ap (λ l. rests mentions l) back)
+    let step = rests_moved references ((btree_map_len c.loop-spot.counted.map.now - btree_map_len c.loop-spot.seen) * (2 + work references c.loop-spot.counted.map.now.entries)) c.in-Some.spot (reverse c.pop.new.self.items) c.in-Some-mentioned_part.part.now (sym c.in-Some-mentioned_part.ensures.part) in
+    omega (arith, step, ap (λ l. rests references l) items, ap (λ l. rests references l) back)
 
 pub loop-spot-preserved : goal.loop-spot-preserved
 loop-spot-preserved c =
@@ -122,9 +122,9 @@ loop-spot-smaller-in-Continue-branch-3 c =
     let e : C p ≡ Some (shape_of f.definition.now) = ap (λ m. option_map shape_of (get_by_text m.now p)) (sym i.same.0) ∙ ap (λ o. option_map shape_of o) v.2.3 in
     let few = few_more c.args.counted.now.map.now (λ x k. k.2) i.state.marks n e in
     let room : suc (btree_map_len c.loop-spot.seen) ≤ btree_map_len c.loop-spot.counted.map.now = omega (arith, few, i.state.len, ap (λ m. btree_map_len m.now) i.same.0) in
-    let moves = rests_moved mentions 0 c.in-Some.spot (reverse c.pop.new.self.items) p (sym c.in-Some-mentioned_part.ensures.part) in
-    let fewer : rests mentions (reverse c.push.new.self.items) ≤ rests mentions (reverse c.loop-spot.way.items) = omega (arith, moves, ap (λ l. rests mentions l) items, ap (λ l. rests mentions l) back) in
-    left_pushed mentions c.loop-spot.counted.map.now c.visit-then-not-contains_key.new.counted.map.now p (btree_map_len c.loop-spot.seen) (btree_map_len c.visit-then-not-contains_key.new.seen) f (reverse c.loop-spot.way.items) (reverse c.push.new.self.items) (reverse c.visit-then-not-contains_key.new.way.items) (ap (λ m. m.now) c.in_ok-visit-2.ensures.same.0) (v.1.2 ∙ add-one _) room v.2.3 v.2.2 fewer v.2.1
+    let moves = rests_moved references 0 c.in-Some.spot (reverse c.pop.new.self.items) p (sym c.in-Some-mentioned_part.ensures.part) in
+    let fewer : rests references (reverse c.push.new.self.items) ≤ rests references (reverse c.loop-spot.way.items) = omega (arith, moves, ap (λ l. rests references l) items, ap (λ l. rests references l) back) in
+    left_pushed references c.loop-spot.counted.map.now c.visit-then-not-contains_key.new.counted.map.now p (btree_map_len c.loop-spot.seen) (btree_map_len c.visit-then-not-contains_key.new.seen) f (reverse c.loop-spot.way.items) (reverse c.push.new.self.items) (reverse c.visit-then-not-contains_key.new.way.items) (ap (λ m. m.now) c.in_ok-visit-2.ensures.same.0) (v.1.2 ∙ add-one _) room v.2.3 v.2.2 fewer v.2.1
 
 pub loop-spot-preserved-in-Continue-branch-3 : goal.loop-spot-preserved-in-Continue-branch-3
 loop-spot-preserved-in-Continue-branch-3 c =
@@ -206,7 +206,7 @@ returns-clause-counts c =
     let st = i.state in
     let C = definitions_of c.args.counted.now in
     let none = ap (λ l. reverse l) (no_items c.loop-spot.way.items (omega (arith, c.in_default.ensures.cases.0, c.loop-spot.way.ok.0))) in
-    let all : (x : List ℕ) → Reached C c.args.root.now x → Among x st.names = λ x r. rules_all C c.args.root.now (reverse c.loop-spot.way.items) st none i.root_seen r in (
+    let all : (x : List ℕ) → Reached C c.args.root.now x → IsIn x st.names = λ x r. rules_all C c.args.root.now (reverse c.loop-spot.way.items) st none i.root_seen r in (
       st.names,
       st.zero.names,
       st.marks.distinct,

@@ -1,6 +1,6 @@
 use Rattle.std.proofs.Common.{◌≡◌, [], reverse, None}
 use Rattle.std.specs.BTreeMap.{btree_map_len}
-use Rattle.borsh_walks.specs.Container.{mentions}
+use Rattle.borsh_walks.specs.Container.{references}
 use Rattle.borsh_walks.specs.Counts.{counts_of, definitions_of, LooksOn}
 use Rattle.borsh_walks.specs.Tables.{mark_of}
 use Rattle.borsh_walks.specs.RulesState.{RulesState, IsBothCount}
@@ -16,4 +16,4 @@ invariant-loop-spot l = record {
 }
 
 abbrev pub decreases-loop-spot : goal.decreases-loop-spot
-decreases-loop-spot l = left mentions l.counted.map.now (btree_map_len l.seen) (reverse l.way.items)
+decreases-loop-spot l = left references l.counted.map.now (btree_map_len l.seen) (reverse l.way.items)

@@ -1,9 +1,9 @@
 use Rattle.std.proofs.Common.{◌≡◌, ℕ, ◌<◌, ◌^◌, List, length, arith}
 use Rattle.std.specs.Prelude.{Result, Ok, Err, IfOk, OnOk}
-use Rattle.borsh_walks.specs.Counts.{counts_of, definitions_of, raised_for}
+use Rattle.borsh_walks.specs.Counts.{counts_of, definitions_of, add_to}
 use Rattle.borsh_walks.specs.declared.counted.Question.TheVariants.{Size}
-use Rattle.borsh_walks.specs.SizeAnswer.{AreNeeded}
-use Rattle.borsh_walks.proofs.SizeDue.{due, bound}
+use Rattle.borsh_walks.specs.SizeAnswer.{AreSizeReached}
+use Rattle.borsh_walks.proofs.SizeOutcome.{answers_size}
 use Rattle.borsh_walks.proofs.SizeStands.{has_size}
 use Rattle.borsh_walks.proofs.Names.{names_within}
 use Rattle.borsh_walks.proofs.sizes.root_size.Goals as goal
@@ -16,17 +16,11 @@ on_ok : {E : Type 0} (P Q : List (List ℕ) → Type 0) (r : Result ℕ E) (xs :
 on_ok P Q (Ok n) xs q p = (xs, p, q)
 on_ok P Q (Err e) xs q p = tt
 
-pub returns-clause-due : goal.returns-clause-due
-returns-clause-due c = due (definitions_of c.args.counted.now) c.args.root.now c.walk_sizes.result (fits c.walk_sizes.result c.walk_sizes.ensures.fits) c.walk_sizes.ensures.answer
-
-pub returns-clause-bound : goal.returns-clause-bound
-returns-clause-bound c = bound (definitions_of c.args.counted.now) c.args.root.now c.walk_sizes.result c.walk_sizes.ensures.answer
-
 pub returns-clause-counts : goal.returns-clause-counts
-returns-clause-counts c = let k = c.walk_sizes.ensures.counts in on_ok (AreNeeded (definitions_of c.args.counted.now) c.args.root.now) (λ xs. counts_of c.walk_sizes.new.counted ≡ raised_for Size (length xs) (counts_of c.args.counted.now)) c.walk_sizes.result k.0 k.3 k.4
+returns-clause-counts c = let k = c.walk_sizes.ensures.counts in on_ok (AreSizeReached (definitions_of c.args.counted.now) c.args.root.now) (λ xs. counts_of c.walk_sizes.new.counted ≡ add_to Size (length xs) (counts_of c.args.counted.now)) c.walk_sizes.result k.0 k.3 k.4
 
 pub returns-clause-few : goal.returns-clause-few
 returns-clause-few c = let k = c.walk_sizes.ensures.counts in (length k.0, names_within c.args.counted.now.map.now k.0 k.1 k.2, k.3)
 
-pub returns-clause-stands : goal.returns-clause-stands
-returns-clause-stands c = has_size c.args.counted.now.map.now c.args.root.now
+pub returns-clause-size : goal.returns-clause-size
+returns-clause-size c = answers_size (definitions_of c.args.counted.now) c.args.root.now c.walk_sizes.result (fits c.walk_sizes.result c.walk_sizes.ensures.fits) (has_size c.args.counted.now.map.now c.args.root.now) c.walk_sizes.ensures.answer

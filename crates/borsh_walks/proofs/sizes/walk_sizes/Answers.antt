@@ -1,7 +1,7 @@
 use Rattle.std.proofs.Common.{suc, ◌≤◌, [], ◌∷◌, length, reverse, refl, sym, ◌∙◌, ap, subst, arith, Some}
 use Rattle.std.specs.BTreeMap.{btree_map_len}
 use Rattle.borsh_walks.specs.declared.sizes.Frame.{Frame}
-use Rattle.borsh_walks.specs.Container.{first, needs, stays}
+use Rattle.borsh_walks.specs.Container.{first, size_references, stays}
 use Rattle.borsh_walks.specs.Tables.{mark_of}
 use Rattle.borsh_walks.specs.Counts.{counts_of, definitions_of}
 use Rattle.borsh_walks.specs.SizeAnswer.{distinct_none, distinct_more}
@@ -46,7 +46,7 @@ returns-in_default-gather-clause-answer c =
     fault_gather (definitions_of c.args.counted.now) 18446744073709551616 c.in-Some-needed_part.part.now c.in-Some-Finished.size i.state (sym p) (sym t ∙ ap Some q) (rw z at c.in_default-gather.ensures)
 
 pub loop-part-smaller-in-Some-Finished : goal.loop-part-smaller-in-Some-Finished
-loop-part-smaller-in-Some-Finished c = rests_moved needs _ c.loop-part.frame.spot (spots_of (reverse c.loop-part.way.items)) c.in-Some-needed_part.part.now (sym c.in-Some-needed_part.ensures.part)
+loop-part-smaller-in-Some-Finished c = rests_moved size_references _ c.loop-part.frame.spot (spots_of (reverse c.loop-part.way.items)) c.in-Some-needed_part.part.now (sym c.in-Some-needed_part.ensures.part)
 
 pub loop-part-preserved-in-Some-Finished : goal.loop-part-preserved-in-Some-Finished
 loop-part-preserved-in-Some-Finished c =
@@ -106,8 +106,8 @@ loop-part-smaller-in-None-get c =
     let room_here : suc (btree_map_len c.loop-part.table) ≤ btree_map_len c.loop-part.counted.map.now = omega (arith, room, i.table_len, ap (λ m. btree_map_len m.now) i.same.0) in
     let f = c.loop-part.frame in
     let g : Frame = record { spot = record { name = c.in-Some-needed_part.part; definition = c.in-Some-look.definition; next = 0 }; gathered = 0 } in
-    let same = ap (λ l. rests needs (spots_of l)) (last_first c.loop-part.way.items c.push.new.self.items f c.in_ok-push-in-None-get.ensures.items) in
-    left_pushed needs c.loop-part.counted.map.now c.look-in-None-get.new.self.map.now p (btree_map_len c.loop-part.table) (btree_map_len c.insert-in-None-get.new.self) g.spot (spots_of (f ∷ reverse c.loop-part.way.items)) (spots_of (reverse c.push.new.self.items)) (c.at-in-None-get.result ∷ spots_of (reverse c.push.new.self.items)) (ap (λ m. m.now) c.in-Some-look.ensures.same.0) len room_here (sym c.in-Some-look.ensures.found) refl (omega (arith, same)) (ap (λ v. v ∷ spots_of (reverse c.push.new.self.items)) c.at-in-None-get.ensures)
+    let same = ap (λ l. rests size_references (spots_of l)) (last_first c.loop-part.way.items c.push.new.self.items f c.in_ok-push-in-None-get.ensures.items) in
+    left_pushed size_references c.loop-part.counted.map.now c.look-in-None-get.new.self.map.now p (btree_map_len c.loop-part.table) (btree_map_len c.insert-in-None-get.new.self) g.spot (spots_of (f ∷ reverse c.loop-part.way.items)) (spots_of (reverse c.push.new.self.items)) (c.at-in-None-get.result ∷ spots_of (reverse c.push.new.self.items)) (ap (λ m. m.now) c.in-Some-look.ensures.same.0) len room_here (sym c.in-Some-look.ensures.found) refl (omega (arith, same)) (ap (λ v. v ∷ spots_of (reverse c.push.new.self.items)) c.at-in-None-get.ensures)
 
 pub loop-part-preserved-in-None-get : goal.loop-part-preserved-in-None-get
 loop-part-preserved-in-None-get c =
@@ -138,7 +138,7 @@ loop-part-smaller c =
     let C = definitions_of c.args.counted.now in
     let len = kept c.in_ok-insert-in-None.field-0 c.in_ok-insert-in-None.ensures.len (λ h. let o = c.in_ok-insert-in-None.ensures.old ∙ i.state.opened c.loop-part.frame.spot.name.now first in cc) in
     let items = last_first c.pop.new.self.items c.loop-part.way.items c.in-Some-pop.above c.in-Some-pop.ensures.items in
-    left_popped needs c.loop-part.counted.map.now (btree_map_len c.loop-part.table) (btree_map_len c.insert-in-None.new.self) c.loop-part.frame.spot (spots_of (c.in-Some-pop.above ∷ reverse c.pop.new.self.items)) (spots_of (c.loop-part.frame ∷ reverse c.loop-part.way.items)) len (ap (λ l. spots_of (c.loop-part.frame ∷ l)) items) i.state.ok.low
+    left_popped size_references c.loop-part.counted.map.now (btree_map_len c.loop-part.table) (btree_map_len c.insert-in-None.new.self) c.loop-part.frame.spot (spots_of (c.in-Some-pop.above ∷ reverse c.pop.new.self.items)) (spots_of (c.loop-part.frame ∷ reverse c.loop-part.way.items)) len (ap (λ l. spots_of (c.loop-part.frame ∷ l)) items) i.state.ok.low
 
 pub loop-part-preserved : goal.loop-part-preserved
 loop-part-preserved c =

@@ -1,8 +1,8 @@
 use Rattle.std.proofs.Common.{◌≡◌, ℕ, List, ◌∷◌, length, reverse}
 use Rattle.std.specs.BTreeMap.{btree_map_len}
-use Rattle.borsh_walks.specs.Counts.{counts_of, definitions_of, LooksOn, raised_for}
+use Rattle.borsh_walks.specs.Counts.{counts_of, definitions_of, LooksOn, add_to}
 use Rattle.borsh_walks.specs.declared.counted.Question.TheVariants.{Size}
-use Rattle.borsh_walks.specs.Container.{needs}
+use Rattle.borsh_walks.specs.Container.{size_references}
 use Rattle.borsh_walks.specs.Tables.{mark_of}
 use Rattle.borsh_walks.proofs.Measure.{left}
 use Rattle.borsh_walks.proofs.SizeWalk.{spots_of, State}
@@ -12,10 +12,10 @@ abbrev pub invariant-loop-part : goal.invariant-loop-part
 invariant-loop-part l = record {
   names : List (List ℕ);
   state : State (definitions_of l.fn.counted) l.root (mark_of l.table) (reverse l.way.items) l.frame names;
-  looks : counts_of l.counted ≡ raised_for Size (length names) (counts_of l.fn.counted);
+  looks : counts_of l.counted ≡ add_to Size (length names) (counts_of l.fn.counted);
   same : LooksOn l.fn.counted l.counted;
   table_len : btree_map_len l.table ≡ length names;
 }
 
 abbrev pub decreases-loop-part : goal.decreases-loop-part
-decreases-loop-part l = left needs l.counted.map.now (btree_map_len l.table) (spots_of (l.frame ∷ reverse l.way.items))
+decreases-loop-part l = left size_references l.counted.map.now (btree_map_len l.table) (spots_of (l.frame ∷ reverse l.way.items))

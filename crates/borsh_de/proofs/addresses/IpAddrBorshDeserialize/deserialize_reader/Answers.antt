@@ -1,8 +1,9 @@
 use Rattle.std.proofs.Common.{refl}
 use Rattle.std.proofs.lemmas.Result.{err_from_is_err_and}
-use Rattle.borsh_types.specs.Types.Addresses.{ip_parts, ipv4, ipv4-lawful, ipv6, ipv6-lawful, ip-lawful}
-use Rattle.borsh_types.proofs.ReadParts.{reads_along, denied_along, denied_no_tag}
-use Rattle.borsh_types.proofs.ReadSums.{reads_first, reads_second, denied_first, denied_second}
+use Rattle.borsh_codec.specs.Types.Addresses.{ip_view, ipv4, ipv6}
+use Rattle.borsh_codec.proofs.Laws.Types.{ipv4-lawful, ipv6-lawful, ip-lawful}
+use Rattle.borsh_codec.proofs.ReadParts.{reads_contramap, denied_contramap, denied_no_tag}
+use Rattle.borsh_codec.proofs.ReadSums.{reads_first, reads_second, denied_first, denied_second}
 use Rattle.borsh_de.proofs.addresses.IpAddrBorshDeserialize.deserialize_reader.Goals as goal
 
 pub returns-in_err-tag-clause-err : goal.returns-in_err-tag-clause-err
@@ -13,15 +14,15 @@ returns-in_err-tag-clause-err g c =
 pub returns-in_err-deserialize_reader-in-0-clause-err : goal.returns-in_err-deserialize_reader-in-0-clause-err
 returns-in_err-deserialize_reader-in-0-clause-err g c =
     let p = err_from_is_err_and c.from_residual-in_err-deserialize_reader-in-0.result c.from_residual-in_err-deserialize_reader-in-0.ensures.1 in
-    rw (p.1, p.2) (denied_along ip_parts (denied_first ipv4-lawful ipv6-lawful c.in-0.is c.in_ok-tag.ensures.ok c.in_err-deserialize_reader-in-0.ensures.err))
+    rw (p.1, p.2) (denied_contramap ip_view (denied_first ipv4-lawful ipv6-lawful c.in-0.is c.in_ok-tag.ensures.ok c.in_err-deserialize_reader-in-0.ensures.err))
 
 pub returns-in_err-deserialize_reader-in-1-clause-err : goal.returns-in_err-deserialize_reader-in-1-clause-err
 returns-in_err-deserialize_reader-in-1-clause-err g c =
     let p = err_from_is_err_and c.from_residual-in_err-deserialize_reader-in-1.result c.from_residual-in_err-deserialize_reader-in-1.ensures.1 in
-    rw (p.1, p.2) (denied_along ip_parts (denied_second ipv4-lawful ipv6-lawful c.in-1.is c.in_ok-tag.ensures.ok c.in_err-deserialize_reader-in-1.ensures.err))
+    rw (p.1, p.2) (denied_contramap ip_view (denied_second ipv4-lawful ipv6-lawful c.in-1.is c.in_ok-tag.ensures.ok c.in_err-deserialize_reader-in-1.ensures.err))
 
 pub returns-in_ok-deserialize_reader-in-0-clause-ok : goal.returns-in_ok-deserialize_reader-in-0-clause-ok
-returns-in_ok-deserialize_reader-in-0-clause-ok g c = reads_along ip_parts (reads_first ipv6 c.in-0.is c.in_ok-tag.ensures.ok c.in_ok-deserialize_reader-in-0.ensures.ok)
+returns-in_ok-deserialize_reader-in-0-clause-ok g c = reads_contramap ip_view (reads_first ipv6 c.in-0.is c.in_ok-tag.ensures.ok c.in_ok-deserialize_reader-in-0.ensures.ok)
 
 pub returns-in_ok-deserialize_reader-in-1-clause-ok : goal.returns-in_ok-deserialize_reader-in-1-clause-ok
-returns-in_ok-deserialize_reader-in-1-clause-ok g c = reads_along ip_parts (reads_second ipv4 c.in-1.is c.in_ok-tag.ensures.ok c.in_ok-deserialize_reader-in-1.ensures.ok)
+returns-in_ok-deserialize_reader-in-1-clause-ok g c = reads_contramap ip_view (reads_second ipv4 c.in-1.is c.in_ok-tag.ensures.ok c.in_ok-deserialize_reader-in-1.ensures.ok)

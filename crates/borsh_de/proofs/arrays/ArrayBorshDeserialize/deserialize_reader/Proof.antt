@@ -36,8 +36,8 @@ use Rattle.std.proofs.result.Result.TheLaws as RS_laws
 use Rattle.borsh_io.specs.contracts.error.Error as error
 use Rattle.borsh_io.proofs.error.Error.TheLaws as error_laws
 use Rattle.borsh_io.specs.Errors.{error_kind}
-use Rattle.borsh_types.specs.Shapes.{row}
-use Rattle.borsh_types.specs.Reading.{Reads, Denied}
+use Rattle.borsh_codec.specs.Shapes.{array}
+use Rattle.borsh_codec.specs.Reading.{Decoded, NotDecoded}
 use Rattle.places.specs.declared.tried.Held.{Held}
 use Rattle.places.specs.contracts.tried.Held as held
 use Rattle.places.proofs.tried.Held.TheLaws as held_laws
@@ -78,8 +78,8 @@ deserialize_reader_spec 𝓤 𝓛 𝓜 𝓡 wired T n R LT fits LR gD dD gB dB d
     let κ : Lft = κs.0 in let κT : Lft = κs.1.0 in let κN : Lft = κs.1.1.0 in let κR : Lft = κs.1.1.1.0 in
     let q : Share = qs.0 in let qT : Share = qs.1.0 in let qN : Share = qs.1.1.0 in let qR : Share = qs.1.1.1.0 in
     let z : G.Ghost = ((κs, qs, bounds, a, (told.val a.0 ∷ [], (mut_vals a.1.0, tt))), g) in
-    let Is_read : R.Denot → List T.Denot → Type 0 = λ w xs. Reads (List T.Denot) (row n gB.codec) (gR.stream a.1.0.now) (gR.stream w) xs in
-    let Is_denied : R.Denot → (error.the_row).Denot → Type 0 = λ w e. Denied (List T.Denot) (row n gB.codec) (gR.stream a.1.0.now) (gR.stream w) (error_kind e) in
+    let Is_read : R.Denot → List T.Denot → Type 0 = λ w xs. Decoded (List T.Denot) (array n gB.codec) (gR.stream a.1.0.now) (gR.stream w) xs in
+    let Is_denied : R.Denot → (error.the_row).Denot → Type 0 = λ w e. NotDecoded (List T.Denot) (array n gB.codec) (gR.stream a.1.0.now) (gR.stream w) (error_kind e) in
     let Post : Val → SProp 𝓤 = (walk_of 𝓛 En hs c).post z in
     -- what is owned on entry, and of what is required the last parts and all but the first
     let entry : SProp 𝓤 = on_entry 𝓛 En.signature κs qs a z.0.4 in

@@ -1,5 +1,5 @@
 use Rattle.std.proofs.Common.{inl, inr, ◌∙◌}
-use Rattle.borsh_types.proofs.ReadWhole.{denied_more, denied_failed, reads_all}
+use Rattle.borsh_codec.proofs.ReadWhole.{denied_more, denied_failed, reads_all}
 use Rattle.borsh_de.proofs.deserialize.BorshDeserialize.try_from_reader.Goals as goal
 
 pub returns-in-Ok-clause-err : goal.returns-in-Ok-clause-err

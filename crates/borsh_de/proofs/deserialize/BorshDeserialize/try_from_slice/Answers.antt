@@ -1,5 +1,5 @@
 use Rattle.std.proofs.lemmas.Result.{err_from_is_err_and}
-use Rattle.borsh_types.proofs.ReadWhole.{whole_denied}
+use Rattle.borsh_codec.proofs.ReadWhole.{whole_denied}
 use Rattle.borsh_de.proofs.deserialize.BorshDeserialize.try_from_slice.Goals as goal
 
 pub returns-in_err-value-clause-err : goal.returns-in_err-value-clause-err

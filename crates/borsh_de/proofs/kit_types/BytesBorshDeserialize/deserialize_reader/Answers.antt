@@ -1,4 +1,4 @@
-use Rattle.borsh_types.proofs.ReadParts.{reads_of}
+use Rattle.borsh_codec.proofs.ReadParts.{reads_of}
 use Rattle.borsh_de.proofs.kit_types.BytesBorshDeserialize.deserialize_reader.Goals as goal
 
 pub returns-clause-ok : goal.returns-clause-ok

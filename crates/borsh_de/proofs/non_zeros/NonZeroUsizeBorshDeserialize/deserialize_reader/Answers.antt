@@ -1,13 +1,13 @@
 use Rattle.std.specs.Int.NonZero.{non_zero_usize_get}
 use Rattle.std.proofs.lemmas.Result.{err_from_is_err_and}
-use Rattle.borsh_types.proofs.ReadParts.{denied_along}
-use Rattle.borsh_types.proofs.ReadNonZero.{denied_zero}
+use Rattle.borsh_codec.proofs.ReadParts.{denied_contramap}
+use Rattle.borsh_codec.proofs.ReadNonZero.{denied_zero}
 use Rattle.borsh_de.proofs.non_zeros.NonZeroUsizeBorshDeserialize.deserialize_reader.Goals as goal
 
 pub returns-in_err-number-clause-err : goal.returns-in_err-number-clause-err
 returns-in_err-number-clause-err g c =
     let p = err_from_is_err_and c.from_residual.result c.from_residual.ensures.1 in
-    rw (p.1, p.2) (denied_along non_zero_usize_get c.in_err-number.ensures.err)
+    rw (p.1, p.2) (denied_contramap non_zero_usize_get c.in_err-number.ensures.err)
 
 pub returns-in-None-clause-err : goal.returns-in-None-clause-err
 returns-in-None-clause-err g c = denied_zero 8 non_zero_usize_get (λ w. w.ok) c.in_ok-number.ensures.ok c.in-None.ensures c.not_non_zero.ensures

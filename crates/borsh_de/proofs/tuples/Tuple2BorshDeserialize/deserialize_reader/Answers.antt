@@ -1,5 +1,5 @@
 use Rattle.std.proofs.lemmas.Result.{err_from_is_err_and}
-use Rattle.borsh_types.proofs.ReadParts.{reads_pair, denied_pair_second}
+use Rattle.borsh_codec.proofs.ReadParts.{reads_pair, denied_pair_second}
 use Rattle.borsh_de.proofs.tuples.Tuple2BorshDeserialize.deserialize_reader.Goals as goal
 
 pub returns-in_err-b-clause-err : goal.returns-in_err-b-clause-err

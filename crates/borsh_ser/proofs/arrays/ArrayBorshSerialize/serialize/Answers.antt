@@ -1,5 +1,5 @@
 use Rattle.std.proofs.Common.{rules, ◌≡◌, length, refl}
-use Rattle.borsh_types.specs.Laws.Rows.{row_is}
+use Rattle.borsh_codec.proofs.Laws.Rows.{row_is}
 use Rattle.borsh_ser.proofs.arrays.ArrayBorshSerialize.serialize.Goals as goal
 
 pub returns-clause-ok : goal.returns-clause-ok

@@ -1,5 +1,5 @@
 use Rattle.std.proofs.Common.{arith}
-use Rattle.borsh_types.proofs.NumberBytes.{bytes_joined}
+use Rattle.borsh_codec.proofs.NumberBytes.{bytes_joined}
 use Rattle.borsh_ser.proofs.numbers.U8BorshSerialize.u8_slice.Goals as goal
 
 pub returns : goal.returns

@@ -1,7 +1,7 @@
 use Rattle.std.proofs.Common.{sym, true≢false}
 use Rattle.std.proofs.lemmas.Result.{err_from_is_err_and, on_ok_weaker, IfErr-weaker}
-use Rattle.borsh_types.specs.Laws.Lists.{or_left}
-use Rattle.borsh_types.proofs.WriteSteps.{writes_both, write_denied_own, write_denied_first, write_denied_second}
+use Rattle.borsh_codec.proofs.Laws.Lists.{or_left}
+use Rattle.borsh_codec.proofs.WriteSteps.{writes_both, write_denied_own, write_denied_first, write_denied_second}
 use Rattle.borsh_ser.proofs.sums.OptionBorshSerialize.serialize.Goals as goal
 
 pub returns-in_err-write_bytes-in-Some-clause-err : goal.returns-in_err-write_bytes-in-Some-clause-err
@@ -17,4 +17,4 @@ returns-in_ok-write_bytes-in-Some-clause-ok g c =
 pub returns-in_ok-write_bytes-in-Some-clause-err : goal.returns-in_ok-write_bytes-in-Some-clause-err
 returns-in_ok-write_bytes-in-Some-clause-err g c =
     let t = g.T.BorshType.codec in
-    rw c.in-Some.is (IfErr-weaker c.serialize.result _ _ (λ e d. write_denied_own (or_left t.write_allocates _) (write_denied_second g.met.W.Write.lawful c.in_ok-write_bytes-in-Some.ensures.ok d)) c.serialize.ensures.err)
+    rw c.in-Some.is (IfErr-weaker c.serialize.result _ _ (λ e d. write_denied_own (or_left t.encoding_allocates _) (write_denied_second g.met.W.Write.lawful c.in_ok-write_bytes-in-Some.ensures.ok d)) c.serialize.ensures.err)

@@ -1,5 +1,5 @@
 use Rattle.std.proofs.lemmas.Result.{err_from_is_err_and, on_ok_weaker, IfErr-weaker}
-use Rattle.borsh_types.proofs.WriteSteps.{writes_both, write_denied_first, write_denied_second}
+use Rattle.borsh_codec.proofs.WriteSteps.{writes_both, write_denied_first, write_denied_second}
 use Rattle.borsh_walks.proofs.codec.DefinitionBorshSerialize.serialize.Goals as goal
 
 pub returns-in_err-write_bytes-in-Sequence-clause-err : goal.returns-in_err-write_bytes-in-Sequence-clause-err

@@ -1,6 +1,6 @@
 use Rattle.std.proofs.Common.{refl}
 use Rattle.std.proofs.lemmas.Result.{err_from_is_err_and, IfOk-weaker, IfErr-weaker}
-use Rattle.borsh_types.proofs.ReadParts.{reads_tag, denied_tag, denied_no_tag}
+use Rattle.borsh_codec.proofs.ReadParts.{reads_tag, denied_tag, denied_no_tag}
 use Rattle.borsh_walks.specs.Codecs.{fields-lawful}
 use Rattle.borsh_walks.proofs.codec.FieldsBorshDeserialize.deserialize_reader.Goals as goal
 

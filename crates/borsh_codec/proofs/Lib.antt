@@ -1,0 +1,18 @@
+-- the laws of each shape and of each type
+pub mod Laws
+-- the steps of reading and writing
+pub mod ReadSteps
+pub mod ReadParts
+pub mod ReadBytes
+pub mod ReadRows
+pub mod WriteSteps
+pub mod WriteRows
+pub mod NumberBytes
+pub mod ReadWhole
+pub mod ReadSums
+pub mod TextBytes
+pub mod ReadNonZero
+pub mod KeyOrder
+pub mod ReadMaps
+pub mod SortedRefs
+pub mod WriteMaps

@@ -1,0 +1,45 @@
+-- Maps and sets that are written as counted lists of their entries.
+use Rattle.std.proofs.Common.{◌≡◌, ℕ, ◌+◌, ◌<◌, get_or, drop, Bool, false, cond, List, [], ◌∷◌, length, Option, None, refl, sym, ◌∙◌, ap, map}
+use Rattle.std.specs.declared.cmp.Ordering.{Ordering}
+use Rattle.std.specs.Cmp.{IsEquivalence}
+use Rattle.std.specs.Map.{keys_of}
+use Rattle.std.specs.List.{IsDistinct}
+use Rattle.std.specs.List.Sorted.{IsStrictlySortedBy}
+use Rattle.std.proofs.lemmas.List.{length-map}
+use Rattle.borsh_codec.specs.Codec.{Codec}
+use Rattle.borsh_codec.specs.Shapes.{unsigned_encoding, append_encodings, concat_encodings, contramap, refused_if, length_prefixed}
+use Rattle.borsh_codec.specs.Maps.{sorted_by_key, hash_entries, btree_entries, index_entries, unit_entries, key_only}
+use Rattle.borsh_codec.proofs.Laws.Exact.{allowed_is}
+use Rattle.borsh_codec.proofs.Laws.Maps.Ordered.{ascends_is}
+use Rattle.borsh_codec.proofs.Laws.Maps.Inserted.{gathered_distinct}
+use Rattle.borsh_codec.proofs.WriteRows.{all_joined-next}
+
+-- elements seen as others are written as these
+pub all_joined-map : {A B : Type 0} (f : A → Option (List ℕ)) (g : B → A) (xs : List B) → concat_encodings (λ x. f (g x)) xs ≡ concat_encodings f (map g xs)
+all_joined-map f g [] = refl
+all_joined-map f g (x ∷ xs) = ap (append_encodings (f (g x))) (all_joined-map f g xs)
+
+-- what is left of such elements begins with the one at hand
+pub all_joined_map-next : {A B : Type 0} (f : A → Option (List ℕ)) (g : B → A) (xs : List B) (i : ℕ) (b : B) → i < length xs → b ≡ get_or xs i b → concat_encodings f (map g (drop i xs)) ≡ append_encodings (f (g b)) (concat_encodings f (map g (drop (i + 1) xs)))
+all_joined_map-next f g xs i b h e = sym (all_joined-map f g (drop i xs)) ∙ all_joined-next (λ x. f (g x)) xs i b h e ∙ ap (append_encodings (f (g b))) (all_joined-map f g (drop (i + 1) xs))
+
+pub counted-map : {A B : Type 0} (c : Codec A) (g : B → A) (xs : List B) → (length_prefixed (contramap g c)).encoding xs ≡ (length_prefixed c).encoding (map g xs)
+counted-map c g xs = ap (λ n. append_encodings (unsigned_encoding 4 n) (concat_encodings (λ x. c.encoding (g x)) xs)) (sym (length-map xs g)) ∙ ap (append_encodings (unsigned_encoding 4 (length (map g xs)))) (all_joined-map c.encoding g xs)
+
+keys_same : {K : Type 0} (ks : List K) → map (λ e. e.0) (unit_entries ks) ≡ ks
+keys_same [] = refl
+keys_same (k ∷ ks) = ap (λ l. k ∷ l) (keys_same ks)
+
+-- keys are written as entries of nothing
+pub counted-bare : {K : Type 0} (c : Codec K) (ks : List K) → (length_prefixed c).encoding ks ≡ (length_prefixed (key_only c)).encoding (unit_entries ks)
+counted-bare c ks = sym (counted-map c (λ e. e.0) (unit_entries ks) ∙ ap (length_prefixed c).encoding (keys_same ks))
+
+module _ {K V : Type 0} (item : Codec (K × V)) (refused : Bool) (allowed : refused ≡ false) where
+  pub ordered_written : (cmp : K → K → Ordering) (es : List (K × V)) → IsStrictlySortedBy cmp (keys_of es) → (length_prefixed item).encoding es ≡ (refused_if refused (btree_entries cmp item)).encoding es
+  ordered_written cmp es s = sym (allowed_is refused allowed (ap (λ t. cond t ((length_prefixed item).encoding es) None) ((ascends_is cmp (keys_of es)).1 s)))
+
+  pub inserted_written : {eq : K → K → Bool} → IsEquivalence eq → (es : List (K × V)) → IsDistinct eq (keys_of es) → (length_prefixed item).encoding es ≡ (refused_if refused (index_entries eq item)).encoding es
+  inserted_written q es d = sym (allowed_is refused allowed (ap (length_prefixed item).encoding (gathered_distinct q es d)))
+
+  pub sorted_written : (cmp : K → K → Ordering) (S : V → V → Type 0) (es fs : List (K × V)) → fs ≡ sorted_by_key cmp es → (length_prefixed item).encoding fs ≡ (refused_if refused (hash_entries cmp S item)).encoding es
+  sorted_written cmp S es fs e = sym (allowed_is refused allowed (ap (length_prefixed item).encoding (sym e)))

@@ -1,0 +1,11 @@
+pub mod Codec
+pub mod Shapes
+pub mod Maps
+pub mod Types
+pub mod Reading
+pub mod Writing
+pub mod Empty
+-- what the crate below says, for those above
+pub use Rattle.borsh_io.specs.Errors
+pub use Rattle.borsh_io.specs.Stream
+pub use Rattle.borsh_io.specs.Sink

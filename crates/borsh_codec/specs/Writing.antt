@@ -1,0 +1,39 @@
+-- What a call that writes a value gives to its writer, and why it is refused.
+use Rattle.std.specs.Prelude.{◌≡◌, ◌≢◌, ℕ, ◌<◌, ◌≤◌, Bool, true, ◌||◌, IsTrue, List, ◌++◌, length, Option, Some, None}
+use Rattle.borsh_io.specs.declared.error.ErrorKind.{ErrorKind}
+use Rattle.borsh_io.specs.declared.error.ErrorKind.TheVariants.{InvalidData, OutOfMemory, WriteZero, Interrupted}
+use Rattle.borsh_io.specs.Stream.{CountedUp}
+use Rattle.borsh_io.specs.Sink.{WriterModel, WroteBytes}
+
+-- all of an encoding was written
+pub record Written {W : Type 0} (w : WriterModel W) (old new : W) (encoding : Option (List ℕ)) : Type 0 where
+  pub bytes : List ℕ
+  pub is : encoding ≡ Some bytes
+  pub writes : WroteBytes w old new bytes
+
+-- of the encoding only the beginning `front` was written: why, by an error of this kind
+pub data WriteFailure {W : Type 0} (own : Bool) (w : WriterModel W) (old new : W) (encoding : Option (List ℕ)) (front : List ℕ) (kind : ErrorKind) : Type 0 where
+  -- the value has no encoding
+  no_encoding : kind ≡ InvalidData → (w.sink new).faults ≡ (w.sink old).faults → encoding ≡ None → WriteFailure own w old new encoding front kind
+  -- memory was refused, to the value or to the writer
+  no_memory : kind ≡ OutOfMemory → (w.sink new).faults ≡ (w.sink old).faults → own || w.allocates ≡ true → WriteFailure own w old new encoding front kind
+  -- the writer is full, and bytes are left
+  full : kind ≡ WriteZero → (w.sink new).faults ≡ (w.sink old).faults → IsTrue (w.sink new).full → ((bytes : List ℕ) → encoding ≡ Some bytes → length front < length bytes) → WriteFailure own w old new encoding front kind
+  -- the writer failed
+  writer_failed : CountedUp (w.sink old).faults (w.sink new).faults → WriteFailure own w old new encoding front kind
+
+-- a call that was to write an encoding was refused: a beginning of it was written
+pub record NotWritten {W : Type 0} (own : Bool) (w : WriterModel W) (old new : W) (encoding : Option (List ℕ)) (kind : ErrorKind) : Type 0 where
+  pub front : List ℕ
+  pub wrote : w.wrote old new front
+  pub interruptions : (w.sink new).interruptions ≤ (w.sink old).interruptions
+  pub begins : (bytes : List ℕ) → encoding ≡ Some bytes → (rest : List ℕ) × (bytes ≡ front ++ rest)
+  pub retried : kind ≢ Interrupted
+  pub why : WriteFailure own w old new encoding front kind
+
+-- ---- a vector
+
+-- the value has no encoding, or memory was refused
+pub data WhyNotEncoded (encoding : Option (List ℕ)) (kind : ErrorKind) : Type 0 where
+  no_encoding : kind ≡ InvalidData → encoding ≡ None → WhyNotEncoded encoding kind
+  no_memory : kind ≡ OutOfMemory → WhyNotEncoded encoding kind

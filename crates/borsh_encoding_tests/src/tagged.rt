@@ -1,0 +1,39 @@
+// A struct of a text and a number.
+ghost use Rattle.borsh.specs.Shapes.{contramap};
+ghost use Rattle.borsh.specs.Laws.Exact.{contramap-lawful};
+ghost use Rattle.borsh.specs.Laws.Numbers.{unsigned-lawful};
+ghost use Rattle.borsh.specs.Laws.Pairs.{pair-lawful};
+ghost use Rattle.borsh.specs.Laws.Types.{text-lawful};
+ghost use Rattle.std.specs.String.{string_bytes};
+
+use borsh::io::{Result, Write};
+use borsh::ser::write_two;
+use borsh::{BorshSerialize, BorshType};
+use std::alloc::Global;
+
+/// The fields in order.
+#[derive(Drop)]
+pub(crate) struct Tagged {
+    pub tag: String,
+    pub value: u64,
+}
+
+impl BorshType for Tagged {
+    ghost codec = { contramap (λ v. (v.tag, v.value)) ⟦<(String, u64) as BorshType>⟧.codec };
+
+    ghost lawful = { contramap-lawful (λ v. (v.tag, v.value)) (pair-lawful (contramap-lawful string_bytes text-lawful) (unsigned-lawful 8)) };
+
+    fn encodes_empty() -> bool {
+        <(String, u64)>::encodes_empty()
+    }
+
+    fn element_size() -> usize {
+        <(String, u64)>::element_size()
+    }
+}
+
+impl BorshSerialize for Tagged {
+    fn serialize<W: Write>(&self, alloc: Global, writer: &mut W) -> Result<()> {
+        write_two(&self.tag, &self.value, alloc, writer)
+    }
+}

@@ -1,0 +1,201 @@
+// Bytes that are refused, and values without an encoding. A text that has to be put together can find no memory.
+use super::heap::end_refusal;
+use super::sweeps::{Round, is_invalid, is_out_of_memory, sweep};
+use borsh::error::ERROR_ZST_FORBIDDEN;
+use borsh::schema::BorshSchemaContainer;
+use borsh::{
+    BorshDeserialize, BorshSerialize, from_reader, from_slice, object_length, to_vec, to_writer,
+};
+use borsh_samples::{MyEnum, One, OneOrZero};
+use indexmap::{IndexMap, IndexSet};
+use std::boxed::BoxedSlice;
+use std::collections::{BTreeMap, BTreeSet, HashMap, HashSet, LinkedList, VecDeque};
+use std::net::{IpAddr, SocketAddr};
+use std::num::NonZeroI16;
+use std::ops::Range;
+use std::test::Fail;
+
+const LEFT_OVER: &str = "Not all bytes read";
+
+const SHORT: &str = "Unexpected length of input";
+
+const ORDER: &str = "keys were not serialized in ascending order";
+
+const NONE: &[u8] = b"\0\0\0\0";
+
+/// The bytes are refused with this text; or an allocation failure is answered, and what is left is a tail of them.
+fn refuses<T: BorshDeserialize>(
+    rt: HostRuntime,
+    name: &str,
+    bytes: &[u8],
+    text: &str,
+) -> Result<(), Fail> {
+    let alloc = rt.alloc();
+    sweep(rt, "from_slice of refused bytes", name, |refusal| {
+        refusal.begin(alloc);
+        let made = from_slice::<T>(alloc, bytes);
+        let refused = end_refusal(alloc);
+        let right = match made {
+            Ok(_) => false,
+            Err(e) => is_invalid(&e, text) || refused && is_out_of_memory(&e),
+        };
+        Ok(Round { refused, right })
+    })?;
+    sweep(rt, "from_reader of refused bytes", name, |refusal| {
+        let mut rest = bytes;
+        refusal.begin(alloc);
+        let made = from_reader::<_, T>(alloc, &mut rest);
+        let refused = end_refusal(alloc);
+        let right = match made {
+            Ok(_) => false,
+            Err(e) => {
+                (is_invalid(&e, text) || refused && is_out_of_memory(&e)) && bytes.ends_with(rest)
+            }
+        };
+        Ok(Round { refused, right })
+    })
+}
+
+#[test]
+fn tags_of_no_variant(rt: HostRuntime) -> Result<(), Fail> {
+    refuses::<bool>(rt, "bool", b"\x02", "Invalid bool representation: 2")?;
+    refuses::<Vec<bool>>(
+        rt,
+        "Vec<bool>",
+        b"\x02\0\0\0\x01\x02",
+        "Invalid bool representation: 2",
+    )?;
+    refuses::<Option<u8>>(
+        rt,
+        "Option<u8>",
+        b"\x02\x07",
+        "Invalid Option representation: 2. The first byte must be 0 or 1",
+    )?;
+    refuses::<Result<u8, u8>>(
+        rt,
+        "Result<u8, u8>",
+        b"\x02\x07",
+        "Invalid Result representation: 2. The first byte must be 0 or 1",
+    )?;
+    refuses::<SocketAddr>(rt, "SocketAddr", b"\x02", "Invalid SocketAddr variant: 2")?;
+    refuses::<IpAddr>(rt, "IpAddr", b"\x02", "Invalid IpAddr variant: 2")?;
+    refuses::<MyEnum>(rt, "MyEnum", b"\x03", "Unexpected variant tag: 3")?;
+    refuses::<OneOrZero>(rt, "OneOrZero", b"\x03", "Unexpected variant tag: 3")?;
+    refuses::<OneOrZero>(
+        rt,
+        "OneOrZero",
+        b"\x02\0\0\0\0",
+        "MyEnum::Many not allowed here",
+    )?;
+    refuses::<Vec<One>>(
+        rt,
+        "Vec<One>",
+        b"\x01\0\0\0\x01",
+        "Unexpected variant tag: 1",
+    )?;
+    refuses::<BorshSchemaContainer>(
+        rt,
+        "BorshSchemaContainer",
+        b"\x01\0\0\0A\x01\0\0\0\x01\0\0\0A\x05",
+        "Unexpected variant tag: 5",
+    )
+}
+
+#[test]
+fn too_few_bytes_or_too_many(rt: HostRuntime) -> Result<(), Fail> {
+    refuses::<u8>(rt, "u8", b"\x07\0", LEFT_OVER)?;
+    refuses::<u32>(rt, "u32", b"\x01\x02\x03", SHORT)?;
+    refuses::<()>(rt, "()", b"\0", LEFT_OVER)?;
+    refuses::<String>(rt, "String", b"\x01\0\0\0Az", LEFT_OVER)?;
+    refuses::<Vec<u8>>(rt, "Vec<u8>", b"\xff\xff\xff\xff\x01\x02\x03", SHORT)?;
+    refuses::<BTreeSet<u8>>(rt, "BTreeSet<u8>", b"\x03\0\0\0\x02\x01", SHORT)?;
+    refuses::<HashMap<u8, u8>>(rt, "HashMap<u8, u8>", b"\x02\0\0\0\x01\x0a\x03", SHORT)?;
+    refuses::<BorshSchemaContainer>(rt, "BorshSchemaContainer", b"\0", SHORT)
+}
+
+#[test]
+fn wrong_values(rt: HostRuntime) -> Result<(), Fail> {
+    refuses::<NonZeroI16>(rt, "NonZeroI16", b"\0\0", "Expected a non-zero value")?;
+    refuses::<String>(
+        rt,
+        "String",
+        b"\x02\0\0\0a\xc3",
+        "incomplete utf-8 byte sequence from index 1",
+    )?;
+    refuses::<BTreeSet<u8>>(rt, "BTreeSet<u8>", b"\x02\0\0\0\x01\x01", ORDER)?;
+    refuses::<HashSet<u8>>(rt, "HashSet<u8>", b"\x02\0\0\0\x02\x01", ORDER)?;
+    refuses::<BTreeMap<u8, u8>>(
+        rt,
+        "BTreeMap<u8, u8>",
+        b"\x03\0\0\0\x02\x07\x01\x09\x02\x08",
+        ORDER,
+    )?;
+    refuses::<HashMap<u8, u8>>(rt, "HashMap<u8, u8>", b"\x02\0\0\0\x02\x0a\x01\x0b", ORDER)?;
+    refuses::<BorshSchemaContainer>(
+        rt,
+        "BorshSchemaContainer",
+        b"\x01\0\0\0A\x02\0\0\0\x01\0\0\0B\0\0\x01\0\0\0A\0\0",
+        ORDER,
+    )
+}
+
+#[test]
+fn lists_of_empty_elements(rt: HostRuntime) -> Result<(), Fail> {
+    refuses::<Vec<()>>(rt, "Vec<()>", NONE, ERROR_ZST_FORBIDDEN)?;
+    refuses::<Vec<Box<()>>>(rt, "Vec<Box<()>>", NONE, ERROR_ZST_FORBIDDEN)?;
+    refuses::<Vec<Range<()>>>(rt, "Vec<Range<()>>", NONE, ERROR_ZST_FORBIDDEN)?;
+    refuses::<Vec<([u8; 0], [u8; 0])>>(rt, "Vec<([u8; 0], [u8; 0])>", NONE, ERROR_ZST_FORBIDDEN)?;
+    refuses::<VecDeque<()>>(rt, "VecDeque<()>", NONE, ERROR_ZST_FORBIDDEN)?;
+    refuses::<LinkedList<()>>(rt, "LinkedList<()>", NONE, ERROR_ZST_FORBIDDEN)?;
+    refuses::<BTreeMap<(), u8>>(rt, "BTreeMap<(), u8>", NONE, ERROR_ZST_FORBIDDEN)?;
+    refuses::<HashSet<()>>(rt, "HashSet<()>", NONE, ERROR_ZST_FORBIDDEN)?;
+    refuses::<IndexMap<(), u8>>(rt, "IndexMap<(), u8>", NONE, ERROR_ZST_FORBIDDEN)?;
+    refuses::<IndexSet<()>>(rt, "IndexSet<()>", NONE, ERROR_ZST_FORBIDDEN)
+}
+
+/// The value is refused with this text, or an allocation failure is answered; a vector keeps what it has, and gets nothing.
+fn is_never_written<T: BorshSerialize>(
+    rt: HostRuntime,
+    name: &str,
+    value: &T,
+    text: &str,
+) -> Result<(), Fail> {
+    let alloc = rt.alloc();
+    sweep(rt, "to_vec of a refused value", name, |refusal| {
+        refusal.begin(alloc);
+        let made = to_vec(alloc, value);
+        let refused = end_refusal(alloc);
+        let right = match made {
+            Ok(_) => false,
+            Err(e) => is_invalid(&e, text) || refused && is_out_of_memory(&e),
+        };
+        Ok(Round { refused, right })
+    })?;
+    sweep(rt, "to_writer of a refused value", name, |refusal| {
+        let mut out = Vec::from_slice(alloc, b"front")?;
+        refusal.begin(alloc);
+        let done = to_writer(alloc, &mut out, value);
+        let length = object_length(alloc, value);
+        let refused = end_refusal(alloc);
+        let right = match (done, length) {
+            (Err(e), Err(l)) => is_invalid(&e, text) && is_invalid(&l, text),
+            _ => false,
+        };
+        Ok(Round {
+            refused,
+            right: right && out.as_slice() == b"front".as_slice(),
+        })
+    })
+}
+
+#[test]
+fn values_without_an_encoding(rt: HostRuntime) -> Result<(), Fail> {
+    let alloc = rt.alloc();
+    let many = OneOrZero(MyEnum::Many(Vec::new(alloc)));
+    is_never_written(rt, "OneOrZero", &many, "MyEnum::Many not allowed here")?;
+    for units in [0usize, 3] {
+        let slice: BoxedSlice<()> = vec![in alloc; (); units]?.into_boxed_slice();
+        is_never_written(rt, "BoxedSlice<()>", &slice, ERROR_ZST_FORBIDDEN)?;
+    }
+    Ok(())
+}

@@ -1,0 +1,24 @@
+//! Tests of schemas and containers: what no clause says, with values from outside.
+//!
+//! A proof can't say that memory is there. So each call that takes memory is made here once where it
+//! succeeds, and what is printed is compared, which no clause gives.
+#![tactic(auto)]
+
+#[cfg(test)]
+mod calls;
+#[cfg(test)]
+mod containers;
+#[cfg(test)]
+mod definitions;
+#[cfg(test)]
+mod lines;
+#[cfg(test)]
+mod members;
+#[cfg(test)]
+mod schemas;
+#[cfg(test)]
+mod shapes;
+#[cfg(test)]
+mod widths;
+#[cfg(test)]
+mod worked;

@@ -1,0 +1,239 @@
+// Runs over readers that fail, and over writers that fail or are full.
+use borsh::io::ErrorKind;
+use borsh_devices::encodings::{check, is_error};
+use borsh_devices::{Course, Failure, TestReader, TestWriter, courses};
+use borsh_lines::{finish, run};
+use std::alloc::Global;
+use std::test::Fail;
+
+/// Lines of every command, with their answers.
+const ROWS: [(&str, &str); 15] = [
+    ("read u64 0c00000000000000", "ok 0c00000000000000"),
+    ("read bool 02", "error Invalid bool representation: 2"),
+    ("read u8 7", "error line"),
+    ("", "error line"),
+    ("read list-u8 03000000010203", "ok 03000000010203"),
+    ("read string 01000000417a", "error Not all bytes read"),
+    ("canon map-u8 03000000020701090208", "ok 0200000001090208"),
+    ("schema u8", "020000007538010000000200000075380001"),
+    ("schema uuid", "error no schema"),
+    ("check 020000007538010000000200000075380001", "valid"),
+    (
+        "check 0100000041020000000200000028290000010000004101000000000000000000ffffffffffffffff020000002829",
+        "invalid ZSTSequence 41",
+    ),
+    ("size 020000007538010000000200000075380001", "1"),
+    ("size 010000004100000000", "missing 41"),
+    (
+        "counts 020000007538010000000200000075380001",
+        "rules 1 zero 0 size 1",
+    ),
+    ("read unit -", "ok -"),
+];
+
+const TOLD_SLOW: &[u8] = b"borsh_check: too slow\n";
+
+const TOLD_FULL: &[u8] = b"borsh_check: failed to write whole buffer\n";
+
+/// The lines; the last one without a line feed.
+fn input(alloc: Global) -> Result<Vec<u8>, Fail> {
+    let mut all = Vec::new(alloc);
+    for (number, row) in ROWS.iter().enumerate() {
+        if number > 0 {
+            all.push(b'\n')?;
+        }
+        all.extend_from_slice(row.0.as_bytes())?;
+    }
+    Ok(all)
+}
+
+/// The answers to the first lines.
+fn answers(alloc: Global, lines: usize) -> Result<Vec<u8>, Fail> {
+    let mut all = Vec::new(alloc);
+    for row in ROWS.iter().take(lines) {
+        all.extend_from_slice(row.1.as_bytes())?;
+        all.push(b'\n')?;
+    }
+    Ok(all)
+}
+
+#[test]
+fn lines_of_every_command_are_answered(rt: HostRuntime) -> Result<(), Fail> {
+    let alloc = rt.alloc();
+    let input = input(alloc)?;
+    let output = answers(alloc, ROWS.len())?;
+    for course in courses() {
+        let mut reader = TestReader::new(input.as_slice(), course);
+        let mut writer = TestWriter::new(Vec::new(alloc), usize::MAX, course);
+        let outcome = run(alloc, &mut reader, &mut writer);
+        assert_eq!(rt; writer.taken(), output.as_slice());
+        assert!(rt; reader.rest().is_empty());
+        assert!(rt; has_told(alloc, &outcome, 0, b""));
+    }
+    Ok(())
+}
+
+/// Whether `finish` answers this status for the outcome, and writes these bytes.
+fn has_told(alloc: Global, outcome: &borsh::io::Result<()>, status: u8, told: &[u8]) -> bool {
+    let mut errors = Vec::new(alloc);
+    finish(outcome, &mut errors) == status && errors.as_slice() == told
+}
+
+/// Runs with a writer that has room for so many bytes: these are written, and the error is told.
+fn check_full_writer(
+    alloc: Global,
+    input: &[u8],
+    output: &[u8],
+    room: usize,
+    course: Course,
+) -> Result<(), Fail> {
+    let mut reader = TestReader::new(input, Course::smooth());
+    let mut writer = TestWriter::new(Vec::new(alloc), room, course);
+    let outcome = run(alloc, &mut reader, &mut writer);
+    let is_full = is_error(
+        &outcome,
+        ErrorKind::WriteZero,
+        "failed to write whole buffer",
+    );
+    check(
+        is_full && has_told(alloc, &outcome, 1, TOLD_FULL),
+        "full writer",
+        room,
+    )?;
+    let taken = writer.taken();
+    check(
+        taken.len() == room && output.starts_with(taken),
+        "bytes of a full writer",
+        room,
+    )
+}
+
+#[test]
+fn a_full_writer_has_the_first_bytes(rt: HostRuntime) -> Result<(), Fail> {
+    let alloc = rt.alloc();
+    let input = input(alloc)?;
+    let output = answers(alloc, ROWS.len())?;
+    let mut count = 0usize;
+    for course in courses() {
+        for room in 0..output.len() {
+            check_full_writer(alloc, input.as_slice(), output.as_slice(), room, course)?;
+            count = count.saturating_add(1);
+        }
+    }
+    assert!(rt; count > 0);
+    assert_eq!(rt; count, output.len().saturating_mul(4));
+    println!(rt; "runs: {count} full writers")?;
+    Ok(())
+}
+
+/// Runs with a writer of single bytes that fails after so many: these are written, and the error is told.
+fn check_failing_writer(
+    alloc: Global,
+    input: &[u8],
+    output: &[u8],
+    write: u32,
+    course: Course,
+) -> Result<(), Fail> {
+    let mut reader = TestReader::new(input, Course::smooth());
+    let failing = course.failing(write, Failure::TimedOut);
+    let mut writer = TestWriter::new(Vec::new(alloc), usize::MAX, failing);
+    let outcome = run(alloc, &mut reader, &mut writer);
+    let number = write as usize;
+    let is_slow = is_error(&outcome, ErrorKind::TimedOut, "too slow") && writer.faults() == 1;
+    check(
+        is_slow && has_told(alloc, &outcome, 1, TOLD_SLOW),
+        "failed write",
+        number,
+    )?;
+    let taken = writer.taken();
+    check(
+        taken.len() == number && output.starts_with(taken),
+        "bytes of a failed write",
+        number,
+    )
+}
+
+#[test]
+fn a_failing_writer_has_the_first_bytes(rt: HostRuntime) -> Result<(), Fail> {
+    let alloc = rt.alloc();
+    let input = input(alloc)?;
+    let output = answers(alloc, ROWS.len())?;
+    let writes = u32::try_from(output.len())?;
+    let mut count = 0u32;
+    for course in courses() {
+        if course.is_by_bytes() {
+            // Behind the last byte it is the flush that fails.
+            for write in 0..=writes {
+                check_failing_writer(alloc, input.as_slice(), output.as_slice(), write, course)?;
+                count = count.saturating_add(1);
+            }
+        }
+    }
+    assert_eq!(rt; count, writes.saturating_add(1).saturating_mul(2));
+    println!(rt; "runs: {count} failed writes")?;
+    Ok(())
+}
+
+/// Runs with a reader that fails at a read: the answers to the lines whose line feed was taken are
+/// written, and the error is told. Answers whether that read was made.
+fn check_failing_reader(
+    alloc: Global,
+    input: &[u8],
+    course: Course,
+    failure: Failure,
+) -> Result<bool, Fail> {
+    let mut reader = TestReader::new(input, course);
+    let mut writer = TestWriter::new(Vec::new(alloc), usize::MAX, Course::smooth());
+    let outcome = run(alloc, &mut reader, &mut writer);
+    if reader.faults() == 0 {
+        return Ok(false);
+    }
+    let taken = input.len().saturating_sub(reader.rest().len());
+    let is_told = match failure {
+        Failure::TimedOut => {
+            is_error(&outcome, ErrorKind::TimedOut, "too slow")
+                && has_told(alloc, &outcome, 1, TOLD_SLOW)
+        }
+        Failure::End => is_error(&outcome, ErrorKind::UnexpectedEof, "the device says so"),
+    };
+    check(is_told && reader.faults() == 1, "failed read", taken)?;
+    let lines = input
+        .iter()
+        .take(taken)
+        .filter(|byte| **byte == b'\n')
+        .count();
+    let written = answers(alloc, lines)?;
+    check(
+        writer.taken() == written.as_slice(),
+        "answers before a failed read",
+        taken,
+    )?;
+    Ok(true)
+}
+
+fn failing_readers(alloc: Global, course: Course, failure: Failure) -> Result<usize, Fail> {
+    let input = input(alloc)?;
+    let mut count = 0usize;
+    for read in 0..=u32::try_from(input.len())? {
+        let failing = course.failing(read, failure);
+        if check_failing_reader(alloc, input.as_slice(), failing, failure)? {
+            count = count.saturating_add(1);
+        }
+    }
+    let is_expected = count == input.len().saturating_add(1) || !course.is_by_bytes();
+    check(is_expected && count > 0, "failed reads", count)?;
+    Ok(count)
+}
+
+#[test]
+fn a_failing_reader_leaves_the_answers_to_the_lines_before(rt: HostRuntime) -> Result<(), Fail> {
+    let alloc = rt.alloc();
+    let mut count = 0usize;
+    for course in courses() {
+        for failure in [Failure::TimedOut, Failure::End] {
+            count = count.saturating_add(failing_readers(alloc, course, failure)?);
+        }
+    }
+    println!(rt; "runs: {count} failed reads")?;
+    Ok(())
+}

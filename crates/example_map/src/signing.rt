@@ -1,0 +1,20 @@
+// Bytes that are signed, and the values that they stand for.
+ghost use Rattle.std.specs.Prelude.{◌≡◌, true, Some, IfOk};
+
+use borsh::io::Result;
+use borsh::{BorshDeserialize, BorshSerialize, from_slice, to_vec};
+use std::alloc::Global;
+
+/// The bytes that are signed: the value's encoding.
+pub fn bytes_to_sign<T: BorshSerialize>(alloc: Global, value: &T) -> Result<Vec<u8>>
+    ensures { IfOk result (λ v. T.codec.encoding value.now ≡ Some v.items) }
+{
+    to_vec(alloc, value)
+}
+
+/// The value that was signed: one that the bytes decode to.
+pub fn signed_value<T: BorshDeserialize>(alloc: Global, bytes: &[u8]) -> Result<T>
+    ensures { IfOk result (λ v. T.codec.decodes true bytes.now v) }
+{
+    from_slice(alloc, bytes)
+}

@@ -1,0 +1,44 @@
+# Sourced by `make` and `run`. Builds the program against the original in $room: $room/strict reads keys in ascending
+# order alone, $room/any-order in any order. The original is a folder with its sources, or `registry`.
+build_replay() {
+    local original cargo=(cargo)
+    if [ "$1" = registry ]; then
+        original='version = "=1.8.1"'
+    else
+        original="path = \"$(realpath "$1")\""
+        # Where the folder's own dependencies come from, if it says so.
+        if [ -f "$1/.cargo/config.toml" ]; then
+            cargo+=(--config "$(realpath "$1")/.cargo/config.toml")
+        fi
+    fi
+    mkdir -p "$room/replay"
+    cp -r replay/src "$room/replay/src"
+    cat >"$room/replay/Cargo.toml" <<TOML
+[package]
+name = "replay"
+version = "0.0.0"
+edition = "2024"
+
+[features]
+strict = ["borsh/de_strict_order"]
+
+[dependencies]
+borsh = { $original, features = ["unstable__schema", "rc", "bytes", "indexmap", "uuid"] }
+bytes = "1"
+indexmap = ">=1.9, <3"
+uuid = "1"
+TOML
+    (
+        cd "$room/replay"
+        "${cargo[@]}" build --release --quiet --target-dir target
+        cp target/release/replay "$room/any-order"
+        "${cargo[@]}" build --release --quiet --target-dir target --features strict
+        cp target/release/replay "$room/strict"
+    )
+}
+
+# Answers $room/lines by the original into $room/strict.answers and $room/any-order.answers.
+ask_original() {
+    "$room/strict" answer <"$room/lines" >"$room/strict.answers"
+    "$room/any-order" answer <"$room/lines" >"$room/any-order.answers"
+}

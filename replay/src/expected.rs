@@ -1,0 +1,128 @@
+//! The answers that a line may have, and where they come from.
+
+use crate::original::{NOT_ASKED, PANICS, written};
+use crate::requests::{Inquiry, Request};
+use crate::rules::{Faults, Rules};
+use crate::words::read_list_of_wide_ones;
+use borsh::schema::BorshSchemaContainer;
+
+/// The source of answers that the original gives. Every other source is a reason for which it isn't
+/// asked or is wrong; replay/README.md says what each means.
+pub const ORIGINAL: &str = "original";
+
+const EMPTY_ELEMENTS: &str = "error Collections of zero-sized types are not allowed due to deny-of-service concerns on deserialization.";
+
+pub struct Expected {
+    /// `ORIGINAL`, or the reason for another source; `None` where the original answers otherwise
+    /// for no known reason.
+    pub source: Option<&'static str>,
+    /// Any of them will do. `A..B` is any number from A to B.
+    pub answers: Vec<String>,
+}
+
+impl Expected {
+    fn by_rule(reason: &'static str, answer: &str) -> Expected {
+        Expected {
+            source: Some(reason),
+            answers: vec![answer.to_string()],
+        }
+    }
+
+    /// What is expected for a line that the original answers so.
+    pub fn for_line(line: &str, original: &str) -> Expected {
+        match Request::from_line(line) {
+            Request::Unknown => Expected::by_rule("no-command", "error line"),
+            Request::Value { word, bytes, .. } => match word.name {
+                "list-boxunit" => Expected::by_rule("empty-elements", EMPTY_ELEMENTS),
+                "list-one" => {
+                    Expected::by_rule("empty-elements", &written(read_list_of_wide_ones(&bytes)))
+                }
+                _ => Expected::by_rule(ORIGINAL, original),
+            },
+            Request::Schema { word } => match word.name {
+                _ if word.schema.is_none() => Expected::by_rule("no-schema", "error no schema"),
+                "ip" | "container" | "myenum" => Expected::by_rule("variant-names", original),
+                _ => Expected::by_rule(ORIGINAL, original),
+            },
+            Request::About { inquiry, bytes } => match borsh::from_slice(&bytes) {
+                Ok(container) => Expected::about(inquiry, &container, original),
+                Err(error) => Expected::by_rule(ORIGINAL, &format!("error {error}")),
+            },
+        }
+    }
+
+    fn about(inquiry: Inquiry, container: &BorshSchemaContainer, original: &str) -> Expected {
+        let rules = Rules::new(container, Faults::default());
+        let answers = match inquiry {
+            Inquiry::Check => rules.check(),
+            Inquiry::Size => rules.size(),
+            Inquiry::Counts => return Expected::by_rule("counts", &rules.counts()),
+        };
+        let is_among = answers.iter().any(|answer| answer == original);
+        let source = match inquiry {
+            _ if is_among && answers.len() == 1 => Some(ORIGINAL),
+            _ if is_among => Some("several-faults"),
+            Inquiry::Check if original == PANICS && rules.counts_too_far() => Some("all-counts"),
+            Inquiry::Check => {
+                let faults = Faults {
+                    met_sequences: true,
+                    ..Faults::default()
+                };
+                let wrong = Rules::new(container, faults).check();
+                wrong
+                    .iter()
+                    .any(|answer| answer == original)
+                    .then_some("empty-siblings")
+            }
+            _ => {
+                let faults = Faults {
+                    single_enums: true,
+                    ..Faults::default()
+                };
+                let wrong = Rules::new(container, faults).size();
+                wrong
+                    .iter()
+                    .any(|answer| answer == original)
+                    .then_some("enum-count")
+            }
+        };
+        Expected { source, answers }
+    }
+
+    /// Whether an answer is one of those.
+    pub fn allows(&self, answer: &str) -> bool {
+        self.answers
+            .iter()
+            .any(|known| is_of_pattern(known, answer))
+    }
+
+    /// Whether the original was asked and its answer isn't one of those.
+    pub fn differs(&self, original: &str) -> bool {
+        original != NOT_ASKED && !self.allows(original)
+    }
+}
+
+/// Whether an answer has the words of a known one, in which `A..B` is a number from A to B.
+fn is_of_pattern(known: &str, answer: &str) -> bool {
+    if !known.contains("..") {
+        return known == answer;
+    }
+    let words: Vec<&str> = answer.split(' ').collect();
+    let patterns: Vec<&str> = known.split(' ').collect();
+    words.len() == patterns.len()
+        && words
+            .iter()
+            .zip(patterns)
+            .all(|(word, pattern)| is_in_range(pattern, word))
+}
+
+fn is_in_range(pattern: &str, word: &str) -> bool {
+    let Some((from, to)) = pattern.split_once("..") else {
+        return pattern == word;
+    };
+    let number = |text: &str| text.parse::<u64>().ok();
+    match (number(from), number(word), number(to)) {
+        (Some(from), Some(value), Some(to)) => from <= value && value <= to,
+        _ => false,
+    }
+}
