@@ -6,6 +6,8 @@ pub mod ReadParts
 pub mod ReadBytes
 pub mod ReadRows
 pub mod WriteSteps
+pub mod WriteOutcomes
+pub mod DecodeOutcomes
 pub mod WriteRows
 pub mod NumberBytes
 pub mod ReadWhole

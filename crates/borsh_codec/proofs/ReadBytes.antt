@@ -42,9 +42,9 @@ row_past m n k start h f r front rest p w e =
     ]
 
 -- of n bytes some were taken, and the next k are refused
-pub denied_bytes : {n k : ℕ} {s t u : ReaderState} {start : List ℕ} {kind : ErrorKind} → length start + k ≤ n → TakesPrefix (λ x. x ≡ start) s t → ReadFails false (λ x. length x ≡ k) t u kind → NotDecoded (List ℕ) (allocated_array n (unsigned 1)) s u kind
+pub denied_bytes : {n k : ℕ} {s t u : ReaderState} {start : List ℕ} {kind : ErrorKind} → length start + k ≤ n → TakesPrefix (λ x. x ≡ start) s t → ReadFails false false (λ x. length x ≡ k) t u kind → NotDecoded (List ℕ) (allocated_array n (unsigned 1)) s u kind
 denied_bytes {n = n} {k = k} {s = s} {t = t} {start = start} h p r = record {
-  refused = refused_after (λ e. absurd (true≢false (sym e))) p (row_past s.strict_order n k start h) (refused_map (λ e. e) (no_more k t) r);
+  refused = refused_after (λ e. absurd (true≢false (sym e))) (λ e. e) p (row_past s.strict_order n k start h) (refused_map (λ e. e) (λ e. e) (no_more k t) r);
 }
 
 -- ---- a row of bytes that is read where it lies
@@ -52,5 +52,5 @@ denied_bytes {n = n} {k = k} {s = s} {t = t} {start = start} h p r = record {
 pub reads_byte_row : {n : ℕ} {s t : ReaderState} {bytes : List ℕ} → length bytes ≡ n → ((i : ℕ) → get_or bytes i 0 < 256) → TakesPrefix (λ x. x ≡ bytes) s t → Decoded (List ℕ) (array n (unsigned 1)) s t bytes
 reads_byte_row e fit p = record { took = (reads_bytes e fit p).took }
 
-pub denied_byte_row : {n : ℕ} {s t : ReaderState} {kind : ErrorKind} → ReadFails false (λ x. length x ≡ n) s t kind → NotDecoded (List ℕ) (array n (unsigned 1)) s t kind
-denied_byte_row {s = s} r = record { refused = refused_map (λ e. e) (λ none front rest e w. none front rest e (length-in_order s.strict_order front w.0 w.1.parts ∙ w.1.long)) r }
+pub denied_byte_row : {n : ℕ} {s t : ReaderState} {kind : ErrorKind} → ReadFails false false (λ x. length x ≡ n) s t kind → NotDecoded (List ℕ) (array n (unsigned 1)) s t kind
+denied_byte_row {s = s} r = record { refused = refused_map (λ e. e) (λ e. e) (λ none front rest e w. none front rest e (length-in_order s.strict_order front w.0 w.1.parts ∙ w.1.long)) r }

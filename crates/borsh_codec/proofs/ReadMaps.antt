@@ -31,8 +31,8 @@ pub reads_as : {A B : Type 0} {c : Codec A} (d : Codec B) {s t : ReaderState} {v
 reads_as d {s = s} w f r = record { took = took_weaker (f s.strict_order) r.took }
 
 -- what one meaning doesn't read, another one doesn't either
-pub denied_as : {A B : Type 0} {c : Codec A} (d : Codec B) {s t : ReaderState} {k : ErrorKind} → (c.decoding_allocates ≡ true → d.decoding_allocates ≡ true) → ((m : Bool) (x : List ℕ) → IsDecodable d m x → IsDecodable c m x) → NotDecoded A c s t k → NotDecoded B d s t k
-denied_as d {s = s} g f r = record { refused = refused_map g (λ none front rest e h. none front rest e (f s.strict_order front h)) r.refused }
+pub denied_as : {A B : Type 0} {c : Codec A} (d : Codec B) {s t : ReaderState} {k : ErrorKind} → (c.decoding_allocates ≡ true → d.decoding_allocates ≡ true) → (c.texts_allocate ≡ true → d.texts_allocate ≡ true) → ((m : Bool) (x : List ℕ) → IsDecodable d m x → IsDecodable c m x) → NotDecoded A c s t k → NotDecoded B d s t k
+denied_as d {s = s} g i f r = record { refused = refused_map g i (λ none front rest e h. none front rest e (f s.strict_order front h)) r.refused }
 
 module _ {K V : Type 0} {cmp : K → K → Ordering} {item : Codec (K × V)} (refused : Bool) where
   -- ---- the order
@@ -42,10 +42,10 @@ module _ {K V : Type 0} {cmp : K → K → Ordering} {item : Codec (K × V)} (re
   reads_entries up r = record { took = took_weaker (λ x h. record { allowed = h.allowed; decodes = record { bytes = h.decodes; ascending = up } }) r.took }
 
   pub denied_entries : {s t : ReaderState} {k : ErrorKind} → NotDecoded (List (K × V)) (refused_if refused (length_prefixed item)) s t k → NotDecoded (List (K × V)) (refused_if refused (entries cmp item)) s t k
-  denied_entries = denied_as (refused_if refused (entries cmp item)) (λ e. e) (λ m x h. (h.0, record { allowed = h.1.allowed; decodes = h.1.decodes.bytes }))
+  denied_entries = denied_as (refused_if refused (entries cmp item)) (λ e. e) (λ e. e) (λ m x h. (h.0, record { allowed = h.1.allowed; decodes = h.1.decodes.bytes }))
 
   -- they don't
-  pub denied_order : {S : V → V → Type 0} {s t : ReaderState} {es : List (K × V)} {k : ErrorKind} → Lawful (K × V) item → IsKeyed cmp S item → IsInvalidData k → IsOutOfOrder cmp s.strict_order es → Decoded (List (K × V)) (refused_if refused (length_prefixed item)) s t es
+  pub denied_order : {S : V → V → Type 0} {s t : ReaderState} {es : List (K × V)} {k : ErrorKind} → Lawful (K × V) item → IsKeyed cmp S item → IsInvalidData item.texts_allocate k → IsOutOfOrder cmp s.strict_order es → Decoded (List (K × V)) (refused_if refused (length_prefixed item)) s t es
       → NotDecoded (List (K × V)) (refused_if refused (entries cmp item)) s t k
   denied_order {S = S} {s = s} {t = t} {es = es} laws keyed is told p = record { refused = refused_here is p.took none }
     where
@@ -61,21 +61,21 @@ module _ {K V : Type 0} {cmp : K → K → Ordering} {item : Codec (K × V)} (re
   reads_sorted S {read = read} es values = reads_as (refused_if refused (hash_entries cmp S item)) es (λ m x h. record { allowed = h.allowed; decodes = record { read = read; entries = h.decodes; values = values } })
 
   pub denied_sorted : (S : V → V → Type 0) {s t : ReaderState} {k : ErrorKind} → NotDecoded (List (K × V)) (refused_if refused (entries cmp item)) s t k → NotDecoded (List (K × V)) (refused_if refused (hash_entries cmp S item)) s t k
-  denied_sorted S = denied_as (refused_if refused (hash_entries cmp S item)) (λ e. e) (λ m x h. (h.1.decodes.read, record { allowed = h.1.allowed; decodes = h.1.decodes.entries }))
+  denied_sorted S = denied_as (refused_if refused (hash_entries cmp S item)) (λ e. e) (λ e. e) (λ m x h. (h.1.decodes.read, record { allowed = h.1.allowed; decodes = h.1.decodes.entries }))
 
   pub reads_ordered : {s t : ReaderState} {read : List (K × V)} (es : List (K × V)) → HasLastValues cmp read es → IsStrictlySortedBy cmp (keys_of es) → Decoded (List (K × V)) (refused_if refused (entries cmp item)) s t read
       → Decoded (List (K × V)) (refused_if refused (btree_entries cmp item)) s t es
   reads_ordered {read = read} es values up = reads_as (refused_if refused (btree_entries cmp item)) es (λ m x h. record { allowed = h.allowed; decodes = record { ordered = up; decodes = record { read = read; entries = h.decodes; values = values } } })
 
   pub denied_ordered : {s t : ReaderState} {k : ErrorKind} → NotDecoded (List (K × V)) (refused_if refused (entries cmp item)) s t k → NotDecoded (List (K × V)) (refused_if refused (btree_entries cmp item)) s t k
-  denied_ordered = denied_as (refused_if refused (btree_entries cmp item)) (λ e. e) (λ m x h. (h.1.decodes.decodes.read, record { allowed = h.1.allowed; decodes = h.1.decodes.decodes.entries }))
+  denied_ordered = denied_as (refused_if refused (btree_entries cmp item)) (λ e. e) (λ e. e) (λ m x h. (h.1.decodes.decodes.read, record { allowed = h.1.allowed; decodes = h.1.decodes.decodes.entries }))
 
 module _ {K V : Type 0} {item : Codec (K × V)} (refused : Bool) where
   pub reads_inserted : {eq : K → K → Bool} {s t : ReaderState} {read : List (K × V)} (es : List (K × V)) → IsEquivalence eq → es ≡ after_inserts eq read → Decoded (List (K × V)) (refused_if refused (length_prefixed item)) s t read → Decoded (List (K × V)) (refused_if refused (index_entries eq item)) s t es
   reads_inserted {eq = eq} {read = read} es q e = reads_as (refused_if refused (index_entries eq item)) es (λ m x h. record { allowed = h.allowed; decodes = record { read = read; bytes = h.decodes; entries = ap (after_inserts eq) e ∙ gathered_again q read } })
 
   pub denied_inserted : (eq : K → K → Bool) {s t : ReaderState} {k : ErrorKind} → NotDecoded (List (K × V)) (refused_if refused (length_prefixed item)) s t k → NotDecoded (List (K × V)) (refused_if refused (index_entries eq item)) s t k
-  denied_inserted eq = denied_as (refused_if refused (index_entries eq item)) (λ e. e) (λ m x h. (h.1.decodes.read, record { allowed = h.1.allowed; decodes = h.1.decodes.bytes }))
+  denied_inserted eq = denied_as (refused_if refused (index_entries eq item)) (λ e. e) (λ e. e) (λ m x h. (h.1.decodes.read, record { allowed = h.1.allowed; decodes = h.1.decodes.bytes }))
 
 -- `==` of keys answers by the order
 pub last_values_from_eq : {K V : Type 0} (eq : K → K → Bool) (cmp : K → K → Ordering) → ((x y : K) → eq x y ≡ is_eq (cmp x y)) → (read es : List (K × V)) → ((q : K) → lookup (eq q) es ≡ update_all eq (λ _. None) read q) → HasLastValues cmp read es
@@ -128,7 +128,7 @@ module _ {K : Type 0} where
     reads_bare refused ks = reads_as (refused_if refused (length_prefixed (key_only c))) (unit_entries ks) (λ m x h. record { allowed = h.allowed; decodes = counted_bare m x ks h.decodes })
 
     pub denied_bare : (refused : Bool) {s t : ReaderState} {k : ErrorKind} → NotDecoded (List K) (refused_if refused (length_prefixed c)) s t k → NotDecoded (List (K × ⊤)) (refused_if refused (length_prefixed (key_only c))) s t k
-    denied_bare refused = denied_as (refused_if refused (length_prefixed (key_only c))) (λ e. e) (λ m x h. (keys_of h.0, record { allowed = h.1.allowed; decodes = counted_keys m x h.0 h.1.decodes }))
+    denied_bare refused = denied_as (refused_if refused (length_prefixed (key_only c))) (λ e. e) (λ e. e) (λ m x h. (keys_of h.0, record { allowed = h.1.allowed; decodes = counted_keys m x h.0 h.1.decodes }))
 
   -- a set that holds exactly the keys that were read
   pub set_values : {cmp : K → K → Ordering} → IsTotalOrder cmp → (read ks : List K) → ((q : K) → list_any (is_at (cmp q)) ks ≡ is_member (eq_by_cmp cmp) read q) → HasLastValues cmp (unit_entries read) (unit_entries ks)

@@ -1,5 +1,5 @@
 -- Elements that are read one after another, and behind a count.
-use Rattle.std.proofs.Common.{◌≡◌, ℕ, ◌<◌, Bool, true, List, [], ◌∷◌, ◌++◌, length, Some, refl, sym, ◌∙◌, ap, subst, append-nil, append_assoc, arith}
+use Rattle.std.proofs.Common.{◌≡◌, ℕ, ◌<◌, Bool, true, List, [], ◌∷◌, ◌++◌, length, Some, refl, sym, ◌∙◌, ap, subst, append-nil, append_assoc, arith, true≢false}
 use Rattle.borsh_io.specs.declared.error.ErrorKind.{ErrorKind}
 use Rattle.borsh_io.specs.Stream.{ReaderState}
 use Rattle.borsh_codec.specs.Codec.{Codec, IsDecodable, Lawful}
@@ -65,19 +65,19 @@ row_past l m n xs h f r front rest p w e =
     let g = next_in_order l m xs w.0 f r front rest (let k = w.1.long in omega arith) p w.1.parts e in
     record { more = g.0 ++ g.1; whole = g.2 ∙ sym (append_assoc g.0 g.1 rest); holds = record { front = g.0; rest = g.1; whole = refl; decodes = g.3 } }
 
-next : {A : Type 0} {c : Codec A} (s t u : ReaderState) {k : ErrorKind} → t.strict_order ≡ s.strict_order → NotDecoded A c t u k → ReadFails c.decoding_allocates (Begins A c s.strict_order) t u k
-next {A = A} {c = c} s t u {k = k} e r = subst (λ m. ReadFails c.decoding_allocates (Begins A c m) t u k) e (refused_map (λ m. m) (no_begin t) r.refused)
+next : {A : Type 0} {c : Codec A} (s t u : ReaderState) {k : ErrorKind} → t.strict_order ≡ s.strict_order → NotDecoded A c t u k → ReadFails c.decoding_allocates c.texts_allocate (Begins A c s.strict_order) t u k
+next {A = A} {c = c} s t u {k = k} e r = subst (λ m. ReadFails c.decoding_allocates c.texts_allocate (Begins A c m) t u k) e (refused_map (λ m. m) (λ m. m) (no_begin t) r.refused)
 
 -- fewer elements than n were read, and the next is refused
 pub denied_row : {A : Type 0} {c : Codec A} {n : ℕ} {s t u : ReaderState} {xs : List A} {k : ErrorKind} → Lawful A c → RowSoFar A c s t xs → length xs < n → NotDecoded A c t u k → NotDecoded (List A) (array n c) s u k
-denied_row {n = n} {s = s} {t = t} {u = u} {xs = xs} l p h r = record { refused = refused_after (λ e. e) p.took (row_past l s.strict_order n xs h) (next s t u p.took.takes.strict_order r) }
+denied_row {n = n} {s = s} {t = t} {u = u} {xs = xs} l p h r = record { refused = refused_after (λ e. e) (λ e. e) p.took (row_past l s.strict_order n xs h) (next s t u p.took.takes.strict_order r) }
 
 pub denied_listed : {A : Type 0} {c : Codec A} {n : ℕ} {s t u : ReaderState} {xs : List A} {k : ErrorKind} → Lawful A c → RowSoFar A c s t xs → length xs < n → NotDecoded A c t u k → NotDecoded (List A) (allocated_array n c) s u k
-denied_listed {n = n} {s = s} {t = t} {u = u} {xs = xs} l p h r = record { refused = refused_after (λ e. refl) p.took (row_past l s.strict_order n xs h) (next s t u p.took.takes.strict_order r) }
+denied_listed {n = n} {s = s} {t = t} {u = u} {xs = xs} l p h r = record { refused = refused_after (λ e. refl) (λ e. e) p.took (row_past l s.strict_order n xs h) (next s t u p.took.takes.strict_order r) }
 
 -- what a row is read as, is read into memory too
 pub denied_row_listed : {A : Type 0} {c : Codec A} {n : ℕ} {s t : ReaderState} {k : ErrorKind} → NotDecoded (List A) (array n c) s t k → NotDecoded (List A) (allocated_array n c) s t k
-denied_row_listed r = record { refused = refused_map (λ e. refl) (λ none. none) r.refused }
+denied_row_listed r = record { refused = refused_map (λ e. refl) (λ e. e) (λ none. none) r.refused }
 
 -- ---- a count and that many elements
 
@@ -89,7 +89,7 @@ reads_counted {c = c} {n = n} {s = s} {t = t} {u = u} {xs = xs} p q =
 
 pub denied_count : {A : Type 0} (c : Codec A) {s t : ReaderState} {k : ErrorKind} → NotDecoded ℕ (unsigned 4) s t k → NotDecoded (List A) (length_prefixed c) s t k
 denied_count c r = record {
-  refused = refused_map (λ e. refl) (λ none front rest e w. (let i = w.1 in none i.first (i.second ++ rest) (e ∙ ap Some (ap (λ z. z ++ rest) i.whole ∙ append_assoc i.first i.second rest)) (length w.0, i.left))) r.refused;
+  refused = refused_map (λ e. refl) (λ e. absurd (true≢false (sym e))) (λ none front rest e w. (let i = w.1 in none i.first (i.second ++ rest) (e ∙ ap Some (ap (λ z. z ++ rest) i.whole ∙ append_assoc i.first i.second rest)) (length w.0, i.left))) r.refused;
 }
 
 counted_past : {A : Type 0} {c : Codec A} → (m : Bool) (n : ℕ) (f r front rest : List ℕ) → unsigned_encoding 4 n ≡ Some f → IsDecodable (length_prefixed c) m front → f ++ r ≡ front ++ rest → Past (IsDecodable (allocated_array n c) m) r rest
@@ -101,4 +101,4 @@ counted_past m n f r front rest p w e =
     record { more = j.second; whole = g.1; holds = (w.0, record { long = count; parts = j.right }) }
 
 pub denied_counted : {A : Type 0} {c : Codec A} {n : ℕ} {s t u : ReaderState} {k : ErrorKind} → Decoded ℕ (unsigned 4) s t n → NotDecoded (List A) (allocated_array n c) t u k → NotDecoded (List A) (length_prefixed c) s u k
-denied_counted {n = n} {s = s} p r = record { refused = refused_after (λ e. e) p.took (counted_past s.strict_order n) (denied_at s p.took.takes.strict_order r) }
+denied_counted {n = n} {s = s} p r = record { refused = refused_after (λ e. e) (λ e. e) p.took (counted_past s.strict_order n) (denied_at s p.took.takes.strict_order r) }

@@ -52,13 +52,18 @@ told_after (Some zs) (Some ys) xs f e c = (ys, refl, some_same xs zs (sym e) ∙
 
 -- ---- refusals
 
-pub why_map : {k : ErrorKind} {a b : Bool} {P Q : List ℕ → Type 0} {s t : ReaderState} → (a ≡ true → b ≡ true) → (NoPrefix P s → NoPrefix Q s) → ReadFailure a P s t k → ReadFailure b Q s t k
-why_map f g (malformed r e n) = malformed r e (g n)
-why_map f g (no_memory r e m) = no_memory r e (f m)
-why_map f g (reader_failed r) = reader_failed r
+-- more texts may allocate
+invalid_map : {k : ErrorKind} {c d : Bool} → (c ≡ true → d ≡ true) → IsInvalidData c k → IsInvalidData d k
+invalid_map h (inl r) = inl r
+invalid_map h (inr r) = inr (r.0, h r.1)
 
-pub refused_map : {k : ErrorKind} {a b : Bool} {P Q : List ℕ → Type 0} {s t : ReaderState} → (a ≡ true → b ≡ true) → (NoPrefix P s → NoPrefix Q s) → ReadFails a P s t k → ReadFails b Q s t k
-refused_map f g r = record { tail = r.tail; retried = r.retried; why = why_map f g r.why }
+pub why_map : {k : ErrorKind} {a b c d : Bool} {P Q : List ℕ → Type 0} {s t : ReaderState} → (a ≡ true → b ≡ true) → (c ≡ true → d ≡ true) → (NoPrefix P s → NoPrefix Q s) → ReadFailure a c P s t k → ReadFailure b d Q s t k
+why_map f h g (malformed r e n) = malformed (invalid_map h r) e (g n)
+why_map f h g (no_memory r e m) = no_memory r e (f m)
+why_map f h g (reader_failed r) = reader_failed r
+
+pub refused_map : {k : ErrorKind} {a b c d : Bool} {P Q : List ℕ → Type 0} {s t : ReaderState} → (a ≡ true → b ≡ true) → (c ≡ true → d ≡ true) → (NoPrefix P s → NoPrefix Q s) → ReadFails a c P s t k → ReadFails b d Q s t k
+refused_map f h g r = record { tail = r.tail; retried = r.retried; why = why_map f h g r.why }
 
 -- of the list r a front with Q is what makes the rest
 pub record Past (Q : List ℕ → Type 0) (r rest : List ℕ) : Type 0 where
@@ -76,25 +81,25 @@ no_front_after {s = s} {t = t} p past none front rest e w =
     let a = past p.front l.0 front rest p.holds w (sym l.2) in
     none a.more rest (l.1 ∙ ap Some a.whole) a.holds
 
-why_after : {k : ErrorKind} {a b : Bool} {P Q W : List ℕ → Type 0} {s t u : ReaderState} → (a ≡ true → b ≡ true) → TakesPrefix P s t → GoesOn P Q W → ReadFailure a Q t u k → ReadFailure b W s u k
-why_after m p past (malformed r e n) = malformed r (e ∙ p.takes.faults) (no_front_after p past n)
-why_after m p past (no_memory r e x) = no_memory r (e ∙ p.takes.faults) (m x)
-why_after m p past (reader_failed r) = reader_failed (Rose-after p.takes.faults r)
+why_after : {k : ErrorKind} {a b c d : Bool} {P Q W : List ℕ → Type 0} {s t u : ReaderState} → (a ≡ true → b ≡ true) → (c ≡ true → d ≡ true) → TakesPrefix P s t → GoesOn P Q W → ReadFailure a c Q t u k → ReadFailure b d W s u k
+why_after m h p past (malformed r e n) = malformed (invalid_map h r) (e ∙ p.takes.faults) (no_front_after p past n)
+why_after m h p past (no_memory r e x) = no_memory r (e ∙ p.takes.faults) (m x)
+why_after m h p past (reader_failed r) = reader_failed (Rose-after p.takes.faults r)
 
 -- a refusal behind what was taken
-pub refused_after : {k : ErrorKind} {a b : Bool} {P Q W : List ℕ → Type 0} {s t u : ReaderState} → (a ≡ true → b ≡ true) → TakesPrefix P s t → GoesOn P Q W → ReadFails a Q t u k → ReadFails b W s u k
-refused_after m p past r = record { tail = tail_after p r.tail; retried = r.retried; why = why_after m p past r.why }
+pub refused_after : {k : ErrorKind} {a b c d : Bool} {P Q W : List ℕ → Type 0} {s t u : ReaderState} → (a ≡ true → b ≡ true) → (c ≡ true → d ≡ true) → TakesPrefix P s t → GoesOn P Q W → ReadFails a c Q t u k → ReadFails b d W s u k
+refused_after m h p past r = record { tail = tail_after p r.tail; retried = r.retried; why = why_after m h p past r.why }
 
 -- what was taken shows that the bytes are wrong
-pub refused_here : {k : ErrorKind} {a : Bool} {P W : List ℕ → Type 0} {s t : ReaderState} → IsInvalidData k → TakesPrefix P s t → NoPrefix W s → ReadFails a W s t k
-refused_here {k = k} r p none = record { tail = tail_of p; retried = λ e. elim r [ inl f ↦ cc (e, f) | inr f ↦ cc (e, f) ]; why = malformed r p.takes.faults none }
+pub refused_here : {k : ErrorKind} {a b : Bool} {P W : List ℕ → Type 0} {s t : ReaderState} → IsInvalidData b k → TakesPrefix P s t → NoPrefix W s → ReadFails a b W s t k
+refused_here {k = k} r p none = record { tail = tail_of p; retried = λ e. elim r [ inl f ↦ cc (e, f) | inr f ↦ cc (e, f.0) ]; why = malformed r p.takes.faults none }
 
 -- memory was refused
-pub refused_memory : {k : ErrorKind} {a : Bool} {P W : List ℕ → Type 0} {s t : ReaderState} → k ≡ OutOfMemory → TakesPrefix P s t → a ≡ true → ReadFails a W s t k
+pub refused_memory : {k : ErrorKind} {a b : Bool} {P W : List ℕ → Type 0} {s t : ReaderState} → k ≡ OutOfMemory → TakesPrefix P s t → a ≡ true → ReadFails a b W s t k
 refused_memory {k = k} r p m = record { tail = tail_of p; retried = λ e. cc (e, r); why = no_memory r p.takes.faults m }
 
 -- a buffer of n bytes could not be filled
-pub refused_short : {k : ErrorKind} {s t : ReaderState} (n : ℕ) → ConsumedSome s t → k ≢ Interrupted → ReadExactFailure s t n k → k ≢ UnexpectedEof → ReadFails false (λ x. length x ≡ n) s t k
+pub refused_short : {k : ErrorKind} {s t : ReaderState} (n : ℕ) → ConsumedSome s t → k ≢ Interrupted → ReadExactFailure s t n k → k ≢ UnexpectedEof → ReadFails false false (λ x. length x ≡ n) s t k
 refused_short n tail retried (inl c) other = absurd (other c.0)
 refused_short n tail retried (inr c) other = record { tail = tail; retried = retried; why = reader_failed c }
 
@@ -103,7 +108,7 @@ short-front s n None h front rest e w = cc
 short-front s n (Some xs) h front rest e w = let f : xs ≡ front ++ rest = cc in omega (arith, h, w, ap length f, Rattle.std.proofs.Common.length-append front rest)
 
 -- the input ended, or the reader says so
-pub refused_end : {k : ErrorKind} {s t : ReaderState} (n : ℕ) → ConsumedSome s t → ReadExactFailure s t n UnexpectedEof → k ≡ InvalidData → ReadFails false (λ x. length x ≡ n) s t k
+pub refused_end : {k : ErrorKind} {s t : ReaderState} (n : ℕ) → ConsumedSome s t → ReadExactFailure s t n UnexpectedEof → k ≡ InvalidData → ReadFails false false (λ x. length x ≡ n) s t k
 refused_end {k = k} {s = s} n tail (inl c) is = record { tail = tail; retried = λ e. cc (e, is); why = malformed (inl is) c.2 (short-front s n s.bytes c.1) }
 refused_end {k = k} n tail (inr c) is = record { tail = tail; retried = λ e. cc (e, is); why = reader_failed c }
 
@@ -112,8 +117,8 @@ refused_end {k = k} n tail (inr c) is = record { tail = tail; retried = λ e. cc
 pub reads_at : {A : Type 0} {c : Codec A} (s : ReaderState) {t u : ReaderState} {v : A} → t.strict_order ≡ s.strict_order → Decoded A c t u v → TakesPrefix (λ x. c.decodes s.strict_order x v) t u
 reads_at {c = c} s {t = t} {u = u} {v = v} e r = subst (λ m. TakesPrefix (λ x. c.decodes m x v) t u) e r.took
 
-pub denied_at : {A : Type 0} {c : Codec A} (s : ReaderState) {t u : ReaderState} {k : ErrorKind} → t.strict_order ≡ s.strict_order → NotDecoded A c t u k → ReadFails c.decoding_allocates (IsDecodable c s.strict_order) t u k
-denied_at {c = c} s {t = t} {u = u} {k = k} e r = subst (λ m. ReadFails c.decoding_allocates (IsDecodable c m) t u k) e r.refused
+pub denied_at : {A : Type 0} {c : Codec A} (s : ReaderState) {t u : ReaderState} {k : ErrorKind} → t.strict_order ≡ s.strict_order → NotDecoded A c t u k → ReadFails c.decoding_allocates c.texts_allocate (IsDecodable c s.strict_order) t u k
+denied_at {c = c} s {t = t} {u = u} {k = k} e r = subst (λ m. ReadFails c.decoding_allocates c.texts_allocate (IsDecodable c m) t u k) e r.refused
 
 -- a value was read, and memory for more was refused
 pub denied_memory : {A : Type 0} {c : Codec A} {P : List ℕ → Type 0} {s t : ReaderState} {k : ErrorKind} → c.decoding_allocates ≡ true → TakesPrefix P s t → k ≡ OutOfMemory → NotDecoded A c s t k

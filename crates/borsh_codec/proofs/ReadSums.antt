@@ -1,5 +1,5 @@
 -- Values of two variants that are read.
-use Rattle.std.proofs.Common.{◌≡◌, ℕ, [], ◌∷◌, ◌⊎◌, refl, subst, inl, inr, arith}
+use Rattle.std.proofs.Common.{◌≡◌, ℕ, true, [], ◌∷◌, ◌⊎◌, refl, subst, inl, inr, arith}
 use Rattle.borsh_io.specs.declared.error.ErrorKind.{ErrorKind}
 use Rattle.borsh_io.specs.Stream.{ReaderState}
 use Rattle.borsh_codec.specs.Codec.{Codec, Lawful}
@@ -31,5 +31,5 @@ module _ {A B : Type 0} {a : Codec A} {b : Codec B} (la : Lawful A a) (lb : Lawf
       denied_tag (two-lawful la lb) refl q (denied_there 1 0 a (λ f. omega arith) (denied_here 1 never (nothing_avoids 1) r))
 
 -- the tag is neither 0 nor 1
-pub denied_third : {A B : Type 0} {a : Codec A} {b : Codec B} {s t : ReaderState} {j : ℕ} {k : ErrorKind} → Lawful A a → Lawful B b → (j ≡ 0 → ⊥) → (j ≡ 1 → ⊥) → TakesPrefix (λ x. x ≡ j ∷ []) s t → IsInvalidData k → NotDecoded (A ⊎ (B ⊎ ⊥)) (two_variants a b) s t k
+pub denied_third : {A B : Type 0} {a : Codec A} {b : Codec B} {s t : ReaderState} {j : ℕ} {k : ErrorKind} → Lawful A a → Lawful B b → (j ≡ 0 → ⊥) → (j ≡ 1 → ⊥) → TakesPrefix (λ x. x ≡ j ∷ []) s t → IsInvalidData true k → NotDecoded (A ⊎ (B ⊎ ⊥)) (two_variants a b) s t k
 denied_third {a = a} {b = b} {t = t} {j = j} la lb e f p r = denied_tag (two-lawful la lb) refl p (denied_there j 0 a e (denied_there j 1 b f (denied_nowhere j t r)))

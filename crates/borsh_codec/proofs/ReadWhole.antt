@@ -30,7 +30,7 @@ not_whole {c = c} ys {v = v} l more r w =
 no_fault : CountedUp 0 0 → ⊥
 no_fault r = let one : 0 ≡ 0 + 1 = r.0 (omega arith) in omega arith
 
-not_whole_why : {A : Type 0} {c : Codec A} {xs ys : List ℕ} {k : ErrorKind} → ReadFailure c.decoding_allocates (IsDecodable c true) (slice_state xs) (slice_state ys) k → WhyNotDecoded c true xs k
+not_whole_why : {A : Type 0} {c : Codec A} {xs ys : List ℕ} {k : ErrorKind} → ReadFailure c.decoding_allocates c.texts_allocate (IsDecodable c true) (slice_state xs) (slice_state ys) k → WhyNotDecoded c true xs k
 not_whole_why {xs = xs} (malformed r e none) = not_reading r (λ w. none xs [] (ap Some (sym (append-nil xs))) w)
 not_whole_why (no_memory r e m) = not_memory r m
 not_whole_why (reader_failed r) = absurd (no_fault r)
@@ -48,7 +48,7 @@ more_when b ys e f n = let z : length ys ≡ 0 = ap length n in true≢false (sy
 
 -- what a value is denied by, all of the bytes are denied by
 pub denied_all : {A : Type 0} {c : Codec A} {s t : ReaderState} {k : ErrorKind} → NotDecoded A c s t k → NotDecodedAll A c s t k
-denied_all r = record { refused = refused_map (λ e. e) (λ none front rest e w. none front rest e w.decodes) r.refused }
+denied_all r = record { refused = refused_map (λ e. e) (λ e. e) (λ none front rest e w. none front rest e w.decodes) r.refused }
 
 -- a byte is left behind the value
 pub denied_more : {A : Type 0} {c : Codec A} {s t u : ReaderState} {v : A} {b : List ℕ} {k : ErrorKind} → Lawful A c → Decoded A c s t v → Consumed t u b → length b ≡ 1 → k ≡ InvalidData → NotDecodedAll A c s u k
@@ -128,7 +128,7 @@ module _ {A : Type 0} {c : Codec A} {s t : ReaderState} (xs : List ℕ) (told : 
   whole_of_all {v = v} (inl r) = subst (λ o. IfSome o (λ ys. c.decodes s.strict_order ys v)) told r.whole
   whole_of_all (inr r) = absurd (never s.faults t.faults sound still r.failed)
 
-  why : {k : ErrorKind} → ReadFailure c.decoding_allocates (IsWhole A c s) s t k → WhyNotDecoded c s.strict_order xs k
+  why : {k : ErrorKind} → ReadFailure c.decoding_allocates c.texts_allocate (IsWhole A c s) s t k → WhyNotDecoded c s.strict_order xs k
   why (malformed r e none) = not_reading r (λ w. none xs [] (told ∙ ap Some (sym (append-nil xs))) (record { decodes = w; all = told }))
   why (no_memory r e m) = not_memory r m
   why (reader_failed r) = absurd (never s.faults t.faults sound still r)

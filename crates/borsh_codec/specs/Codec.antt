@@ -1,5 +1,5 @@
 -- What a type means as bytes, and the laws that each meaning keeps.
-use Rattle.std.specs.Prelude.{◌≡◌, ℕ, Bool, true, false, List, [], ◌++◌, Option, Some}
+use Rattle.std.specs.Prelude.{◌≡◌, ℕ, Bool, true, false, List, [], ◌++◌, Option, Some, None}
 
 -- the meaning of a type
 pub record Codec (A : Type 0) : Type 1 where
@@ -17,6 +17,10 @@ pub record Codec (A : Type 0) : Type 1 where
   pub decoding_allocates : Bool
   -- encoding a value may allocate, apart from the writer's own growth
   pub encoding_allocates : Bool
+  -- no value has an encoding, and each call says so before it reads or writes anything
+  pub refuses : Bool
+  -- the text of a decoding error may have to be put together, which allocates
+  pub texts_allocate : Bool
 
 -- the bytes decode to some value
 abbrev pub IsDecodable : {A : Type 0} → Codec A → Bool → List ℕ → Type 0
@@ -40,3 +44,5 @@ pub record Lawful (A : Type 0) (c : Codec A) : Type 0 where
   pub re_encodable : (strict : Bool) (x : List ℕ) (a : A) → c.decodes strict x a → (y : List ℕ) × (c.encoding a ≡ Some y)
   -- where the codec says so, each value is decoded from its encoding alone
   pub canonical : (x : List ℕ) (a : A) → c.is_canonical ≡ true → c.decodes true x a → c.encoding a ≡ Some x
+  -- where the codec refuses all values, none has an encoding
+  pub refused : (a : A) → c.refuses ≡ true → c.encoding a ≡ None

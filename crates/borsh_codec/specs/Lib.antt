@@ -4,7 +4,7 @@ pub mod Maps
 pub mod Types
 pub mod Reading
 pub mod Writing
-pub mod Empty
+pub mod Untouched
 -- what the crate below says, for those above
 pub use Rattle.borsh_io.specs.Errors
 pub use Rattle.borsh_io.specs.Stream

@@ -71,6 +71,8 @@ hash_entries cmp S item = record {
   is_canonical = item.is_canonical;
   decoding_allocates = true;
   encoding_allocates = true;
+  refuses = false;
+  texts_allocate = item.texts_allocate;
 }
 
 -- ---- by ascending key
@@ -95,6 +97,8 @@ btree_entries cmp item = record {
   is_canonical = item.is_canonical;
   decoding_allocates = true;
   encoding_allocates = item.encoding_allocates;
+  refuses = false;
+  texts_allocate = item.texts_allocate;
 }
 
 -- ---- in the order of insertion
@@ -119,6 +123,8 @@ index_entries eq item = record {
   is_canonical = false;
   decoding_allocates = true;
   encoding_allocates = item.encoding_allocates;
+  refuses = false;
+  texts_allocate = item.texts_allocate;
 }
 
 -- ---- the types; keys whose encodings are empty are refused

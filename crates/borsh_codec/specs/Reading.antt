@@ -1,10 +1,14 @@
 -- What a call that reads takes from its reader, and why it is refused.
-use Rattle.std.specs.Prelude.{◌≡◌, ◌≢◌, ℕ, Bool, true, List, ◌∷◌, ◌++◌, Some, IfSome, OnSome, ◌⊎◌}
+use Rattle.std.specs.Prelude.{◌≡◌, ◌≢◌, ℕ, Bool, true, false, List, [], ◌∷◌, ◌++◌, Some, IfSome, OnSome, ◌⊎◌, Result, IfOk, IfErr, IsErrAnd, MatchResult}
 use Rattle.std.specs.Io.KnownBytes.{IsAtEnd}
+use Rattle.borsh_io.specs.declared.error.Error.{Error}
 use Rattle.borsh_io.specs.declared.error.ErrorKind.{ErrorKind}
 use Rattle.borsh_io.specs.declared.error.ErrorKind.TheVariants.{InvalidData, OutOfMemory, Interrupted}
+use Rattle.borsh_io.specs.Errors.{error_kind}
 use Rattle.borsh_io.specs.Stream.{ReaderState, CountedUp, Consumed, ConsumedSome}
 use Rattle.borsh_codec.specs.Codec.{Codec, IsDecodable}
+use Rattle.borsh_codec.specs.Shapes.{by_encoding}
+use Rattle.borsh_codec.specs.Untouched.{Untouched}
 
 -- a front with P was taken, and no fault came
 pub record TakesPrefix (P : List ℕ → Type 0) (old new : ReaderState) : Type 0 where
@@ -16,24 +20,24 @@ pub record TakesPrefix (P : List ℕ → Type 0) (old new : ReaderState) : Type 
 abbrev pub NoPrefix : (List ℕ → Type 0) → ReaderState → Type 0
 NoPrefix P s = (front rest : List ℕ) → s.bytes ≡ Some (front ++ rest) → P front → ⊥
 
--- bytes are refused by this kind, or by `OutOfMemory` where memory for the text was refused
-abbrev pub IsInvalidData : ErrorKind → Type 0
-IsInvalidData kind = (kind ≡ InvalidData) ⊎ (kind ≡ OutOfMemory)
+-- the kind is `InvalidData`, or `OutOfMemory` where the text of the error has to be allocated
+abbrev pub IsInvalidData : (text : Bool) → ErrorKind → Type 0
+IsInvalidData text kind = (kind ≡ InvalidData) ⊎ ((kind ≡ OutOfMemory) × (text ≡ true))
 
 -- why a call that wants a front with P was refused by an error of this kind
-pub data ReadFailure (memory : Bool) (P : List ℕ → Type 0) (old new : ReaderState) (kind : ErrorKind) : Type 0 where
+pub data ReadFailure (memory text : Bool) (P : List ℕ → Type 0) (old new : ReaderState) (kind : ErrorKind) : Type 0 where
   -- the bytes to come are wrong
-  malformed : IsInvalidData kind → new.faults ≡ old.faults → NoPrefix P old → ReadFailure memory P old new kind
+  malformed : IsInvalidData text kind → new.faults ≡ old.faults → NoPrefix P old → ReadFailure memory text P old new kind
   -- memory for the value was refused
-  no_memory : kind ≡ OutOfMemory → new.faults ≡ old.faults → memory ≡ true → ReadFailure memory P old new kind
+  no_memory : kind ≡ OutOfMemory → new.faults ≡ old.faults → memory ≡ true → ReadFailure memory text P old new kind
   -- the reader failed
-  reader_failed : CountedUp old.faults new.faults → ReadFailure memory P old new kind
+  reader_failed : CountedUp old.faults new.faults → ReadFailure memory text P old new kind
 
 -- a call that wants a front with P was refused: a tail of the bytes to come is left
-pub record ReadFails (memory : Bool) (P : List ℕ → Type 0) (old new : ReaderState) (kind : ErrorKind) : Type 0 where
+pub record ReadFails (memory text : Bool) (P : List ℕ → Type 0) (old new : ReaderState) (kind : ErrorKind) : Type 0 where
   pub tail : ConsumedSome old new
   pub retried : kind ≢ Interrupted
-  pub why : ReadFailure memory P old new kind
+  pub why : ReadFailure memory text P old new kind
 
 -- ---- a value
 
@@ -43,20 +47,20 @@ pub record Decoded (A : Type 0) (c : Codec A) (old new : ReaderState) (v : A) : 
 
 -- a value was wanted in vain
 pub record NotDecoded (A : Type 0) (c : Codec A) (old new : ReaderState) (kind : ErrorKind) : Type 0 where
-  pub refused : ReadFails c.decoding_allocates (IsDecodable c old.strict_order) old new kind
+  pub refused : ReadFails c.decoding_allocates c.texts_allocate (IsDecodable c old.strict_order) old new kind
 
 -- the same where one byte, the tag, was taken before
 pub record DecodedAfterTag (tag : ℕ) (A : Type 0) (c : Codec A) (old new : ReaderState) (v : A) : Type 0 where
   pub took : TakesPrefix (λ x. c.decodes old.strict_order (tag ∷ x) v) old new
 
 pub record NotDecodedAfterTag (tag : ℕ) (A : Type 0) (c : Codec A) (old new : ReaderState) (kind : ErrorKind) : Type 0 where
-  pub refused : ReadFails c.decoding_allocates (λ x. IsDecodable c old.strict_order (tag ∷ x)) old new kind
+  pub refused : ReadFails c.decoding_allocates c.texts_allocate (λ x. IsDecodable c old.strict_order (tag ∷ x)) old new kind
 
 -- ---- all of the bytes
 
 -- the bytes are no reading, or memory was refused
 pub data WhyNotDecoded {A : Type 0} (c : Codec A) (strict : Bool) (xs : List ℕ) (kind : ErrorKind) : Type 0 where
-  malformed : IsInvalidData kind → (IsDecodable c strict xs → ⊥) → WhyNotDecoded c strict xs kind
+  malformed : IsInvalidData c.texts_allocate kind → (IsDecodable c strict xs → ⊥) → WhyNotDecoded c strict xs kind
   no_memory : kind ≡ OutOfMemory → c.decoding_allocates ≡ true → WhyNotDecoded c strict xs kind
 
 -- all of the bytes to come, where the reader tells them, were a reading of the value, and none is left
@@ -82,4 +86,57 @@ pub record IsWhole (A : Type 0) (c : Codec A) (s : ReaderState) (x : List ℕ) :
 
 -- all of the bytes to come were wanted as a value, in vain
 pub record NotDecodedAll (A : Type 0) (c : Codec A) (old new : ReaderState) (kind : ErrorKind) : Type 0 where
-  pub refused : ReadFails c.decoding_allocates (IsWhole A c old) old new kind
+  pub refused : ReadFails c.decoding_allocates c.texts_allocate (IsWhole A c old) old new kind
+
+-- ---- the outcome of a call
+
+-- the outcome of a call that is to decode a value from a reader; `state` says what is known of a reader
+pub record Decodes {A R : Type 0} (c : Codec A) (state : R → ReaderState) (old new : R) (result : Result A Error) : Type 0 where
+  -- `Ok`: a prefix of the bytes to come decodes to the value, and the rest is left
+  pub ok : IfOk result (λ v. Decoded A c (state old) (state new) v)
+  -- `Err`: a tail of the bytes to come is left, and the kind of the error says why there is no value
+  pub err : IfErr result (λ e. NotDecoded A c (state old) (state new) (error_kind e))
+  -- a type that refuses all values does so before anything is read
+  pub untouched : c.refuses ≡ true → Untouched old new result
+
+-- the same where one byte, the tag, was taken before
+pub record DecodesAfterTag {A R : Type 0} (tag : ℕ) (c : Codec A) (state : R → ReaderState) (old new : R) (result : Result A Error) : Type 0 where
+  -- `Ok`: the tag and a prefix of the bytes to come decode to the value, and the rest is left
+  pub ok : IfOk result (λ v. DecodedAfterTag tag A c (state old) (state new) v)
+  -- `Err`: a tail of the bytes to come is left, and the kind of the error says why there is no value
+  pub err : IfErr result (λ e. NotDecodedAfterTag tag A c (state old) (state new) (error_kind e))
+
+-- the outcome of a call that is to decode all that a reader has
+pub record DecodesReader {A R : Type 0} (c : Codec A) (state : R → ReaderState) (old new : R) (result : Result A Error) : Type 0 where
+  -- `Ok`: the bytes to come decoded to the value, and none is left; or the reader failed after the value
+  pub ok : IfOk result (λ v. DecodedAll A c (state old) (state new) v)
+  -- `Err`: a tail of the bytes to come is left, and the kind of the error says why there is no value
+  pub err : IfErr result (λ e. NotDecodedAll A c (state old) (state new) (error_kind e))
+  -- a type that refuses all values does so before anything is read
+  pub untouched : c.refuses ≡ true → Untouched old new result
+
+-- the value has an encoding, and all that decodes from it in strict mode is this value
+pub record IsReEncodable {A : Type 0} (c : Codec A) (v : A) : Type 0 where
+  pub bytes : List ℕ
+  pub is : c.encoding v ≡ Some bytes
+  pub decodes : c.decodes true bytes v
+  pub once : (w : A) → c.decodes true bytes w → c.equivalent w v
+
+-- the outcome of a call that is to decode all of the bytes
+pub record DecodesAll {A : Type 0} (c : Codec A) (strict : Bool) (bytes : List ℕ) (result : Result A Error) : Type 0 where
+  -- `Ok`: the bytes decode to the value
+  pub ok : IfOk result (λ v. c.decodes strict bytes v)
+  -- `Err`: they decode to none, or memory was refused to a type whose decoding allocates
+  pub err : IfErr result (λ e. WhyNotDecoded c strict bytes (error_kind e))
+  -- where they decode to `v`, the answer is equivalent to `v`, memory aside
+  pub exact : (v : A) → c.decodes strict bytes v → MatchResult result (λ w. c.equivalent w v) (λ e. (error_kind e ≡ OutOfMemory) × (c.decoding_allocates ≡ true))
+  -- in strict mode the bytes are the value's encoding, if the type is canonical
+  pub canonical : strict ≡ true → c.is_canonical ≡ true → IfOk result (λ v. c.encoding v ≡ Some bytes)
+  -- the value can be encoded, and its encoding decodes to it
+  pub re_encodable : IfOk result (IsReEncodable c)
+  -- a type that refuses all values answers `InvalidData`
+  pub refused : c.refuses ≡ true → IsErrAnd result (λ e. error_kind e ≡ InvalidData)
+
+-- one byte, whichever it is
+abbrev pub any_byte : Codec ℕ
+any_byte = by_encoding (λ b. Some (b ∷ [])) false

@@ -16,6 +16,8 @@ contramap view c = record {
   is_canonical = c.is_canonical;
   decoding_allocates = c.decoding_allocates;
   encoding_allocates = c.encoding_allocates;
+  refuses = c.refuses;
+  texts_allocate = c.texts_allocate;
 }
 
 -- ---- an encoding that is the only reading
@@ -30,6 +32,8 @@ by_encoding f empty = record {
   is_canonical = true;
   decoding_allocates = false;
   encoding_allocates = false;
+  refuses = false;
+  texts_allocate = false;
 }
 
 -- n bytes of a number, the lowest first
@@ -83,6 +87,8 @@ refused_if {A = A} refused c = record {
   is_canonical = c.is_canonical;
   decoding_allocates = c.decoding_allocates;
   encoding_allocates = c.encoding_allocates;
+  refuses = refused;
+  texts_allocate = c.texts_allocate;
 }
 
 -- ---- values that pass a test
@@ -102,6 +108,8 @@ filtered {A = A} test c = record {
   is_canonical = c.is_canonical;
   decoding_allocates = c.decoding_allocates;
   encoding_allocates = c.encoding_allocates;
+  refuses = c.refuses;
+  texts_allocate = true;
 }
 
 -- ---- values in memory of their own
@@ -135,13 +143,15 @@ pair a b = record {
   is_canonical = a.is_canonical && b.is_canonical;
   decoding_allocates = a.decoding_allocates || b.decoding_allocates;
   encoding_allocates = a.encoding_allocates || b.encoding_allocates;
+  refuses = a.refuses;
+  texts_allocate = a.texts_allocate || b.texts_allocate;
 }
 
 -- ---- a tag and a part
 
--- no value
+-- no value; the text of the error names the tag that was found
 abbrev pub never : Codec ⊥
-never = by_encoding (λ _. None) false
+never = record (by_encoding (λ _. None) false) { texts_allocate = true }
 
 -- the bytes behind a tag
 abbrev pub tagged : ℕ → Option (List ℕ) → Option (List ℕ)
@@ -177,6 +187,8 @@ variant tag a b = record {
   is_canonical = a.is_canonical && b.is_canonical;
   decoding_allocates = a.decoding_allocates || b.decoding_allocates;
   encoding_allocates = a.encoding_allocates || b.encoding_allocates;
+  refuses = false;
+  texts_allocate = true;
 }
 
 -- ---- elements in a row
@@ -206,6 +218,8 @@ array {A = A} n c = record {
   is_canonical = c.is_canonical;
   decoding_allocates = c.decoding_allocates;
   encoding_allocates = c.encoding_allocates;
+  refuses = false;
+  texts_allocate = c.texts_allocate;
 }
 
 -- a row that is read into memory
@@ -222,6 +236,8 @@ length_prefixed c = record {
   is_canonical = c.is_canonical;
   decoding_allocates = true;
   encoding_allocates = c.encoding_allocates;
+  refuses = false;
+  texts_allocate = c.texts_allocate;
 }
 
 -- the same, but elements whose encodings are empty are refused

@@ -1,9 +1,14 @@
 -- What a call that writes a value gives to its writer, and why it is refused.
-use Rattle.std.specs.Prelude.{◌≡◌, ◌≢◌, ℕ, ◌<◌, ◌≤◌, Bool, true, ◌||◌, IsTrue, List, ◌++◌, length, Option, Some, None}
+use Rattle.std.specs.Prelude.{◌≡◌, ◌≢◌, ℕ, ◌<◌, ◌≤◌, Bool, true, ◌||◌, IsTrue, List, ◌++◌, length, Option, Some, None, Result, OnOk, IfOk, IfErr, Vec}
+use Rattle.std.specs.Global.{Global}
+use Rattle.borsh_io.specs.declared.error.Error.{Error}
 use Rattle.borsh_io.specs.declared.error.ErrorKind.{ErrorKind}
 use Rattle.borsh_io.specs.declared.error.ErrorKind.TheVariants.{InvalidData, OutOfMemory, WriteZero, Interrupted}
+use Rattle.borsh_io.specs.Errors.{error_kind}
 use Rattle.borsh_io.specs.Stream.{CountedUp}
 use Rattle.borsh_io.specs.Sink.{WriterModel, WroteBytes}
+use Rattle.borsh_codec.specs.Codec.{Codec}
+use Rattle.borsh_codec.specs.Untouched.{Untouched}
 
 -- all of an encoding was written
 pub record Written {W : Type 0} (w : WriterModel W) (old new : W) (encoding : Option (List ℕ)) : Type 0 where
@@ -31,9 +36,29 @@ pub record NotWritten {W : Type 0} (own : Bool) (w : WriterModel W) (old new : W
   pub retried : kind ≢ Interrupted
   pub why : WriteFailure own w old new encoding front kind
 
+-- the outcome of a call that is to write an encoding; `allocates` and `refuses` are what a codec says of its type
+pub record WritesEncoding {W : Type 0} (w : WriterModel W) (old new : W) (allocates refuses : Bool) (encoding : Option (List ℕ)) (result : Result (Unit {0}) Error) : Type 0 where
+  -- `Ok`: all of it was written
+  pub ok : OnOk result (Written w old new encoding)
+  -- `Err`: a beginning of it was written, and the kind of the error says why not more
+  pub err : IfErr result (λ e. NotWritten allocates w old new encoding (error_kind e))
+  -- a type that refuses all values does so before anything is written
+  pub untouched : refuses ≡ true → Untouched old new result
+
+-- the outcome of a call that is to write a value
+abbrev pub Writes : {A W : Type 0} → Codec A → A → WriterModel W → W → W → Result (Unit {0}) Error → Type 0
+Writes c v w old new result = WritesEncoding w old new c.encoding_allocates c.refuses (c.encoding v) result
+
 -- ---- a vector
 
 -- the value has no encoding, or memory was refused
 pub data WhyNotEncoded (encoding : Option (List ℕ)) (kind : ErrorKind) : Type 0 where
   no_encoding : kind ≡ InvalidData → encoding ≡ None → WhyNotEncoded encoding kind
   no_memory : kind ≡ OutOfMemory → WhyNotEncoded encoding kind
+
+-- the outcome of a call that is to answer an encoding as a vector
+pub record Encodes (encoding : Option (List ℕ)) (result : Result (Vec ℕ Global) Error) : Type 0 where
+  -- `Ok`: the bytes are the encoding
+  pub ok : IfOk result (λ v. encoding ≡ Some v.items)
+  -- `Err`: there is none, or memory was refused
+  pub err : IfErr result (λ e. WhyNotEncoded encoding (error_kind e))

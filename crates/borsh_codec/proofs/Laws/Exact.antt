@@ -15,6 +15,7 @@ contramap-lawful view l = record {
   unambiguous = λ m x a b. l.unambiguous m x (view a) (view b);
   re_encodable = λ m x a. l.re_encodable m x (view a);
   canonical = λ x a. l.canonical x (view a);
+  refused = λ a. l.refused (view a);
 }
 
 -- ---- an encoding that is the only reading
@@ -41,13 +42,24 @@ by_encoding-lawful f n sized apart = record {
   unambiguous = λ m x a b. apart a b x;
   re_encodable = λ m x a p. (x, p);
   canonical = λ x a e p. p;
+  refused = λ a e. absurd (true≢false (sym e));
 }
 
 pub unit-lawful : Lawful ⊤ unit
 unit-lawful = by_encoding-lawful (λ _. Some []) 0 (λ a x p. (let e : [] ≡ x = cc in ap length (sym e))) (λ a b x p q. refl)
 
 pub never-lawful : Lawful ⊥ never
-never-lawful = by_encoding-lawful (λ _. None) 1 (λ a x p. absurd a) (λ a b x p q. absurd a)
+never-lawful = record {
+  equivalent_encoding = λ a b e. absurd a;
+  prefix_free = λ m x z a b p q. absurd a;
+  empty = λ m x a e p. absurd a;
+  non_empty = λ m a e p. absurd a;
+  round_trip = λ m a x p. absurd a;
+  unambiguous = λ m x a b p q. absurd a;
+  re_encodable = λ m x a p. absurd a;
+  canonical = λ x a e p. absurd a;
+  refused = λ a e. absurd a;
+}
 
 -- ---- refused values
 
@@ -81,6 +93,7 @@ refused_if-lawful refused {c = c} l = record {
   unambiguous = λ m x a b p q. l.unambiguous m x a b p.decodes q.decodes;
   re_encodable = λ m x a p. (let f = l.re_encodable m x a p.decodes in (f.0, allowed_is refused p.allowed f.1));
   canonical = λ x a e p. allowed_is refused p.allowed (l.canonical x a e p.decodes);
+  refused = λ a e. refused_is refused (c.encoding a) e;
 }
 
 -- ---- values that pass a test
@@ -97,6 +110,10 @@ passed_some false o x e = absurd (cc)
 pub passed_is : (test : Bool) {o p : Option (List ℕ)} → test ≡ true → o ≡ p → cond test o None ≡ p
 passed_is test e f = rw (e, f) refl
 
+pub passed_none : (test : Bool) {o : Option (List ℕ)} → o ≡ None → cond test o None ≡ None
+passed_none true e = e
+passed_none false e = refl
+
 -- the same values pass
 abbrev pub Respects : {A : Type 0} → (A → Bool) → Codec A → Type 0
 Respects {A = A} test c = (a b : A) → c.equivalent a b → test a ≡ test b
@@ -111,6 +128,7 @@ filtered-lawful test {c = c} respects l = record {
   unambiguous = λ m x a b p q. l.unambiguous m x a b p.decodes q.decodes;
   re_encodable = λ m x a p. (let f = l.re_encodable m x a p.decodes in (f.0, passed_is (test a) p.passed f.1));
   canonical = λ x a e p. passed_is (test a) p.passed (l.canonical x a e p.decodes);
+  refused = λ a e. passed_none (test a) (l.refused a e);
 }
 
 -- ---- values in memory of their own
@@ -125,4 +143,5 @@ allocated-lawful l = record {
   unambiguous = l.unambiguous;
   re_encodable = l.re_encodable;
   canonical = l.canonical;
+  refused = l.refused;
 }

@@ -40,4 +40,5 @@ module _ {A B : Type 0} {a : Codec A} {b : Codec B} (la : Lawful A a) (lb : Lawf
         (f.0 ++ g.0, joined_is (a.encoding v.0) (b.encoding v.1) f.0 g.0 f.1 g.1));
     canonical = λ x v e p. (let f = and_true a.is_canonical b.is_canonical e in
         joined_is (a.encoding v.0) (b.encoding v.1) p.first p.second (la.canonical p.first v.0 f.0 p.left) (lb.canonical p.second v.1 f.1 p.right) ∙ ap Some (sym p.whole));
+    refused = λ v e. ap (λ o. append_encodings o (b.encoding v.1)) (la.refused v.0 e);
   }

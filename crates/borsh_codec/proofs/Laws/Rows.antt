@@ -118,6 +118,7 @@ module _ {A : Type 0} (n : ℕ) {c : Codec A} (l : Lawful A c) where
     unambiguous = one;
     re_encodable = λ m x xs p. (let f = in_order_encoded l m x xs p.parts in (f.0, row_is xs p.long f.1));
     canonical = λ x xs e p. row_is xs p.long (in_order_canonical l x xs e p.parts);
+    refused = λ v e. absurd (true≢false (sym e));
   }
 
   pub allocated_array-lawful : Lawful (List A) (allocated_array n c)
@@ -130,6 +131,7 @@ module _ {A : Type 0} (n : ℕ) {c : Codec A} (l : Lawful A c) where
     unambiguous = r.unambiguous;
     re_encodable = r.re_encodable;
     canonical = r.canonical;
+    refused = r.refused;
   }
 
 -- ---- elements behind a count
@@ -163,6 +165,7 @@ module _ {A : Type 0} {c : Codec A} (l : Lawful A c) where
     re_encodable = λ m x xs p. (let f = in_order_encoded l m p.second xs p.right in
         (p.first ++ f.0, joined_is (unsigned_encoding 4 (length xs)) (concat_encodings c.encoding xs) p.first f.0 p.left f.1));
     canonical = λ x xs e p. joined_is (unsigned_encoding 4 (length xs)) (concat_encodings c.encoding xs) p.first p.second p.left (in_order_canonical l p.second xs e p.right) ∙ ap Some (sym p.whole);
+    refused = λ v e. absurd (true≢false (sym e));
   }
 
   pub list-lawful : Lawful (List A) (list c)

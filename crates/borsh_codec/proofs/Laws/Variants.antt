@@ -82,6 +82,7 @@ module _ {A B : Type 0} (k : ℕ) {a : Codec A} {b : Codec B} (la : Lawful A a) 
     unambiguous = one;
     re_encodable = re_encodable;
     canonical = canonical;
+    refused = λ v e. absurd (true≢false (sym e));
   }
 
 -- the last variant of an enum

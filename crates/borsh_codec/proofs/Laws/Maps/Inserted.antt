@@ -177,4 +177,5 @@ module _ {K V : Type 0} (eq : K → K → Bool) (S : V → V → Type 0) (item :
     unambiguous = unambiguous;
     re_encodable = re_encodable;
     canonical = λ x a e h. absurd (true≢false (sym e));
+    refused = λ v e. absurd (true≢false (sym e));
   }

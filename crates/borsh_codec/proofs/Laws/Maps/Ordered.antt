@@ -107,4 +107,5 @@ module _ {K V : Type 0} (cmp : K → K → Ordering) (S : V → V → Type 0) (i
     re_encodable = λ m x a h. (let f = all_read cmp S item laws keyed m x h.decodes.read a h.decodes.entries.bytes h.ordered h.decodes.values in (f.0, ordered_is a h.ordered ∙ f.1));
     canonical = λ x a e h. (let same = same_as_read cmp S item laws keyed true x h.decodes.read a h.decodes.entries.bytes (h.decodes.entries.ascending refl) h.ordered h.decodes.values in
         ordered_is a h.ordered ∙ (length_prefixed-lawful laws).equivalent_encoding a h.decodes.read same ∙ (length_prefixed-lawful laws).canonical x h.decodes.read e h.decodes.entries.bytes);
+    refused = λ v e. absurd (true≢false (sym e));
   }

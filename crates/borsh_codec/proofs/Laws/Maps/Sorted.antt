@@ -170,4 +170,5 @@ module _ {K V : Type 0} (cmp : K → K → Ordering) (S : V → V → Type 0) (i
     unambiguous = same_values;
     re_encodable = λ m x a h. all_read m x h.read (sorted_by_key cmp a) h.entries.bytes (by_key_ascends keyed.order a) (sorted_values a h.read h.values);
     canonical = canonical;
+    refused = λ v e. absurd (true≢false (sym e));
   }
