@@ -165,6 +165,6 @@ module _ {A : Type 0} {c : Codec A} (l : Lawful A c) where
   pub decodes_all_of : {R : Type 0} {state : R → ReaderState} {a b : R} (xs : List ℕ) (r : Result A Error) → (state a).bytes ≡ Some xs → (state a).faults ≡ 0 → (state b).faults ≡ 0 → DecodesReader c state a b r → DecodesAll c (state a).strict_order xs r
   decodes_all_of {state = state} {a = a} xs r told sound still d =
       decodes_all (state a).strict_order xs r
-          (IfOk-weaker r _ _ (λ v p. whole_of_all xs told sound still p) d.ok)
-          (IfErr-weaker r _ _ (λ e p. not_whole_of_all xs told sound still p) d.err)
-          (λ h. (d.untouched h).kind)
+      (IfOk-weaker r _ _ (λ v p. whole_of_all xs told sound still p) d.ok)
+      (IfErr-weaker r _ _ (λ e p. not_whole_of_all xs told sound still p) d.err)
+      (λ h. (d.untouched h).kind)

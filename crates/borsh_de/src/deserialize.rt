@@ -1,9 +1,7 @@
 // What is read.
-ghost use Rattle.std.specs.Prelude.{◌≡◌, List, length, true, IfOk, IfErr, MatchBool, MatchOption};
-ghost use Rattle.borsh_io.specs.Errors.{error_kind};
+ghost use Rattle.std.specs.Prelude.{true};
 ghost use Rattle.borsh_io.specs.Stream.{slice_state};
-ghost use Rattle.borsh_codec.specs.Shapes.{array, allocated_array};
-ghost use Rattle.borsh_codec.specs.Reading.{Decoded, NotDecoded, DecodedAfterTag, NotDecodedAfterTag, DecodedAll, NotDecodedAll, WhyNotDecoded};
+ghost use Rattle.borsh_codec.specs.Reading.{Decodes, DecodesAfterTag, DecodesAtOnce, DecodesOver, DecodesReader, DecodesAll};
 
 use super::refusals::not_all_bytes_read;
 use borsh_io::{ErrorKind, Read, Result};
@@ -22,8 +20,7 @@ use std::alloc::Global;
 pub trait BorshDeserialize: BorshType + Sized + Drop {
     /// Reads a value from the front of the bytes to come, and leaves the rest.
     fn deserialize_reader<R: Read>(alloc: Global, reader: &mut R) -> Result<Self>
-        ensures ok { IfOk result (λ v. Decoded Self Self.codec (R.stream reader.old) (R.stream reader.new) v) }
-        ensures err { IfErr result (λ e. NotDecoded Self Self.codec (R.stream reader.old) (R.stream reader.new) (error_kind e)) };
+        ensures { Decodes Self.codec R.stream reader.old reader.new result };
 
     /// Reads `len` values one after another, where the type has a way to read them at once: only `u8`
     /// has one. Where the answer is `None` nothing was read.
@@ -32,8 +29,7 @@ pub trait BorshDeserialize: BorshType + Sized + Drop {
         _len: u32,
         _reader: &mut R,
     ) -> Result<Option<Vec<Self>>>
-        ensures ok { IfOk result (λ o. MatchOption o (_reader.new ≡ _reader.old) (λ v. Decoded (List Self) (allocated_array _len Self.codec) (R.stream _reader.old) (R.stream _reader.new) v.items)) }
-        ensures err { IfErr result (λ e. NotDecoded (List Self) (allocated_array _len Self.codec) (R.stream _reader.old) (R.stream _reader.new) (error_kind e)) }
+        ensures { DecodesAtOnce _len Self.codec R.stream _reader.old _reader.new result }
     {
         Ok(None)
     }
@@ -46,16 +42,14 @@ pub trait BorshDeserialize: BorshType + Sized + Drop {
     /// Writes the next values over those of the slice, where the type has a way to read them at once:
     /// only `u8` has one. Where the answer is `false` nothing was read. No memory is taken.
     fn fill_slice<R: Read>(_items: &mut [Self], _reader: &mut R) -> Result<bool>
-        ensures ok { IfOk result (λ filled. MatchBool filled (Decoded (List Self) (array (length _items.old) Self.codec) (R.stream _reader.old) (R.stream _reader.new) _items.new) (_reader.new ≡ _reader.old)) }
-        ensures err { IfErr result (λ e. NotDecoded (List Self) (array (length _items.old) Self.codec) (R.stream _reader.old) (R.stream _reader.new) (error_kind e)) }
+        ensures { DecodesOver Self.codec R.stream _reader.old _reader.new _items.old _items.new result }
     {
         Ok(false)
     }
 
     /// Reads a value from the front of the slice, which becomes what is left.
     final fn deserialize(alloc: Global, buf: &mut &[u8]) -> Result<Self>
-        ensures ok { IfOk result (λ v. Decoded Self Self.codec (slice_state buf.old.now) (slice_state buf.new.now) v) }
-        ensures err { IfErr result (λ e. NotDecoded Self Self.codec (slice_state buf.old.now) (slice_state buf.new.now) (error_kind e)) }
+        ensures { Decodes Self.codec slice_state buf.old.now buf.new.now result }
     {
         Self::deserialize_reader(alloc, buf)
     }
@@ -63,8 +57,7 @@ pub trait BorshDeserialize: BorshType + Sized + Drop {
     /// Reads a value from all of the slice. Bytes left over are refused: `InvalidData`, "Not all bytes
     /// read".
     final fn try_from_slice(alloc: Global, v: &[u8]) -> Result<Self>
-        ensures ok { IfOk result (λ x. Self.codec.decodes true v.now x) }
-        ensures err { IfErr result (λ e. WhyNotDecoded Self.codec true v.now (error_kind e)) }
+        ensures { DecodesAll Self.codec true v.now result }
     {
         let mut rest = v;
         let value = Self::deserialize_reader(alloc, &mut rest)?;
@@ -78,8 +71,7 @@ pub trait BorshDeserialize: BorshType + Sized + Drop {
     /// where the reader fails then, the answer is `InvalidData`, "Not all bytes read"; but a failure of
     /// the kind `UnexpectedEof` is taken as the end.
     final fn try_from_reader<R: Read>(alloc: Global, reader: &mut R) -> Result<Self>
-        ensures ok { IfOk result (λ v. DecodedAll Self Self.codec (R.stream reader.old) (R.stream reader.new) v) }
-        ensures err { IfErr result (λ e. NotDecodedAll Self Self.codec (R.stream reader.old) (R.stream reader.new) (error_kind e)) }
+        ensures { DecodesReader Self.codec R.stream reader.old reader.new result }
     {
         let value = Self::deserialize_reader(alloc, reader)?;
         let mut more = [0u8; 1];
@@ -100,6 +92,5 @@ pub trait EnumExt: BorshDeserialize {
     /// Refused as [`deserialize_reader`](BorshDeserialize::deserialize_reader) is, for the tag followed
     /// by the bytes to come.
     fn deserialize_variant<R: Read>(alloc: Global, reader: &mut R, tag: u8) -> Result<Self>
-        ensures ok { IfOk result (λ v. DecodedAfterTag tag Self Self.codec (R.stream reader.old) (R.stream reader.new) v) }
-        ensures err { IfErr result (λ e. NotDecodedAfterTag tag Self Self.codec (R.stream reader.old) (R.stream reader.new) (error_kind e)) };
+        ensures { DecodesAfterTag tag Self.codec R.stream reader.old reader.new result };
 }

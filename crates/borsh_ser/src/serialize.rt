@@ -1,8 +1,7 @@
 // What is written.
-ghost use Rattle.std.specs.Prelude.{◌≡◌, Some, OnOk, IfErr, IfSome};
-ghost use Rattle.borsh_io.specs.Errors.{error_kind};
+ghost use Rattle.std.specs.Prelude.{◌≡◌, Some, IfSome};
 ghost use Rattle.borsh_codec.specs.Shapes.{concat_encodings};
-ghost use Rattle.borsh_codec.specs.Writing.{Written, NotWritten};
+ghost use Rattle.borsh_codec.specs.Writing.{Writes};
 
 use borsh_io::{Result, Write};
 use borsh_types::BorshType;
@@ -16,8 +15,7 @@ pub trait BorshSerialize: BorshType + Sized {
     /// with `OutOfMemory` where memory was refused to the value or to the writer, and with the writer's
     /// error. Then a beginning of the encoding was written.
     fn serialize<W: Write>(&self, alloc: Global, writer: &mut W) -> Result<()>
-        ensures ok { OnOk result (Written W.writing writer.old writer.new (Self.codec.encoding self.now)) }
-        ensures err { IfErr result (λ e. NotWritten Self.codec.encoding_allocates W.writing writer.old writer.new (Self.codec.encoding self.now) (error_kind e)) };
+        ensures { Writes Self.codec self.now W.writing writer.old writer.new result };
 
     /// The encodings of the values, one after another, where they lie in memory as they are: only
     /// `u8` answers them.
