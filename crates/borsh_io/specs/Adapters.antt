@@ -1,16 +1,18 @@
 -- The adapters for std's readers and writers.
-use Rattle.std.specs.Prelude.{◌≡◌, ℕ, ◌<◌, true, false, List, Option}
+use Rattle.std.specs.Prelude.{◌≡◌, ℕ, ◌<◌, ◌-◌, ◌^◌, ◌⊎◌, true, false, List, Option, None}
 use Rattle.std.specs.Io.KnownBytes.{Appends}
 use Rattle.std.proofs.KnownBytes.{Appends-nil, Appends-trans}
 use Rattle.std.specs.declared.io.ErrorKind.{ErrorKind as StdKind}
 use Rattle.std.specs.declared.io.ErrorKind.TheVariants as Std
+use Rattle.borsh_io.specs.declared.error.Error.{Error}
 use Rattle.borsh_io.specs.declared.error.ErrorKind.{ErrorKind}
+use Rattle.borsh_io.specs.Errors.{error_kind, error_text}
 use Rattle.borsh_io.specs.declared.error.ErrorKind.TheVariants.{NotFound, PermissionDenied, ConnectionRefused, ConnectionReset, ConnectionAborted, NotConnected, AddrInUse, AddrNotAvailable, BrokenPipe, AlreadyExists, WouldBlock, InvalidInput, InvalidData, TimedOut, WriteZero, Interrupted, Other, UnexpectedEof, OutOfMemory}
 use Rattle.borsh_io.specs.declared.adapters.Counts.{Counts}
 use Rattle.borsh_io.specs.declared.adapters.StdReader.{StdReader}
 use Rattle.borsh_io.specs.declared.adapters.StdWriter.{StdWriter}
 use Rattle.borsh_io.specs.Stream.{ReaderState, CountedUp}
-use Rattle.borsh_io.specs.Sink.{WriterModel, WriterLaws}
+use Rattle.borsh_io.specs.Sink.{WriterModel, WriterLaws, WriterState}
 
 -- the kind of the same name, or `Other`
 abbrev pub kind_of_std : StdKind → ErrorKind
@@ -68,3 +70,19 @@ device-laws contents = record {
   none = λ a. Appends-nil (contents a.inner);
   more = λ a b c x y p q. Appends-trans _ _ _ x y p q;
 }
+
+-- the state of a reader that was just made over these bytes to come
+abbrev pub first_reader_state : Option (List ℕ) → ℕ → ReaderState
+first_reader_state bytes interruptions = record { bytes = bytes; faults = 0; interruptions = interruptions; reads_left = 2 ^ 64 - 1; strict_order = true }
+
+-- the counts of a writer that was just made
+abbrev pub first_writer_state : ℕ → WriterState
+first_writer_state interruptions = record { faults = 0; interruptions = interruptions; full = false }
+
+-- the error has no text, unless its kind is `Other`
+abbrev pub OnlyOtherHasText : Error → Type 0
+OnlyOtherHasText e = (error_kind e ≡ Other) ⊎ (error_text e ≡ None)
+
+-- the error has no text, unless its kind is `Other` or `WriteZero`
+abbrev pub OnlyOtherOrFullHasText : Error → Type 0
+OnlyOtherOrFullHasText e = (error_kind e ≡ Other) ⊎ ((error_kind e ≡ WriteZero) ⊎ (error_text e ≡ None))

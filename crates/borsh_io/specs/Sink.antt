@@ -1,7 +1,9 @@
 -- What a writer means, and what a write does to it.
-use Rattle.std.specs.Prelude.{◌≡◌, ℕ, ◌<◌, ◌≤◌, ◌⊎◌, Bool, true, false, ◌==◌, IsTrue, List, [], ◌++◌, length, drop}
+use Rattle.std.specs.Prelude.{◌≡◌, ◌≢◌, ℕ, ◌<◌, ◌≤◌, ◌⊎◌, Bool, true, false, ◌==◌, IsTrue, List, [], ◌++◌, length, take, drop, Result, IfOk, OnOk, IfErr}
+use Rattle.borsh_io.specs.declared.error.Error.{Error}
 use Rattle.borsh_io.specs.declared.error.ErrorKind.{ErrorKind}
-use Rattle.borsh_io.specs.declared.error.ErrorKind.TheVariants.{WriteZero, OutOfMemory}
+use Rattle.borsh_io.specs.declared.error.ErrorKind.TheVariants.{WriteZero, OutOfMemory, Interrupted}
+use Rattle.borsh_io.specs.Errors.{error_kind}
 use Rattle.borsh_io.specs.Stream.{CountedUp}
 
 -- a writer's counts
@@ -100,3 +102,40 @@ overwriting room = record {
   sink = λ a. no_faults (length (room a) == 0);
   allocates = false;
 }
+
+-- ---- the outcome of a call
+
+-- the outcome of one write of a buffer
+pub record WritesSome {W : Type 0} (w : WriterModel W) (old new : W) (buf : List ℕ) (result : Result ℕ Error) : Type 0 where
+  -- `Ok(n)`: the first n bytes of the buffer were written
+  pub bound : IfOk result (λ n. n ≤ length buf)
+  pub writes : IfOk result (λ n. WroteBytes w old new (take n buf))
+  pub uninterrupted : OnOk result ((w.sink new).interruptions ≡ (w.sink old).interruptions)
+  -- none only where the writer is full, or of an empty buffer
+  pub some : IfOk result (λ n. n ≡ 0 → 0 < length buf → IsTrue (w.sink new).full)
+  -- `Err` of kind `Interrupted`: nothing was written, and the call may be made again
+  pub interrupted : IfErr result (λ e. error_kind e ≡ Interrupted → WriteInterrupted w old new)
+  -- any other `Err`: nothing was written, and the writer failed or found no memory
+  pub failed : IfErr result (λ e. error_kind e ≢ Interrupted → WriteFailed w old new (error_kind e))
+
+-- the outcome of a flush, which adds no bytes
+pub record Flushes {W : Type 0} (w : WriterModel W) (old new : W) (result : Result (Unit {0}) Error) : Type 0 where
+  pub writes : OnOk result (WroteBytes w old new [])
+  pub uninterrupted : OnOk result ((w.sink new).interruptions ≡ (w.sink old).interruptions)
+  pub interrupted : IfErr result (λ e. error_kind e ≡ Interrupted → WriteInterrupted w old new)
+  pub failed : IfErr result (λ e. error_kind e ≢ Interrupted → WriteFailed w old new (error_kind e))
+
+-- the outcome of flushes that go on after interruptions
+pub record FlushesRetrying {W : Type 0} (w : WriterModel W) (old new : W) (result : Result (Unit {0}) Error) : Type 0 where
+  pub writes : OnOk result (WroteBytes w old new [])
+  -- an interruption is never the answer
+  pub retried : IfErr result (λ e. error_kind e ≢ Interrupted)
+  pub failed : IfErr result (λ e. WriteFailedAfterRetries w old new (error_kind e))
+
+-- the outcome of a call that is to write the whole buffer
+pub record WritesAll {W : Type 0} (w : WriterModel W) (old new : W) (buf : List ℕ) (result : Result (Unit {0}) Error) : Type 0 where
+  -- `Ok`: all of it was written
+  pub writes : OnOk result (WroteBytes w old new buf)
+  -- `Err`: never an interruption; a beginning of the buffer was written, and not all of it
+  pub retried : IfErr result (λ e. error_kind e ≢ Interrupted)
+  pub refused : IfErr result (λ e. NotWrittenWhole w old new buf (error_kind e))

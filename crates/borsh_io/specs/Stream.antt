@@ -1,8 +1,10 @@
 -- The state of a reader, and what a read does to it.
-use Rattle.std.specs.Prelude.{◌≡◌, ℕ, ◌+◌, ◌-◌, ◌^◌, ◌<◌, ◌≤◌, ◌⊎◌, Bool, List, length, Option, Some, IfSome, true, false}
-use Rattle.std.specs.Io.KnownBytes.{Consumes, Keeps}
+use Rattle.std.specs.Prelude.{◌≡◌, ◌≢◌, ℕ, ◌+◌, ◌-◌, ◌^◌, ◌<◌, ◌≤◌, ◌⊎◌, Bool, List, length, take, Option, Some, IfSome, Result, IfOk, OnOk, IfErr, OnErr, true, false}
+use Rattle.std.specs.Io.KnownBytes.{Consumes, Keeps, IsAtEnd}
+use Rattle.borsh_io.specs.declared.error.Error.{Error}
 use Rattle.borsh_io.specs.declared.error.ErrorKind.{ErrorKind}
-use Rattle.borsh_io.specs.declared.error.ErrorKind.TheVariants.{UnexpectedEof}
+use Rattle.borsh_io.specs.declared.error.ErrorKind.TheVariants.{UnexpectedEof, Interrupted}
+use Rattle.borsh_io.specs.Errors.{error_kind}
 
 -- a reader's state
 pub record ReaderState : Type 0 where
@@ -77,3 +79,39 @@ slice_state xs = record { bytes = Some xs; faults = 0; interruptions = 0; reads_
 -- the same reader with keys in any order
 abbrev pub unordered : ReaderState → ReaderState
 unordered s = record s { strict_order = false }
+
+-- ---- the outcome of a call; `state` says what is known of a reader
+
+-- the outcome of one read into a buffer, which then holds `buf`
+pub record ReadsSome {R : Type 0} (state : R → ReaderState) (old new : R) (buf : List ℕ) (result : Result ℕ Error) : Type 0 where
+  -- `Ok(n)`: n bytes, no more than the buffer has, are at its front
+  pub bound : IfOk result (λ n. n ≤ length buf)
+  -- and they are the next bytes of the reader
+  pub takes : IfOk result (λ n. Consumed (state old) (state new) (take n buf))
+  pub uninterrupted : OnOk result ((state new).interruptions ≡ (state old).interruptions)
+  pub fewer : IfOk result (λ n. 0 < n → (state new).reads_left < (state old).reads_left)
+  -- none only at the end, or into an empty buffer
+  pub some : IfOk result (λ n. n ≡ 0 → 0 < length buf → IsAtEnd (state new).bytes)
+  -- `Err` of kind `Interrupted`: nothing was taken, and the call may be made again
+  pub interrupted : IfErr result (λ e. error_kind e ≡ Interrupted → ReadInterrupted (state old) (state new))
+  -- any other `Err`: nothing was taken, and the reader failed
+  pub failed : IfErr result (λ e. error_kind e ≢ Interrupted → ReadFailed (state old) (state new))
+
+-- the outcome of reads that go on after interruptions, until one takes bytes into a buffer, which then holds `buf`
+pub record ReadsSomeRetrying {R : Type 0} (state : R → ReaderState) (old new : R) (buf : List ℕ) (result : Result ℕ Error) : Type 0 where
+  pub bound : IfOk result (λ n. n ≤ length buf)
+  pub takes : IfOk result (λ n. Consumed (state old) (state new) (take n buf))
+  pub fewer : IfOk result (λ n. 0 < n → (state new).reads_left < (state old).reads_left)
+  pub some : IfOk result (λ n. n ≡ 0 → 0 < length buf → IsAtEnd (state new).bytes)
+  -- an interruption is never the answer
+  pub retried : IfErr result (λ e. error_kind e ≢ Interrupted)
+  pub failed : OnErr result (ReadFailedAfterRetries (state old) (state new))
+
+-- the outcome of a call that is to fill a buffer that held `before` and then holds `after`
+pub record ReadsExactly {R : Type 0} (state : R → ReaderState) (old new : R) (before after : List ℕ) (result : Result (Unit {0}) Error) : Type 0 where
+  -- `Ok`: the buffer holds the next bytes
+  pub takes : OnOk result (Consumed (state old) (state new) after)
+  -- `Err`: never an interruption; fewer bytes were to come, or the reader failed; a tail of them is left
+  pub retried : IfErr result (λ e. error_kind e ≢ Interrupted)
+  pub cause : IfErr result (λ e. ReadExactFailure (state old) (state new) (length before) (error_kind e))
+  pub tail : OnErr result (ConsumedSome (state old) (state new))

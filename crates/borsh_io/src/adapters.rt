@@ -1,9 +1,9 @@
 // The adapters for std's readers and writers.
-ghost use Rattle.std.specs.Prelude.{◌≡◌, ◌≢◌, ◌-◌, ◌^◌, ◌<◌, ◌≤◌, ◌⊎◌, None, length, take, IfOk, OnOk, IfErr, true, false};
-ghost use Rattle.std.specs.Io.KnownBytes.{IsAtEnd};
-ghost use Rattle.borsh_io.specs.Errors.{error_kind, error_text};
-ghost use Rattle.borsh_io.specs.Stream.{CountedUp, Consumed, ReadInterrupted, ReadFailed};
-ghost use Rattle.borsh_io.specs.Adapters.{inner_of_reader, inner_of_writer, kind_of_std, reader_stream, device_writing, device-laws, CountsInterrupted, CountsFailed};
+ghost use Rattle.std.specs.Prelude.{◌≡◌, ◌≢◌, IfErr};
+ghost use Rattle.borsh_io.specs.Errors.{error_kind};
+ghost use Rattle.borsh_io.specs.Stream.{CountedUp, ReadsSome};
+ghost use Rattle.borsh_io.specs.Sink.{WritesSome, Flushes};
+ghost use Rattle.borsh_io.specs.Adapters.{inner_of_reader, inner_of_writer, kind_of_std, reader_stream, device_writing, device-laws, CountsInterrupted, CountsFailed, first_reader_state, first_writer_state, OnlyOtherHasText, OnlyOtherOrFullHasText};
 
 use super::error::{Error, ErrorKind, Result};
 use super::read::Read;
@@ -67,7 +67,7 @@ impl Counts {
     fn error(&mut self, kind: std::io::ErrorKind) -> Error
         ensures interrupted { error_kind result ≡ ErrorKind.Interrupted → CountsInterrupted self.old self.new }
         ensures failed { error_kind result ≢ ErrorKind.Interrupted → CountsFailed self.old self.new }
-        ensures text { (error_kind result ≡ ErrorKind.Other) ⊎ (error_text result ≡ None) }
+        ensures text { OnlyOtherHasText result }
     {
         let kind = kind_by_name(kind);
         if matches!(kind, ErrorKind::Interrupted) {
@@ -99,7 +99,7 @@ pub struct StdReader<R> {
 impl<R: std::io::Read> StdReader<R> {
     pub fn new(inner: R, interruptions: u32) -> StdReader<R>
         ensures inner { inner_of_reader result ≡ inner }
-        ensures state { reader_stream R.remaining result ≡ record { bytes = R.remaining inner; faults = 0; interruptions = interruptions; reads_left = 2 ^ 64 - 1; strict_order = true } }
+        ensures state { reader_stream R.remaining result ≡ first_reader_state (R.remaining inner) interruptions }
     {
         StdReader {
             inner,
@@ -120,14 +120,8 @@ impl<R: std::io::Read> Read for StdReader<R> {
     ghost stream = { reader_stream R.remaining };
 
     fn read(&mut self, buf: &mut [u8]) -> Result<usize>
-        ensures bound { IfOk result (λ n. n ≤ length buf.new) }
-        ensures takes { IfOk result (λ n. Consumed (reader_stream R.remaining self.old) (reader_stream R.remaining self.new) (take n buf.new)) }
-        ensures uninterrupted { OnOk result ((reader_stream R.remaining self.new).interruptions ≡ (reader_stream R.remaining self.old).interruptions) }
-        ensures fewer { IfOk result (λ n. 0 < n → (reader_stream R.remaining self.new).reads_left < (reader_stream R.remaining self.old).reads_left) }
-        ensures some { IfOk result (λ n. n ≡ 0 → 0 < length buf.new → IsAtEnd (reader_stream R.remaining self.new).bytes) }
-        ensures interrupted { IfErr result (λ e. error_kind e ≡ ErrorKind.Interrupted → ReadInterrupted (reader_stream R.remaining self.old) (reader_stream R.remaining self.new)) }
-        ensures failed { IfErr result (λ e. error_kind e ≢ ErrorKind.Interrupted → ReadFailed (reader_stream R.remaining self.old) (reader_stream R.remaining self.new)) }
-        ensures text { IfErr result (λ e. (error_kind e ≡ ErrorKind.Other) ⊎ (error_text e ≡ None)) }
+        ensures outcome { ReadsSome (reader_stream R.remaining) self.old self.new buf.new result }
+        ensures text { IfErr result OnlyOtherHasText }
     {
         if self.reads_left == 0 {
             self.counts.fault();
@@ -160,7 +154,7 @@ pub struct StdWriter<W> {
 impl<W: std::io::Write> StdWriter<W> {
     pub fn new(inner: W, interruptions: u32) -> StdWriter<W>
         ensures inner { inner_of_writer result ≡ inner }
-        ensures state { (device_writing W.contents).sink result ≡ record { faults = 0; interruptions = interruptions; full = false } }
+        ensures state { (device_writing W.contents).sink result ≡ first_writer_state interruptions }
     {
         StdWriter {
             inner,
@@ -179,7 +173,10 @@ impl<W: std::io::Write> StdWriter<W> {
 impl<W: std::io::Write> Write for StdWriter<W> {
     ghost writing = { device_writing W.contents };
 
-    fn write(&mut self, buf: &[u8]) -> Result<usize> {
+    fn write(&mut self, buf: &[u8]) -> Result<usize>
+        ensures outcome { WritesSome (device_writing W.contents) self.old self.new buf.now result }
+        ensures text { IfErr result OnlyOtherOrFullHasText }
+    {
         match std::io::Write::write(&mut self.inner, buf) {
             Ok(n) => {
                 if n == 0 && !buf.is_empty() {
@@ -192,7 +189,10 @@ impl<W: std::io::Write> Write for StdWriter<W> {
         }
     }
 
-    fn flush(&mut self) -> Result<()> {
+    fn flush(&mut self) -> Result<()>
+        ensures outcome { Flushes (device_writing W.contents) self.old self.new result }
+        ensures text { IfErr result OnlyOtherHasText }
+    {
         match std::io::Write::flush(&mut self.inner) {
             Ok(()) => Ok(()),
             Err(e) => Err(self.counts.error(e.kind())),

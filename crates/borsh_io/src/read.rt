@@ -1,8 +1,7 @@
 // What reads.
-ghost use Rattle.std.specs.Prelude.{◌≡◌, ◌≢◌, ℕ, ◌+◌, ◌-◌, ◌<◌, ◌≤◌, List, length, take, IfOk, OnOk, OnErr, IfErr};
-ghost use Rattle.std.specs.Io.KnownBytes.{IsAtEnd};
+ghost use Rattle.std.specs.Prelude.{◌≡◌};
 ghost use Rattle.borsh_io.specs.Errors.{error_kind};
-ghost use Rattle.borsh_io.specs.Stream.{ReaderState, Consumed, ReadInterrupted, ReadFailed, ReadFailedAfterRetries, ConsumedSome, ReadExactFailure};
+ghost use Rattle.borsh_io.specs.Stream.{ReaderState, ReadsSome, ReadsSomeRetrying, ReadsExactly};
 
 use super::error::{Error, ErrorKind, Result, pass_over};
 
@@ -20,13 +19,7 @@ pub trait Read {
     /// Refused with `Interrupted`: nothing was taken, and the call may be made again. Refused with any
     /// other kind: nothing was taken, and the count of faults rose.
     fn read(&mut self, buf: &mut [u8]) -> Result<usize>
-        ensures bound { IfOk result (λ n. n ≤ length buf.new) }
-        ensures takes { IfOk result (λ n. Consumed (stream self.old) (stream self.new) (take n buf.new)) }
-        ensures uninterrupted { OnOk result ((stream self.new).interruptions ≡ (stream self.old).interruptions) }
-        ensures fewer { IfOk result (λ n. 0 < n → (stream self.new).reads_left < (stream self.old).reads_left) }
-        ensures some { IfOk result (λ n. n ≡ 0 → 0 < length buf.new → IsAtEnd (stream self.new).bytes) }
-        ensures interrupted { IfErr result (λ e. error_kind e ≡ ErrorKind.Interrupted → ReadInterrupted (stream self.old) (stream self.new)) }
-        ensures failed { IfErr result (λ e. error_kind e ≢ ErrorKind.Interrupted → ReadFailed (stream self.old) (stream self.new)) };
+        ensures { ReadsSome stream self.old self.new buf.new result };
 
     /// Whether the keys of maps and sets have to stand in ascending order. No read changes it.
     fn strict_order(&self) -> bool
@@ -38,10 +31,7 @@ pub trait Read {
     /// with the reader's error, where it failed. Then a tail of the bytes to come is left, and the
     /// buffer holds anything.
     fn read_exact(&mut self, buf: &mut [u8]) -> Result<()>
-        ensures takes { OnOk result (Consumed (stream self.old) (stream self.new) buf.new) }
-        ensures retried { IfErr result (λ e. error_kind e ≢ ErrorKind.Interrupted) }
-        ensures cause { IfErr result (λ e. ReadExactFailure (stream self.old) (stream self.new) (length buf.old) (error_kind e)) }
-        ensures tail { OnErr result (ConsumedSome (stream self.old) (stream self.new)) }
+        ensures { ReadsExactly stream self.old self.new buf.old buf.new result }
     {
         let mut at = 0;
         while at < buf.len() {
@@ -69,12 +59,7 @@ pub trait Read {
 ///
 /// Refused with the reader's error, where it failed. Nothing was taken then.
 pub fn read_some<R: Read>(reader: &mut R, buf: &mut [u8]) -> Result<usize>
-    ensures bound { IfOk result (λ n. n ≤ length buf.new) }
-    ensures takes { IfOk result (λ n. Consumed (R.stream reader.old) (R.stream reader.new) (take n buf.new)) }
-    ensures fewer { IfOk result (λ n. 0 < n → (R.stream reader.new).reads_left < (R.stream reader.old).reads_left) }
-    ensures some { IfOk result (λ n. n ≡ 0 → 0 < length buf.new → IsAtEnd (R.stream reader.new).bytes) }
-    ensures retried { IfErr result (λ e. error_kind e ≢ ErrorKind.Interrupted) }
-    ensures failed { OnErr result (ReadFailedAfterRetries (R.stream reader.old) (R.stream reader.new)) }
+    ensures { ReadsSomeRetrying R.stream reader.old reader.new buf.new result }
 {
     loop {
         match reader.read(buf) {

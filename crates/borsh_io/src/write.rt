@@ -1,7 +1,7 @@
 // What writes.
-ghost use Rattle.std.specs.Prelude.{◌≡◌, ◌≢◌, ℕ, ◌+◌, ◌-◌, ◌<◌, ◌≤◌, [], List, IsTrue, length, take, IfOk, OnOk, IfErr};
+ghost use Rattle.std.specs.Prelude.{◌≡◌};
 ghost use Rattle.borsh_io.specs.Errors.{error_kind};
-ghost use Rattle.borsh_io.specs.Sink.{WriterModel, WriterLaws, WroteBytes, WriteInterrupted, WriteFailed, WriteFailedAfterRetries, NotWrittenWhole};
+ghost use Rattle.borsh_io.specs.Sink.{WriterModel, WriterLaws, WritesSome, WritesAll, Flushes, FlushesRetrying};
 
 use super::error::{Error, ErrorKind, Result, pass_over};
 
@@ -19,28 +19,18 @@ pub trait Write {
     /// Refused with `Interrupted`: nothing was written, and the call may be made again. Refused with
     /// any other kind: nothing was written, and memory was refused or the count of faults rose.
     fn write(&mut self, buf: &[u8]) -> Result<usize>
-        ensures bound { IfOk result (λ n. n ≤ length buf.now) }
-        ensures writes { IfOk result (λ n. WroteBytes writing self.old self.new (take n buf.now)) }
-        ensures uninterrupted { OnOk result ((writing.sink self.new).interruptions ≡ (writing.sink self.old).interruptions) }
-        ensures some { IfOk result (λ n. n ≡ 0 → 0 < length buf.now → IsTrue (writing.sink self.new).full) }
-        ensures interrupted { IfErr result (λ e. error_kind e ≡ ErrorKind.Interrupted → WriteInterrupted writing self.old self.new) }
-        ensures failed { IfErr result (λ e. error_kind e ≢ ErrorKind.Interrupted → WriteFailed writing self.old self.new (error_kind e)) };
+        ensures { WritesSome writing self.old self.new buf.now result };
 
     /// Hands on what the writer holds back. Adds no bytes; refused as [`write`](Write::write) is.
     fn flush(&mut self) -> Result<()>
-        ensures writes { OnOk result (WroteBytes writing self.old self.new []) }
-        ensures uninterrupted { OnOk result ((writing.sink self.new).interruptions ≡ (writing.sink self.old).interruptions) }
-        ensures interrupted { IfErr result (λ e. error_kind e ≡ ErrorKind.Interrupted → WriteInterrupted writing self.old self.new) }
-        ensures failed { IfErr result (λ e. error_kind e ≢ ErrorKind.Interrupted → WriteFailed writing self.old self.new (error_kind e)) };
+        ensures { Flushes writing self.old self.new result };
 
     /// Writes the whole buffer, trying again after interruptions.
     ///
     /// Refused with `WriteZero`, "failed to write whole buffer", where the writer is full, and with the
     /// writer's error, where it failed. Then a beginning of the buffer was written, and not all of it.
     fn write_all(&mut self, buf: &[u8]) -> Result<()>
-        ensures writes { OnOk result (WroteBytes writing self.old self.new buf.now) }
-        ensures retried { IfErr result (λ e. error_kind e ≢ ErrorKind.Interrupted) }
-        ensures refused { IfErr result (λ e. NotWrittenWhole writing self.old self.new buf.now (error_kind e)) }
+        ensures { WritesAll writing self.old self.new buf.now result }
     {
         let mut rest = buf;
         while !rest.is_empty() {
@@ -75,9 +65,7 @@ pub(crate) fn short_write() -> Error
 
 /// A flush, trying again after interruptions. Refused with the writer's error, where it failed.
 pub fn flush_all<W: Write>(writer: &mut W) -> Result<()>
-    ensures writes { OnOk result (WroteBytes W.writing writer.old writer.new []) }
-    ensures retried { IfErr result (λ e. error_kind e ≢ ErrorKind.Interrupted) }
-    ensures failed { IfErr result (λ e. WriteFailedAfterRetries W.writing writer.old writer.new (error_kind e)) }
+    ensures { FlushesRetrying W.writing writer.old writer.new result }
 {
     loop {
         match writer.flush() {

@@ -1,7 +1,6 @@
 // The writers over vectors, slices and references.
-ghost use Rattle.std.specs.Prelude.{◌≡◌, ◌≢◌, ℕ, ◌+◌, ◌-◌, ◌<◌, ◌≤◌, [], List, Ok, min, length, take, IsOk, IsTrue, IfOk, OnOk, OnErr, IfErr, vec_len, vec_capacity};
-ghost use Rattle.borsh_io.specs.Errors.{error_kind};
-ghost use Rattle.borsh_io.specs.Sink.{WroteBytes, WriteInterrupted, WriteFailed, NotWrittenWhole, contramap_writer, appending, overwriting};
+ghost use Rattle.std.specs.Prelude.{◌≡◌, ◌+◌, ◌<◌, length, IsOk, IfOk, OnErr, vec_len, vec_capacity};
+ghost use Rattle.borsh_io.specs.Sink.{WritesSome, Flushes, WritesAll, contramap_writer, appending, overwriting};
 ghost use Rattle.borsh_io.specs.SinkLaws.{contramap_writer-laws, appending-laws, overwriting-laws};
 
 use super::error::{Error, ErrorKind, Result};
@@ -35,12 +34,7 @@ impl Write for Vec<u8> {
 
     #[inline]
     fn write(&mut self, buf: &[u8]) -> Result<usize>
-        ensures bound { IfOk result (λ n. n ≤ length buf.now) }
-        ensures writes { IfOk result (λ n. WroteBytes (appending (λ v. v.items)) self.old self.new (take n buf.now)) }
-        ensures uninterrupted { OnOk result (((appending (λ v. v.items)).sink self.new).interruptions ≡ ((appending (λ v. v.items)).sink self.old).interruptions) }
-        ensures some { IfOk result (λ n. n ≡ 0 → 0 < length buf.now → IsTrue ((appending (λ v. v.items)).sink self.new).full) }
-        ensures interrupted { IfErr result (λ e. error_kind e ≡ ErrorKind.Interrupted → WriteInterrupted (appending (λ v. v.items)) self.old self.new) }
-        ensures failed { IfErr result (λ e. error_kind e ≢ ErrorKind.Interrupted → WriteFailed (appending (λ v. v.items)) self.old self.new (error_kind e)) }
+        ensures outcome { WritesSome (appending (λ v. v.items)) self.old self.new buf.now result }
         ensures all { IfOk result (λ n. n ≡ length buf.now) }
         ensures full { OnErr result (vec_capacity self.old < vec_len self.old + length buf.now) }
     {
@@ -50,10 +44,7 @@ impl Write for Vec<u8> {
 
     #[inline]
     fn flush(&mut self) -> Result<()>
-        ensures writes { OnOk result (WroteBytes (appending (λ v. v.items)) self.old self.new []) }
-        ensures uninterrupted { OnOk result (((appending (λ v. v.items)).sink self.new).interruptions ≡ ((appending (λ v. v.items)).sink self.old).interruptions) }
-        ensures interrupted { IfErr result (λ e. error_kind e ≡ ErrorKind.Interrupted → WriteInterrupted (appending (λ v. v.items)) self.old self.new) }
-        ensures failed { IfErr result (λ e. error_kind e ≢ ErrorKind.Interrupted → WriteFailed (appending (λ v. v.items)) self.old self.new (error_kind e)) }
+        ensures outcome { Flushes (appending (λ v. v.items)) self.old self.new result }
         ensures succeeds { IsOk result }
         ensures unchanged { self.new ≡ self.old }
     {
@@ -62,9 +53,7 @@ impl Write for Vec<u8> {
 
     #[inline]
     fn write_all(&mut self, buf: &[u8]) -> Result<()>
-        ensures writes { OnOk result (WroteBytes (appending (λ v. v.items)) self.old self.new buf.now) }
-        ensures retried { IfErr result (λ e. error_kind e ≢ ErrorKind.Interrupted) }
-        ensures refused { IfErr result (λ e. NotWrittenWhole (appending (λ v. v.items)) self.old self.new buf.now (error_kind e)) }
+        ensures outcome { WritesAll (appending (λ v. v.items)) self.old self.new buf.now result }
         ensures unchanged { OnErr result (self.new.items ≡ self.old.items) }
         ensures full { OnErr result (vec_capacity self.old < vec_len self.old + length buf.now) }
     {
