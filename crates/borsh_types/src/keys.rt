@@ -204,20 +204,44 @@ impl<A: BorshKey, B: BorshKey> BorshKey for (A, B) {
 }
 
 impl<A: BorshKey, B: BorshKey, C: BorshKey> BorshKey for (A, B, C) {
-    ghost key = { λ x y. key_as (and_key (and_key (A.key x.0 y.0) (B.key x.1 y.1)) (C.key x.2 y.2)) (λ h. (h.0.0, (h.0.1, h.1))) (λ h. ((h.0, h.1.0), h.1.1)) };
+    ghost key = { λ x y. key_as
+        (and_key (and_key (A.key x.0 y.0) (B.key x.1 y.1)) (C.key x.2 y.2))
+        (λ h. (h.0.0, (h.0.1, h.1)))
+        (λ h. ((h.0, h.1.0), h.1.1)) };
 }
 
 impl<A: BorshKey, B: BorshKey, C: BorshKey, D: BorshKey> BorshKey for (A, B, C, D) {
-    ghost key = { λ x y. key_as (and_key (and_key (and_key (A.key x.0 y.0) (B.key x.1 y.1)) (C.key x.2 y.2)) (D.key x.3 y.3)) (λ h. (h.0.0.0, (h.0.0.1, (h.0.1, h.1)))) (λ h. (((h.0, h.1.0), h.1.1.0), h.1.1.1)) };
+    ghost key = { λ x y. key_as
+        (and_key
+        (and_key (and_key (A.key x.0 y.0) (B.key x.1 y.1)) (C.key x.2 y.2))
+        (D.key x.3 y.3))
+        (λ h. (h.0.0.0, (h.0.0.1, (h.0.1, h.1))))
+        (λ h. (((h.0, h.1.0), h.1.1.0), h.1.1.1)) };
 }
 
 impl<A: BorshKey, B: BorshKey, C: BorshKey, D: BorshKey, E: BorshKey> BorshKey for (A, B, C, D, E) {
-    ghost key = { λ x y. key_as (and_key (and_key (and_key (and_key (A.key x.0 y.0) (B.key x.1 y.1)) (C.key x.2 y.2)) (D.key x.3 y.3)) (E.key x.4 y.4)) (λ h. (h.0.0.0.0, (h.0.0.0.1, (h.0.0.1, (h.0.1, h.1))))) (λ h. ((((h.0, h.1.0), h.1.1.0), h.1.1.1.0), h.1.1.1.1)) };
+    ghost key = { λ x y. key_as
+        (and_key
+        (and_key
+        (and_key (and_key (A.key x.0 y.0) (B.key x.1 y.1)) (C.key x.2 y.2))
+        (D.key x.3 y.3))
+        (E.key x.4 y.4))
+        (λ h. (h.0.0.0.0, (h.0.0.0.1, (h.0.0.1, (h.0.1, h.1)))))
+        (λ h. ((((h.0, h.1.0), h.1.1.0), h.1.1.1.0), h.1.1.1.1)) };
 }
 
 impl<A: BorshKey, B: BorshKey, C: BorshKey, D: BorshKey, E: BorshKey, F: BorshKey> BorshKey
     for (A, B, C, D, E, F) {
-    ghost key = { λ x y. key_as (and_key (and_key (and_key (and_key (and_key (A.key x.0 y.0) (B.key x.1 y.1)) (C.key x.2 y.2)) (D.key x.3 y.3)) (E.key x.4 y.4)) (F.key x.5 y.5)) (λ h. (h.0.0.0.0.0, (h.0.0.0.0.1, (h.0.0.0.1, (h.0.0.1, (h.0.1, h.1)))))) (λ h. (((((h.0, h.1.0), h.1.1.0), h.1.1.1.0), h.1.1.1.1.0), h.1.1.1.1.1)) };
+    ghost key = { λ x y. key_as
+        (and_key
+        (and_key
+        (and_key
+        (and_key (and_key (A.key x.0 y.0) (B.key x.1 y.1)) (C.key x.2 y.2))
+        (D.key x.3 y.3))
+        (E.key x.4 y.4))
+        (F.key x.5 y.5))
+        (λ h. (h.0.0.0.0.0, (h.0.0.0.0.1, (h.0.0.0.1, (h.0.0.1, (h.0.1, h.1))))))
+        (λ h. (((((h.0, h.1.0), h.1.1.0), h.1.1.1.0), h.1.1.1.1.0), h.1.1.1.1.1)) };
 }
 
 impl<
@@ -229,7 +253,24 @@ impl<
     F: BorshKey,
     G: BorshKey,
 > BorshKey for (A, B, C, D, E, F, G) {
-    ghost key = { λ x y. key_as (and_key (and_key (and_key (and_key (and_key (and_key (A.key x.0 y.0) (B.key x.1 y.1)) (C.key x.2 y.2)) (D.key x.3 y.3)) (E.key x.4 y.4)) (F.key x.5 y.5)) (G.key x.6 y.6)) (λ h. (h.0.0.0.0.0.0, (h.0.0.0.0.0.1, (h.0.0.0.0.1, (h.0.0.0.1, (h.0.0.1, (h.0.1, h.1))))))) (λ h. ((((((h.0, h.1.0), h.1.1.0), h.1.1.1.0), h.1.1.1.1.0), h.1.1.1.1.1.0), h.1.1.1.1.1.1)) };
+    ghost key = { λ x y. key_as
+        (and_key
+        (and_key
+        (and_key
+        (and_key
+        (and_key (and_key (A.key x.0 y.0) (B.key x.1 y.1)) (C.key x.2 y.2))
+        (D.key x.3 y.3))
+        (E.key x.4 y.4))
+        (F.key x.5 y.5))
+        (G.key x.6 y.6))
+        (λ h. (
+          h.0.0.0.0.0.0,
+          (h.0.0.0.0.0.1, (h.0.0.0.0.1, (h.0.0.0.1, (h.0.0.1, (h.0.1, h.1))))),
+        ))
+        (λ h. (
+          (((((h.0, h.1.0), h.1.1.0), h.1.1.1.0), h.1.1.1.1.0), h.1.1.1.1.1.0),
+          h.1.1.1.1.1.1,
+        )) };
 }
 
 impl<
@@ -242,7 +283,32 @@ impl<
     G: BorshKey,
     H: BorshKey,
 > BorshKey for (A, B, C, D, E, F, G, H) {
-    ghost key = { λ x y. key_as (and_key (and_key (and_key (and_key (and_key (and_key (and_key (A.key x.0 y.0) (B.key x.1 y.1)) (C.key x.2 y.2)) (D.key x.3 y.3)) (E.key x.4 y.4)) (F.key x.5 y.5)) (G.key x.6 y.6)) (H.key x.7 y.7)) (λ h. (h.0.0.0.0.0.0.0, (h.0.0.0.0.0.0.1, (h.0.0.0.0.0.1, (h.0.0.0.0.1, (h.0.0.0.1, (h.0.0.1, (h.0.1, h.1)))))))) (λ h. (((((((h.0, h.1.0), h.1.1.0), h.1.1.1.0), h.1.1.1.1.0), h.1.1.1.1.1.0), h.1.1.1.1.1.1.0), h.1.1.1.1.1.1.1)) };
+    ghost key = { λ x y. key_as
+        (and_key
+        (and_key
+        (and_key
+        (and_key
+        (and_key
+        (and_key (and_key (A.key x.0 y.0) (B.key x.1 y.1)) (C.key x.2 y.2))
+        (D.key x.3 y.3))
+        (E.key x.4 y.4))
+        (F.key x.5 y.5))
+        (G.key x.6 y.6))
+        (H.key x.7 y.7))
+        (λ h. (
+          h.0.0.0.0.0.0.0,
+          (
+            h.0.0.0.0.0.0.1,
+            (h.0.0.0.0.0.1, (h.0.0.0.0.1, (h.0.0.0.1, (h.0.0.1, (h.0.1, h.1))))),
+          ),
+        ))
+        (λ h. (
+          (
+            (((((h.0, h.1.0), h.1.1.0), h.1.1.1.0), h.1.1.1.1.0), h.1.1.1.1.1.0),
+            h.1.1.1.1.1.1.0,
+          ),
+          h.1.1.1.1.1.1.1,
+        )) };
 }
 
 impl<
@@ -256,7 +322,42 @@ impl<
     H: BorshKey,
     I: BorshKey,
 > BorshKey for (A, B, C, D, E, F, G, H, I) {
-    ghost key = { λ x y. key_as (and_key (and_key (and_key (and_key (and_key (and_key (and_key (and_key (A.key x.0 y.0) (B.key x.1 y.1)) (C.key x.2 y.2)) (D.key x.3 y.3)) (E.key x.4 y.4)) (F.key x.5 y.5)) (G.key x.6 y.6)) (H.key x.7 y.7)) (I.key x.8 y.8)) (λ h. (h.0.0.0.0.0.0.0.0, (h.0.0.0.0.0.0.0.1, (h.0.0.0.0.0.0.1, (h.0.0.0.0.0.1, (h.0.0.0.0.1, (h.0.0.0.1, (h.0.0.1, (h.0.1, h.1))))))))) (λ h. ((((((((h.0, h.1.0), h.1.1.0), h.1.1.1.0), h.1.1.1.1.0), h.1.1.1.1.1.0), h.1.1.1.1.1.1.0), h.1.1.1.1.1.1.1.0), h.1.1.1.1.1.1.1.1)) };
+    ghost key = { λ x y. key_as
+        (and_key
+        (and_key
+        (and_key
+        (and_key
+        (and_key
+        (and_key
+        (and_key
+        (and_key (A.key x.0 y.0) (B.key x.1 y.1))
+        (C.key x.2 y.2))
+        (D.key x.3 y.3))
+        (E.key x.4 y.4))
+        (F.key x.5 y.5))
+        (G.key x.6 y.6))
+        (H.key x.7 y.7))
+        (I.key x.8 y.8))
+        (λ h. (
+          h.0.0.0.0.0.0.0.0,
+          (
+            h.0.0.0.0.0.0.0.1,
+            (
+              h.0.0.0.0.0.0.1,
+              (h.0.0.0.0.0.1, (h.0.0.0.0.1, (h.0.0.0.1, (h.0.0.1, (h.0.1, h.1))))),
+            ),
+          ),
+        ))
+        (λ h. (
+          (
+            (
+              (((((h.0, h.1.0), h.1.1.0), h.1.1.1.0), h.1.1.1.1.0), h.1.1.1.1.1.0),
+              h.1.1.1.1.1.1.0,
+            ),
+            h.1.1.1.1.1.1.1.0,
+          ),
+          h.1.1.1.1.1.1.1.1,
+        )) };
 }
 
 impl<
@@ -271,7 +372,53 @@ impl<
     I: BorshKey,
     J: BorshKey,
 > BorshKey for (A, B, C, D, E, F, G, H, I, J) {
-    ghost key = { λ x y. key_as (and_key (and_key (and_key (and_key (and_key (and_key (and_key (and_key (and_key (A.key x.0 y.0) (B.key x.1 y.1)) (C.key x.2 y.2)) (D.key x.3 y.3)) (E.key x.4 y.4)) (F.key x.5 y.5)) (G.key x.6 y.6)) (H.key x.7 y.7)) (I.key x.8 y.8)) (J.key x.9 y.9)) (λ h. (h.0.0.0.0.0.0.0.0.0, (h.0.0.0.0.0.0.0.0.1, (h.0.0.0.0.0.0.0.1, (h.0.0.0.0.0.0.1, (h.0.0.0.0.0.1, (h.0.0.0.0.1, (h.0.0.0.1, (h.0.0.1, (h.0.1, h.1)))))))))) (λ h. (((((((((h.0, h.1.0), h.1.1.0), h.1.1.1.0), h.1.1.1.1.0), h.1.1.1.1.1.0), h.1.1.1.1.1.1.0), h.1.1.1.1.1.1.1.0), h.1.1.1.1.1.1.1.1.0), h.1.1.1.1.1.1.1.1.1)) };
+    ghost key = { λ x y. key_as
+        (and_key
+        (and_key
+        (and_key
+        (and_key
+        (and_key
+        (and_key
+        (and_key
+        (and_key
+        (and_key (A.key x.0 y.0) (B.key x.1 y.1))
+        (C.key x.2 y.2))
+        (D.key x.3 y.3))
+        (E.key x.4 y.4))
+        (F.key x.5 y.5))
+        (G.key x.6 y.6))
+        (H.key x.7 y.7))
+        (I.key x.8 y.8))
+        (J.key x.9 y.9))
+        (λ h. (
+          h.0.0.0.0.0.0.0.0.0,
+          (
+            h.0.0.0.0.0.0.0.0.1,
+            (
+              h.0.0.0.0.0.0.0.1,
+              (
+                h.0.0.0.0.0.0.1,
+                (
+                  h.0.0.0.0.0.1,
+                  (h.0.0.0.0.1, (h.0.0.0.1, (h.0.0.1, (h.0.1, h.1)))),
+                ),
+              ),
+            ),
+          ),
+        ))
+        (λ h. (
+          (
+            (
+              (
+                (((((h.0, h.1.0), h.1.1.0), h.1.1.1.0), h.1.1.1.1.0), h.1.1.1.1.1.0),
+                h.1.1.1.1.1.1.0,
+              ),
+              h.1.1.1.1.1.1.1.0,
+            ),
+            h.1.1.1.1.1.1.1.1.0,
+          ),
+          h.1.1.1.1.1.1.1.1.1,
+        )) };
 }
 
 impl<
@@ -287,7 +434,64 @@ impl<
     J: BorshKey,
     K: BorshKey,
 > BorshKey for (A, B, C, D, E, F, G, H, I, J, K) {
-    ghost key = { λ x y. key_as (and_key (and_key (and_key (and_key (and_key (and_key (and_key (and_key (and_key (and_key (A.key x.0 y.0) (B.key x.1 y.1)) (C.key x.2 y.2)) (D.key x.3 y.3)) (E.key x.4 y.4)) (F.key x.5 y.5)) (G.key x.6 y.6)) (H.key x.7 y.7)) (I.key x.8 y.8)) (J.key x.9 y.9)) (K.key x.10 y.10)) (λ h. (h.0.0.0.0.0.0.0.0.0.0, (h.0.0.0.0.0.0.0.0.0.1, (h.0.0.0.0.0.0.0.0.1, (h.0.0.0.0.0.0.0.1, (h.0.0.0.0.0.0.1, (h.0.0.0.0.0.1, (h.0.0.0.0.1, (h.0.0.0.1, (h.0.0.1, (h.0.1, h.1))))))))))) (λ h. ((((((((((h.0, h.1.0), h.1.1.0), h.1.1.1.0), h.1.1.1.1.0), h.1.1.1.1.1.0), h.1.1.1.1.1.1.0), h.1.1.1.1.1.1.1.0), h.1.1.1.1.1.1.1.1.0), h.1.1.1.1.1.1.1.1.1.0), h.1.1.1.1.1.1.1.1.1.1)) };
+    ghost key = { λ x y. key_as
+        (and_key
+        (and_key
+        (and_key
+        (and_key
+        (and_key
+        (and_key
+        (and_key
+        (and_key
+        (and_key
+        (and_key (A.key x.0 y.0) (B.key x.1 y.1))
+        (C.key x.2 y.2))
+        (D.key x.3 y.3))
+        (E.key x.4 y.4))
+        (F.key x.5 y.5))
+        (G.key x.6 y.6))
+        (H.key x.7 y.7))
+        (I.key x.8 y.8))
+        (J.key x.9 y.9))
+        (K.key x.10 y.10))
+        (λ h. (
+          h.0.0.0.0.0.0.0.0.0.0,
+          (
+            h.0.0.0.0.0.0.0.0.0.1,
+            (
+              h.0.0.0.0.0.0.0.0.1,
+              (
+                h.0.0.0.0.0.0.0.1,
+                (
+                  h.0.0.0.0.0.0.1,
+                  (
+                    h.0.0.0.0.0.1,
+                    (h.0.0.0.0.1, (h.0.0.0.1, (h.0.0.1, (h.0.1, h.1)))),
+                  ),
+                ),
+              ),
+            ),
+          ),
+        ))
+        (λ h. (
+          (
+            (
+              (
+                (
+                  (
+                    ((((h.0, h.1.0), h.1.1.0), h.1.1.1.0), h.1.1.1.1.0),
+                    h.1.1.1.1.1.0,
+                  ),
+                  h.1.1.1.1.1.1.0,
+                ),
+                h.1.1.1.1.1.1.1.0,
+              ),
+              h.1.1.1.1.1.1.1.1.0,
+            ),
+            h.1.1.1.1.1.1.1.1.1.0,
+          ),
+          h.1.1.1.1.1.1.1.1.1.1,
+        )) };
 }
 
 impl<
@@ -304,7 +508,72 @@ impl<
     K: BorshKey,
     L: BorshKey,
 > BorshKey for (A, B, C, D, E, F, G, H, I, J, K, L) {
-    ghost key = { λ x y. key_as (and_key (and_key (and_key (and_key (and_key (and_key (and_key (and_key (and_key (and_key (and_key (A.key x.0 y.0) (B.key x.1 y.1)) (C.key x.2 y.2)) (D.key x.3 y.3)) (E.key x.4 y.4)) (F.key x.5 y.5)) (G.key x.6 y.6)) (H.key x.7 y.7)) (I.key x.8 y.8)) (J.key x.9 y.9)) (K.key x.10 y.10)) (L.key x.11 y.11)) (λ h. (h.0.0.0.0.0.0.0.0.0.0.0, (h.0.0.0.0.0.0.0.0.0.0.1, (h.0.0.0.0.0.0.0.0.0.1, (h.0.0.0.0.0.0.0.0.1, (h.0.0.0.0.0.0.0.1, (h.0.0.0.0.0.0.1, (h.0.0.0.0.0.1, (h.0.0.0.0.1, (h.0.0.0.1, (h.0.0.1, (h.0.1, h.1)))))))))))) (λ h. (((((((((((h.0, h.1.0), h.1.1.0), h.1.1.1.0), h.1.1.1.1.0), h.1.1.1.1.1.0), h.1.1.1.1.1.1.0), h.1.1.1.1.1.1.1.0), h.1.1.1.1.1.1.1.1.0), h.1.1.1.1.1.1.1.1.1.0), h.1.1.1.1.1.1.1.1.1.1.0), h.1.1.1.1.1.1.1.1.1.1.1)) };
+    ghost key = { λ x y. key_as
+        (and_key
+        (and_key
+        (and_key
+        (and_key
+        (and_key
+        (and_key
+        (and_key
+        (and_key
+        (and_key
+        (and_key
+        (and_key (A.key x.0 y.0) (B.key x.1 y.1))
+        (C.key x.2 y.2))
+        (D.key x.3 y.3))
+        (E.key x.4 y.4))
+        (F.key x.5 y.5))
+        (G.key x.6 y.6))
+        (H.key x.7 y.7))
+        (I.key x.8 y.8))
+        (J.key x.9 y.9))
+        (K.key x.10 y.10))
+        (L.key x.11 y.11))
+        (λ h. (
+          h.0.0.0.0.0.0.0.0.0.0.0,
+          (
+            h.0.0.0.0.0.0.0.0.0.0.1,
+            (
+              h.0.0.0.0.0.0.0.0.0.1,
+              (
+                h.0.0.0.0.0.0.0.0.1,
+                (
+                  h.0.0.0.0.0.0.0.1,
+                  (
+                    h.0.0.0.0.0.0.1,
+                    (
+                      h.0.0.0.0.0.1,
+                      (h.0.0.0.0.1, (h.0.0.0.1, (h.0.0.1, (h.0.1, h.1)))),
+                    ),
+                  ),
+                ),
+              ),
+            ),
+          ),
+        ))
+        (λ h. (
+          (
+            (
+              (
+                (
+                  (
+                    (
+                      ((((h.0, h.1.0), h.1.1.0), h.1.1.1.0), h.1.1.1.1.0),
+                      h.1.1.1.1.1.0,
+                    ),
+                    h.1.1.1.1.1.1.0,
+                  ),
+                  h.1.1.1.1.1.1.1.0,
+                ),
+                h.1.1.1.1.1.1.1.1.0,
+              ),
+              h.1.1.1.1.1.1.1.1.1.0,
+            ),
+            h.1.1.1.1.1.1.1.1.1.1.0,
+          ),
+          h.1.1.1.1.1.1.1.1.1.1.1,
+        )) };
 }
 
 impl<T: BorshKey, const N: usize> BorshKey for [T; N] {
@@ -340,7 +609,10 @@ impl<T: BorshKey> BorshKey for CowSlice<'_, T> {
 }
 
 impl<K: BorshKey + Ord, V: BorshKey> BorshKey for BTreeMap<K, V> {
-    ghost key = { λ m n. all_key (pair K.codec V.codec) (pair_key K.codec V.codec K.key V.key) m.entries n.entries };
+    ghost key = { λ m n. all_key (pair K.codec V.codec)
+        (pair_key K.codec V.codec K.key V.key)
+        m.entries
+        n.entries };
 }
 
 impl<K: BorshKey + Ord> BorshKey for BTreeSet<K> {
@@ -376,5 +648,7 @@ impl BorshKey for IpAddr {
 }
 
 impl BorshKey for SocketAddrV4 {
-    ghost key = { λ a b. and_key (octets_key (ipv4_octets (v4_ip a)) (ipv4_octets (v4_ip b))) (number_key 2 (v4_port a) (v4_port b)) };
+    ghost key = { λ a b. and_key
+        (octets_key (ipv4_octets (v4_ip a)) (ipv4_octets (v4_ip b)))
+        (number_key 2 (v4_port a) (v4_port b)) };
 }

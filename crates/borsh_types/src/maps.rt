@@ -13,7 +13,8 @@ use std::hash::{BuildHasher, Hash};
 impl<K: BorshKey + Ord, V: BorshType> BorshType for BTreeMap<K, V> {
     ghost codec = { contramap (λ m. m.entries) (btree_map K.cmp K.codec V.codec) };
 
-    ghost lawful = { contramap-lawful (λ m. m.entries) (btree_map-lawful K.lawful K.key K.total K.matches_eq V.lawful) };
+    ghost lawful = { contramap-lawful (λ m. m.entries)
+        (btree_map-lawful K.lawful K.key K.total K.matches_eq V.lawful) };
 
     fn encodes_empty() -> bool {
         false
@@ -41,7 +42,8 @@ impl<K: BorshKey + Ord> BorshType for BTreeSet<K> {
 impl<K: BorshKey + Ord + Hash, V: BorshType, S: BuildHasher> BorshType for HashMap<K, V, S> {
     ghost codec = { contramap (λ m. m.entries) (hash_map K.cmp K.codec V.codec) };
 
-    ghost lawful = { contramap-lawful (λ m. m.entries) (hash_map-lawful K.lawful K.key K.total K.matches_eq V.lawful) };
+    ghost lawful = { contramap-lawful (λ m. m.entries)
+        (hash_map-lawful K.lawful K.key K.total K.matches_eq V.lawful) };
 
     fn encodes_empty() -> bool {
         false

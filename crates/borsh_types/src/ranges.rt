@@ -24,7 +24,9 @@ impl<T: BorshType> BorshType for Range<T> {
 impl<T: BorshType> BorshType for RangeInclusive<T> {
     ghost codec = { contramap (λ r. (range_inclusive_start r, range_inclusive_end r)) (pair T.codec T.codec) };
 
-    ghost lawful = { contramap-lawful (λ r. (range_inclusive_start r, range_inclusive_end r)) (pair-lawful T.lawful T.lawful) };
+    ghost lawful = { contramap-lawful
+        (λ r. (range_inclusive_start r, range_inclusive_end r))
+        (pair-lawful T.lawful T.lawful) };
 
     fn encodes_empty() -> bool {
         <(T, T)>::encodes_empty()
