@@ -1,5 +1,5 @@
 -- What a `Counted` looks at, and what it has counted.
-use Rattle.std.specs.Prelude.{◌≡◌, ℕ, ◌+◌, min, zero, suc, List, Option}
+use Rattle.std.specs.Prelude.{◌≡◌, ℕ, ◌+◌, ◌≤◌, min, zero, suc, List, Option, if◌then◌else◌, is_some}
 use Rattle.std.specs.Borrow.{Bor, MutBor}
 use Rattle.std.specs.BTreeMap.{BTreeMap, btree_map_len, get_by_text}
 use Rattle.std.specs.Prelude.{String}
@@ -46,3 +46,15 @@ abbrev pub add_to : Question → ℕ → Expansions → Expansions
 add_to Size k e = record e { size = add_saturating e.size k }
 add_to Zero k e = record e { zero = add_saturating e.zero k }
 add_to Rules k e = record e { rules = add_saturating e.rules k }
+
+-- a look for a question answers the definition of the name; where there is one, the question's count rises by one
+abbrev pub CountsLook : {A : Type 0} → Question → Counted → Counted → Option A → Type 0
+CountsLook question old new found = counts_of new ≡ (if is_some found then add_to question 1 (counts_of old) else counts_of old)
+
+-- `rules` and `zero` rose by at most the number of definitions each, and `size` stays
+abbrev pub ValidateWork : Counted → Counted → Type 0
+ValidateWork old new = (j : ℕ) × (k : ℕ) × (j ≤ definition_count old) × (k ≤ definition_count old) × (counts_of new ≡ add_to Rules j (add_to Zero k (counts_of old)))
+
+-- `size` rose by at most the number of definitions, and the others stay
+abbrev pub SizeWork : Counted → Counted → Type 0
+SizeWork old new = (k : ℕ) × (k ≤ definition_count old) × (counts_of new ≡ add_to Size k (counts_of old))

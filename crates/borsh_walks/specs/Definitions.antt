@@ -1,5 +1,6 @@
 -- A definition of the code as a `Shape`, and a map of definitions as a function of the name.
-use Rattle.std.specs.Prelude.{ℕ, List, [], map, Option, option_map, String, string_bytes}
+use Rattle.std.specs.Prelude.{◌≡◌, ℕ, List, [], map, Option, option_map, slice_get, String, string_bytes}
+use Rattle.std.specs.Borrow.{Bor}
 use Rattle.std.specs.BTreeMap.{BTreeMap, get_by_text}
 use Rattle.borsh_walks.specs.declared.definition.Definition.{Definition}
 use Rattle.borsh_walks.specs.declared.definition.Definition.TheVariants.{Primitive, Sequence, Tuple, Enum, Struct}
@@ -28,3 +29,7 @@ spot_shape f = shape_of f.definition.now
 -- the definitions of a map, by the bytes of a name
 abbrev pub definitions_in : {A : Type 0} → BTreeMap (String A) Definition → List ℕ → Option Shape
 definitions_in m x = option_map shape_of (get_by_text m x)
+
+-- the answer is the name at `index`, if there is one
+abbrev pub IsPartAt : List (List ℕ) → ℕ → Option (Bor (List ℕ)) → Type 0
+IsPartAt names index found = option_map (λ p. p.now) found ≡ slice_get names index

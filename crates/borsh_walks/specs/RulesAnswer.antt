@@ -75,6 +75,10 @@ module _ (C : List ℕ → Option Shape) where
   abbrev pub ElementMarked : Shape → BTreeMap (Bor (List ℕ)) Bool → BTreeMap (Bor (List ℕ)) Bool → Type 0
   ElementMarked d t u = ((x : List ℕ) → (mark_of t x ≡ None → ⊥) → mark_of u x ≡ None → ⊥) × ((e : List ℕ) → checked_element d ≡ Some e → (C e ≡ None → ⊥) → mark_of u e ≡ None → ⊥)
 
+  -- where no rule is broken, the element of the definition is marked
+  abbrev pub MarksElement : Shape → BTreeMap (Bor (List ℕ)) Bool → BTreeMap (Bor (List ℕ)) Bool → Option Broken → Type 0
+  MarksElement d t u o = MatchOption o (ElementMarked d t u) (λ _. ⊤)
+
   module _ (root : List ℕ) where
     -- the error names a reached name and a rule that it breaks
     abbrev pub RulesFault : SchemaContainerValidateError → Type 0
@@ -86,9 +90,17 @@ module _ (C : List ℕ → Option Shape) where
     RulesFault (EmptyLengthRange m) = Reached C root (string_bytes m) × Breaks C empty_length_range (string_bytes m)
     RulesFault OutOfMemory = ⊤
 
+    -- `Ok`: the container is valid; `Err`: the error names a reached name and a rule that it breaks
+    abbrev pub JudgesRules : Result (Unit {0}) SchemaContainerValidateError → Type 0
+    JudgesRules r = MatchResult r (λ _. IsValid C root) (λ e. RulesFault e)
+
     -- a valid container is not refused, memory aside
     abbrev pub AcceptsIfValid : Result (Unit {0}) SchemaContainerValidateError → Type 0
     AcceptsIfValid r = IsValid C root → MatchResult r (λ _. ⊤) (λ e. e ≡ OutOfMemory)
+
+-- the answer is a rule that the shape breaks by itself, or none
+abbrev pub AnswersShape : Shape → Option Broken → Type 0
+AnswersShape d o = MatchOption o (KeepsWidths d) (λ k. BreaksShape (rule_of k) d)
 
 -- the error says that the name breaks the rule, or memory was refused for its text
 abbrev pub IsRulesError : Rule → List ℕ → SchemaContainerValidateError → Type 0

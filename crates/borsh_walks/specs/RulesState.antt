@@ -55,6 +55,16 @@ abbrev pub IsVisited : Counted → Counted → List ℕ → BTreeMap (Bor (List 
 IsVisited old new name s t way ways u v root (Ok _) = RulesState (definitions_of old) root [] t ways v × HasSeen name s t × HasPushed old way ways name
 IsVisited old new name s t way ways u v root (Err e) = RulesFault (definitions_of old) root e
 
+-- the name is visited for the first time: what the visit makes of the state, for every root that reaches the name
+abbrev pub Visits : Counted → Counted → List ℕ → BTreeMap (Bor (List ℕ)) Bool → BTreeMap (Bor (List ℕ)) Bool → List Spot → List Spot → BTreeMap (Bor (List ℕ)) Bool → BTreeMap (Bor (List ℕ)) Bool → Result (Unit {0}) SchemaContainerValidateError → Type 0
+Visits old new name s t way ways u v r =
+    (root : List ℕ) → RulesState (definitions_of old) root (name ∷ []) s way u → Reached (definitions_of old) root name → mark_of s name ≡ None → IsVisited old new name s t way ways u v root r
+
+-- and what it counts
+abbrev pub CountsVisit : Counted → Counted → List ℕ → BTreeMap (Bor (List ℕ)) Bool → BTreeMap (Bor (List ℕ)) Bool → List Spot → BTreeMap (Bor (List ℕ)) Bool → BTreeMap (Bor (List ℕ)) Bool → Result (Unit {0}) SchemaContainerValidateError → Type 0
+CountsVisit old new name s t way u v r =
+    (root : List ℕ) → RulesState (definitions_of old) root (name ∷ []) s way u → mark_of s name ≡ None → RulesCounted old new s t u v r
+
 -- on a yes `rules` rises by the number of reached names, and `zero` by at least the number of elements that are checked
 abbrev pub RulesCountedOnYes : Counted → Counted → List ℕ → Type 0
 RulesCountedOnYes old new root = (xs : List (List ℕ)) × (zs : List (List ℕ)) × Distinct xs × Distinct zs × ((x : List ℕ) → IsIn x xs ↔ Reached (definitions_of old) root x)

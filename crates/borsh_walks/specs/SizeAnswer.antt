@@ -41,6 +41,10 @@ module _ (C : List ℕ → Option Shape) (root : List ℕ) where
   abbrev pub IsCounted : Counted → Counted → Result ℕ SchemaMaxSerializedSizeError → Type 0
   IsCounted old new r = (xs : List (List ℕ)) × Distinct xs × ((x : List ℕ) → IsIn x xs → (d : Shape) × (C x ≡ Some d)) × (counts_of new ≡ add_to Size (length xs) (counts_of old)) × OnOk r (AreSizeReached xs)
 
+  -- where a size is answered, `size` rose by the number of names that it needs
+  abbrev pub CountsNeeded : Counted → Counted → Result ℕ SchemaMaxSerializedSizeError → Type 0
+  CountsNeeded old new r = IfOk r (λ _. (xs : List (List ℕ)) × AreSizeReached xs × (counts_of new ≡ add_to Size (length xs) (counts_of old)))
+
   -- where the plain size fits, it is answered, memory aside; where it does not, `Overflow`
   abbrev pub AnswersIfFits : Result ℕ SchemaMaxSerializedSizeError → Type 0
   AnswersIfFits r = ((n : ℕ) → MaxSize C root n → n < 2 ^ 64 → MatchResult r (λ m. m ≡ n) (λ e. e ≡ OutOfMemory)) × ((n : ℕ) → MaxSize C root n → 2 ^ 64 ≤ n → MatchResult r (λ m. ⊥) (λ e. (e ≡ Overflow) ⊎ (e ≡ OutOfMemory)))

@@ -1,5 +1,5 @@
 -- What the walk for zero size goes over.
-use Rattle.std.specs.Prelude.{◌≡◌, ℕ, List, [], length, Option, Some, None, unwrap_or, Bool, true, false, Result, OnOk, ◌≤◌}
+use Rattle.std.specs.Prelude.{◌≡◌, ℕ, List, [], length, Option, Some, None, unwrap_or, Bool, true, false, Decides, Result, OnOk, ◌≤◌}
 use Rattle.borsh_walks.specs.declared.counted.Counted.{Counted}
 use Rattle.borsh_walks.specs.declared.counted.Expansions.{Expansions}
 use Rattle.borsh_walks.specs.declared.counted.Question.TheVariants.{Zero as ZeroQuestion}
@@ -32,3 +32,7 @@ ZeroCounted old new t u r = (base : Expansions) → IsZeroCount old (btree_map_l
 -- what was marked stays marked, and so is the name from now on, if it is defined
 abbrev pub ZeroMarked : (List ℕ → Option Shape) → List ℕ → BTreeMap (Bor (List ℕ)) Bool → BTreeMap (Bor (List ℕ)) Bool → Type 0
 ZeroMarked C name t u = ((x : List ℕ) → (mark_of t x ≡ None → ⊥) → mark_of u x ≡ None → ⊥) × ((C name ≡ None → ⊥) → mark_of u name ≡ None → ⊥)
+
+-- the answer says whether the name is of zero size
+abbrev pub DecidesZeroSize : (List ℕ → Option Shape) → List ℕ → Bool → Type 0
+DecidesZeroSize C name b = Decides b (IsZeroSize C name)

@@ -1,6 +1,6 @@
 // How many definitions a walk looks into.
-ghost use Rattle.borsh_walks.specs.Counts.{counts_of, definition_at, IsCounting, LooksOn, add_to};
-ghost use Rattle.std.specs.Prelude.{◌≡◌, if◌then◌else◌, is_some, option_map};
+ghost use Rattle.borsh_walks.specs.Counts.{CountsLook, definition_at, IsCounting, LooksOn};
+ghost use Rattle.std.specs.Prelude.{◌≡◌, option_map};
 
 use crate::definition::Definition;
 use std::collections::BTreeMap;
@@ -44,7 +44,7 @@ impl<'a, 'b> Counted<'a, 'b> {
     pub fn look(&mut self, question: Question, name: &str) -> Option<&'a Definition>
         ensures same { LooksOn self.old self.new }
         ensures found { option_map (λ d. d.now) result ≡ definition_at self.old name.now }
-        ensures counts { counts_of self.new ≡ (if is_some result then add_to question 1 (counts_of self.old) else counts_of self.old) }
+        ensures counts { CountsLook question self.old self.new result }
     {
         let found = self.map.get(name);
         if found.is_some() {

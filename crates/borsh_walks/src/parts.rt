@@ -1,14 +1,14 @@
 // The parts of a definition, by place.
 ghost use Rattle.borsh_walks.specs.Container.{references, size_references};
-ghost use Rattle.borsh_walks.specs.Definitions.{names_of_fields, shape_of};
+ghost use Rattle.borsh_walks.specs.Definitions.{IsPartAt, names_of_fields, shape_of};
 ghost use Rattle.borsh_walks.specs.ZeroAnswer.{asked};
-ghost use Rattle.std.specs.Prelude.{◌<◌, ◌≡◌, ℕ, OnSome, map, option_map, slice_get, string_bytes};
+ghost use Rattle.std.specs.Prelude.{◌<◌, OnSome, map, string_bytes};
 
 use crate::definition::{Declaration, Definition, DiscriminantValue, Fields, VariantName};
 
 // The type of the field at `index`.
 fn field_at(fields: &Fields, index: usize) -> Option<&str>
-    ensures part { option_map (λ p. p.now) result ≡ slice_get (names_of_fields fields.now) index }
+    ensures part { IsPartAt (names_of_fields fields.now) index result }
     ensures small { OnSome result (index < 18446744073709551615) }
 {
     match fields {
@@ -29,7 +29,7 @@ fn variant_at(
     variants: &Vec<(DiscriminantValue, VariantName, Declaration)>,
     index: usize,
 ) -> Option<&str>
-    ensures part { option_map (λ p. p.now) result ≡ slice_get (map (λ v. string_bytes v.2) variants.now.items) index }
+    ensures part { IsPartAt (map (λ v. string_bytes v.2) variants.now.items) index result }
     ensures small { OnSome result (index < 18446744073709551615) }
 {
     match variants.get(index) {
@@ -40,7 +40,7 @@ fn variant_at(
 
 /// The part at `index` that the definition mentions.
 pub fn mentioned_part(definition: &Definition, index: usize) -> Option<&str>
-    ensures part { option_map (λ p. p.now) result ≡ slice_get (references (shape_of definition.now)) index }
+    ensures part { IsPartAt (references (shape_of definition.now)) index result }
     ensures small { OnSome result (index < 18446744073709551615) }
 {
     match definition {
@@ -63,7 +63,7 @@ pub fn mentioned_part(definition: &Definition, index: usize) -> Option<&str>
 
 /// The part at `index` that the size needs.
 pub fn needed_part(definition: &Definition, index: usize) -> Option<&str>
-    ensures part { option_map (λ p. p.now) result ≡ slice_get (size_references (shape_of definition.now)) index }
+    ensures part { IsPartAt (size_references (shape_of definition.now)) index result }
     ensures small { OnSome result (index < 18446744073709551615) }
 {
     match definition {
@@ -90,7 +90,7 @@ pub fn needed_part(definition: &Definition, index: usize) -> Option<&str>
 
 /// The part at `index` that has to be of zero size for the definition to be.
 pub fn asked_part(definition: &Definition, index: usize) -> Option<&str>
-    ensures part { option_map (λ p. p.now) result ≡ slice_get (asked (shape_of definition.now)) index }
+    ensures part { IsPartAt (asked (shape_of definition.now)) index result }
     ensures small { OnSome result (index < 18446744073709551615) }
 {
     match definition {

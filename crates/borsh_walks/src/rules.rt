@@ -1,13 +1,10 @@
 // Whether the names that are reached keep the rules.
-ghost use Rattle.borsh_walks.specs.Container.{IsValid, Reached};
-ghost use Rattle.borsh_walks.specs.Counts.{counts_of, definition_count, definitions_of, LooksOn, add_to};
-ghost use Rattle.borsh_walks.specs.RulesAnswer.{AcceptsIfValid, IsRulesError, RulesFault, IsWidth, KeepsWidths, BreaksShape, BreaksWidth, ElementMarked, RuleAnswer, rule_of, checked_element};
+ghost use Rattle.borsh_walks.specs.Counts.{definitions_of, LooksOn, ValidateWork};
+ghost use Rattle.borsh_walks.specs.RulesAnswer.{AcceptsIfValid, AnswersShape, IsRulesError, JudgesRules, IsWidth, BreaksWidth, MarksElement, RuleAnswer, rule_of, checked_element};
 ghost use Rattle.borsh_walks.specs.Definitions.{shape_of};
 ghost use Rattle.borsh_walks.specs.ZeroAnswer.{ZeroCounted, ZeroTable};
-ghost use Rattle.borsh_walks.specs.Tables.{mark_of};
-ghost use Rattle.borsh_walks.specs.RulesState.{IsVisited, RulesCounted, RulesCountedOnYes, RulesState};
-ghost use Rattle.borsh_walks.specs.declared.counted.Question.TheVariants.{Rules, Zero};
-ghost use Rattle.std.specs.Prelude.{◌≡◌, ◌∷◌, [], List, None, ℕ, ◌≤◌, IfOk, MatchResult, MatchOption, OnOk, option_map, reverse};
+ghost use Rattle.borsh_walks.specs.RulesState.{CountsVisit, RulesCountedOnYes, Visits};
+ghost use Rattle.std.specs.Prelude.{◌≡◌, IfOk, MatchOption, OnOk, option_map, reverse};
 
 use crate::counted::{Counted, Question};
 use crate::definition::Definition;
@@ -61,7 +58,7 @@ fn broken_width(width: u8, end: u64) -> Option<Broken>
 
 // The rule without a look at other names that the definition breaks, if it breaks one.
 fn broken_shape(definition: &Definition) -> Option<Broken>
-    ensures { MatchOption result (KeepsWidths (shape_of definition.now)) (λ k. BreaksShape (rule_of k) (shape_of definition.now)) }
+    ensures { AnswersShape (shape_of definition.now) result }
 {
     match definition {
         Definition::Sequence {
@@ -115,9 +112,12 @@ fn broken_rule<'a>(
 ) -> Result<Option<Broken>, AllocError>
     requires { ZeroTable (definitions_of counted.old) table.old }
     ensures same { LooksOn counted.old counted.new }
-    ensures answer { IfOk result (λ o. RuleAnswer (definitions_of counted.old) (shape_of definition.now) o) }
+    ensures answer { IfOk result (RuleAnswer (definitions_of counted.old) (shape_of definition.now)) }
     ensures table { OnOk result (ZeroTable (definitions_of counted.old) table.new) }
-    ensures marked { IfOk result (λ o. MatchOption o (ElementMarked (definitions_of counted.old) (shape_of definition.now) table.old table.new) (λ _. Unit {0})) }
+    ensures marked {
+        IfOk result
+            (MarksElement (definitions_of counted.old) (shape_of definition.now) table.old table.new)
+    }
     ensures counts { ZeroCounted counted.old counted.new table.old table.new result }
 {
     if let Some(broken) = broken_shape(definition) {
@@ -159,8 +159,14 @@ fn visit<'a>(
 ) -> Result<(), SchemaContainerValidateError>
     requires { ZeroTable (definitions_of counted.old) table.old }
     ensures same { LooksOn counted.old counted.new }
-    ensures visited { (root : List ℕ) → RulesState (definitions_of counted.old) root (name.now ∷ []) seen.old (reverse way.old.items) table.old → Reached (definitions_of counted.old) root name.now → mark_of seen.old name.now ≡ None → IsVisited counted.old counted.new name.now seen.old seen.new (reverse way.old.items) (reverse way.new.items) table.old table.new root result }
-    ensures counts { (root : List ℕ) → RulesState (definitions_of counted.old) root (name.now ∷ []) seen.old (reverse way.old.items) table.old → mark_of seen.old name.now ≡ None → RulesCounted counted.old counted.new seen.old seen.new table.old table.new result }
+    ensures visited {
+        Visits counted.old counted.new name.now seen.old seen.new
+            (reverse way.old.items) (reverse way.new.items) table.old table.new result
+    }
+    ensures counts {
+        CountsVisit counted.old counted.new name.now seen.old seen.new
+            (reverse way.old.items) table.old table.new result
+    }
 {
     let Some(definition) = counted.look(Question::Rules, name) else {
         return Err(error_of(alloc, Broken::Missing, name));
@@ -185,10 +191,10 @@ pub fn check_rules<'a>(
     counted: &mut Counted<'a, '_>,
 ) -> Result<(), SchemaContainerValidateError>
     ensures same { LooksOn counted.old counted.new }
-    ensures answer { MatchResult result (λ _. IsValid (definitions_of counted.old) root.now) (λ e. RulesFault (definitions_of counted.old) root.now e) }
-    ensures due { AcceptsIfValid (definitions_of counted.old) root.now result }
+    ensures answer { JudgesRules (definitions_of counted.old) root.now result }
+    ensures complete { AcceptsIfValid (definitions_of counted.old) root.now result }
     ensures counts { OnOk result (RulesCountedOnYes counted.old counted.new root.now) }
-    ensures few { (j : ℕ) × (k : ℕ) × (j ≤ definition_count counted.old) × (k ≤ definition_count counted.old) × (counts_of counted.new ≡ add_to Rules j (add_to Zero k (counts_of counted.old))) }
+    ensures bounded_work { ValidateWork counted.old counted.new }
 {
     walk_rules(alloc, root, counted)
 }
@@ -201,9 +207,9 @@ fn walk_rules<'a>(
     counted: &mut Counted<'a, '_>,
 ) -> Result<(), SchemaContainerValidateError>
     ensures same { LooksOn counted.old counted.new }
-    ensures answer { MatchResult result (λ _. IsValid (definitions_of counted.old) root.now) (λ e. RulesFault (definitions_of counted.old) root.now e) }
+    ensures answer { JudgesRules (definitions_of counted.old) root.now result }
     ensures counts { OnOk result (RulesCountedOnYes counted.old counted.new root.now) }
-    ensures few { (j : ℕ) × (k : ℕ) × (j ≤ definition_count counted.old) × (k ≤ definition_count counted.old) × (counts_of counted.new ≡ add_to Rules j (add_to Zero k (counts_of counted.old))) }
+    ensures bounded_work { ValidateWork counted.old counted.new }
 {
     let mut table: BTreeMap<&'a str, bool> = BTreeMap::new(alloc);
     let mut seen: BTreeMap<&'a str, bool> = BTreeMap::new(alloc);

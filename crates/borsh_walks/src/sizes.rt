@@ -1,11 +1,10 @@
 // The greatest length of a name's encodings.
-ghost use Rattle.borsh_walks.specs.Counts.{counts_of, definition_count, definitions_of, LooksOn, add_to};
+ghost use Rattle.borsh_walks.specs.Counts.{definitions_of, LooksOn, SizeWork};
 ghost use Rattle.borsh_walks.specs.Definitions.{shape_of};
-ghost use Rattle.borsh_walks.specs.SizeAnswer.{AreSizeReached, IsCounted, IsMissing, IsSizeAnswer};
+ghost use Rattle.borsh_walks.specs.SizeAnswer.{CountsNeeded, IsCounted, IsMissing, IsSizeAnswer};
 ghost use Rattle.borsh_walks.specs.SizeOutcome.{AnswersSize};
-ghost use Rattle.borsh_walks.specs.SizeParts.{add_part, size_of_parts};
-ghost use Rattle.borsh_walks.specs.declared.counted.Question.TheVariants.{Size};
-ghost use Rattle.std.specs.Prelude.{◌^◌, ◌≡◌, ◌<◌, ◌≤◌, ℕ, MatchOption, IfOk, List, length};
+ghost use Rattle.borsh_walks.specs.SizeParts.{IsIfFits, add_part, size_of_parts};
+ghost use Rattle.std.specs.Prelude.{◌^◌, ◌<◌, IfOk};
 
 use crate::counted::{Counted, Question};
 use crate::definition::Definition;
@@ -31,7 +30,7 @@ pub struct Frame<'a> {
 
 // What the sizes of the parts so far make, and the next part's.
 fn gather(definition: &Definition, gathered: usize, size: usize) -> Option<usize>
-    ensures { MatchOption result (2 ^ 64 ≤ add_part (shape_of definition.now) gathered size) (λ n. n ≡ add_part (shape_of definition.now) gathered size) }
+    ensures { IsIfFits result (add_part (shape_of definition.now) gathered size) }
 {
     match definition {
         Definition::Enum { .. } => Some(gathered.max(size)),
@@ -41,7 +40,7 @@ fn gather(definition: &Definition, gathered: usize, size: usize) -> Option<usize
 
 // The size of a definition.
 fn finish(definition: &Definition, gathered: usize) -> Option<usize>
-    ensures { MatchOption result (2 ^ 64 ≤ size_of_parts (shape_of definition.now) gathered) (λ n. n ≡ size_of_parts (shape_of definition.now) gathered) }
+    ensures { IsIfFits result (size_of_parts (shape_of definition.now) gathered) }
 {
     match definition {
         Definition::Primitive(size) => Some(usize::from(*size)),
@@ -75,8 +74,8 @@ pub fn root_size(
 ) -> Result<usize, SchemaMaxSerializedSizeError>
     ensures same { LooksOn counted.old counted.new }
     ensures size { AnswersSize (definitions_of counted.old) root.now result }
-    ensures counts { IfOk result (λ n. (xs : List (List ℕ)) × AreSizeReached (definitions_of counted.old) root.now xs × (counts_of counted.new ≡ add_to Size (length xs) (counts_of counted.old))) }
-    ensures few { (k : ℕ) × (k ≤ definition_count counted.old) × (counts_of counted.new ≡ add_to Size k (counts_of counted.old)) }
+    ensures counts { CountsNeeded (definitions_of counted.old) root.now counted.old counted.new result }
+    ensures bounded_work { SizeWork counted.old counted.new }
 {
     let mut lent = Counted {
         map: counted.map,

@@ -1,9 +1,9 @@
 // Whether all encodings of a name are empty.
-ghost use Rattle.borsh_walks.specs.Container.{zero_size_references, IsZeroSize};
+ghost use Rattle.borsh_walks.specs.Container.{zero_size_references};
 ghost use Rattle.borsh_walks.specs.Counts.{definitions_of, LooksOn};
 ghost use Rattle.borsh_walks.specs.Definitions.{shape_of};
-ghost use Rattle.borsh_walks.specs.ZeroAnswer.{ZeroCounted, ZeroMarked, ZeroTable};
-ghost use Rattle.std.specs.Prelude.{◌≡◌, Decides, IfOk, OnOk, is_none};
+ghost use Rattle.borsh_walks.specs.ZeroAnswer.{DecidesZeroSize, ZeroCounted, ZeroMarked, ZeroTable};
+ghost use Rattle.std.specs.Prelude.{◌≡◌, IfOk, OnOk, is_none};
 
 use crate::counted::{Counted, Question};
 use crate::definition::Definition;
@@ -34,9 +34,11 @@ pub fn is_zero<'a>(
 ) -> Result<bool, AllocError>
     requires { ZeroTable (definitions_of counted.old) table.old }
     ensures same { LooksOn counted.old counted.new }
-    ensures answer { IfOk result (λ b. Decides b (IsZeroSize (definitions_of counted.old) name.now)) }
+    ensures answer { IfOk result (DecidesZeroSize (definitions_of counted.old) name.now) }
     ensures table { OnOk result (ZeroTable (definitions_of counted.old) table.new) }
-    ensures marked { OnOk result (ZeroMarked (definitions_of counted.old) name.now table.old table.new) }
+    ensures marked {
+        OnOk result (ZeroMarked (definitions_of counted.old) name.now table.old table.new)
+    }
     ensures counts { ZeroCounted counted.old counted.new table.old table.new result }
 {
     if let Some(zero) = table.get(name) {

@@ -2,5 +2,5 @@ use Rattle.borsh_walks.specs.Counts.{definitions_of}
 use Rattle.borsh_walks.proofs.RulesDue.{rules_due}
 use Rattle.borsh_walks.proofs.rules.check_rules.Goals as goal
 
-pub returns-clause-due : goal.returns-clause-due
-returns-clause-due c = rules_due (definitions_of c.args.counted.now) c.args.root.now c.walk_rules.result c.walk_rules.ensures.answer
+pub returns-clause-complete : goal.returns-clause-complete
+returns-clause-complete c = rules_due (definitions_of c.args.counted.now) c.args.root.now c.walk_rules.result c.walk_rules.ensures.answer

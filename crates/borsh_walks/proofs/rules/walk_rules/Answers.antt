@@ -56,8 +56,8 @@ returns-in_err-visit-clause-answer c =
     let n = marks_none c.new-seen.result c.new-seen.ensures.empty root in
     err_is (λ x. IsValid C root) (RulesFault C root) c.from_residual.result c.in_err-visit.field-0.0 c.from_residual.ensures.0 c.from_residual.ensures.1 (c.in_err-visit.ensures.visited root s stays n)
 
-pub returns-in_err-visit-clause-few : goal.returns-in_err-visit-clause-few
-returns-in_err-visit-clause-few c =
+pub returns-in_err-visit-clause-bounded_work : goal.returns-in_err-visit-clause-bounded_work
+returns-in_err-visit-clause-bounded_work c =
     let C = definitions_of c.args.counted.now in
     let root = c.args.root.now in
     let s = rules_start C root c.new-seen.result c.new-table.result (reverse c.new-way.result.items) c.new-seen.ensures.empty c.new-table.ensures.empty (ap (λ l. reverse l) c.new-way.ensures.items) in
@@ -168,8 +168,8 @@ returns-in_err-visit-2-clause-answer c =
     err_is (λ x. IsValid C root) (RulesFault C root) c.from_residual-in_err-visit-2.result c.in_err-visit-2.field-0.0 c.from_residual-in_err-visit-2.ensures.0 c.from_residual-in_err-visit-2.ensures.1
     (subst (λ m. RulesFault (definitions_in m.now) root c.in_err-visit-2.field-0.0) i.same.0 fault)
 
-pub returns-in_err-visit-2-clause-few : goal.returns-in_err-visit-2-clause-few
-returns-in_err-visit-2-clause-few c =
+pub returns-in_err-visit-2-clause-bounded_work : goal.returns-in_err-visit-2-clause-bounded_work
+returns-in_err-visit-2-clause-bounded_work c =
     let i = c.loop-spot.invariant in
     let C = definitions_of c.args.counted.now in
     let root = c.args.root.now in
@@ -192,8 +192,8 @@ returns-clause-answer c =
     let none = ap (λ l. reverse l) (no_items c.loop-spot.way.items (omega (arith, c.in_default.ensures.cases.0, c.loop-spot.way.ok.0))) in
     λ x r. (i.state.marks.looked x (rules_all C c.args.root.now (reverse c.loop-spot.way.items) i.state none i.root_seen r)).1.1
 
-pub returns-clause-few : goal.returns-clause-few
-returns-clause-few c =
+pub returns-clause-bounded_work : goal.returns-clause-bounded_work
+returns-clause-bounded_work c =
     let i = c.loop-spot.invariant in
     let st = i.state in
     let few = few_names c.args.counted.now.map.now (λ x k. k.2) st.marks in

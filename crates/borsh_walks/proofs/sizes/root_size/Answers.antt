@@ -19,8 +19,8 @@ on_ok P Q (Err e) xs q p = tt
 pub returns-clause-counts : goal.returns-clause-counts
 returns-clause-counts c = let k = c.walk_sizes.ensures.counts in on_ok (AreSizeReached (definitions_of c.args.counted.now) c.args.root.now) (λ xs. counts_of c.walk_sizes.new.counted ≡ add_to Size (length xs) (counts_of c.args.counted.now)) c.walk_sizes.result k.0 k.3 k.4
 
-pub returns-clause-few : goal.returns-clause-few
-returns-clause-few c = let k = c.walk_sizes.ensures.counts in (length k.0, names_within c.args.counted.now.map.now k.0 k.1 k.2, k.3)
+pub returns-clause-bounded_work : goal.returns-clause-bounded_work
+returns-clause-bounded_work c = let k = c.walk_sizes.ensures.counts in (length k.0, names_within c.args.counted.now.map.now k.0 k.1 k.2, k.3)
 
 pub returns-clause-size : goal.returns-clause-size
 returns-clause-size c = answers_size (definitions_of c.args.counted.now) c.args.root.now c.walk_sizes.result (fits c.walk_sizes.result c.walk_sizes.ensures.fits) (has_size c.args.counted.now.map.now c.args.root.now) c.walk_sizes.ensures.answer
