@@ -1,4 +1,3 @@
-mod Decoding
 mod Lengths
 mod WithSchema
 -- the steps of readers and writers, for those above
@@ -11,7 +10,12 @@ pub use Rattle.borsh_codec.proofs.ReadSums
 pub use Rattle.borsh_codec.proofs.ReadRows
 pub use Rattle.borsh_codec.proofs.ReadWhole
 pub use Rattle.borsh_codec.proofs.WriteSteps
+pub use Rattle.borsh_codec.proofs.WriteOutcomes
 pub use Rattle.borsh_codec.proofs.WriteRows
+pub use Rattle.borsh_codec.proofs.DecodeOutcomes
+pub use Rattle.borsh_codec.proofs.DecodeVariants
+pub use Rattle.borsh_codec.proofs.DecodeViews
+pub use Rattle.borsh_codec.proofs.DecodeSums
 pub use Rattle.borsh_codec.proofs.NumberBytes
 -- what definitions that are put together say
 pub use Rattle.borsh_schema.proofs.Told

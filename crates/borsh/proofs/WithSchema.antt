@@ -19,7 +19,7 @@ use Rattle.borsh_io.specs.declared.error.Error.{Error}
 use Rattle.borsh_io.specs.Errors.{error_kind}
 use Rattle.borsh_schema.specs.Described.{DefinitionTree}
 use Rattle.borsh_schema.specs.Laws.Sameness.{container_same, given_in, encoded_once, one_spelling}
-use Rattle.borsh.specs.WithSchema.{FollowsSchema, IsWithSchema, HasClash, EncodesWithSchema, IsReadWithSchema, IsPairRead, WhyNoContainer, WhyNotWritten, WhyNotRead}
+use Rattle.borsh.specs.WithSchema.{FollowsSchema, IsWithSchema, HasClash, EncodesWithSchema, DecodesWithSchema, IsReadWithSchema, IsPairRead, WhyNoContainer, WhyNotWritten, WhyNotRead}
 use Rattle.borsh.specs.WithSchema.WhyNoContainer.{clashing, memory}
 use Rattle.borsh.specs.WithSchema.WhyNotWritten.{clashes as unwritten_clashes, no_container, no_encoding, no_memory as unwritten_memory}
 use Rattle.borsh.specs.WithSchema.WhyNotRead.{malformed, other_schema, clashes, no_memory as unread_memory}
@@ -72,15 +72,15 @@ module _ {B : Type 0} {name : List ℕ} {ps : DefinitionTree} {c : Codec B} {byt
   not_read_pair (whole_memory e a) = unread_memory e
 
   -- it isn't known whether the container in front is the type's
-  pub not_read_own : {k : ErrorKind} → WhyNoContainer ps k → WhyNotRead name ps c bytes k
-  not_read_own (clashing r h) = clashes r h
-  not_read_own (memory e) = unread_memory e
+  pub not_read_own : {k : ErrorKind} → IsDecodable (pair container c) true bytes → WhyNoContainer ps k → WhyNotRead name ps c bytes k
+  not_read_own w (clashing r h) = clashes r h w
+  not_read_own w (memory e) = unread_memory e
 
   module _ {v : BorshSchemaContainer × B} {own : Bool} (p : IsPairRead container c bytes v) (d : Decides own (IsContainerOf name ps v.0)) where
     -- the container in front isn't the type's
     pub not_read_other : {k : ErrorKind} → own ≡ false → k ≡ InvalidData → WhyNotRead name ps c bytes k
     not_read_other e i =
-        other_schema i (record { sent = v.0; front = p.front; rest = p.rest; encoded = p.first; whole = p.whole; other = λ h. absurd (true≢false (sym (d.1 h) ∙ e)) })
+        other_schema i (record { sent = v.0; front = p.front; rest = p.rest; encoded = p.first; whole = p.whole; value = (v.1, p.second); other = λ h. absurd (true≢false (sym (d.1 h) ∙ e)) })
 
     -- the container in front is the type's
     pub read_behind : own ≡ true → IsReadWithSchema name ps c bytes v.1
@@ -101,7 +101,7 @@ module _ {B : Type 0} {name : List ℕ} {ps : DefinitionTree} {c : Codec B} {byt
         let f = same_front (IsDecodable container true) (free_readings container-lawful true) o.front o.rest w.sent.front w.rest (o.sent, r) (w.sent.own, front_reading) (sym o.whole ∙ w.sent.whole) in
         let s = container-lawful.unambiguous true o.front o.sent w.sent.own r (subst (λ y. container.decodes true y w.sent.own) (sym f.0) front_reading) in
         absurd (o.other (container_same o.sent w.sent.own s w.sent.is))
-    refused_owed (clashes r h) =
+    refused_owed (clashes r h d) =
         let j = w.sent.is.definitions in
         absurd (h.clash.apart (some_same _ _ (sym (given_in j h.clash.has_first) ∙ given_in j h.clash.has_second)))
     refused_owed (unread_memory e) = e
@@ -109,3 +109,9 @@ module _ {B : Type 0} {name : List ℕ} {ps : DefinitionTree} {c : Codec B} {byt
   -- one value stands behind the type's container
   pub read_owed : Lawful B c → {x y : B} → IsReadWithSchema name ps c bytes y → IsReadWithSchema name ps c bytes x → c.equivalent y x
   read_owed l {x = x} {y = y} v w = ((pair-lawful container-lawful l).unambiguous true bytes (v.sent.own, y) (w.sent.own, x) (both_readings v) (both_readings w)).1
+
+  pub decodes_err : (e : Error) → WhyNotRead name ps c bytes (error_kind e) → DecodesWithSchema name ps c bytes (Err e)
+  decodes_err e n = record { ok = tt; err = n; exact = λ x w. refused_owed w n }
+
+  pub decodes_ok : Lawful B c → {v : B} → IsReadWithSchema name ps c bytes v → DecodesWithSchema name ps c bytes (Ok v)
+  decodes_ok l r = record { ok = r; err = tt; exact = λ x w. read_owed l r w }

@@ -1,5 +1,4 @@
 pub mod Counting
-pub mod Decoding
 pub mod Length
 pub mod Schema
 pub mod WithSchema
@@ -16,5 +15,7 @@ pub use Rattle.borsh_codec.specs.Maps
 pub use Rattle.borsh_codec.specs.Types
 pub use Rattle.borsh_codec.specs.Reading
 pub use Rattle.borsh_codec.specs.Writing
+pub use Rattle.borsh_codec.specs.Untouched
+pub use Rattle.borsh_codec.specs.RawBytes
 -- the laws of shapes and types, which the ghost members of a type cite
 pub use Rattle.borsh_codec.proofs.Laws

@@ -52,7 +52,7 @@ pub record HasNoBytes (name : List ℕ) (parts : DefinitionTree) : Type 0 where
 
 -- why container and value aren't written
 pub data WhyNotWritten (name : List ℕ) (parts : DefinitionTree) (encoding : Option (List ℕ)) (kind : ErrorKind) : Type 0 where
-  clashes : IsInvalidData kind → HasClash parts → WhyNotWritten name parts encoding kind
+  clashes : IsInvalidData true kind → HasClash parts → WhyNotWritten name parts encoding kind
   no_container : kind ≡ InvalidData → HasNoBytes name parts → WhyNotWritten name parts encoding kind
   no_encoding : kind ≡ InvalidData → encoding ≡ None → WhyNotWritten name parts encoding kind
   no_memory : kind ≡ OutOfMemory → WhyNotWritten name parts encoding kind
@@ -66,32 +66,42 @@ pub record EncodesWithSchema (name : List ℕ) (parts : DefinitionTree) (encodin
   -- where there are such bytes they are answered, memory aside
   pub exact : (x : List ℕ) → IsWithSchema name parts encoding x → MatchResult result (λ v. v.items ≡ x) (λ e. error_kind e ≡ OutOfMemory)
 
--- the container in front isn't the type's
-pub record IsOtherSchema (name : List ℕ) (parts : DefinitionTree) (bytes : List ℕ) : Type 0 where
+-- the bytes decode to a container and a value, and the container isn't the type's
+pub record IsOtherSchema {A : Type 0} (name : List ℕ) (parts : DefinitionTree) (c : Codec A) (bytes : List ℕ) : Type 0 where
   pub sent : BorshSchemaContainer
   pub front : List ℕ
   pub rest : List ℕ
   pub encoded : container.encoding sent ≡ Some front
   pub whole : bytes ≡ front ++ rest
+  pub value : IsDecodable c true rest
   pub other : IsContainerOf name parts sent → ⊥
 
--- why container and value aren't read: the bytes are no container and a value behind it, or the container isn't the type's
+-- why container and value aren't read; bytes that aren't a container and then a value are refused before the container is looked at
 pub data WhyNotRead {A : Type 0} (name : List ℕ) (parts : DefinitionTree) (c : Codec A) (bytes : List ℕ) (kind : ErrorKind) : Type 0 where
-  malformed : IsInvalidData kind → (IsDecodable (pair container c) true bytes → ⊥) → WhyNotRead name parts c bytes kind
-  other_schema : kind ≡ InvalidData → IsOtherSchema name parts bytes → WhyNotRead name parts c bytes kind
-  clashes : IsInvalidData kind → HasClash parts → WhyNotRead name parts c bytes kind
+  malformed : IsInvalidData (pair container c).texts_allocate kind → (IsDecodable (pair container c) true bytes → ⊥) → WhyNotRead name parts c bytes kind
+  other_schema : kind ≡ InvalidData → IsOtherSchema name parts c bytes → WhyNotRead name parts c bytes kind
+  clashes : IsInvalidData true kind → HasClash parts → IsDecodable (pair container c) true bytes → WhyNotRead name parts c bytes kind
   no_memory : kind ≡ OutOfMemory → WhyNotRead name parts c bytes kind
+
+-- the outcome of a call that is to read a type's container and a value behind it
+pub record DecodesWithSchema {A : Type 0} (name : List ℕ) (parts : DefinitionTree) (c : Codec A) (bytes : List ℕ) (result : Result A Error) : Type 0 where
+  -- `Ok`: the bytes are the encoding of the type's container, and then decode to the value
+  pub ok : IfOk result (λ v. IsReadWithSchema name parts c bytes v)
+  -- `Err`: the kind of the error says why there is no such value
+  pub err : IfErr result (λ e. WhyNotRead name parts c bytes (error_kind e))
+  -- where there is such a value an equivalent one is answered, memory aside
+  pub exact : (v : A) → IsReadWithSchema name parts c bytes v → MatchResult result (λ w. c.equivalent w v) (λ e. error_kind e ≡ OutOfMemory)
 
 -- ---- the steps
 
 -- the kind of a refusal to build a container
 abbrev pub IsBuildKind : SchemaBuildError → ErrorKind → Type 0
-IsBuildKind (Redefinition m) kind = IsInvalidData kind
+IsBuildKind (Redefinition m) kind = IsInvalidData true kind
 IsBuildKind NoMemory kind = kind ≡ OutOfMemory
 
 -- why the type's container isn't there
 pub data WhyNoContainer (parts : DefinitionTree) (kind : ErrorKind) : Type 0 where
-  clashing : IsInvalidData kind → HasClash parts → WhyNoContainer parts kind
+  clashing : IsInvalidData true kind → HasClash parts → WhyNoContainer parts kind
   memory : kind ≡ OutOfMemory → WhyNoContainer parts kind
 
 -- two values were read, the first from its encoding

@@ -1,10 +1,11 @@
 // Reading.
-ghost use Rattle.std.specs.Prelude.{◌≡◌, true, false, IfOk, IfErr, MatchResult};
-ghost use Rattle.borsh_io.specs.Errors.{error_kind};
-ghost use Rattle.borsh_codec.specs.Reading.{DecodedAll, NotDecodedAll};
-ghost use Rattle.borsh.specs.Decoding.{DecodesAll};
+ghost use Rattle.std.specs.Prelude.{true, false};
+ghost use Rattle.borsh_codec.specs.Reading.{DecodesAll, DecodesReader};
 
-pub use borsh_de::{BorshDeserialize, EnumExt, hint, invalid_data, read_bytes, read_tag};
+pub use borsh_de::{
+    BorshDeserialize, EnumExt, FromParts, TryFromParts, hint, invalid_data, read_bytes,
+    read_checked, read_parts, read_tag,
+};
 use borsh_io::{Read, Result, Unordered};
 use std::alloc::Global;
 
@@ -23,8 +24,7 @@ pub fn from_slice<T: BorshDeserialize>(alloc: Global, v: &[u8]) -> Result<T>
 ///
 /// Refused as [`BorshDeserialize::try_from_reader`] is.
 pub fn from_reader<R: Read, T: BorshDeserialize>(alloc: Global, reader: &mut R) -> Result<T>
-    ensures ok { IfOk result (λ v. DecodedAll T T.codec (R.stream reader.old) (R.stream reader.new) v) }
-    ensures err { IfErr result (λ e. NotDecodedAll T T.codec (R.stream reader.old) (R.stream reader.new) (error_kind e)) }
+    ensures { DecodesReader T.codec R.stream reader.old reader.new result }
 {
     T::try_from_reader(alloc, reader)
 }

@@ -1,5 +1,5 @@
 // Types with their containers, and values that are sent with them.
-ghost use Rattle.std.specs.Prelude.{◌≡◌, Decides, true, IfOk, IfErr, MatchResult};
+ghost use Rattle.std.specs.Prelude.{◌≡◌, Decides, IfOk, IfErr};
 ghost use Rattle.borsh_io.specs.Errors.{error_kind};
 ghost use Rattle.std.specs.String.{string_cmp};
 ghost use Rattle.std.specs.BTreeMap.{IsOrdered};
@@ -7,7 +7,7 @@ ghost use Rattle.borsh_schema.specs.Containers.{IsContainerOf, DescribesRoot, ma
 ghost use Rattle.borsh_schema.specs.Described.{nothing_defined};
 ghost use Rattle.borsh_schema.specs.Joined.{BuildFault};
 ghost use Rattle.borsh_schema.specs.Sized.{AnswersTypeSize};
-ghost use Rattle.borsh.specs.WithSchema.{EncodesWithSchema, IsReadWithSchema, IsBuildKind, WhyNoContainer, WhyNotRead};
+ghost use Rattle.borsh.specs.WithSchema.{DecodesWithSchema, EncodesWithSchema, IsBuildKind, WhyNoContainer};
 
 use super::de::from_slice;
 use super::ser::to_vec;
@@ -71,9 +71,7 @@ pub fn try_from_slice_with_schema<T: BorshDeserialize + BorshSchema>(
     alloc: Global,
     v: &[u8],
 ) -> borsh_io::Result<T>
-    ensures ok { IfOk result (λ x. IsReadWithSchema T.name T.parts T.codec v.now x) }
-    ensures err { IfErr result (λ e. WhyNotRead T.name T.parts T.codec v.now (error_kind e)) }
-    ensures exact { (x : T) → IsReadWithSchema T.name T.parts T.codec v.now x → MatchResult result (λ y. T.codec.equivalent y x) (λ e. error_kind e ≡ ErrorKind.OutOfMemory) }
+    ensures { DecodesWithSchema T.name T.parts T.codec v.now result }
 {
     let sent: (BorshSchemaContainer, T) = from_slice(alloc, v)?;
     if is_own::<T>(alloc, &sent.0)? {

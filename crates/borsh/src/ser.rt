@@ -1,8 +1,6 @@
 // Writing.
-ghost use Rattle.std.specs.Prelude.{◌≡◌, Some, OnOk, IfOk, IfErr};
-ghost use Rattle.borsh_io.specs.Errors.{error_kind};
-ghost use Rattle.borsh_codec.specs.Writing.{Written, NotWritten, WhyNotEncoded};
-ghost use Rattle.borsh.specs.Length.{IsLength, WhyNoLength};
+ghost use Rattle.borsh_codec.specs.Writing.{Encodes, Writes};
+ghost use Rattle.borsh.specs.Length.{AnswersLength};
 
 use super::length::LengthWriter;
 use borsh_io::{Error, ErrorKind, Result, Write};
@@ -20,8 +18,7 @@ const DEFAULT_SERIALIZER_CAPACITY: usize = 1024;
 /// Refused with `InvalidData` only where the value has none, and with `OutOfMemory` where memory was
 /// refused.
 pub fn to_vec<T: BorshSerialize>(alloc: Global, value: &T) -> Result<Vec<u8>>
-    ensures ok { IfOk result (λ v. T.codec.encoding value.now ≡ Some v.items) }
-    ensures err { IfErr result (λ e. WhyNotEncoded (T.codec.encoding value.now) (error_kind e)) }
+    ensures { Encodes (T.codec.encoding value.now) result }
 {
     let mut out = Vec::with_capacity(alloc, DEFAULT_SERIALIZER_CAPACITY)?;
     value.serialize(alloc, &mut out)?;
@@ -34,8 +31,7 @@ pub fn to_writer<T: BorshSerialize, W: Write>(
     writer: &mut W,
     value: &T,
 ) -> Result<()>
-    ensures ok { OnOk result (Written W.writing writer.old writer.new (T.codec.encoding value.now)) }
-    ensures err { IfErr result (λ e. NotWritten T.codec.encoding_allocates W.writing writer.old writer.new (T.codec.encoding value.now) (error_kind e)) }
+    ensures { Writes T.codec value.now W.writing writer.old writer.new result }
 {
     value.serialize(alloc, writer)
 }
@@ -45,8 +41,7 @@ pub fn to_writer<T: BorshSerialize, W: Write>(
 /// Refused with `InvalidData` only where the value has none, and with `OutOfMemory` where the number
 /// passes a `usize`, or where writing the value takes memory and that was refused.
 pub fn object_length<T: BorshSerialize>(alloc: Global, value: &T) -> Result<usize>
-    ensures ok { IfOk result (IsLength (T.codec.encoding value.now)) }
-    ensures err { IfErr result (λ e. WhyNoLength T.codec.encoding_allocates (T.codec.encoding value.now) (error_kind e)) }
+    ensures { AnswersLength T.codec.encoding_allocates (T.codec.encoding value.now) result }
 {
     let mut writer = LengthWriter::new();
     value.serialize(alloc, &mut writer)?;

@@ -5,6 +5,7 @@ ghost use Rattle.borsh.specs.Laws.Numbers.{unsigned-lawful};
 ghost use Rattle.borsh.specs.Laws.Pairs.{pair-lawful};
 ghost use Rattle.borsh.specs.Laws.Rows.{list-lawful};
 
+use borsh::de::{FromParts, read_parts};
 use borsh::io::{Read, Result, Write};
 use borsh::ser::write_two;
 use borsh::{BorshDeserialize, BorshSerialize, BorshType};
@@ -37,9 +38,18 @@ impl BorshSerialize for MyStruct {
     }
 }
 
+impl FromParts for MyStruct {
+    type Parts = (u64, Vec<u8>);
+
+    ghost view = { λ v. (v.a, v.b) };
+
+    fn from_parts((a, b): (u64, Vec<u8>)) -> MyStruct {
+        MyStruct { a, b }
+    }
+}
+
 impl BorshDeserialize for MyStruct {
     fn deserialize_reader<R: Read>(alloc: Global, reader: &mut R) -> Result<MyStruct> {
-        let (a, b) = <(u64, Vec<u8>)>::deserialize_reader(alloc, reader)?;
-        Ok(MyStruct { a, b })
+        read_parts(alloc, reader)
     }
 }

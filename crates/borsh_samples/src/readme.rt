@@ -6,6 +6,7 @@ ghost use Rattle.borsh.specs.Laws.Pairs.{pair-lawful};
 ghost use Rattle.borsh.specs.Laws.Types.{text-lawful};
 ghost use Rattle.std.specs.String.{string_bytes};
 
+use borsh::de::{FromParts, read_parts};
 use borsh::io::{Read, Result, Write};
 use borsh::ser::write_two;
 use borsh::{BorshDeserialize, BorshSerialize, BorshType};
@@ -38,9 +39,18 @@ impl BorshSerialize for A {
     }
 }
 
+impl FromParts for A {
+    type Parts = (u64, String);
+
+    ghost view = { λ v. (v.x, v.y) };
+
+    fn from_parts((x, y): (u64, String)) -> A {
+        A { x, y }
+    }
+}
+
 impl BorshDeserialize for A {
     fn deserialize_reader<R: Read>(alloc: Global, reader: &mut R) -> Result<A> {
-        let (x, y) = <(u64, String)>::deserialize_reader(alloc, reader)?;
-        Ok(A { x, y })
+        read_parts(alloc, reader)
     }
 }

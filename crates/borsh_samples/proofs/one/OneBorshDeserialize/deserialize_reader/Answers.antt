@@ -1,8 +1,10 @@
 use Rattle.std.proofs.Common.{refl}
-use Rattle.std.proofs.lemmas.Result.{IfErr-weaker}
-use Rattle.borsh.proofs.ReadParts.{denied_tag}
+use Rattle.borsh.proofs.DecodeOutcomes.{decodes_no_byte, decodes_tagged}
 use Rattle.borsh_samples.specs.One.{one-lawful}
 use Rattle.borsh_samples.proofs.one.OneBorshDeserialize.deserialize_reader.Goals as goal
 
-pub returns-clause-err : goal.returns-clause-err
-returns-clause-err g c = IfErr-weaker c.deserialize_variant.result _ _ (λ e d. denied_tag one-lawful refl c.in_ok-tag.ensures.ok d) c.deserialize_variant.ensures.err
+pub returns-in_err-tag : goal.returns-in_err-tag
+returns-in_err-tag g c = decodes_no_byte one-lawful refl refl _ c.from_residual.ensures.1 c.in_err-tag.ensures
+
+pub returns : goal.returns
+returns g c = decodes_tagged one-lawful refl refl c.in_ok-tag.ensures c.deserialize_variant.ensures
