@@ -1,15 +1,9 @@
 // Maps and sets that hold their entries in the order in which they are written: a count of four bytes and
 // the entries.
-ghost use Rattle.borsh_io.specs.Errors.{error_kind};
-ghost use Rattle.borsh_codec.specs.Empty.{RefusesZeroWidth};
-ghost use Rattle.borsh_codec.specs.Maps.{index_map, index_set, btree_map, btree_set};
-ghost use Rattle.borsh_codec.specs.Shapes.{concat_encodings, length_prefixed, pair};
-ghost use Rattle.borsh_codec.specs.Writing.{NotWritten, Written};
-ghost use Rattle.indexmap.specs.IndexSet.{IsUnique as IsUniqueSet};
-ghost use Rattle.std.specs.HashMap.{IsUnique};
-ghost use Rattle.std.specs.List.Sorted.{IsStrictlySortedBy};
-ghost use Rattle.std.specs.Map.{keys_of};
-ghost use Rattle.std.specs.Prelude.{◌≡◌, ◌||◌, IfErr, OnOk};
+ghost use Rattle.std.specs.Prelude.{◌||◌, false};
+ghost use Rattle.borsh_codec.specs.Maps.{btree_entries, index_entries, key_only, unit_entries};
+ghost use Rattle.borsh_codec.specs.Shapes.{concat_encodings, contramap, pair};
+ghost use Rattle.borsh_codec.specs.Writing.{Writes, WritesEncoding};
 
 use super::lists::write_count;
 use super::parts::write_two;
@@ -29,9 +23,9 @@ fn write_tree_entries<K: BorshSerialize + Ord, V: BorshSerialize, W: Write>(
     alloc: Global,
     writer: &mut W,
 ) -> Result<()>
-    ensures ok { OnOk result (Written W.writing writer.old writer.new (concat_encodings (pair K.codec V.codec).encoding tree.now.entries)) }
-    ensures err { IfErr result (λ e. NotWritten (K.codec.encoding_allocates || V.codec.encoding_allocates) W.writing writer.old writer.new (concat_encodings (pair K.codec V.codec).encoding tree.now.entries) (error_kind e)) }
-    ensures ordered { IsStrictlySortedBy K.cmp (keys_of tree.now.entries) }
+    ensures { WritesEncoding W.writing writer.old writer.new
+        (K.codec.encoding_allocates || V.codec.encoding_allocates) false
+        (concat_encodings (pair K.codec V.codec).encoding tree.now.entries) result }
 {
     for (k, v) in tree.iter() {
         write_two(k, v, alloc, writer)?;
@@ -46,9 +40,8 @@ fn write_tree<K: BorshSerialize + Ord, V: BorshSerialize, W: Write>(
     alloc: Global,
     writer: &mut W,
 ) -> Result<()>
-    ensures ok { OnOk result (Written W.writing writer.old writer.new ((length_prefixed (pair K.codec V.codec)).encoding tree.now.entries)) }
-    ensures err { IfErr result (λ e. NotWritten (K.codec.encoding_allocates || V.codec.encoding_allocates) W.writing writer.old writer.new ((length_prefixed (pair K.codec V.codec)).encoding tree.now.entries) (error_kind e)) }
-    ensures ordered { IsStrictlySortedBy K.cmp (keys_of tree.now.entries) }
+    ensures { Writes (btree_entries K.cmp (pair K.codec V.codec)) tree.now.entries
+        W.writing writer.old writer.new result }
 {
     write_count(tree.len(), writer)?;
     write_tree_entries(tree, alloc, writer)
@@ -61,9 +54,8 @@ fn write_tree_keys<K: BorshSerialize + Ord, W: Write>(
     alloc: Global,
     writer: &mut W,
 ) -> Result<()>
-    ensures ok { OnOk result (Written W.writing writer.old writer.new (concat_encodings K.codec.encoding set.now.keys)) }
-    ensures err { IfErr result (λ e. NotWritten K.codec.encoding_allocates W.writing writer.old writer.new (concat_encodings K.codec.encoding set.now.keys) (error_kind e)) }
-    ensures ordered { IsStrictlySortedBy K.cmp set.now.keys }
+    ensures { WritesEncoding W.writing writer.old writer.new K.codec.encoding_allocates false
+        (concat_encodings K.codec.encoding set.now.keys) result }
 {
     for k in set.iter() {
         k.serialize(alloc, writer)?;
@@ -78,9 +70,8 @@ fn write_tree_set<K: BorshSerialize + Ord, W: Write>(
     alloc: Global,
     writer: &mut W,
 ) -> Result<()>
-    ensures ok { OnOk result (Written W.writing writer.old writer.new ((length_prefixed K.codec).encoding set.now.keys)) }
-    ensures err { IfErr result (λ e. NotWritten K.codec.encoding_allocates W.writing writer.old writer.new ((length_prefixed K.codec).encoding set.now.keys) (error_kind e)) }
-    ensures ordered { IsStrictlySortedBy K.cmp set.now.keys }
+    ensures { Writes (contramap unit_entries (btree_entries K.cmp (key_only K.codec))) set.now.keys
+        W.writing writer.old writer.new result }
 {
     write_count(set.len(), writer)?;
     write_tree_keys(set, alloc, writer)
@@ -93,9 +84,9 @@ fn write_index_entries<K: BorshSerialize + Eq + Hash, V: BorshSerialize, S: Buil
     alloc: Global,
     writer: &mut W,
 ) -> Result<()>
-    ensures ok { OnOk result (Written W.writing writer.old writer.new (concat_encodings (pair K.codec V.codec).encoding table.now.entries)) }
-    ensures err { IfErr result (λ e. NotWritten (K.codec.encoding_allocates || V.codec.encoding_allocates) W.writing writer.old writer.new (concat_encodings (pair K.codec V.codec).encoding table.now.entries) (error_kind e)) }
-    ensures unique { IsUnique K.eq table.now }
+    ensures { WritesEncoding W.writing writer.old writer.new
+        (K.codec.encoding_allocates || V.codec.encoding_allocates) false
+        (concat_encodings (pair K.codec V.codec).encoding table.now.entries) result }
 {
     for (k, v) in table.iter() {
         write_two(k, v, alloc, writer)?;
@@ -110,9 +101,8 @@ fn write_index<K: BorshSerialize + Eq + Hash, V: BorshSerialize, S: BuildHasher,
     alloc: Global,
     writer: &mut W,
 ) -> Result<()>
-    ensures ok { OnOk result (Written W.writing writer.old writer.new ((length_prefixed (pair K.codec V.codec)).encoding table.now.entries)) }
-    ensures err { IfErr result (λ e. NotWritten (K.codec.encoding_allocates || V.codec.encoding_allocates) W.writing writer.old writer.new ((length_prefixed (pair K.codec V.codec)).encoding table.now.entries) (error_kind e)) }
-    ensures unique { IsUnique K.eq table.now }
+    ensures { Writes (index_entries K.eq (pair K.codec V.codec)) table.now.entries
+        W.writing writer.old writer.new result }
 {
     write_count(table.len(), writer)?;
     write_index_entries(table, alloc, writer)
@@ -125,9 +115,8 @@ fn write_index_keys<K: BorshSerialize + Eq + Hash, S: BuildHasher, W: Write>(
     alloc: Global,
     writer: &mut W,
 ) -> Result<()>
-    ensures ok { OnOk result (Written W.writing writer.old writer.new (concat_encodings K.codec.encoding set.now.keys)) }
-    ensures err { IfErr result (λ e. NotWritten K.codec.encoding_allocates W.writing writer.old writer.new (concat_encodings K.codec.encoding set.now.keys) (error_kind e)) }
-    ensures unique { IsUniqueSet K.eq set.now }
+    ensures { WritesEncoding W.writing writer.old writer.new K.codec.encoding_allocates false
+        (concat_encodings K.codec.encoding set.now.keys) result }
 {
     for k in set.iter() {
         k.serialize(alloc, writer)?;
@@ -142,9 +131,8 @@ fn write_index_set<K: BorshSerialize + Eq + Hash, S: BuildHasher, W: Write>(
     alloc: Global,
     writer: &mut W,
 ) -> Result<()>
-    ensures ok { OnOk result (Written W.writing writer.old writer.new ((length_prefixed K.codec).encoding set.now.keys)) }
-    ensures err { IfErr result (λ e. NotWritten K.codec.encoding_allocates W.writing writer.old writer.new ((length_prefixed K.codec).encoding set.now.keys) (error_kind e)) }
-    ensures unique { IsUniqueSet K.eq set.now }
+    ensures { Writes (contramap unit_entries (index_entries K.eq (key_only K.codec))) set.now.keys
+        W.writing writer.old writer.new result }
 {
     write_count(set.len(), writer)?;
     write_index_keys(set, alloc, writer)
@@ -152,11 +140,7 @@ fn write_index_set<K: BorshSerialize + Eq + Hash, S: BuildHasher, W: Write>(
 
 impl<K: BorshKey + BorshSerialize + Ord, V: BorshSerialize> BorshSerialize for BTreeMap<K, V> {
     #[inline]
-    fn serialize<W: Write>(&self, alloc: Global, writer: &mut W) -> Result<()>
-        ensures ok { OnOk result (Written W.writing writer.old writer.new ((btree_map K.cmp K.codec V.codec).encoding self.now.entries)) }
-        ensures err { IfErr result (λ e. NotWritten (K.codec.encoding_allocates || V.codec.encoding_allocates) W.writing writer.old writer.new ((btree_map K.cmp K.codec V.codec).encoding self.now.entries) (error_kind e)) }
-        ensures untouched { RefusesZeroWidth K.codec.is_zero_width result writer.old writer.new }
-    {
+    fn serialize<W: Write>(&self, alloc: Global, writer: &mut W) -> Result<()> {
         if K::encodes_empty() {
             return Err(Error::new(ErrorKind::InvalidData, ERROR_ZST_FORBIDDEN));
         }
@@ -166,11 +150,7 @@ impl<K: BorshKey + BorshSerialize + Ord, V: BorshSerialize> BorshSerialize for B
 
 impl<K: BorshKey + BorshSerialize + Ord> BorshSerialize for BTreeSet<K> {
     #[inline]
-    fn serialize<W: Write>(&self, alloc: Global, writer: &mut W) -> Result<()>
-        ensures ok { OnOk result (Written W.writing writer.old writer.new ((btree_set K.cmp K.codec).encoding self.now.keys)) }
-        ensures err { IfErr result (λ e. NotWritten K.codec.encoding_allocates W.writing writer.old writer.new ((btree_set K.cmp K.codec).encoding self.now.keys) (error_kind e)) }
-        ensures untouched { RefusesZeroWidth K.codec.is_zero_width result writer.old writer.new }
-    {
+    fn serialize<W: Write>(&self, alloc: Global, writer: &mut W) -> Result<()> {
         if K::encodes_empty() {
             return Err(Error::new(ErrorKind::InvalidData, ERROR_ZST_FORBIDDEN));
         }
@@ -181,11 +161,7 @@ impl<K: BorshKey + BorshSerialize + Ord> BorshSerialize for BTreeSet<K> {
 impl<K: BorshKey + BorshSerialize + Hash, V: BorshSerialize, S: BuildHasher> BorshSerialize
     for IndexMap<K, V, S> {
     #[inline]
-    fn serialize<W: Write>(&self, alloc: Global, writer: &mut W) -> Result<()>
-        ensures ok { OnOk result (Written W.writing writer.old writer.new ((index_map K.eq K.codec V.codec).encoding self.now.entries)) }
-        ensures err { IfErr result (λ e. NotWritten (K.codec.encoding_allocates || V.codec.encoding_allocates) W.writing writer.old writer.new ((index_map K.eq K.codec V.codec).encoding self.now.entries) (error_kind e)) }
-        ensures untouched { RefusesZeroWidth K.codec.is_zero_width result writer.old writer.new }
-    {
+    fn serialize<W: Write>(&self, alloc: Global, writer: &mut W) -> Result<()> {
         if K::encodes_empty() {
             return Err(Error::new(ErrorKind::InvalidData, ERROR_ZST_FORBIDDEN));
         }
@@ -195,11 +171,7 @@ impl<K: BorshKey + BorshSerialize + Hash, V: BorshSerialize, S: BuildHasher> Bor
 
 impl<K: BorshKey + BorshSerialize + Hash, S: BuildHasher> BorshSerialize for IndexSet<K, S> {
     #[inline]
-    fn serialize<W: Write>(&self, alloc: Global, writer: &mut W) -> Result<()>
-        ensures ok { OnOk result (Written W.writing writer.old writer.new ((index_set K.eq K.codec).encoding self.now.keys)) }
-        ensures err { IfErr result (λ e. NotWritten K.codec.encoding_allocates W.writing writer.old writer.new ((index_set K.eq K.codec).encoding self.now.keys) (error_kind e)) }
-        ensures untouched { RefusesZeroWidth K.codec.is_zero_width result writer.old writer.new }
-    {
+    fn serialize<W: Write>(&self, alloc: Global, writer: &mut W) -> Result<()> {
         if K::encodes_empty() {
             return Err(Error::new(ErrorKind::InvalidData, ERROR_ZST_FORBIDDEN));
         }

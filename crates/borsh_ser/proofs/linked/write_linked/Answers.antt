@@ -1,7 +1,7 @@
-use Rattle.std.proofs.Common.{sym, ap}
-use Rattle.std.proofs.lemmas.Result.{err_from_is_err_and}
+use Rattle.std.proofs.Common.{ap}
 use Rattle.borsh_codec.specs.Shapes.{concat_encodings}
-use Rattle.borsh_codec.proofs.WriteSteps.{write_denied_as, write_denied_first, so_far_none, so_far_more, so_far_denied}
+use Rattle.borsh_codec.proofs.WriteSteps.{so_far_none, so_far_more}
+use Rattle.borsh_codec.proofs.WriteOutcomes.{so_far_exit}
 use Rattle.borsh_ser.proofs.linked.write_linked.Goals as goal
 
 pub loop-item-init : goal.loop-item-init
@@ -10,8 +10,5 @@ loop-item-init g c = rw (c.into_iter-item-iterator.ensures.into_iter_gives, c.it
 pub loop-item-preserved : goal.loop-item-preserved
 loop-item-preserved g c = so_far_more g.met.W.Write.lawful c.loop-item.invariant (ap (concat_encodings g.T.BorshType.codec.encoding) c.in-Some.ensures.steps) c.in_ok-serialize.ensures.ok
 
-pub returns-in_err-serialize-clause-err : goal.returns-in_err-serialize-clause-err
-returns-in_err-serialize-clause-err g c =
-    let next = ap (concat_encodings g.T.BorshType.codec.encoding) c.in-Some.ensures.steps in
-    let p = err_from_is_err_and c.from_residual.result c.from_residual.ensures.1 in
-    rw (p.1, p.2) (so_far_denied g.met.W.Write.lawful c.loop-item.invariant (write_denied_as (sym next) (write_denied_first g.met.W.Write.lawful _ c.in_err-serialize.ensures.err)))
+pub returns-in_err-serialize : goal.returns-in_err-serialize
+returns-in_err-serialize g c = so_far_exit g.met.W.Write.lawful _ _ c.from_residual.ensures.1 c.loop-item.invariant (ap (concat_encodings g.T.BorshType.codec.encoding) c.in-Some.ensures.steps) c.in_err-serialize.ensures.err
