@@ -1,8 +1,8 @@
 // Lists whose elements don't lie in one place: a count of four bytes and the elements in order.
-ghost use Rattle.std.specs.Prelude.{false};
-ghost use Rattle.borsh_codec.specs.Shapes.{concat_encodings, length_prefixed};
-ghost use Rattle.borsh_codec.specs.Writing.{Writes, WritesEncoding};
+ghost use Rattle.borsh_codec.specs.Shapes.{length_prefixed};
+ghost use Rattle.borsh_codec.specs.Writing.{Writes};
 
+use super::each::write_each;
 use super::lists::{write_count, write_elements};
 use super::serialize::BorshSerialize;
 use borsh_io::error::ERROR_ZST_FORBIDDEN;
@@ -25,22 +25,6 @@ fn write_queue<T: BorshSerialize, W: Write>(
     write_elements(back, alloc, writer)
 }
 
-/// Writes the elements of the list one after another.
-#[inline]
-fn write_linked<T: BorshSerialize, W: Write>(
-    list: &LinkedList<T>,
-    alloc: Global,
-    writer: &mut W,
-) -> Result<()>
-    ensures { WritesEncoding W.writing writer.old writer.new T.codec.encoding_allocates false
-        (concat_encodings T.codec.encoding list.now) result }
-{
-    for item in list.iter() {
-        item.serialize(alloc, writer)?;
-    }
-    Ok(())
-}
-
 /// Writes the count and the elements of the list. Refused as `write_counted` is.
 #[inline]
 fn write_linked_counted<T: BorshSerialize, W: Write>(
@@ -51,7 +35,7 @@ fn write_linked_counted<T: BorshSerialize, W: Write>(
     ensures { Writes (length_prefixed T.codec) list.now W.writing writer.old writer.new result }
 {
     write_count(list.len(), writer)?;
-    write_linked(list, alloc, writer)
+    write_each(list.iter(), alloc, writer)
 }
 
 impl<T: BorshSerialize> BorshSerialize for VecDeque<T> {

@@ -1,12 +1,11 @@
 // Maps and sets that hold their entries in the order in which they are written: a count of four bytes and
 // the entries.
-ghost use Rattle.std.specs.Prelude.{◌||◌, false};
 ghost use Rattle.borsh_codec.specs.Maps.{btree_entries, index_entries, key_only, unit_entries};
-ghost use Rattle.borsh_codec.specs.Shapes.{concat_encodings, contramap, pair};
-ghost use Rattle.borsh_codec.specs.Writing.{Writes, WritesEncoding};
+ghost use Rattle.borsh_codec.specs.Shapes.{contramap, pair};
+ghost use Rattle.borsh_codec.specs.Writing.{Writes};
 
+use super::each::write_each;
 use super::lists::write_count;
-use super::parts::write_two;
 use super::serialize::BorshSerialize;
 use borsh_io::error::ERROR_ZST_FORBIDDEN;
 use borsh_io::{Error, ErrorKind, Result, Write};
@@ -15,23 +14,6 @@ use indexmap::{IndexMap, IndexSet};
 use std::alloc::Global;
 use std::collections::{BTreeMap, BTreeSet};
 use std::hash::{BuildHasher, Hash};
-
-/// Writes the entries of the map one after another.
-#[inline]
-fn write_tree_entries<K: BorshSerialize + Ord, V: BorshSerialize, W: Write>(
-    tree: &BTreeMap<K, V>,
-    alloc: Global,
-    writer: &mut W,
-) -> Result<()>
-    ensures { WritesEncoding W.writing writer.old writer.new
-        (K.codec.encoding_allocates || V.codec.encoding_allocates) false
-        (concat_encodings (pair K.codec V.codec).encoding tree.now.entries) result }
-{
-    for (k, v) in tree.iter() {
-        write_two(k, v, alloc, writer)?;
-    }
-    Ok(())
-}
 
 /// Writes the count and the entries. More than 4294967295 have no encoding: `InvalidData`.
 #[inline]
@@ -44,23 +26,7 @@ fn write_tree<K: BorshSerialize + Ord, V: BorshSerialize, W: Write>(
         W.writing writer.old writer.new result }
 {
     write_count(tree.len(), writer)?;
-    write_tree_entries(tree, alloc, writer)
-}
-
-/// Writes the keys of the set one after another.
-#[inline]
-fn write_tree_keys<K: BorshSerialize + Ord, W: Write>(
-    set: &BTreeSet<K>,
-    alloc: Global,
-    writer: &mut W,
-) -> Result<()>
-    ensures { WritesEncoding W.writing writer.old writer.new K.codec.encoding_allocates false
-        (concat_encodings K.codec.encoding set.now.keys) result }
-{
-    for k in set.iter() {
-        k.serialize(alloc, writer)?;
-    }
-    Ok(())
+    write_each(tree.iter(), alloc, writer)
 }
 
 /// Writes the count and the keys. More than 4294967295 have no encoding: `InvalidData`.
@@ -74,24 +40,7 @@ fn write_tree_set<K: BorshSerialize + Ord, W: Write>(
         W.writing writer.old writer.new result }
 {
     write_count(set.len(), writer)?;
-    write_tree_keys(set, alloc, writer)
-}
-
-/// Writes the entries of the map one after another.
-#[inline]
-fn write_index_entries<K: BorshSerialize + Eq + Hash, V: BorshSerialize, S: BuildHasher, W: Write>(
-    table: &IndexMap<K, V, S>,
-    alloc: Global,
-    writer: &mut W,
-) -> Result<()>
-    ensures { WritesEncoding W.writing writer.old writer.new
-        (K.codec.encoding_allocates || V.codec.encoding_allocates) false
-        (concat_encodings (pair K.codec V.codec).encoding table.now.entries) result }
-{
-    for (k, v) in table.iter() {
-        write_two(k, v, alloc, writer)?;
-    }
-    Ok(())
+    write_each(set.iter(), alloc, writer)
 }
 
 /// Writes the count and the entries. More than 4294967295 have no encoding: `InvalidData`.
@@ -105,23 +54,7 @@ fn write_index<K: BorshSerialize + Eq + Hash, V: BorshSerialize, S: BuildHasher,
         W.writing writer.old writer.new result }
 {
     write_count(table.len(), writer)?;
-    write_index_entries(table, alloc, writer)
-}
-
-/// Writes the keys of the set one after another.
-#[inline]
-fn write_index_keys<K: BorshSerialize + Eq + Hash, S: BuildHasher, W: Write>(
-    set: &IndexSet<K, S>,
-    alloc: Global,
-    writer: &mut W,
-) -> Result<()>
-    ensures { WritesEncoding W.writing writer.old writer.new K.codec.encoding_allocates false
-        (concat_encodings K.codec.encoding set.now.keys) result }
-{
-    for k in set.iter() {
-        k.serialize(alloc, writer)?;
-    }
-    Ok(())
+    write_each(table.iter(), alloc, writer)
 }
 
 /// Writes the count and the keys. More than 4294967295 have no encoding: `InvalidData`.
@@ -135,7 +68,7 @@ fn write_index_set<K: BorshSerialize + Eq + Hash, S: BuildHasher, W: Write>(
         W.writing writer.old writer.new result }
 {
     write_count(set.len(), writer)?;
-    write_index_keys(set, alloc, writer)
+    write_each(set.iter(), alloc, writer)
 }
 
 impl<K: BorshKey + BorshSerialize + Ord, V: BorshSerialize> BorshSerialize for BTreeMap<K, V> {

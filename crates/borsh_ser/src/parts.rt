@@ -219,34 +219,8 @@ pub fn write_ten<
 ) -> Result<()>
     ensures { Writes
         (pair A.codec (pair B.codec (pair C.codec (pair D.codec (pair E.codec (pair F.codec
-        (pair G.codec (pair H.codec (pair I.codec J.codec))))))))) (
-          a.now,
-          (
-            b.now,
-            (
-              c.now,
-              (
-                d.now,
-                (
-                  e.now,
-                  (
-                    f.now,
-                    (
-                      g.now,
-                      (
-                        h.now,
-                        (
-                          i.now,
-                          j.now,
-                        ),
-                      ),
-                    ),
-                  ),
-                ),
-              ),
-            ),
-          ),
-        )
+        (pair G.codec (pair H.codec (pair I.codec J.codec)))))))))
+        (a.now, (b.now, (c.now, (d.now, (e.now, (f.now, (g.now, (h.now, (i.now, j.now)))))))))
         W.writing writer.old writer.new result }
 {
     a.serialize(alloc, writer)?;
@@ -283,39 +257,11 @@ pub fn write_eleven<
     alloc: Global,
     writer: &mut W,
 ) -> Result<()>
-    ensures { Writes
+    ensures { let rest : G × (H × (I × (J × K))) = (g.now, (h.now, (i.now, (j.now, k.now)))) in
+        Writes
         (pair A.codec (pair B.codec (pair C.codec (pair D.codec (pair E.codec (pair F.codec
-        (pair G.codec (pair H.codec (pair I.codec (pair J.codec K.codec)))))))))) (
-          a.now,
-          (
-            b.now,
-            (
-              c.now,
-              (
-                d.now,
-                (
-                  e.now,
-                  (
-                    f.now,
-                    (
-                      g.now,
-                      (
-                        h.now,
-                        (
-                          i.now,
-                          (
-                            j.now,
-                            k.now,
-                          ),
-                        ),
-                      ),
-                    ),
-                  ),
-                ),
-              ),
-            ),
-          ),
-        )
+        (pair G.codec (pair H.codec (pair I.codec (pair J.codec K.codec))))))))))
+        (a.now, (b.now, (c.now, (d.now, (e.now, (f.now, rest))))))
         W.writing writer.old writer.new result }
 {
     a.serialize(alloc, writer)?;
@@ -354,40 +300,12 @@ pub fn write_twelve<
     alloc: Global,
     writer: &mut W,
 ) -> Result<()>
-    ensures { Writes
+    ensures { let rest : G × (H × (I × (J × (K × L)))) =
+        (g.now, (h.now, (i.now, (j.now, (k.now, l.now))))) in
+        Writes
         (pair A.codec (pair B.codec (pair C.codec (pair D.codec (pair E.codec (pair F.codec
-        (pair G.codec (pair H.codec (pair I.codec (pair J.codec (pair K.codec
-        L.codec))))))))))) (
-          a.now,
-          (
-            b.now,
-            (
-              c.now,
-              (
-                d.now,
-                (
-                  e.now,
-                  (
-                    f.now,
-                    (
-                      g.now,
-                      (
-                        h.now,
-                        (
-                          i.now,
-                          (
-                            j.now,
-                            (k.now, l.now),
-                          ),
-                        ),
-                      ),
-                    ),
-                  ),
-                ),
-              ),
-            ),
-          ),
-        )
+        (pair G.codec (pair H.codec (pair I.codec (pair J.codec (pair K.codec L.codec)))))))))))
+        (a.now, (b.now, (c.now, (d.now, (e.now, (f.now, rest))))))
         W.writing writer.old writer.new result }
 {
     a.serialize(alloc, writer)?;

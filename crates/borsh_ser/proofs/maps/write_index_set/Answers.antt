@@ -1,5 +1,6 @@
 use Rattle.borsh_codec.proofs.WriteOutcomes.{writes_is, writes_count_exit, writes_counted}
 use Rattle.borsh_codec.proofs.WriteMaps.{index_set_written}
+use Rattle.borsh_ser.proofs.Items.{writes_first}
 use Rattle.borsh_ser.proofs.maps.write_index_set.Goals as goal
 
 pub returns-in_err-write_count : goal.returns-in_err-write_count
@@ -10,4 +11,4 @@ returns-in_err-write_count g c =
 pub returns : goal.returns
 returns g c =
     let item = g.K.BorshType.codec in
-    writes_is (index_set_written item g.met.K.Eq.laws c.args.set.now.keys c.len.ensures.unique) (writes_counted g.met.W.Write.lawful item c.args.set.now.keys c.len.ensures.len c.in_ok-write_count.ensures c.write_index_keys.ensures)
+    writes_is (index_set_written item g.met.K.Eq.laws c.args.set.now.keys c.len.ensures.unique) (writes_counted g.met.W.Write.lawful item c.args.set.now.keys c.len.ensures.len c.in_ok-write_count.ensures (writes_first (λ r. r.now) item.encoding _ _ c.iter.ensures.rest c.write_each.ensures))
