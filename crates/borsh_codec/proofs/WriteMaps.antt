@@ -1,5 +1,5 @@
 -- Maps and sets that are written as counted lists of their entries.
-use Rattle.std.proofs.Common.{◌≡◌, ℕ, ◌+◌, ◌<◌, get_or, drop, Bool, false, cond, List, [], ◌∷◌, length, Option, None, refl, sym, ◌∙◌, ap, map}
+use Rattle.std.proofs.Common.{◌≡◌, ℕ, ◌+◌, ◌<◌, get_or, drop, Bool, false, cond, List, [], ◌∷◌, length, Option, None, refl, sym, ◌∙◌, ap, subst, map}
 use Rattle.std.specs.declared.cmp.Ordering.{Ordering}
 use Rattle.std.specs.Cmp.{IsEquivalence}
 use Rattle.std.specs.Map.{keys_of}
@@ -7,11 +7,11 @@ use Rattle.std.specs.List.{IsDistinct}
 use Rattle.std.specs.List.Sorted.{IsStrictlySortedBy}
 use Rattle.std.proofs.lemmas.List.{length-map}
 use Rattle.borsh_codec.specs.Codec.{Codec}
-use Rattle.borsh_codec.specs.Shapes.{unsigned_encoding, append_encodings, concat_encodings, contramap, refused_if, length_prefixed}
-use Rattle.borsh_codec.specs.Maps.{sorted_by_key, hash_entries, btree_entries, index_entries, unit_entries, key_only}
-use Rattle.borsh_codec.proofs.Laws.Exact.{allowed_is}
+use Rattle.borsh_codec.specs.Shapes.{unsigned_encoding, append_encodings, concat_encodings, contramap, length_prefixed}
+use Rattle.borsh_codec.specs.Maps.{btree_entries, index_entries, unit_entries, key_only}
 use Rattle.borsh_codec.proofs.Laws.Maps.Ordered.{ascends_is}
 use Rattle.borsh_codec.proofs.Laws.Maps.Inserted.{gathered_distinct}
+use Rattle.borsh_codec.proofs.ReadMaps.{keys-bare_entries}
 use Rattle.borsh_codec.proofs.WriteRows.{all_joined-next}
 
 -- elements seen as others are written as these
@@ -34,12 +34,18 @@ keys_same (k ∷ ks) = ap (λ l. k ∷ l) (keys_same ks)
 pub counted-bare : {K : Type 0} (c : Codec K) (ks : List K) → (length_prefixed c).encoding ks ≡ (length_prefixed (key_only c)).encoding (unit_entries ks)
 counted-bare c ks = sym (counted-map c (λ e. e.0) (unit_entries ks) ∙ ap (length_prefixed c).encoding (keys_same ks))
 
-module _ {K V : Type 0} (item : Codec (K × V)) (refused : Bool) (allowed : refused ≡ false) where
-  pub ordered_written : (cmp : K → K → Ordering) (es : List (K × V)) → IsStrictlySortedBy cmp (keys_of es) → (length_prefixed item).encoding es ≡ (refused_if refused (btree_entries cmp item)).encoding es
-  ordered_written cmp es s = sym (allowed_is refused allowed (ap (λ t. cond t ((length_prefixed item).encoding es) None) ((ascends_is cmp (keys_of es)).1 s)))
+module _ {K V : Type 0} (item : Codec (K × V)) where
+  -- entries that ascend
+  pub btree_written : (cmp : K → K → Ordering) (es : List (K × V)) → IsStrictlySortedBy cmp (keys_of es) → (length_prefixed item).encoding es ≡ (btree_entries cmp item).encoding es
+  btree_written cmp es s = sym (ap (λ t. cond t ((length_prefixed item).encoding es) None) ((ascends_is cmp (keys_of es)).1 s))
 
-  pub inserted_written : {eq : K → K → Bool} → IsEquivalence eq → (es : List (K × V)) → IsDistinct eq (keys_of es) → (length_prefixed item).encoding es ≡ (refused_if refused (index_entries eq item)).encoding es
-  inserted_written q es d = sym (allowed_is refused allowed (ap (length_prefixed item).encoding (gathered_distinct q es d)))
+  -- entries of which no two have one key
+  pub index_written : {eq : K → K → Bool} → IsEquivalence eq → (es : List (K × V)) → IsDistinct eq (keys_of es) → (length_prefixed item).encoding es ≡ (index_entries eq item).encoding es
+  index_written q es d = sym (ap (length_prefixed item).encoding (gathered_distinct q es d))
 
-  pub sorted_written : (cmp : K → K → Ordering) (S : V → V → Type 0) (es fs : List (K × V)) → fs ≡ sorted_by_key cmp es → (length_prefixed item).encoding fs ≡ (refused_if refused (hash_entries cmp S item)).encoding es
-  sorted_written cmp S es fs e = sym (allowed_is refused allowed (ap (length_prefixed item).encoding (sym e)))
+-- the same for the keys of a set
+pub btree_set_written : {K : Type 0} (c : Codec K) (cmp : K → K → Ordering) (ks : List K) → IsStrictlySortedBy cmp ks → (length_prefixed c).encoding ks ≡ (contramap unit_entries (btree_entries cmp (key_only c))).encoding ks
+btree_set_written c cmp ks s = counted-bare c ks ∙ btree_written (key_only c) cmp (unit_entries ks) (subst (IsStrictlySortedBy cmp) (sym (keys-bare_entries ks)) s)
+
+pub index_set_written : {K : Type 0} (c : Codec K) {eq : K → K → Bool} → IsEquivalence eq → (ks : List K) → IsDistinct eq ks → (length_prefixed c).encoding ks ≡ (contramap unit_entries (index_entries eq (key_only c))).encoding ks
+index_set_written c {eq = eq} q ks d = counted-bare c ks ∙ index_written (key_only c) q (unit_entries ks) (subst (IsDistinct eq) (sym (keys-bare_entries ks)) d)

@@ -1,14 +1,12 @@
 // Hashed maps and sets: references to the entries are collected, sorted by key and written, so that the
 // bytes depend on the entries alone.
-ghost use Rattle.borsh_io.specs.Errors.{error_kind};
-ghost use Rattle.borsh_codec.specs.Empty.{RefusesZeroWidth};
-ghost use Rattle.borsh_codec.specs.Maps.{unit_entries, sorted_by_key, hash_map, hash_set};
+ghost use Rattle.borsh_codec.specs.Maps.{unit_entries, sorted_by_key};
 ghost use Rattle.borsh_codec.specs.Shapes.{concat_encodings, length_prefixed, pair};
-ghost use Rattle.borsh_codec.specs.Writing.{NotWritten, Written};
+ghost use Rattle.borsh_codec.specs.Writing.{Writes, WritesEncoding};
 ghost use Rattle.std.specs.HashMap.{IsUnique};
 ghost use Rattle.std.specs.List.{IsDistinct};
 ghost use Rattle.std.specs.Map.Iter.{deref_pair};
-ghost use Rattle.std.specs.Prelude.{◌≡◌, ◌||◌, IfErr, IfOk, OnOk, map, true};
+ghost use Rattle.std.specs.Prelude.{◌≡◌, ◌||◌, IfOk, map, false};
 
 use super::lists::{write_count, write_counted};
 use super::parts::write_two;
@@ -64,7 +62,8 @@ fn sorted_keys<'a, K: Ord + Hash, S: BuildHasher>(
     alloc: Global,
     set: &'a HashSet<K, S>,
 ) -> result::Result<Vec<&'a K>, AllocError>
-    ensures { IfOk result (λ v. map (λ r. (r.now, tt)) v.items ≡ sorted_by_key K.cmp (unit_entries set.now.keys)) }
+    ensures { IfOk result (λ v.
+        map (λ r. (r.now, tt)) v.items ≡ sorted_by_key K.cmp (unit_entries set.now.keys)) }
 {
     let mut all = key_refs(alloc, set)?;
     all.sort_unstable();
@@ -78,8 +77,9 @@ fn write_entries<K: BorshSerialize, V: BorshSerialize, W: Write>(
     alloc: Global,
     writer: &mut W,
 ) -> Result<()>
-    ensures ok { OnOk result (Written W.writing writer.old writer.new (concat_encodings (pair K.codec V.codec).encoding (map deref_pair entries.now))) }
-    ensures err { IfErr result (λ e. NotWritten (K.codec.encoding_allocates || V.codec.encoding_allocates) W.writing writer.old writer.new (concat_encodings (pair K.codec V.codec).encoding (map deref_pair entries.now)) (error_kind e)) }
+    ensures { WritesEncoding W.writing writer.old writer.new
+        (K.codec.encoding_allocates || V.codec.encoding_allocates) false
+        (concat_encodings (pair K.codec V.codec).encoding (map deref_pair entries.now)) result }
 {
     for e in entries {
         write_two(e.0, e.1, alloc, writer)?;
@@ -94,8 +94,8 @@ fn write_sorted<K: BorshSerialize, V: BorshSerialize, W: Write>(
     alloc: Global,
     writer: &mut W,
 ) -> Result<()>
-    ensures ok { OnOk result (Written W.writing writer.old writer.new ((length_prefixed (pair K.codec V.codec)).encoding (map deref_pair entries.now))) }
-    ensures err { IfErr result (λ e. NotWritten (K.codec.encoding_allocates || V.codec.encoding_allocates) W.writing writer.old writer.new ((length_prefixed (pair K.codec V.codec)).encoding (map deref_pair entries.now)) (error_kind e)) }
+    ensures { Writes (length_prefixed (pair K.codec V.codec)) (map deref_pair entries.now)
+        W.writing writer.old writer.new result }
 {
     write_count(entries.len(), writer)?;
     write_entries(entries, alloc, writer)
@@ -104,11 +104,7 @@ fn write_sorted<K: BorshSerialize, V: BorshSerialize, W: Write>(
 impl<K: BorshKey + BorshSerialize + Ord + Hash, V: BorshSerialize, S: BuildHasher> BorshSerialize
     for HashMap<K, V, S> {
     #[inline]
-    fn serialize<W: Write>(&self, alloc: Global, writer: &mut W) -> Result<()>
-        ensures ok { OnOk result (Written W.writing writer.old writer.new ((hash_map K.cmp K.codec V.codec).encoding self.now.entries)) }
-        ensures err { IfErr result (λ e. NotWritten true W.writing writer.old writer.new ((hash_map K.cmp K.codec V.codec).encoding self.now.entries) (error_kind e)) }
-        ensures untouched { RefusesZeroWidth K.codec.is_zero_width result writer.old writer.new }
-    {
+    fn serialize<W: Write>(&self, alloc: Global, writer: &mut W) -> Result<()> {
         if K::encodes_empty() {
             return Err(Error::new(ErrorKind::InvalidData, ERROR_ZST_FORBIDDEN));
         }
@@ -119,11 +115,7 @@ impl<K: BorshKey + BorshSerialize + Ord + Hash, V: BorshSerialize, S: BuildHashe
 
 impl<K: BorshKey + BorshSerialize + Ord + Hash, S: BuildHasher> BorshSerialize for HashSet<K, S> {
     #[inline]
-    fn serialize<W: Write>(&self, alloc: Global, writer: &mut W) -> Result<()>
-        ensures ok { OnOk result (Written W.writing writer.old writer.new ((hash_set K.cmp K.codec).encoding self.now.keys)) }
-        ensures err { IfErr result (λ e. NotWritten true W.writing writer.old writer.new ((hash_set K.cmp K.codec).encoding self.now.keys) (error_kind e)) }
-        ensures untouched { RefusesZeroWidth K.codec.is_zero_width result writer.old writer.new }
-    {
+    fn serialize<W: Write>(&self, alloc: Global, writer: &mut W) -> Result<()> {
         if K::encodes_empty() {
             return Err(Error::new(ErrorKind::InvalidData, ERROR_ZST_FORBIDDEN));
         }

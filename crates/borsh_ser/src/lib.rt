@@ -3,6 +3,7 @@
 
 pub mod addresses;
 pub mod arrays;
+pub mod each;
 pub mod hashed;
 pub mod kit_types;
 pub mod linked;

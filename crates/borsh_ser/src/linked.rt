@@ -1,10 +1,8 @@
 // Lists whose elements don't lie in one place: a count of four bytes and the elements in order.
-ghost use Rattle.std.specs.Prelude.{◌≡◌, OnOk, IfErr};
-ghost use Rattle.borsh_io.specs.Errors.{error_kind};
-ghost use Rattle.borsh_codec.specs.Shapes.{concat_encodings, length_prefixed, list};
-ghost use Rattle.borsh_codec.specs.Writing.{Written, NotWritten};
-ghost use Rattle.borsh_codec.specs.Empty.{RefusesZeroWidth};
+ghost use Rattle.borsh_codec.specs.Shapes.{length_prefixed};
+ghost use Rattle.borsh_codec.specs.Writing.{Writes};
 
+use super::each::write_each;
 use super::lists::{write_count, write_elements};
 use super::serialize::BorshSerialize;
 use borsh_io::error::ERROR_ZST_FORBIDDEN;
@@ -19,29 +17,12 @@ fn write_queue<T: BorshSerialize, W: Write>(
     alloc: Global,
     writer: &mut W,
 ) -> Result<()>
-    ensures ok { OnOk result (Written W.writing writer.old writer.new ((length_prefixed T.codec).encoding queue.now.items)) }
-    ensures err { IfErr result (λ e. NotWritten T.codec.encoding_allocates W.writing writer.old writer.new ((length_prefixed T.codec).encoding queue.now.items) (error_kind e)) }
+    ensures { Writes (length_prefixed T.codec) queue.now.items W.writing writer.old writer.new result }
 {
     let (front, back) = queue.as_slices();
     write_count(queue.len(), writer)?;
     write_elements(front, alloc, writer)?;
     write_elements(back, alloc, writer)
-}
-
-/// Writes the elements of the list one after another.
-#[inline]
-fn write_linked<T: BorshSerialize, W: Write>(
-    list: &LinkedList<T>,
-    alloc: Global,
-    writer: &mut W,
-) -> Result<()>
-    ensures ok { OnOk result (Written W.writing writer.old writer.new (concat_encodings T.codec.encoding list.now)) }
-    ensures err { IfErr result (λ e. NotWritten T.codec.encoding_allocates W.writing writer.old writer.new (concat_encodings T.codec.encoding list.now) (error_kind e)) }
-{
-    for item in list.iter() {
-        item.serialize(alloc, writer)?;
-    }
-    Ok(())
 }
 
 /// Writes the count and the elements of the list. Refused as `write_counted` is.
@@ -51,20 +32,15 @@ fn write_linked_counted<T: BorshSerialize, W: Write>(
     alloc: Global,
     writer: &mut W,
 ) -> Result<()>
-    ensures ok { OnOk result (Written W.writing writer.old writer.new ((length_prefixed T.codec).encoding list.now)) }
-    ensures err { IfErr result (λ e. NotWritten T.codec.encoding_allocates W.writing writer.old writer.new ((length_prefixed T.codec).encoding list.now) (error_kind e)) }
+    ensures { Writes (length_prefixed T.codec) list.now W.writing writer.old writer.new result }
 {
     write_count(list.len(), writer)?;
-    write_linked(list, alloc, writer)
+    write_each(list.iter(), alloc, writer)
 }
 
 impl<T: BorshSerialize> BorshSerialize for VecDeque<T> {
     #[inline]
-    fn serialize<W: Write>(&self, alloc: Global, writer: &mut W) -> Result<()>
-        ensures ok { OnOk result (Written W.writing writer.old writer.new ((list T.codec).encoding self.now.items)) }
-        ensures err { IfErr result (λ e. NotWritten T.codec.encoding_allocates W.writing writer.old writer.new ((list T.codec).encoding self.now.items) (error_kind e)) }
-        ensures untouched { RefusesZeroWidth T.codec.is_zero_width result writer.old writer.new }
-    {
+    fn serialize<W: Write>(&self, alloc: Global, writer: &mut W) -> Result<()> {
         if T::encodes_empty() {
             return Err(Error::new(ErrorKind::InvalidData, ERROR_ZST_FORBIDDEN));
         }
@@ -74,11 +50,7 @@ impl<T: BorshSerialize> BorshSerialize for VecDeque<T> {
 
 impl<T: BorshSerialize> BorshSerialize for LinkedList<T> {
     #[inline]
-    fn serialize<W: Write>(&self, alloc: Global, writer: &mut W) -> Result<()>
-        ensures ok { OnOk result (Written W.writing writer.old writer.new ((list T.codec).encoding self.now)) }
-        ensures err { IfErr result (λ e. NotWritten T.codec.encoding_allocates W.writing writer.old writer.new ((list T.codec).encoding self.now) (error_kind e)) }
-        ensures untouched { RefusesZeroWidth T.codec.is_zero_width result writer.old writer.new }
-    {
+    fn serialize<W: Write>(&self, alloc: Global, writer: &mut W) -> Result<()> {
         if T::encodes_empty() {
             return Err(Error::new(ErrorKind::InvalidData, ERROR_ZST_FORBIDDEN));
         }

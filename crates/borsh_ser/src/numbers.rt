@@ -87,7 +87,8 @@ impl BorshSerialize for u8 {
     /// The bytes themselves, always.
     #[inline]
     fn u8_slice(slice: &[u8]) -> Option<&[u8]>
-        ensures { IsSomeAnd result (λ bytes. concat_encodings (unsigned_encoding 1) slice.now ≡ Some bytes.now) }
+        ensures { IsSomeAnd result (λ bytes.
+            concat_encodings (unsigned_encoding 1) slice.now ≡ Some bytes.now) }
     {
         Some(slice)
     }

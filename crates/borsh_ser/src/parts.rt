@@ -1,8 +1,7 @@
 // Parts in order.
-ghost use Rattle.std.specs.Prelude.{◌≡◌, ◌||◌, OnOk, IfErr};
-ghost use Rattle.borsh_io.specs.Errors.{error_kind};
-ghost use Rattle.borsh_codec.specs.Shapes.{append_encodings, tagged};
-ghost use Rattle.borsh_codec.specs.Writing.{Written, NotWritten};
+ghost use Rattle.std.specs.Prelude.{false};
+ghost use Rattle.borsh_codec.specs.Shapes.{pair, tagged};
+ghost use Rattle.borsh_codec.specs.Writing.{Writes, WritesEncoding};
 
 use super::raw_bytes::write_bytes;
 use super::serialize::BorshSerialize;
@@ -17,8 +16,7 @@ pub fn write_two<A: BorshSerialize, B: BorshSerialize, W: Write>(
     alloc: Global,
     writer: &mut W,
 ) -> Result<()>
-    ensures ok { OnOk result (Written W.writing writer.old writer.new (append_encodings (A.codec.encoding a.now) (B.codec.encoding b.now))) }
-    ensures err { IfErr result (λ e. NotWritten (A.codec.encoding_allocates || B.codec.encoding_allocates) W.writing writer.old writer.new (append_encodings (A.codec.encoding a.now) (B.codec.encoding b.now)) (error_kind e)) }
+    ensures { Writes (pair A.codec B.codec) (a.now, b.now) W.writing writer.old writer.new result }
 {
     a.serialize(alloc, writer)?;
     b.serialize(alloc, writer)
@@ -33,8 +31,10 @@ pub fn write_three<A: BorshSerialize, B: BorshSerialize, C: BorshSerialize, W: W
     alloc: Global,
     writer: &mut W,
 ) -> Result<()>
-    ensures ok { OnOk result (Written W.writing writer.old writer.new (append_encodings (A.codec.encoding a.now) (append_encodings (B.codec.encoding b.now) (C.codec.encoding c.now)))) }
-    ensures err { IfErr result (λ e. NotWritten (A.codec.encoding_allocates || (B.codec.encoding_allocates || C.codec.encoding_allocates)) W.writing writer.old writer.new (append_encodings (A.codec.encoding a.now) (append_encodings (B.codec.encoding b.now) (C.codec.encoding c.now))) (error_kind e)) }
+    ensures { Writes
+        (pair A.codec (pair B.codec C.codec))
+        (a.now, (b.now, c.now))
+        W.writing writer.old writer.new result }
 {
     a.serialize(alloc, writer)?;
     write_two(b, c, alloc, writer)
@@ -49,8 +49,10 @@ pub fn write_four<
     D: BorshSerialize,
     W: Write,
 >(a: &A, b: &B, c: &C, d: &D, alloc: Global, writer: &mut W) -> Result<()>
-    ensures ok { OnOk result (Written W.writing writer.old writer.new (append_encodings (A.codec.encoding a.now) (append_encodings (B.codec.encoding b.now) (append_encodings (C.codec.encoding c.now) (D.codec.encoding d.now))))) }
-    ensures err { IfErr result (λ error. NotWritten (A.codec.encoding_allocates || (B.codec.encoding_allocates || (C.codec.encoding_allocates || D.codec.encoding_allocates))) W.writing writer.old writer.new (append_encodings (A.codec.encoding a.now) (append_encodings (B.codec.encoding b.now) (append_encodings (C.codec.encoding c.now) (D.codec.encoding d.now)))) (error_kind error)) }
+    ensures { Writes
+        (pair A.codec (pair B.codec (pair C.codec D.codec)))
+        (a.now, (b.now, (c.now, d.now)))
+        W.writing writer.old writer.new result }
 {
     a.serialize(alloc, writer)?;
     write_three(b, c, d, alloc, writer)
@@ -66,8 +68,10 @@ pub fn write_five<
     E: BorshSerialize,
     W: Write,
 >(a: &A, b: &B, c: &C, d: &D, e: &E, alloc: Global, writer: &mut W) -> Result<()>
-    ensures ok { OnOk result (Written W.writing writer.old writer.new (append_encodings (A.codec.encoding a.now) (append_encodings (B.codec.encoding b.now) (append_encodings (C.codec.encoding c.now) (append_encodings (D.codec.encoding d.now) (E.codec.encoding e.now)))))) }
-    ensures err { IfErr result (λ error. NotWritten (A.codec.encoding_allocates || (B.codec.encoding_allocates || (C.codec.encoding_allocates || (D.codec.encoding_allocates || E.codec.encoding_allocates)))) W.writing writer.old writer.new (append_encodings (A.codec.encoding a.now) (append_encodings (B.codec.encoding b.now) (append_encodings (C.codec.encoding c.now) (append_encodings (D.codec.encoding d.now) (E.codec.encoding e.now))))) (error_kind error)) }
+    ensures { Writes
+        (pair A.codec (pair B.codec (pair C.codec (pair D.codec E.codec))))
+        (a.now, (b.now, (c.now, (d.now, e.now))))
+        W.writing writer.old writer.new result }
 {
     a.serialize(alloc, writer)?;
     write_four(b, c, d, e, alloc, writer)
@@ -84,8 +88,10 @@ pub fn write_six<
     F: BorshSerialize,
     W: Write,
 >(a: &A, b: &B, c: &C, d: &D, e: &E, f: &F, alloc: Global, writer: &mut W) -> Result<()>
-    ensures ok { OnOk result (Written W.writing writer.old writer.new (append_encodings (A.codec.encoding a.now) (append_encodings (B.codec.encoding b.now) (append_encodings (C.codec.encoding c.now) (append_encodings (D.codec.encoding d.now) (append_encodings (E.codec.encoding e.now) (F.codec.encoding f.now))))))) }
-    ensures err { IfErr result (λ error. NotWritten (A.codec.encoding_allocates || (B.codec.encoding_allocates || (C.codec.encoding_allocates || (D.codec.encoding_allocates || (E.codec.encoding_allocates || F.codec.encoding_allocates))))) W.writing writer.old writer.new (append_encodings (A.codec.encoding a.now) (append_encodings (B.codec.encoding b.now) (append_encodings (C.codec.encoding c.now) (append_encodings (D.codec.encoding d.now) (append_encodings (E.codec.encoding e.now) (F.codec.encoding f.now)))))) (error_kind error)) }
+    ensures { Writes
+        (pair A.codec (pair B.codec (pair C.codec (pair D.codec (pair E.codec F.codec)))))
+        (a.now, (b.now, (c.now, (d.now, (e.now, f.now)))))
+        W.writing writer.old writer.new result }
 {
     a.serialize(alloc, writer)?;
     write_five(b, c, d, e, f, alloc, writer)
@@ -103,8 +109,11 @@ pub fn write_seven<
     G: BorshSerialize,
     W: Write,
 >(a: &A, b: &B, c: &C, d: &D, e: &E, f: &F, g: &G, alloc: Global, writer: &mut W) -> Result<()>
-    ensures ok { OnOk result (Written W.writing writer.old writer.new (append_encodings (A.codec.encoding a.now) (append_encodings (B.codec.encoding b.now) (append_encodings (C.codec.encoding c.now) (append_encodings (D.codec.encoding d.now) (append_encodings (E.codec.encoding e.now) (append_encodings (F.codec.encoding f.now) (G.codec.encoding g.now)))))))) }
-    ensures err { IfErr result (λ error. NotWritten (A.codec.encoding_allocates || (B.codec.encoding_allocates || (C.codec.encoding_allocates || (D.codec.encoding_allocates || (E.codec.encoding_allocates || (F.codec.encoding_allocates || G.codec.encoding_allocates)))))) W.writing writer.old writer.new (append_encodings (A.codec.encoding a.now) (append_encodings (B.codec.encoding b.now) (append_encodings (C.codec.encoding c.now) (append_encodings (D.codec.encoding d.now) (append_encodings (E.codec.encoding e.now) (append_encodings (F.codec.encoding f.now) (G.codec.encoding g.now))))))) (error_kind error)) }
+    ensures { Writes
+        (pair A.codec (pair B.codec (pair C.codec (pair D.codec (pair E.codec (pair F.codec
+        G.codec))))))
+        (a.now, (b.now, (c.now, (d.now, (e.now, (f.now, g.now))))))
+        W.writing writer.old writer.new result }
 {
     a.serialize(alloc, writer)?;
     write_six(b, c, d, e, f, g, alloc, writer)
@@ -134,8 +143,11 @@ pub fn write_eight<
     alloc: Global,
     writer: &mut W,
 ) -> Result<()>
-    ensures ok { OnOk result (Written W.writing writer.old writer.new (append_encodings (A.codec.encoding a.now) (append_encodings (B.codec.encoding b.now) (append_encodings (C.codec.encoding c.now) (append_encodings (D.codec.encoding d.now) (append_encodings (E.codec.encoding e.now) (append_encodings (F.codec.encoding f.now) (append_encodings (G.codec.encoding g.now) (H.codec.encoding h.now))))))))) }
-    ensures err { IfErr result (λ error. NotWritten (A.codec.encoding_allocates || (B.codec.encoding_allocates || (C.codec.encoding_allocates || (D.codec.encoding_allocates || (E.codec.encoding_allocates || (F.codec.encoding_allocates || (G.codec.encoding_allocates || H.codec.encoding_allocates))))))) W.writing writer.old writer.new (append_encodings (A.codec.encoding a.now) (append_encodings (B.codec.encoding b.now) (append_encodings (C.codec.encoding c.now) (append_encodings (D.codec.encoding d.now) (append_encodings (E.codec.encoding e.now) (append_encodings (F.codec.encoding f.now) (append_encodings (G.codec.encoding g.now) (H.codec.encoding h.now)))))))) (error_kind error)) }
+    ensures { Writes
+        (pair A.codec (pair B.codec (pair C.codec (pair D.codec (pair E.codec (pair F.codec
+        (pair G.codec H.codec)))))))
+        (a.now, (b.now, (c.now, (d.now, (e.now, (f.now, (g.now, h.now)))))))
+        W.writing writer.old writer.new result }
 {
     a.serialize(alloc, writer)?;
     write_seven(b, c, d, e, f, g, h, alloc, writer)
@@ -167,8 +179,11 @@ pub fn write_nine<
     alloc: Global,
     writer: &mut W,
 ) -> Result<()>
-    ensures ok { OnOk result (Written W.writing writer.old writer.new (append_encodings (A.codec.encoding a.now) (append_encodings (B.codec.encoding b.now) (append_encodings (C.codec.encoding c.now) (append_encodings (D.codec.encoding d.now) (append_encodings (E.codec.encoding e.now) (append_encodings (F.codec.encoding f.now) (append_encodings (G.codec.encoding g.now) (append_encodings (H.codec.encoding h.now) (I.codec.encoding i.now)))))))))) }
-    ensures err { IfErr result (λ error. NotWritten (A.codec.encoding_allocates || (B.codec.encoding_allocates || (C.codec.encoding_allocates || (D.codec.encoding_allocates || (E.codec.encoding_allocates || (F.codec.encoding_allocates || (G.codec.encoding_allocates || (H.codec.encoding_allocates || I.codec.encoding_allocates)))))))) W.writing writer.old writer.new (append_encodings (A.codec.encoding a.now) (append_encodings (B.codec.encoding b.now) (append_encodings (C.codec.encoding c.now) (append_encodings (D.codec.encoding d.now) (append_encodings (E.codec.encoding e.now) (append_encodings (F.codec.encoding f.now) (append_encodings (G.codec.encoding g.now) (append_encodings (H.codec.encoding h.now) (I.codec.encoding i.now))))))))) (error_kind error)) }
+    ensures { Writes
+        (pair A.codec (pair B.codec (pair C.codec (pair D.codec (pair E.codec (pair F.codec
+        (pair G.codec (pair H.codec I.codec))))))))
+        (a.now, (b.now, (c.now, (d.now, (e.now, (f.now, (g.now, (h.now, i.now))))))))
+        W.writing writer.old writer.new result }
 {
     a.serialize(alloc, writer)?;
     write_eight(b, c, d, e, f, g, h, i, alloc, writer)
@@ -202,8 +217,11 @@ pub fn write_ten<
     alloc: Global,
     writer: &mut W,
 ) -> Result<()>
-    ensures ok { OnOk result (Written W.writing writer.old writer.new (append_encodings (A.codec.encoding a.now) (append_encodings (B.codec.encoding b.now) (append_encodings (C.codec.encoding c.now) (append_encodings (D.codec.encoding d.now) (append_encodings (E.codec.encoding e.now) (append_encodings (F.codec.encoding f.now) (append_encodings (G.codec.encoding g.now) (append_encodings (H.codec.encoding h.now) (append_encodings (I.codec.encoding i.now) (J.codec.encoding j.now))))))))))) }
-    ensures err { IfErr result (λ error. NotWritten (A.codec.encoding_allocates || (B.codec.encoding_allocates || (C.codec.encoding_allocates || (D.codec.encoding_allocates || (E.codec.encoding_allocates || (F.codec.encoding_allocates || (G.codec.encoding_allocates || (H.codec.encoding_allocates || (I.codec.encoding_allocates || J.codec.encoding_allocates))))))))) W.writing writer.old writer.new (append_encodings (A.codec.encoding a.now) (append_encodings (B.codec.encoding b.now) (append_encodings (C.codec.encoding c.now) (append_encodings (D.codec.encoding d.now) (append_encodings (E.codec.encoding e.now) (append_encodings (F.codec.encoding f.now) (append_encodings (G.codec.encoding g.now) (append_encodings (H.codec.encoding h.now) (append_encodings (I.codec.encoding i.now) (J.codec.encoding j.now)))))))))) (error_kind error)) }
+    ensures { Writes
+        (pair A.codec (pair B.codec (pair C.codec (pair D.codec (pair E.codec (pair F.codec
+        (pair G.codec (pair H.codec (pair I.codec J.codec)))))))))
+        (a.now, (b.now, (c.now, (d.now, (e.now, (f.now, (g.now, (h.now, (i.now, j.now)))))))))
+        W.writing writer.old writer.new result }
 {
     a.serialize(alloc, writer)?;
     write_nine(b, c, d, e, f, g, h, i, j, alloc, writer)
@@ -239,8 +257,12 @@ pub fn write_eleven<
     alloc: Global,
     writer: &mut W,
 ) -> Result<()>
-    ensures ok { OnOk result (Written W.writing writer.old writer.new (append_encodings (A.codec.encoding a.now) (append_encodings (B.codec.encoding b.now) (append_encodings (C.codec.encoding c.now) (append_encodings (D.codec.encoding d.now) (append_encodings (E.codec.encoding e.now) (append_encodings (F.codec.encoding f.now) (append_encodings (G.codec.encoding g.now) (append_encodings (H.codec.encoding h.now) (append_encodings (I.codec.encoding i.now) (append_encodings (J.codec.encoding j.now) (K.codec.encoding k.now)))))))))))) }
-    ensures err { IfErr result (λ error. NotWritten (A.codec.encoding_allocates || (B.codec.encoding_allocates || (C.codec.encoding_allocates || (D.codec.encoding_allocates || (E.codec.encoding_allocates || (F.codec.encoding_allocates || (G.codec.encoding_allocates || (H.codec.encoding_allocates || (I.codec.encoding_allocates || (J.codec.encoding_allocates || K.codec.encoding_allocates)))))))))) W.writing writer.old writer.new (append_encodings (A.codec.encoding a.now) (append_encodings (B.codec.encoding b.now) (append_encodings (C.codec.encoding c.now) (append_encodings (D.codec.encoding d.now) (append_encodings (E.codec.encoding e.now) (append_encodings (F.codec.encoding f.now) (append_encodings (G.codec.encoding g.now) (append_encodings (H.codec.encoding h.now) (append_encodings (I.codec.encoding i.now) (append_encodings (J.codec.encoding j.now) (K.codec.encoding k.now))))))))))) (error_kind error)) }
+    ensures { let rest : G × (H × (I × (J × K))) = (g.now, (h.now, (i.now, (j.now, k.now)))) in
+        Writes
+        (pair A.codec (pair B.codec (pair C.codec (pair D.codec (pair E.codec (pair F.codec
+        (pair G.codec (pair H.codec (pair I.codec (pair J.codec K.codec))))))))))
+        (a.now, (b.now, (c.now, (d.now, (e.now, (f.now, rest))))))
+        W.writing writer.old writer.new result }
 {
     a.serialize(alloc, writer)?;
     write_ten(b, c, d, e, f, g, h, i, j, k, alloc, writer)
@@ -278,8 +300,13 @@ pub fn write_twelve<
     alloc: Global,
     writer: &mut W,
 ) -> Result<()>
-    ensures ok { OnOk result (Written W.writing writer.old writer.new (append_encodings (A.codec.encoding a.now) (append_encodings (B.codec.encoding b.now) (append_encodings (C.codec.encoding c.now) (append_encodings (D.codec.encoding d.now) (append_encodings (E.codec.encoding e.now) (append_encodings (F.codec.encoding f.now) (append_encodings (G.codec.encoding g.now) (append_encodings (H.codec.encoding h.now) (append_encodings (I.codec.encoding i.now) (append_encodings (J.codec.encoding j.now) (append_encodings (K.codec.encoding k.now) (L.codec.encoding l.now))))))))))))) }
-    ensures err { IfErr result (λ error. NotWritten (A.codec.encoding_allocates || (B.codec.encoding_allocates || (C.codec.encoding_allocates || (D.codec.encoding_allocates || (E.codec.encoding_allocates || (F.codec.encoding_allocates || (G.codec.encoding_allocates || (H.codec.encoding_allocates || (I.codec.encoding_allocates || (J.codec.encoding_allocates || (K.codec.encoding_allocates || L.codec.encoding_allocates))))))))))) W.writing writer.old writer.new (append_encodings (A.codec.encoding a.now) (append_encodings (B.codec.encoding b.now) (append_encodings (C.codec.encoding c.now) (append_encodings (D.codec.encoding d.now) (append_encodings (E.codec.encoding e.now) (append_encodings (F.codec.encoding f.now) (append_encodings (G.codec.encoding g.now) (append_encodings (H.codec.encoding h.now) (append_encodings (I.codec.encoding i.now) (append_encodings (J.codec.encoding j.now) (append_encodings (K.codec.encoding k.now) (L.codec.encoding l.now)))))))))))) (error_kind error)) }
+    ensures { let rest : G × (H × (I × (J × (K × L)))) =
+        (g.now, (h.now, (i.now, (j.now, (k.now, l.now))))) in
+        Writes
+        (pair A.codec (pair B.codec (pair C.codec (pair D.codec (pair E.codec (pair F.codec
+        (pair G.codec (pair H.codec (pair I.codec (pair J.codec (pair K.codec L.codec)))))))))))
+        (a.now, (b.now, (c.now, (d.now, (e.now, (f.now, rest))))))
+        W.writing writer.old writer.new result }
 {
     a.serialize(alloc, writer)?;
     write_eleven(b, c, d, e, f, g, h, i, j, k, l, alloc, writer)
@@ -293,8 +320,8 @@ pub fn write_tagged<T: BorshSerialize, W: Write>(
     alloc: Global,
     writer: &mut W,
 ) -> Result<()>
-    ensures ok { OnOk result (Written W.writing writer.old writer.new (tagged tag (T.codec.encoding part.now))) }
-    ensures err { IfErr result (λ e. NotWritten T.codec.encoding_allocates W.writing writer.old writer.new (tagged tag (T.codec.encoding part.now)) (error_kind e)) }
+    ensures { WritesEncoding W.writing writer.old writer.new T.codec.encoding_allocates false
+        (tagged tag (T.codec.encoding part.now)) result }
 {
     write_bytes(&[tag], writer)?;
     part.serialize(alloc, writer)

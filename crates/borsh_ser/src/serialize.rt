@@ -20,7 +20,8 @@ pub trait BorshSerialize: BorshType + Sized {
     /// The encodings of the values, one after another, where they lie in memory as they are: only
     /// `u8` answers them.
     fn u8_slice(_slice: &[Self]) -> Option<&[u8]>
-        ensures { IfSome result (λ bytes. concat_encodings Self.codec.encoding _slice.now ≡ Some bytes.now) }
+        ensures { IfSome result (λ bytes.
+            concat_encodings Self.codec.encoding _slice.now ≡ Some bytes.now) }
     {
         None
     }

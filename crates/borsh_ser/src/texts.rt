@@ -1,8 +1,6 @@
 // Texts: a count of four bytes and the bytes of the characters, in UTF-8.
-ghost use Rattle.std.specs.Prelude.{◌≡◌, OnOk, IfErr, false};
-ghost use Rattle.borsh_io.specs.Errors.{error_kind};
 ghost use Rattle.borsh_codec.specs.Types.Texts.{text};
-ghost use Rattle.borsh_codec.specs.Writing.{Written, NotWritten};
+ghost use Rattle.borsh_codec.specs.Writing.{Writes};
 
 use super::lists::write_counted;
 use super::serialize::BorshSerialize;
@@ -15,8 +13,7 @@ use std::rc::RcStr;
 /// Writes the count of bytes and the bytes.
 #[inline]
 pub(crate) fn write_text<W: Write>(string: &str, alloc: Global, writer: &mut W) -> Result<()>
-    ensures ok { OnOk result (Written W.writing writer.old writer.new (text.encoding string.now)) }
-    ensures err { IfErr result (λ e. NotWritten false W.writing writer.old writer.new (text.encoding string.now) (error_kind e)) }
+    ensures { Writes text string.now W.writing writer.old writer.new result }
 {
     write_counted(string.as_bytes(), alloc, writer)
 }
@@ -30,10 +27,7 @@ impl BorshSerialize for String {
 
 impl BorshSerialize for &str {
     #[inline]
-    fn serialize<W: Write>(&self, alloc: Global, writer: &mut W) -> Result<()>
-        ensures ok { OnOk result (Written W.writing writer.old writer.new (text.encoding self.now.now)) }
-        ensures err { IfErr result (λ e. NotWritten false W.writing writer.old writer.new (text.encoding self.now.now) (error_kind e)) }
-    {
+    fn serialize<W: Write>(&self, alloc: Global, writer: &mut W) -> Result<()> {
         write_text(*self, alloc, writer)
     }
 }

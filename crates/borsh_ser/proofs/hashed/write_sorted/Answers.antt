@@ -1,23 +1,16 @@
-use Rattle.std.proofs.Common.{◌≡◌, length, map, sym, ap, true≢false}
+use Rattle.std.proofs.Common.{sym, map}
 use Rattle.std.specs.Map.Iter.{deref_pair}
 use Rattle.std.proofs.lemmas.List.{length-map}
-use Rattle.std.proofs.lemmas.Result.{err_from_is_err_and, on_ok_weaker, IfErr-weaker}
-use Rattle.borsh_codec.specs.Shapes.{unsigned_encoding}
-use Rattle.borsh_codec.proofs.WriteSteps.{writes_as, writes_both, write_denied_as, write_denied_own, write_denied_first, write_denied_second}
+use Rattle.borsh_codec.specs.Shapes.{pair}
+use Rattle.borsh_codec.proofs.WriteOutcomes.{writes_count_exit, writes_counted}
 use Rattle.borsh_ser.proofs.hashed.write_sorted.Goals as goal
 
-pub returns-in_err-write_count-clause-err : goal.returns-in_err-write_count-clause-err
-returns-in_err-write_count-clause-err g c =
-    let long : length c.args.entries.now ≡ length (map deref_pair c.args.entries.now) = sym (length-map c.args.entries.now deref_pair) in
-    let p = err_from_is_err_and c.from_residual.result c.from_residual.ensures.1 in
-    rw (p.1, p.2) (write_denied_own (λ e. absurd (true≢false (sym e))) (write_denied_first g.met.W.Write.lawful _ (write_denied_as (ap (unsigned_encoding 4) long) c.in_err-write_count.ensures.err)))
+pub returns-in_err-write_count : goal.returns-in_err-write_count
+returns-in_err-write_count g c =
+    let entries = c.args.entries.now in
+    writes_count_exit g.met.W.Write.lawful (pair g.K.BorshType.codec g.V.BorshType.codec) (map deref_pair entries) _ (sym (length-map entries deref_pair)) c.from_residual.ensures.1 c.in_err-write_count.ensures
 
-pub returns-clause-ok : goal.returns-clause-ok
-returns-clause-ok g c =
-    let long : length c.args.entries.now ≡ length (map deref_pair c.args.entries.now) = sym (length-map c.args.entries.now deref_pair) in
-    on_ok_weaker c.write_entries.result (writes_both g.met.W.Write.lawful (writes_as (ap (unsigned_encoding 4) long) c.in_ok-write_count.ensures.ok)) c.write_entries.ensures.ok
-
-pub returns-clause-err : goal.returns-clause-err
-returns-clause-err g c =
-    let long : length c.args.entries.now ≡ length (map deref_pair c.args.entries.now) = sym (length-map c.args.entries.now deref_pair) in
-    IfErr-weaker c.write_entries.result _ _ (λ e. write_denied_second g.met.W.Write.lawful (writes_as (ap (unsigned_encoding 4) long) c.in_ok-write_count.ensures.ok)) c.write_entries.ensures.err
+pub returns : goal.returns
+returns g c =
+    let entries = c.args.entries.now in
+    writes_counted g.met.W.Write.lawful (pair g.K.BorshType.codec g.V.BorshType.codec) (map deref_pair entries) (sym (length-map entries deref_pair)) c.in_ok-write_count.ensures c.write_entries.ensures

@@ -1,15 +1,9 @@
-use Rattle.std.proofs.Common.{sym, true≢false}
-use Rattle.std.proofs.lemmas.Result.{err_from_is_err_and, on_ok_weaker, IfErr-weaker}
-use Rattle.borsh_codec.proofs.WriteSteps.{writes_both, write_denied_own, write_denied_first, write_denied_second}
+use Rattle.std.proofs.Common.{false}
+use Rattle.borsh_codec.proofs.WriteOutcomes.{writes_exit_first, writes_then}
 use Rattle.borsh_ser.proofs.lists.write_counted.Goals as goal
 
-pub returns-in_err-write_count-clause-err : goal.returns-in_err-write_count-clause-err
-returns-in_err-write_count-clause-err g c =
-    let p = err_from_is_err_and c.from_residual.result c.from_residual.ensures.1 in
-    rw (p.1, p.2) (write_denied_own (λ e. absurd (true≢false (sym e))) (write_denied_first g.met.W.Write.lawful _ c.in_err-write_count.ensures.err))
+pub returns-in_err-write_count : goal.returns-in_err-write_count
+returns-in_err-write_count g c = writes_exit_first g.met.W.Write.lawful _ _ _ c.from_residual.ensures.1 c.in_err-write_count.ensures
 
-pub returns-clause-ok : goal.returns-clause-ok
-returns-clause-ok g c = on_ok_weaker c.write_elements.result (writes_both g.met.W.Write.lawful c.in_ok-write_count.ensures.ok) c.write_elements.ensures.ok
-
-pub returns-clause-err : goal.returns-clause-err
-returns-clause-err g c = IfErr-weaker c.write_elements.result _ _ (λ e. write_denied_second g.met.W.Write.lawful c.in_ok-write_count.ensures.ok) c.write_elements.ensures.err
+pub returns : goal.returns
+returns g c = writes_then g.met.W.Write.lawful false c.in_ok-write_count.ensures c.write_elements.ensures

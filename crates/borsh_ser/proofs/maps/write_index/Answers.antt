@@ -1,21 +1,15 @@
-use Rattle.std.proofs.Common.{rules, ◌≡◌, length, sym, ap, true≢false}
-use Rattle.std.proofs.lemmas.Result.{err_from_is_err_and, on_ok_weaker, IfErr-weaker}
-use Rattle.borsh_codec.specs.Shapes.{unsigned_encoding}
-use Rattle.borsh_codec.proofs.WriteSteps.{writes_as, writes_both, write_denied_as, write_denied_own, write_denied_first, write_denied_second}
+use Rattle.borsh_codec.specs.Shapes.{pair}
+use Rattle.borsh_codec.proofs.WriteOutcomes.{writes_is, writes_count_exit, writes_counted}
+use Rattle.borsh_codec.proofs.WriteMaps.{index_written}
+use Rattle.borsh_ser.proofs.Items.{writes_first}
 use Rattle.borsh_ser.proofs.maps.write_index.Goals as goal
 
-pub returns-in_err-write_count-clause-err : goal.returns-in_err-write_count-clause-err
-returns-in_err-write_count-clause-err g c =
-    let long : c.len.result ≡ length c.args.table.now.entries = search rules in
-    let p = err_from_is_err_and c.from_residual.result c.from_residual.ensures.1 in
-    rw (p.1, p.2) (write_denied_own (λ e. absurd (true≢false (sym e))) (write_denied_first g.met.W.Write.lawful _ (write_denied_as (ap (unsigned_encoding 4) long) c.in_err-write_count.ensures.err)))
+pub returns-in_err-write_count : goal.returns-in_err-write_count
+returns-in_err-write_count g c =
+    let item = pair g.K.BorshType.codec g.V.BorshType.codec in
+    writes_is (index_written item g.met.K.Eq.laws c.args.table.now.entries c.len.ensures.unique) (writes_count_exit g.met.W.Write.lawful item c.args.table.now.entries _ c.len.ensures.len c.from_residual.ensures.1 c.in_err-write_count.ensures)
 
-pub returns-clause-ok : goal.returns-clause-ok
-returns-clause-ok g c =
-    let long : c.len.result ≡ length c.args.table.now.entries = search rules in
-    on_ok_weaker c.write_index_entries.result (writes_both g.met.W.Write.lawful (writes_as (ap (unsigned_encoding 4) long) c.in_ok-write_count.ensures.ok)) c.write_index_entries.ensures.ok
-
-pub returns-clause-err : goal.returns-clause-err
-returns-clause-err g c =
-    let long : c.len.result ≡ length c.args.table.now.entries = search rules in
-    IfErr-weaker c.write_index_entries.result _ _ (λ e. write_denied_second g.met.W.Write.lawful (writes_as (ap (unsigned_encoding 4) long) c.in_ok-write_count.ensures.ok)) c.write_index_entries.ensures.err
+pub returns : goal.returns
+returns g c =
+    let item = pair g.K.BorshType.codec g.V.BorshType.codec in
+    writes_is (index_written item g.met.K.Eq.laws c.args.table.now.entries c.len.ensures.unique) (writes_counted g.met.W.Write.lawful item c.args.table.now.entries c.len.ensures.len c.in_ok-write_count.ensures (writes_first (λ p. (p.0.now, p.1.now)) item.encoding _ _ c.iter.ensures.rest c.write_each.ensures))

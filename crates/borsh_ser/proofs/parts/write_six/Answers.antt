@@ -1,13 +1,8 @@
-use Rattle.std.proofs.lemmas.Result.{err_from_is_err_and, IfErr-weaker}
-use Rattle.borsh_codec.proofs.Laws.Lists.{or_left, or_right}
-use Rattle.borsh_codec.proofs.WriteSteps.{write_denied_own, write_denied_first, write_denied_second}
+use Rattle.borsh_codec.proofs.WriteOutcomes.{writes_exit_first, writes_then}
 use Rattle.borsh_ser.proofs.parts.write_six.Goals as goal
 
-pub returns-in_err-serialize-clause-err : goal.returns-in_err-serialize-clause-err
-returns-in_err-serialize-clause-err g c =
-    let p = err_from_is_err_and c.from_residual.result c.from_residual.ensures.1 in
-    rw (p.1, p.2) (write_denied_own (or_left _ _) (write_denied_first g.met.W.Write.lawful _ c.in_err-serialize.ensures.err))
+pub returns-in_err-serialize : goal.returns-in_err-serialize
+returns-in_err-serialize g c = writes_exit_first g.met.W.Write.lawful _ _ _ c.from_residual.ensures.1 c.in_err-serialize.ensures
 
-pub returns-clause-err : goal.returns-clause-err
-returns-clause-err g c =
-    IfErr-weaker c.write_five.result _ _ (λ e d. write_denied_own (or_right _ _) (write_denied_second g.met.W.Write.lawful c.in_ok-serialize.ensures.ok d)) c.write_five.ensures.err
+pub returns : goal.returns
+returns g c = writes_then g.met.W.Write.lawful _ c.in_ok-serialize.ensures c.write_five.ensures

@@ -1,33 +1,25 @@
-use Rattle.std.proofs.Common.{rules, ◌≡◌, false, true, refl, sym, map}
+use Rattle.std.proofs.Common.{rules, ◌≡◌, refl, sym, ap, map}
 use Rattle.std.specs.Map.Iter.{deref_pair}
-use Rattle.std.proofs.lemmas.Result.{err_from_is_err_and, on_ok_weaker, IfErr-weaker}
-use Rattle.borsh_codec.specs.Maps.{sorted_by_key}
-use Rattle.borsh_codec.specs.Shapes.{pair}
-use Rattle.borsh_codec.proofs.Laws.Exact.{refused_is}
-use Rattle.borsh_codec.proofs.WriteSteps.{writes_as, write_denied_as, write_denied_own, write_denied_none, write_denied_memory}
-use Rattle.borsh_codec.proofs.WriteMaps.{sorted_written}
+use Rattle.std.proofs.lemmas.Result.{err_from_is_err_and}
+use Rattle.borsh_codec.specs.Maps.{sorted_by_key, hash_entries}
+use Rattle.borsh_codec.specs.Shapes.{length_prefixed, pair}
+use Rattle.borsh_codec.proofs.WriteOutcomes.{writes_is, writes_own, writes_memory, writes_refused_if, writes_allowed_if}
 use Rattle.borsh_ser.proofs.hashed.HashMapBorshSerialize.serialize.Goals as goal
 
-pub returns-then-encodes_empty-clause-err : goal.returns-then-encodes_empty-clause-err
-returns-then-encodes_empty-clause-err g c =
-    let codec = g.K.BorshType.codec in
-    write_denied_none g.met.W.Write.lawful true _ (refused_is codec.is_zero_width _ (sym c.if-encodes_empty.ensures)) c.new.ensures.kind
+pub returns-then-encodes_empty : goal.returns-then-encodes_empty
+returns-then-encodes_empty g c =
+    let k = g.K.BorshType.codec in
+    let v = g.V.BorshType.codec in
+    writes_refused_if g.met.W.Write.lawful k.is_zero_width (hash_entries g.K.Ord.cmp v.equivalent (pair k v)) c.args.self.now.entries _ (sym c.if-encodes_empty.ensures) c.new.ensures.kind
 
-pub returns-in_err-entries-clause-err : goal.returns-in_err-entries-clause-err
-returns-in_err-entries-clause-err g c =
+pub returns-in_err-entries : goal.returns-in_err-entries
+returns-in_err-entries g c =
     let p = err_from_is_err_and c.from_residual.result c.from_residual.ensures.1 in
-    rw p.1 (write_denied_memory g.met.W.Write.lawful _ _ refl p.2.0)
+    rw p.1 (writes_memory g.met.W.Write.lawful _ _ (sym c.if-encodes_empty.ensures) p.2.0)
 
-pub returns-clause-ok : goal.returns-clause-ok
-returns-clause-ok g c =
-    let codec = g.K.BorshType.codec in
-    let allowed : codec.is_zero_width ≡ false = search rules in
+pub returns : goal.returns
+returns g c =
+    let k = g.K.BorshType.codec in
+    let v = g.V.BorshType.codec in
     let sorts : map deref_pair c.as_slice.result.now ≡ sorted_by_key g.K.Ord.cmp c.args.self.now.entries = search rules in
-    on_ok_weaker c.write_sorted.result (writes_as (sorted_written (pair codec g.V.BorshType.codec) codec.is_zero_width allowed g.K.Ord.cmp g.V.BorshType.codec.equivalent c.args.self.now.entries (map deref_pair c.as_slice.result.now) sorts)) c.write_sorted.ensures.ok
-
-pub returns-clause-err : goal.returns-clause-err
-returns-clause-err g c =
-    let codec = g.K.BorshType.codec in
-    let allowed : codec.is_zero_width ≡ false = search rules in
-    let sorts : map deref_pair c.as_slice.result.now ≡ sorted_by_key g.K.Ord.cmp c.args.self.now.entries = search rules in
-    IfErr-weaker c.write_sorted.result _ _ (λ e d. write_denied_own (λ _. refl) (write_denied_as (sorted_written (pair codec g.V.BorshType.codec) codec.is_zero_width allowed g.K.Ord.cmp g.V.BorshType.codec.equivalent c.args.self.now.entries (map deref_pair c.as_slice.result.now) sorts) d)) c.write_sorted.ensures.err
+    writes_allowed_if k.is_zero_width (hash_entries g.K.Ord.cmp v.equivalent (pair k v)) c.args.self.now.entries (sym c.if-encodes_empty.ensures) (writes_own (λ _. refl) (writes_is (ap (length_prefixed (pair k v)).encoding sorts) c.write_sorted.ensures))

@@ -1,10 +1,14 @@
 use Rattle.std.proofs.Common.{sym}
 use Rattle.borsh_codec.specs.Shapes.{length_prefixed}
-use Rattle.borsh_codec.proofs.Laws.Exact.{refused_is}
-use Rattle.borsh_codec.proofs.WriteSteps.{write_denied_none}
+use Rattle.borsh_codec.proofs.WriteOutcomes.{writes_refused_if, writes_allowed_if}
 use Rattle.borsh_ser.proofs.linked.VecDequeBorshSerialize.serialize.Goals as goal
 
-pub returns-then-encodes_empty-clause-err : goal.returns-then-encodes_empty-clause-err
-returns-then-encodes_empty-clause-err g c =
+pub returns-then-encodes_empty : goal.returns-then-encodes_empty
+returns-then-encodes_empty g c =
     let t = g.T.BorshType.codec in
-    write_denied_none g.met.W.Write.lawful t.encoding_allocates _ (refused_is t.is_zero_width ((length_prefixed t).encoding c.args.self.now.items) (sym c.if-encodes_empty.ensures)) c.new.ensures.kind
+    writes_refused_if g.met.W.Write.lawful t.is_zero_width (length_prefixed t) c.args.self.now.items _ (sym c.if-encodes_empty.ensures) c.new.ensures.kind
+
+pub returns : goal.returns
+returns g c =
+    let t = g.T.BorshType.codec in
+    writes_allowed_if t.is_zero_width (length_prefixed t) c.args.self.now.items (sym c.if-encodes_empty.ensures) c.write_queue.ensures

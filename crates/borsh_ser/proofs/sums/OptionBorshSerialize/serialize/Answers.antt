@@ -1,20 +1,14 @@
-use Rattle.std.proofs.Common.{sym, true≢false}
-use Rattle.std.proofs.lemmas.Result.{err_from_is_err_and, on_ok_weaker, IfErr-weaker}
+use Rattle.std.proofs.Common.{false, ◌||◌}
 use Rattle.borsh_codec.proofs.Laws.Lists.{or_left}
-use Rattle.borsh_codec.proofs.WriteSteps.{writes_both, write_denied_own, write_denied_first, write_denied_second}
+use Rattle.borsh_codec.proofs.WriteOutcomes.{writes_exit_first, writes_own, writes_then}
 use Rattle.borsh_ser.proofs.sums.OptionBorshSerialize.serialize.Goals as goal
 
-pub returns-in_err-write_bytes-in-Some-clause-err : goal.returns-in_err-write_bytes-in-Some-clause-err
-returns-in_err-write_bytes-in-Some-clause-err g c =
-    let p = err_from_is_err_and c.from_residual.result c.from_residual.ensures.1 in
+pub returns-in_err-write_bytes-in-Some : goal.returns-in_err-write_bytes-in-Some
+returns-in_err-write_bytes-in-Some g c =
     let t = g.T.BorshType.codec in
-    rw (p.1, p.2, c.in-Some.is) (write_denied_own (λ e. absurd (true≢false (sym e))) (write_denied_first g.met.W.Write.lawful (t.encoding c.in-Some.value) c.in_err-write_bytes-in-Some.ensures.err))
+    rw c.in-Some.is (writes_exit_first g.met.W.Write.lawful (t.encoding_allocates || false) (t.encoding c.in-Some.value) _ c.from_residual.ensures.1 c.in_err-write_bytes-in-Some.ensures)
 
-pub returns-in_ok-write_bytes-in-Some-clause-ok : goal.returns-in_ok-write_bytes-in-Some-clause-ok
-returns-in_ok-write_bytes-in-Some-clause-ok g c =
-    rw c.in-Some.is (on_ok_weaker c.serialize.result (writes_both g.met.W.Write.lawful c.in_ok-write_bytes-in-Some.ensures.ok) c.serialize.ensures.ok)
-
-pub returns-in_ok-write_bytes-in-Some-clause-err : goal.returns-in_ok-write_bytes-in-Some-clause-err
-returns-in_ok-write_bytes-in-Some-clause-err g c =
+pub returns-in_ok-write_bytes-in-Some : goal.returns-in_ok-write_bytes-in-Some
+returns-in_ok-write_bytes-in-Some g c =
     let t = g.T.BorshType.codec in
-    rw c.in-Some.is (IfErr-weaker c.serialize.result _ _ (λ e d. write_denied_own (or_left t.encoding_allocates _) (write_denied_second g.met.W.Write.lawful c.in_ok-write_bytes-in-Some.ensures.ok d)) c.serialize.ensures.err)
+    rw c.in-Some.is (writes_own (or_left t.encoding_allocates _) (writes_then g.met.W.Write.lawful false c.in_ok-write_bytes-in-Some.ensures c.serialize.ensures))

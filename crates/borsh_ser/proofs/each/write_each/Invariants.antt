@@ -1,0 +1,7 @@
+-- The items that came were written, and the others are still to come.
+use Rattle.borsh_ser.proofs.Items.{ItemsLeft}
+use Rattle.borsh_ser.proofs.each.write_each.Given as goal
+
+abbrev pub invariant-loop-item : goal.invariant-loop-item
+invariant-loop-item g l =
+    (goal.iterator-loop-item g).can_next l.items × (goal.iterator-loop-item g).is_finite l.items × ItemsLeft g.I.Iterator.next_gives g.I.Item.BorshType.codec.encoding g.W.Write.writing l.initial.items l.items l.initial.writer l.writer
