@@ -1,9 +1,9 @@
 // Bytes from the front of what is to come.
-ghost use Rattle.std.specs.Prelude.{◌≡◌, ◌<◌, get_or, ℕ, List, false, length, ◌∷◌, [], OnOk, IfOk, IfErr};
+ghost use Rattle.std.specs.Prelude.{◌≡◌, ◌<◌, get_or, ℕ, List, false, length, OnOk, IfOk, IfErr};
 ghost use Rattle.borsh_io.specs.Errors.{error_kind};
 ghost use Rattle.borsh_codec.specs.Shapes.{unsigned, allocated_array};
 ghost use Rattle.borsh_codec.specs.Types.Addresses.{octets};
-ghost use Rattle.borsh_codec.specs.Reading.{TakesPrefix, ReadFails, Decoded, NotDecoded};
+ghost use Rattle.borsh_codec.specs.Reading.{TakesPrefix, ReadFails, Decoded, NotDecoded, Decodes, any_byte};
 
 use super::refusals::unexpected_length;
 use borsh_io::{ErrorKind, Read, Result};
@@ -13,9 +13,12 @@ use std::alloc::Global;
 /// `InvalidData`, "Unexpected length of input".
 #[inline]
 pub fn fill<R: Read>(reader: &mut R, buf: &mut [u8]) -> Result<()>
-    ensures ok { OnOk result (TakesPrefix (λ x. x ≡ buf.new) (R.stream reader.old) (R.stream reader.new)) }
+    ensures ok { OnOk result (
+        TakesPrefix (λ x. x ≡ buf.new) (R.stream reader.old) (R.stream reader.new)) }
     ensures fits { (i : ℕ) → get_or buf.new i 0 < 256 }
-    ensures err { IfErr result (λ e. ReadFails false (λ x. length x ≡ length buf.old) (R.stream reader.old) (R.stream reader.new) (error_kind e)) }
+    ensures err { IfErr result (λ e.
+        ReadFails false false (λ x. length x ≡ length buf.old)
+        (R.stream reader.old) (R.stream reader.new) (error_kind e)) }
 {
     match reader.read_exact(buf) {
         Ok(()) => Ok(()),
@@ -29,8 +32,11 @@ pub fn fill<R: Read>(reader: &mut R, buf: &mut [u8]) -> Result<()>
 /// The next bytes, as many as the array has. Refused as [`fill`] is.
 #[inline]
 pub fn read_bytes<R: Read, const N: usize>(reader: &mut R) -> Result<[u8; N]>
-    ensures ok { IfOk result (λ bytes. TakesPrefix (λ x. x ≡ bytes) (R.stream reader.old) (R.stream reader.new)) }
-    ensures err { IfErr result (λ e. ReadFails false (λ x. length x ≡ N) (R.stream reader.old) (R.stream reader.new) (error_kind e)) }
+    ensures ok { IfOk result (λ bytes.
+        TakesPrefix (λ x. x ≡ bytes) (R.stream reader.old) (R.stream reader.new)) }
+    ensures err { IfErr result (λ e.
+        ReadFails false false (λ x. length x ≡ N)
+        (R.stream reader.old) (R.stream reader.new) (error_kind e)) }
 {
     let mut bytes = [0u8; N];
     fill(reader, &mut bytes)?;
@@ -40,8 +46,7 @@ pub fn read_bytes<R: Read, const N: usize>(reader: &mut R) -> Result<[u8; N]>
 /// The same, as octets that are read one by one. Refused as [`fill`] is.
 #[inline]
 pub(crate) fn read_octets<R: Read, const N: usize>(reader: &mut R) -> Result<[u8; N]>
-    ensures ok { IfOk result (λ bytes. Decoded (List ℕ) (octets N) (R.stream reader.old) (R.stream reader.new) bytes) }
-    ensures err { IfErr result (λ e. NotDecoded (List ℕ) (octets N) (R.stream reader.old) (R.stream reader.new) (error_kind e)) }
+    ensures { Decodes (octets N) R.stream reader.old reader.new result }
 {
     let bytes: [u8; N] = read_bytes(reader)?;
     Ok(bytes)
@@ -50,8 +55,7 @@ pub(crate) fn read_octets<R: Read, const N: usize>(reader: &mut R) -> Result<[u8
 /// The next byte, which says which kind of value follows. Refused as [`fill`] is.
 #[inline]
 pub fn read_tag<R: Read>(reader: &mut R) -> Result<u8>
-    ensures ok { IfOk result (λ tag. TakesPrefix (λ x. x ≡ tag ∷ []) (R.stream reader.old) (R.stream reader.new)) }
-    ensures err { IfErr result (λ e. ReadFails false (λ x. length x ≡ 1) (R.stream reader.old) (R.stream reader.new) (error_kind e)) }
+    ensures { Decodes any_byte R.stream reader.old reader.new result }
 {
     let bytes: [u8; 1] = read_bytes(reader)?;
     Ok(bytes[0])

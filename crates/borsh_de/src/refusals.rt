@@ -1,5 +1,5 @@
 // Why bytes are refused.
-ghost use Rattle.std.specs.Prelude.{◌≡◌};
+ghost use Rattle.std.specs.Prelude.{◌≡◌, true, MatchResult};
 ghost use Rattle.borsh_io.specs.Errors.{error_kind};
 ghost use Rattle.borsh_codec.specs.Reading.{IsInvalidData};
 
@@ -18,7 +18,10 @@ pub const ERROR_WRONG_ORDER_OF_KEYS: &str = "keys were not serialized in ascendi
 /// A refusal of bytes: `InvalidData` with this text, or `OutOfMemory` where the text found no memory.
 #[cold]
 pub fn invalid_data(text: Result<String, AllocError>) -> Error
-    ensures { IsInvalidData (error_kind result) }
+    ensures kind { IsInvalidData true (error_kind result) }
+    ensures by_text { MatchResult text
+        (λ _. error_kind result ≡ ErrorKind.InvalidData)
+        (λ _. error_kind result ≡ ErrorKind.OutOfMemory) }
 {
     match text {
         Ok(text) => Error::new(ErrorKind::InvalidData, text),
