@@ -8,6 +8,7 @@ pub mod ReadRows
 pub mod WriteSteps
 pub mod WriteOutcomes
 pub mod DecodeOutcomes
+pub mod DecodeViews
 pub mod WriteRows
 pub mod NumberBytes
 pub mod ReadWhole

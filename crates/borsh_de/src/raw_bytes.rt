@@ -1,9 +1,9 @@
 // Bytes from the front of what is to come.
-ghost use Rattle.std.specs.Prelude.{◌≡◌, ◌<◌, get_or, ℕ, List, false, length, OnOk, IfOk, IfErr};
+ghost use Rattle.std.specs.Prelude.{◌≡◌, ◌<◌, get_or, ℕ, false, length, OnOk, IfOk, IfErr};
 ghost use Rattle.borsh_io.specs.Errors.{error_kind};
 ghost use Rattle.borsh_codec.specs.Shapes.{unsigned, allocated_array};
 ghost use Rattle.borsh_codec.specs.Types.Addresses.{octets};
-ghost use Rattle.borsh_codec.specs.Reading.{TakesPrefix, ReadFails, Decoded, NotDecoded, Decodes, any_byte};
+ghost use Rattle.borsh_codec.specs.Reading.{TakesPrefix, ReadFails, Decodes, DecodesVec, any_byte};
 
 use super::refusals::unexpected_length;
 use borsh_io::{ErrorKind, Read, Result};
@@ -67,8 +67,7 @@ const FIRST_ROOM: usize = 1048576;
 /// The next `len` bytes. Room is made for 1 MiB at first and then for as many again as came, so bytes
 /// that are announced and don't come cost little memory. Refused as [`fill`] is, and with `OutOfMemory`.
 pub(crate) fn read_vec<R: Read>(alloc: Global, len: usize, reader: &mut R) -> Result<Vec<u8>>
-    ensures ok { IfOk result (λ v. Decoded (List ℕ) (allocated_array len (unsigned 1)) (R.stream reader.old) (R.stream reader.new) v.items) }
-    ensures err { IfErr result (λ e. NotDecoded (List ℕ) (allocated_array len (unsigned 1)) (R.stream reader.old) (R.stream reader.new) (error_kind e)) }
+    ensures { DecodesVec (allocated_array len (unsigned 1)) R.stream reader.old reader.new result }
 {
     let mut bytes = vec![in alloc; 0u8; len.min(FIRST_ROOM)]?;
     fill(reader, &mut bytes)?;
