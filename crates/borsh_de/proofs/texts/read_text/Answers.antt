@@ -18,4 +18,4 @@ returns-in-Ok g c =
 
 pub returns-in-Err : goal.returns-in-Err
 returns-in-Err g c =
-    as_not refl (denied_failed is_utf8 utf8_respects (length_prefixed-lawful (unsigned-lawful 1)) c.in_ok-bytes.ensures.ok c.invalid_data.ensures (λ e. true≢false (sym (c.in-Err.ensures.succeeds (IsUtf8-from_is_utf8 _ e)))))
+    as_not refl (denied_failed is_utf8 utf8_respects (length_prefixed-lawful (unsigned-lawful 1)) c.in_ok-bytes.ensures.ok c.invalid_data.ensures.kind (λ e. true≢false (sym (c.in-Err.ensures.succeeds (IsUtf8-from_is_utf8 _ e)))))

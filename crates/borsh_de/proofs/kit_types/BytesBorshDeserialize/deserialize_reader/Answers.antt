@@ -3,7 +3,7 @@ use Rattle.borsh_codec.proofs.DecodeViews.{decodes_as_exit, decodes_as_made, dec
 use Rattle.borsh_de.proofs.kit_types.BytesBorshDeserialize.deserialize_reader.Goals as goal
 
 pub returns-in_err-read_list : goal.returns-in_err-read_list
-returns-in_err-read_list g c = decodes_as_exit (λ b. b) _ c.from_residual-in_err-read_list.ensures.1 c.in_err-read_list.ensures
+returns-in_err-read_list g c = decodes_as_exit (λ b. b) _ c.from_residual.ensures.1 c.in_err-read_list.ensures
 
 pub returns : goal.returns
 returns g c = decodes_as_made (λ b. b) c.in_ok-from_vec.ensures.ok c.in_ok-read_list.ensures
