@@ -14,7 +14,6 @@ pub mod ReadWhole
 pub mod ReadSums
 pub mod DecodeSums
 pub mod TextBytes
-pub mod ReadNonZero
 pub mod KeyOrder
 pub mod ReadMaps
 pub mod SortedRefs
