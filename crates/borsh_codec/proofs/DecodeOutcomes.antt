@@ -11,7 +11,7 @@ use Rattle.borsh_codec.specs.Codec.{Codec, IsDecodable, Lawful}
 use Rattle.borsh_codec.specs.Shapes.{contramap, allocated, refused_if, pair}
 use Rattle.borsh_codec.specs.Untouched.{Untouched}
 use Rattle.borsh_codec.specs.Reading.{TakesPrefix, NoPrefix, Decoded, NotDecoded, DecodedAfterTag, NotDecodedAfterTag, DecodedAll, NotDecodedAll, ReadFails, WhyNotDecoded, Decodes, DecodesAfterTag, DecodesReader, DecodesAll, IsReEncodable, any_byte}
-use Rattle.borsh_codec.proofs.ReadParts.{reads_contramap, denied_contramap, denied_pair_first, denied_pair_second, denied_no_tag, reads_exact, denied_exact, reads_pair, reads_stored, denied_stored, reads_allowed, denied_allowed, denied_refused, reads_tag, denied_tag}
+use Rattle.borsh_codec.proofs.ReadParts.{reads_contramap, denied_contramap, denied_value, denied_pair_first, denied_pair_second, denied_no_tag, reads_exact, denied_exact, reads_pair, reads_stored, denied_stored, reads_allowed, denied_allowed, denied_refused, reads_tag, denied_tag}
 use Rattle.borsh_codec.proofs.ReadSteps.{took_weaker, refused_map, denied_memory}
 use Rattle.borsh_codec.proofs.ReadWhole.{whole_owed, denied_all, whole_of_all, not_whole_of_all}
 
@@ -20,6 +20,10 @@ pub decodes_exit : {A R : Type 0} {c : Codec A} {state : R → ReaderState} {a b
 decodes_exit {c = c} {state = state} {a = a} {b = b} e {r = r} is f =
     let p = err_from_is_err_and r is in
     subst (Decodes c state a b) (sym (p.1 ∙ ap (λ y. Err y) p.2)) f
+
+-- the same of a part of the reader that says all that is known of it
+pub decodes_of : {A R S : Type 0} {c : Codec A} {state : S → ReaderState} (part : R → S) {a b : R} {r : Result A Error} → Decodes c (λ x. state (part x)) a b r → Decodes c state (part a) (part b) r
+decodes_of part d = record { ok = d.ok; err = d.err; untouched = λ h. (let u = d.untouched h in record { kind = u.kind; still = ap part u.still }) }
 
 -- a type that reads before it refuses
 pub decodes_err : {A R : Type 0} {c : Codec A} {state : R → ReaderState} {a b : R} {e : Error} → c.refuses ≡ false → NotDecoded A c (state a) (state b) (error_kind e) → Decodes c state a b (Err e)
@@ -45,6 +49,10 @@ reads_made view {c = c} {s = s} {t = t} e r = reads_contramap view (subst (λ u.
 
 pub decodes_made : {A B R : Type 0} (view : B → A) {c : Codec A} {state : R → ReaderState} {a b : R} {v : A} {w : B} → view w ≡ v → Decodes c state a b (Ok v) → Decodes (contramap view c) state a b (Ok w)
 decodes_made view e d = record { ok = reads_made view e d.ok; err = tt; untouched = λ h. absurd (never_ok d h) }
+
+-- no value has the parts that were read
+pub decodes_not_made : {A B R : Type 0} (view : B → A) {c : Codec A} {state : R → ReaderState} {a b : R} {v : A} {e : Error} → Lawful A c → ((w : B) → c.equivalent (view w) v → ⊥) → error_kind e ≡ InvalidData → Decodes c state a b (Ok v) → Decodes (contramap view c) state a b (Err e)
+decodes_not_made view l none k d = record { ok = tt; err = denied_value view l d.ok (inl k) none; untouched = λ h. absurd (never_ok d h) }
 
 -- ---- two parts
 

@@ -13,8 +13,8 @@ pub mod WriteRows
 pub mod NumberBytes
 pub mod ReadWhole
 pub mod ReadSums
+pub mod DecodeSums
 pub mod TextBytes
-pub mod ReadNonZero
 pub mod KeyOrder
 pub mod ReadMaps
 pub mod SortedRefs

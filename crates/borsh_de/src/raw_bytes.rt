@@ -1,9 +1,8 @@
 // Bytes from the front of what is to come.
-ghost use Rattle.std.specs.Prelude.{◌≡◌, ◌<◌, get_or, ℕ, false, length, OnOk, IfOk, IfErr};
-ghost use Rattle.borsh_io.specs.Errors.{error_kind};
 ghost use Rattle.borsh_codec.specs.Shapes.{unsigned, allocated_array};
 ghost use Rattle.borsh_codec.specs.Types.Addresses.{octets};
-ghost use Rattle.borsh_codec.specs.Reading.{TakesPrefix, ReadFails, Decodes, DecodesVec, any_byte};
+ghost use Rattle.borsh_codec.specs.RawBytes.{FillsBuffer, TakesBytes};
+ghost use Rattle.borsh_codec.specs.Reading.{Decodes, DecodesVec, any_byte};
 
 use super::refusals::unexpected_length;
 use borsh_io::{ErrorKind, Read, Result};
@@ -13,12 +12,7 @@ use std::alloc::Global;
 /// `InvalidData`, "Unexpected length of input".
 #[inline]
 pub fn fill<R: Read>(reader: &mut R, buf: &mut [u8]) -> Result<()>
-    ensures ok { OnOk result (
-        TakesPrefix (λ x. x ≡ buf.new) (R.stream reader.old) (R.stream reader.new)) }
-    ensures fits { (i : ℕ) → get_or buf.new i 0 < 256 }
-    ensures err { IfErr result (λ e.
-        ReadFails false false (λ x. length x ≡ length buf.old)
-        (R.stream reader.old) (R.stream reader.new) (error_kind e)) }
+    ensures { FillsBuffer R.stream reader.old reader.new buf.old buf.new result }
 {
     match reader.read_exact(buf) {
         Ok(()) => Ok(()),
@@ -32,11 +26,7 @@ pub fn fill<R: Read>(reader: &mut R, buf: &mut [u8]) -> Result<()>
 /// The next bytes, as many as the array has. Refused as [`fill`] is.
 #[inline]
 pub fn read_bytes<R: Read, const N: usize>(reader: &mut R) -> Result<[u8; N]>
-    ensures ok { IfOk result (λ bytes.
-        TakesPrefix (λ x. x ≡ bytes) (R.stream reader.old) (R.stream reader.new)) }
-    ensures err { IfErr result (λ e.
-        ReadFails false false (λ x. length x ≡ N)
-        (R.stream reader.old) (R.stream reader.new) (error_kind e)) }
+    ensures { TakesBytes N R.stream reader.old reader.new result }
 {
     let mut bytes = [0u8; N];
     fill(reader, &mut bytes)?;

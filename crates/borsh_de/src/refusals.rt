@@ -44,10 +44,10 @@ pub(crate) fn unexpected_length() -> Error
 }
 
 #[cold]
-pub(crate) fn not_non_zero() -> Error
+pub(crate) fn refused(text: &'static str) -> Error
     ensures { error_kind result ≡ ErrorKind.InvalidData }
 {
-    Error::new(ErrorKind::InvalidData, ERROR_INVALID_ZERO_VALUE)
+    Error::new(ErrorKind::InvalidData, text)
 }
 
 #[cold]
