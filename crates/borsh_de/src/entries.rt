@@ -3,10 +3,9 @@ ghost use Rattle.borsh_io.specs.Errors.{error_kind};
 ghost use Rattle.borsh_codec.specs.Maps.{IsOutOfOrder, key_only, unit_entries, entries};
 ghost use Rattle.borsh_codec.specs.Reading.{DecodesAs, DecodesVec};
 ghost use Rattle.borsh_codec.specs.Shapes.{length_prefixed, pair, refused_if};
-ghost use Rattle.std.specs.Bool.{⊤};
 ghost use Rattle.std.specs.List.Sorted.{IsStrictlySortedBy};
 ghost use Rattle.std.specs.Map.{keys_of};
-ghost use Rattle.std.specs.Prelude.{◌≡◌, ◌↔◌, true, List, IsTrue, IfErr, IfOk, OnErr, OnOk};
+ghost use Rattle.std.specs.Prelude.{◌≡◌, ◌↔◌, true, IsTrue, MatchResult};
 
 use super::deserialize::BorshDeserialize;
 use super::lists::{read_counted, read_list};
@@ -36,9 +35,9 @@ fn keys_ascend<K: Ord>(keys: &[K]) -> bool
 /// not serialized in ascending order".
 #[inline]
 fn check_entries<K: Ord, V>(strict: bool, entries: &[(K, V)]) -> Result<()>
-    ensures ok { OnOk result (strict ≡ true → IsStrictlySortedBy K.cmp (keys_of entries.now)) }
-    ensures kind { IfErr result (λ e. error_kind e ≡ ErrorKind.InvalidData) }
-    ensures why { OnErr result (IsOutOfOrder K.cmp strict entries.now) }
+    ensures { MatchResult result
+        (λ _. strict ≡ true → IsStrictlySortedBy K.cmp (keys_of entries.now))
+        (λ e. (error_kind e ≡ ErrorKind.InvalidData) × IsOutOfOrder K.cmp strict entries.now) }
 {
     if strict && !entries_ascend(entries) {
         return Err(wrong_order());
@@ -49,9 +48,10 @@ fn check_entries<K: Ord, V>(strict: bool, entries: &[(K, V)]) -> Result<()>
 /// The same for the keys of a set.
 #[inline]
 fn check_keys<K: Ord>(strict: bool, keys: &[K]) -> Result<()>
-    ensures ok { OnOk result (strict ≡ true → IsStrictlySortedBy K.cmp keys.now) }
-    ensures kind { IfErr result (λ e. error_kind e ≡ ErrorKind.InvalidData) }
-    ensures why { OnErr result (IsOutOfOrder K.cmp strict (unit_entries keys.now)) }
+    ensures { MatchResult result
+        (λ _. strict ≡ true → IsStrictlySortedBy K.cmp keys.now)
+        (λ e. (error_kind e ≡ ErrorKind.InvalidData)
+            × IsOutOfOrder K.cmp strict (unit_entries keys.now)) }
 {
     if strict && !keys_ascend(keys) {
         return Err(wrong_order());

@@ -15,11 +15,11 @@ pub returns-in_err-check_entries : goal.returns-in_err-check_entries
 returns-in_err-check_entries g c =
     let read = c.in_ok-read.ensures.ok in
     let same : c.deref.result.now ≡ c.in_ok-read.read.items = search rules in
-    let why = subst (λ l. IsOutOfOrder g.K.Ord.cmp c.strict_order.result l) same c.in_err-check_entries.ensures.why in
+    let why = subst (λ l. IsOutOfOrder g.K.Ord.cmp c.strict_order.result l) same c.in_err-check_entries.ensures.1 in
     let told = subst (λ m. IsOutOfOrder g.K.Ord.cmp m c.in_ok-read.read.items) (c.strict_order.ensures ∙ read.took.takes.strict_order) why in
     let keyed = keyed_pairs g.met.K.BorshType.lawful g.met.K.BorshKey.key g.met.K.Ord.total g.met.K.Ord.matches_eq g.V.BorshType.codec in
     made_err (λ v. v.items) _ c.from_residual-in_err-check_entries.ensures.1 (λ h. h) c.in_ok-read.ensures
-    (denied_order g.K.BorshType.codec.is_zero_width (pair-lawful g.met.K.BorshType.lawful g.met.V.BorshType.lawful) keyed (inl c.in_err-check_entries.ensures.kind) told read)
+    (denied_order g.K.BorshType.codec.is_zero_width (pair-lawful g.met.K.BorshType.lawful g.met.V.BorshType.lawful) keyed (inl c.in_err-check_entries.ensures.0) told read)
 
 pub returns : goal.returns
 returns g c =

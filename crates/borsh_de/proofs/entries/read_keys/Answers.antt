@@ -16,11 +16,11 @@ returns-in_err-check_keys g c =
     let codec = g.K.BorshType.codec in
     let read = reads_bare codec codec.is_zero_width _ c.in_ok-read.ensures.ok in
     let same : c.deref.result.now ≡ c.in_ok-read.read.items = search rules in
-    let why = subst (λ l. IsOutOfOrder g.K.Ord.cmp c.strict_order.result (unit_entries l)) same c.in_err-check_keys.ensures.why in
+    let why = subst (λ l. IsOutOfOrder g.K.Ord.cmp c.strict_order.result (unit_entries l)) same c.in_err-check_keys.ensures.1 in
     let told = subst (λ m. IsOutOfOrder g.K.Ord.cmp m (unit_entries c.in_ok-read.read.items)) (c.strict_order.ensures ∙ read.took.takes.strict_order) why in
     let keyed = keyed_alone g.met.K.BorshType.lawful g.met.K.BorshKey.key g.met.K.Ord.total g.met.K.Ord.matches_eq in
     made_err (λ v. unit_entries v.items) _ c.from_residual-in_err-check_keys.ensures.1 (λ h. h) c.in_ok-read.ensures
-    (denied_order codec.is_zero_width (alone-lawful g.met.K.BorshType.lawful g.met.K.BorshKey.key) keyed (inl c.in_err-check_keys.ensures.kind) told read)
+    (denied_order codec.is_zero_width (alone-lawful g.met.K.BorshType.lawful g.met.K.BorshKey.key) keyed (inl c.in_err-check_keys.ensures.0) told read)
 
 pub returns : goal.returns
 returns g c =
