@@ -37,10 +37,8 @@ fn read_each<T: BorshDeserialize, R: Read, const N: usize>(
     elements: &mut Elements<R>,
 ) -> Result<Held<[T; N]>>
     ensures same_reader { elements.new.reader.ghost_name ≡ elements.old.reader.ghost_name }
-    ensures outcome {
-        DecodesAs (λ held. held.0) (array N T.codec) R.stream elements.old.reader.now
-            elements.new.reader.now result
-    }
+    ensures outcome { DecodesAs (λ held. held.0) (array N T.codec) R.stream elements.old.reader.now
+        elements.new.reader.now result }
 {
     try_array_from(elements)
 }

@@ -51,7 +51,7 @@ fn check_keys<K: Ord>(strict: bool, keys: &[K]) -> Result<()>
     ensures { MatchResult result
         (λ _. strict ≡ true → IsStrictlySortedBy K.cmp keys.now)
         (λ e. (error_kind e ≡ ErrorKind.InvalidData)
-            × IsOutOfOrder K.cmp strict (unit_entries keys.now)) }
+        × IsOutOfOrder K.cmp strict (unit_entries keys.now)) }
 {
     if strict && !keys_ascend(keys) {
         return Err(wrong_order());
@@ -66,10 +66,8 @@ pub(crate) fn read_pairs<K: BorshDeserialize, V: BorshDeserialize, R: Read>(
     alloc: Global,
     reader: &mut R,
 ) -> Result<Vec<(K, V)>>
-    ensures {
-        DecodesVec (refused_if K.codec.is_zero_width (length_prefixed (pair K.codec V.codec)))
-            R.stream reader.old reader.new result
-    }
+    ensures { DecodesVec (refused_if K.codec.is_zero_width (length_prefixed (pair K.codec V.codec)))
+        R.stream reader.old reader.new result }
 {
     if K::encodes_empty() {
         return Err(Error::new(ErrorKind::InvalidData, ERROR_ZST_FORBIDDEN));
@@ -83,10 +81,8 @@ pub(crate) fn read_entries<K: BorshKey + BorshDeserialize + Ord, V: BorshDeseria
     alloc: Global,
     reader: &mut R,
 ) -> Result<Vec<(K, V)>>
-    ensures {
-        DecodesVec (refused_if K.codec.is_zero_width (entries K.cmp (pair K.codec V.codec)))
-            R.stream reader.old reader.new result
-    }
+    ensures { DecodesVec (refused_if K.codec.is_zero_width (entries K.cmp (pair K.codec V.codec)))
+        R.stream reader.old reader.new result }
 {
     let read = read_pairs(alloc, reader)?;
     check_entries(reader.strict_order(), &read)?;
@@ -100,11 +96,9 @@ pub(crate) fn read_keys<K: BorshKey + BorshDeserialize + Ord, R: Read>(
     alloc: Global,
     reader: &mut R,
 ) -> Result<Vec<K>>
-    ensures {
-        DecodesAs (λ v. unit_entries v.items)
-            (refused_if K.codec.is_zero_width (entries K.cmp (key_only K.codec)))
-            R.stream reader.old reader.new result
-    }
+    ensures { DecodesAs (λ v. unit_entries v.items)
+        (refused_if K.codec.is_zero_width (entries K.cmp (key_only K.codec)))
+        R.stream reader.old reader.new result }
 {
     let read = read_list(alloc, reader)?;
     check_keys(reader.strict_order(), &read)?;

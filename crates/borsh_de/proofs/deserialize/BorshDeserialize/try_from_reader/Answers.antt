@@ -14,6 +14,6 @@ returns-in-UnexpectedEof g c = decodes_reader_ok c.in_ok-value.ensures (reads_al
 
 pub returns-in_default : goal.returns-in_default
 returns-in_default g c = decodes_reader_err c.in_ok-value.ensures (elim c.in-Err.ensures.cause [
-    | inl x ↦ absurd (c.in_default.not-UnexpectedEof (c.kind.ensures ∙ x.0))
-    | inr r ↦ denied_failed c.in_ok-value.ensures.ok c.in-Err.ensures.tail r c.not_all_bytes_read-in_default.ensures
+  | inl x ↦ absurd (c.in_default.not-UnexpectedEof (c.kind.ensures ∙ x.0))
+  | inr r ↦ denied_failed c.in_ok-value.ensures.ok c.in-Err.ensures.tail r c.not_all_bytes_read-in_default.ensures
 ])
