@@ -21,10 +21,6 @@ decodes_exit {c = c} {state = state} {a = a} {b = b} e {r = r} is f =
     let p = err_from_is_err_and r is in
     subst (Decodes c state a b) (sym (p.1 ∙ ap (λ y. Err y) p.2)) f
 
--- the same of a part of the reader that says all that is known of it
-pub decodes_of : {A R S : Type 0} {c : Codec A} {state : S → ReaderState} (part : R → S) {a b : R} {r : Result A Error} → Decodes c (λ x. state (part x)) a b r → Decodes c state (part a) (part b) r
-decodes_of part d = record { ok = d.ok; err = d.err; untouched = λ h. (let u = d.untouched h in record { kind = u.kind; still = ap part u.still }) }
-
 -- a type that reads before it refuses
 pub decodes_err : {A R : Type 0} {c : Codec A} {state : R → ReaderState} {a b : R} {e : Error} → c.refuses ≡ false → NotDecoded A c (state a) (state b) (error_kind e) → Decodes c state a b (Err e)
 decodes_err n f = record { ok = tt; err = f; untouched = λ e. absurd (true≢false (sym e ∙ n)) }

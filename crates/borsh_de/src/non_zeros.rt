@@ -1,5 +1,9 @@
-// Whole numbers that are not zero: their number. Zero is refused once all of its bytes are read.
-ghost use Rattle.std.specs.Int.NonZero.{non_zero_u8_get, non_zero_u16_get, non_zero_u32_get, non_zero_u64_get, non_zero_u128_get, non_zero_usize_get, non_zero_i8_get, non_zero_i16_get, non_zero_i32_get, non_zero_i64_get, non_zero_i128_get};
+// Whole numbers that are not zero: their number. Zero is refused with `InvalidData`, "Expected a
+// non-zero value", once all of its bytes are read.
+ghost use Rattle.std.specs.Int.NonZero.{non_zero_u8_get, non_zero_u16_get, non_zero_u32_get};
+ghost use Rattle.std.specs.Int.NonZero.{non_zero_u64_get, non_zero_u128_get, non_zero_usize_get};
+ghost use Rattle.std.specs.Int.NonZero.{non_zero_i8_get, non_zero_i16_get, non_zero_i32_get};
+ghost use Rattle.std.specs.Int.NonZero.{non_zero_i64_get, non_zero_i128_get};
 
 use super::deserialize::BorshDeserialize;
 use super::parts::{TryFromParts, read_checked};

@@ -10,7 +10,7 @@ use super::raw_bytes::{fill, read_bytes, read_vec};
 use borsh_io::{Read, Result};
 use std::alloc::Global;
 
-/// The bytes of a number. Refused as [`read_bytes`] is.
+/// The bytes of a number. The errors are those of [`read_bytes`].
 #[inline]
 fn number_bytes<R: Read, const N: usize>(reader: &mut R) -> Result<[u8; N]>
     ensures { TakesNumber N R.stream reader.old reader.new result }
@@ -114,9 +114,8 @@ impl BorshDeserialize for u8 {
     /// The bytes, always: the answer is never `false`.
     #[inline]
     fn fill_slice<R: Read>(items: &mut [u8], reader: &mut R) -> Result<bool>
-        ensures outcome {
-            DecodesOver (unsigned 1) R.stream reader.old reader.new items.old items.new result
-        }
+        ensures outcome { DecodesOver (unsigned 1) R.stream
+            reader.old reader.new items.old items.new result }
         ensures filled { IfOk result IsTrue }
     {
         fill(reader, items)?;

@@ -1,4 +1,4 @@
-// Types whose values are read as their parts.
+// Types whose values are decoded as their parts.
 ghost use Rattle.std.specs.Prelude.{◌≡◌, IfSome, IfNone};
 ghost use Rattle.borsh_codec.specs.Shapes.{contramap};
 ghost use Rattle.borsh_codec.specs.Reading.{Decodes};
@@ -10,7 +10,7 @@ use std::alloc::Global;
 
 /// A type whose values are put together from parts, whatever the parts are: a struct of its fields.
 ///
-/// With [`read_parts`] such a type is read with no proof.
+/// With [`read_parts`] such a type is decoded with no proof.
 ///
 /// ```
 /// pub struct Point {
@@ -51,7 +51,8 @@ pub trait FromParts: Sized {
         ensures { view result ≡ parts };
 }
 
-/// Reads the parts, and puts the value together. Refused as the parts are, with what they leave.
+/// Decodes the parts, and puts the value together. The errors are those of the parts, and they leave
+/// what those leave.
 #[inline]
 pub fn read_parts<T: FromParts, R: Read>(alloc: Global, reader: &mut R) -> Result<T>
     ensures { Decodes (contramap T.view T.Parts.codec) R.stream reader.old reader.new result }
@@ -62,7 +63,7 @@ pub fn read_parts<T: FromParts, R: Read>(alloc: Global, reader: &mut R) -> Resul
 
 /// A type whose values are put together from parts that pass a test.
 ///
-/// With [`read_checked`] such a type is read with no proof.
+/// With [`read_checked`] such a type is decoded with no proof.
 ///
 /// ```
 /// impl TryFromParts for NonZeroU8 {
@@ -95,14 +96,16 @@ pub trait TryFromParts: Sized {
     /// The value with these parts, if there is one.
     fn try_from_parts(parts: Self::Parts) -> Option<Self>
         ensures some { IfSome result (λ v. view v ≡ parts) }
-        ensures none { IfNone result ((v : Self) → Self.Parts.codec.equivalent (view v) parts → ⊥) };
+        ensures none { IfNone result (
+            (v : Self) → Self.Parts.codec.equivalent (view v) parts → ⊥) };
 
     /// The text of the error where there is none.
     fn refusal() -> &'static str;
 }
 
-/// Reads the parts, and puts the value together. Refused as the parts are, and where no value has these
-/// parts: with `InvalidData` and the text of the type, once all of the parts are read.
+/// Decodes the parts, and puts the value together. The errors are those of the parts, and `InvalidData`
+/// with the text of the type where no value has these parts: then the parts are read, and the rest is
+/// left.
 #[inline]
 pub fn read_checked<T: TryFromParts, R: Read>(alloc: Global, reader: &mut R) -> Result<T>
     ensures { Decodes (contramap T.view T.Parts.codec) R.stream reader.old reader.new result }

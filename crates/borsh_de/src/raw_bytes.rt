@@ -1,4 +1,4 @@
-// Bytes from the front of what is to come.
+// The next bytes, as they are.
 ghost use Rattle.borsh_codec.specs.Shapes.{unsigned, allocated_array};
 ghost use Rattle.borsh_codec.specs.Types.Addresses.{octets};
 ghost use Rattle.borsh_codec.specs.RawBytes.{FillsBuffer, TakesBytes};
@@ -8,8 +8,8 @@ use super::refusals::unexpected_length;
 use borsh_io::{ErrorKind, Read, Result};
 use std::alloc::Global;
 
-/// Fills the buffer with the front of the bytes to come. Input that ends early is refused with
-/// `InvalidData`, "Unexpected length of input".
+/// Fills the buffer with the next bytes. Where there are fewer, the error is `InvalidData`, "Unexpected
+/// length of input"; else it is the reader's. After an error a tail of the bytes to come is left.
 #[inline]
 pub fn fill<R: Read>(reader: &mut R, buf: &mut [u8]) -> Result<()>
     ensures { FillsBuffer R.stream reader.old reader.new buf.old buf.new result }
@@ -23,7 +23,7 @@ pub fn fill<R: Read>(reader: &mut R, buf: &mut [u8]) -> Result<()>
     }
 }
 
-/// The next bytes, as many as the array has. Refused as [`fill`] is.
+/// The next bytes, as many as the array has. The errors are those of [`fill`].
 #[inline]
 pub fn read_bytes<R: Read, const N: usize>(reader: &mut R) -> Result<[u8; N]>
     ensures { TakesBytes N R.stream reader.old reader.new result }
@@ -33,7 +33,7 @@ pub fn read_bytes<R: Read, const N: usize>(reader: &mut R) -> Result<[u8; N]>
     Ok(bytes)
 }
 
-/// The same, as octets that are read one by one. Refused as [`fill`] is.
+/// The same, as an array of numbers of one byte. The errors are those of [`fill`].
 #[inline]
 pub(crate) fn read_octets<R: Read, const N: usize>(reader: &mut R) -> Result<[u8; N]>
     ensures { Decodes (octets N) R.stream reader.old reader.new result }
@@ -42,7 +42,7 @@ pub(crate) fn read_octets<R: Read, const N: usize>(reader: &mut R) -> Result<[u8
     Ok(bytes)
 }
 
-/// The next byte, which says which kind of value follows. Refused as [`fill`] is.
+/// The next byte, which says which kind of value follows. The errors are those of [`fill`].
 #[inline]
 pub fn read_tag<R: Read>(reader: &mut R) -> Result<u8>
     ensures { Decodes any_byte R.stream reader.old reader.new result }

@@ -12,10 +12,11 @@ pub const ERROR_UNEXPECTED_LENGTH_OF_INPUT: &str = "Unexpected length of input";
 
 pub const ERROR_INVALID_ZERO_VALUE: &str = "Expected a non-zero value";
 
-/// The refusal of maps and sets whose keys don't strictly ascend, where the reader wants order.
+/// The text for maps and sets whose keys don't strictly ascend, where the reader wants order.
 pub const ERROR_WRONG_ORDER_OF_KEYS: &str = "keys were not serialized in ascending order";
 
-/// A refusal of bytes: `InvalidData` with this text, or `OutOfMemory` where the text found no memory.
+/// The error for bytes that decode to no value: `InvalidData` with this text, or `OutOfMemory` where
+/// there was no memory for the text.
 #[cold]
 pub fn invalid_data(text: Result<String, AllocError>) -> Error
     ensures kind { IsInvalidData true (error_kind result) }

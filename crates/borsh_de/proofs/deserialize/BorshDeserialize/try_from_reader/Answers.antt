@@ -1,10 +1,7 @@
 use Rattle.std.proofs.Common.{inl, inr, ◌∙◌}
 use Rattle.borsh_codec.proofs.ReadWhole.{denied_more, denied_failed, reads_all}
-use Rattle.borsh_codec.proofs.DecodeOutcomes.{decodes_reader_exit, decodes_reader_err, decodes_reader_ok}
+use Rattle.borsh_codec.proofs.DecodeOutcomes.{decodes_reader_err, decodes_reader_ok}
 use Rattle.borsh_de.proofs.deserialize.BorshDeserialize.try_from_reader.Goals as goal
-
-pub returns-in_err-value : goal.returns-in_err-value
-returns-in_err-value g c = decodes_reader_exit _ c.from_residual.ensures.1 c.in_err-value.ensures
 
 pub returns-in-Ok : goal.returns-in-Ok
 returns-in-Ok g c = decodes_reader_err c.in_ok-value.ensures (denied_more g.met.Self.BorshType.lawful c.in_ok-value.ensures.ok c.in-Ok.ensures.takes c.read_exact.auto.buf c.not_all_bytes_read.ensures)

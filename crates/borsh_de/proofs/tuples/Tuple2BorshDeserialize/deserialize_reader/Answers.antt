@@ -1,8 +1,5 @@
-use Rattle.borsh_codec.proofs.DecodeOutcomes.{decodes_pair_first, decodes_pair_second, decodes_pair}
+use Rattle.borsh_codec.proofs.DecodeOutcomes.{decodes_pair_second, decodes_pair}
 use Rattle.borsh_de.proofs.tuples.Tuple2BorshDeserialize.deserialize_reader.Goals as goal
-
-pub returns-in_err-a : goal.returns-in_err-a
-returns-in_err-a g c = decodes_pair_first g.B.BorshType.codec _ c.from_residual.ensures.1 c.in_err-a.ensures
 
 pub returns-in_err-b : goal.returns-in_err-b
 returns-in_err-b g c = decodes_pair_second _ g.met.A.BorshType.lawful c.in_ok-a.ensures c.from_residual-in_err-b.ensures.1 c.in_err-b.ensures
