@@ -11,7 +11,7 @@ use Rattle.borsh_codec.specs.Codec.{Codec, IsDecodable, Lawful}
 use Rattle.borsh_codec.specs.Shapes.{contramap, allocated, refused_if, pair}
 use Rattle.borsh_codec.specs.Untouched.{Untouched}
 use Rattle.borsh_codec.specs.Reading.{TakesPrefix, NoPrefix, Decoded, NotDecoded, DecodedAfterTag, NotDecodedAfterTag, DecodedAll, NotDecodedAll, ReadFails, WhyNotDecoded, Decodes, DecodesAfterTag, DecodesReader, DecodesAll, IsReEncodable, any_byte}
-use Rattle.borsh_codec.proofs.ReadParts.{reads_contramap, denied_contramap, denied_pair_first, denied_pair_second, denied_no_tag, reads_exact, denied_exact, reads_pair, reads_stored, denied_stored, reads_allowed, denied_allowed, denied_refused, reads_tag, denied_tag}
+use Rattle.borsh_codec.proofs.ReadParts.{reads_contramap, denied_contramap, denied_value, denied_pair_first, denied_pair_second, denied_no_tag, reads_exact, denied_exact, reads_pair, reads_stored, denied_stored, reads_allowed, denied_allowed, denied_refused, reads_tag, denied_tag}
 use Rattle.borsh_codec.proofs.ReadSteps.{took_weaker, refused_map, denied_memory}
 use Rattle.borsh_codec.proofs.ReadWhole.{whole_owed, denied_all, whole_of_all, not_whole_of_all}
 
@@ -45,6 +45,10 @@ reads_made view {c = c} {s = s} {t = t} e r = reads_contramap view (subst (λ u.
 
 pub decodes_made : {A B R : Type 0} (view : B → A) {c : Codec A} {state : R → ReaderState} {a b : R} {v : A} {w : B} → view w ≡ v → Decodes c state a b (Ok v) → Decodes (contramap view c) state a b (Ok w)
 decodes_made view e d = record { ok = reads_made view e d.ok; err = tt; untouched = λ h. absurd (never_ok d h) }
+
+-- no value has the parts that were read
+pub decodes_not_made : {A B R : Type 0} (view : B → A) {c : Codec A} {state : R → ReaderState} {a b : R} {v : A} {e : Error} → Lawful A c → ((w : B) → c.equivalent (view w) v → ⊥) → error_kind e ≡ InvalidData → Decodes c state a b (Ok v) → Decodes (contramap view c) state a b (Err e)
+decodes_not_made view l none k d = record { ok = tt; err = denied_value view l d.ok (inl k) none; untouched = λ h. absurd (never_ok d h) }
 
 -- ---- two parts
 

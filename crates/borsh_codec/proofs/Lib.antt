@@ -9,12 +9,13 @@ pub mod WriteSteps
 pub mod WriteOutcomes
 pub mod DecodeOutcomes
 pub mod DecodeVariants
+pub mod DecodeViews
 pub mod WriteRows
 pub mod NumberBytes
 pub mod ReadWhole
 pub mod ReadSums
+pub mod DecodeSums
 pub mod TextBytes
-pub mod ReadNonZero
 pub mod KeyOrder
 pub mod ReadMaps
 pub mod SortedRefs

@@ -3,6 +3,7 @@ pub mod Shapes
 pub mod Maps
 pub mod Types
 pub mod Reading
+pub mod RawBytes
 pub mod Writing
 pub mod Untouched
 -- what the crate below says, for those above

@@ -100,6 +100,24 @@ pub record Decodes {A R : Type 0} (c : Codec A) (state : R → ReaderState) (old
   -- a type that refuses all values does so before anything is read
   pub untouched : c.refuses ≡ true → Untouched old new result
 
+-- the same where `view` shows the value that was decoded in the one that is answered
+pub record DecodesAs {A B R : Type 0} (view : B → A) (c : Codec A) (state : R → ReaderState) (old new : R) (result : Result B Error) : Type 0 where
+  -- `Ok`: a prefix of the bytes to come decodes to what the view shows, and the rest is left
+  pub ok : IfOk result (λ v. Decoded A c (state old) (state new) (view v))
+  -- `Err`: a tail of the bytes to come is left, and the kind of the error says why there is no value
+  pub err : IfErr result (λ e. NotDecoded A c (state old) (state new) (error_kind e))
+  -- a type that refuses all values does so before anything is read
+  pub untouched : c.refuses ≡ true → Untouched old new result
+
+-- the same for a list that is answered as a vector
+abbrev pub DecodesVec : {A R : Type 0} → Codec (List A) → (R → ReaderState) → R → R → Result (Vec A Global) Error → Type 0
+DecodesVec {A = A} c state old new result = DecodesAs (λ (v : Vec A Global). v.items) c state old new result
+
+-- the outcome of a call that may decode a value: with `None` it did nothing
+pub record MayDecode {A R : Type 0} (c : Codec A) (state : R → ReaderState) (old new : R) (result : Result (Option A) Error) : Type 0 where
+  pub ok : IfOk result (λ o. MatchOption o (new ≡ old) (λ v. Decoded A c (state old) (state new) v))
+  pub err : IfErr result (λ e. NotDecoded A c (state old) (state new) (error_kind e))
+
 -- the same where one byte, the tag, was taken before
 pub record DecodesAfterTag {A R : Type 0} (tag : ℕ) (c : Codec A) (state : R → ReaderState) (old new : R) (result : Result A Error) : Type 0 where
   -- `Ok`: the tag and a prefix of the bytes to come decode to the value, and the rest is left

@@ -1,11 +1,11 @@
 // Addresses: their octets, and a tag where there are two kinds.
-ghost use Rattle.std.specs.Prelude.{◌≡◌, IfOk, IfErr};
+ghost use Rattle.std.specs.Prelude.{◌≡◌, IfOk};
 ghost use Rattle.std.specs.Net.Socket.{v6_flowinfo, v6_scope_id, socket_flowinfo, socket_scope_id};
-ghost use Rattle.borsh_io.specs.Errors.{error_kind};
-ghost use Rattle.borsh_codec.specs.Types.Addresses.{socket_v6, socket};
-ghost use Rattle.borsh_codec.specs.Reading.{Decoded, NotDecoded};
+ghost use Rattle.borsh_codec.specs.Types.Addresses.{socket_v4_view, socket_v6, socket};
+ghost use Rattle.borsh_codec.specs.Reading.{Decodes};
 
 use super::deserialize::BorshDeserialize;
+use super::parts::{FromParts, read_parts};
 use super::raw_bytes::{read_octets, read_tag};
 use super::refusals::invalid_data;
 use borsh_io::{Read, Result};
@@ -37,23 +37,30 @@ impl BorshDeserialize for IpAddr {
     }
 }
 
+impl FromParts for SocketAddrV4 {
+    type Parts = (Ipv4Addr, u16);
+
+    ghost view = { socket_v4_view };
+
+    #[inline]
+    fn from_parts((ip, port): (Ipv4Addr, u16)) -> SocketAddrV4 {
+        SocketAddrV4::new(ip, port)
+    }
+}
+
 impl BorshDeserialize for SocketAddrV4 {
     #[inline]
     fn deserialize_reader<R: Read>(alloc: Global, reader: &mut R) -> Result<SocketAddrV4> {
-        let (ip, port) = <(Ipv4Addr, u16)>::deserialize_reader(alloc, reader)?;
-        Ok(SocketAddrV4::new(ip, port))
+        read_parts(alloc, reader)
     }
 }
 
 impl BorshDeserialize for SocketAddrV6 {
-    ghost use Rattle.std.specs.declared.net.socket_addr.SocketAddrV6.{SocketAddrV6};
-
     /// The flow and the scope are no part of the encoding: they are 0.
     #[inline]
     fn deserialize_reader<R: Read>(alloc: Global, reader: &mut R) -> Result<SocketAddrV6>
-        ensures ok { IfOk result (λ a. Decoded SocketAddrV6 socket_v6 (R.stream reader.old) (R.stream reader.new) a) }
+        ensures outcome { Decodes socket_v6 R.stream reader.old reader.new result }
         ensures plain { IfOk result (λ a. (v6_flowinfo a ≡ 0) × (v6_scope_id a ≡ 0)) }
-        ensures err { IfErr result (λ e. NotDecoded SocketAddrV6 socket_v6 (R.stream reader.old) (R.stream reader.new) (error_kind e)) }
     {
         let (ip, port) = <(Ipv6Addr, u16)>::deserialize_reader(alloc, reader)?;
         Ok(SocketAddrV6::new(ip, port, 0, 0))
@@ -61,14 +68,11 @@ impl BorshDeserialize for SocketAddrV6 {
 }
 
 impl BorshDeserialize for SocketAddr {
-    ghost use Rattle.std.specs.declared.net.socket_addr.SocketAddr.{SocketAddr};
-
     /// The flow and the scope are no part of the encoding: they are 0.
     #[inline]
     fn deserialize_reader<R: Read>(alloc: Global, reader: &mut R) -> Result<SocketAddr>
-        ensures ok { IfOk result (λ a. Decoded SocketAddr socket (R.stream reader.old) (R.stream reader.new) a) }
+        ensures outcome { Decodes socket R.stream reader.old reader.new result }
         ensures plain { IfOk result (λ a. (socket_flowinfo a ≡ 0) × (socket_scope_id a ≡ 0)) }
-        ensures err { IfErr result (λ e. NotDecoded SocketAddr socket (R.stream reader.old) (R.stream reader.new) (error_kind e)) }
     {
         match read_tag(reader)? {
             0 => Ok(SocketAddr::V4(SocketAddrV4::deserialize_reader(alloc, reader)?)),

@@ -1,8 +1,8 @@
 // Arrays: their elements in order, with no count. Reading one takes no memory of its own.
-ghost use Rattle.std.specs.Prelude.{◌≡◌, List, ⊤, IfOk, IfErr, MatchOption};
+ghost use Rattle.std.specs.Prelude.{◌≡◌, ⊤};
 ghost use Rattle.borsh_io.specs.Errors.{error_kind};
 ghost use Rattle.borsh_codec.specs.Shapes.{array};
-ghost use Rattle.borsh_codec.specs.Reading.{Decoded, NotDecoded};
+ghost use Rattle.borsh_codec.specs.Reading.{Decoded, NotDecoded, Decodes, DecodesAs, MayDecode};
 
 use super::deserialize::BorshDeserialize;
 use borsh_io::{Error, Read, Result};
@@ -19,9 +19,11 @@ struct Elements<'a, R> {
 impl<'a, T: BorshDeserialize, R: Read> TryMaker<T> for Elements<'a, R> {
     type Error = Error;
 
-    ghost makes = { λ s x t. (t.reader.ghost_name ≡ s.reader.ghost_name) × Decoded T T.codec (R.stream s.reader.now) (R.stream t.reader.now) x };
+    ghost makes = { λ s x t. (t.reader.ghost_name ≡ s.reader.ghost_name)
+        × Decoded T T.codec (R.stream s.reader.now) (R.stream t.reader.now) x };
 
-    ghost fails = { λ s e t. (t.reader.ghost_name ≡ s.reader.ghost_name) × NotDecoded T T.codec (R.stream s.reader.now) (R.stream t.reader.now) (error_kind e) };
+    ghost fails = { λ s e t. (t.reader.ghost_name ≡ s.reader.ghost_name)
+        × NotDecoded T T.codec (R.stream s.reader.now) (R.stream t.reader.now) (error_kind e) };
 
     #[inline]
     fn try_make(&mut self) -> Result<T> {
@@ -35,8 +37,8 @@ fn read_each<T: BorshDeserialize, R: Read, const N: usize>(
     elements: &mut Elements<R>,
 ) -> Result<Held<[T; N]>>
     ensures same_reader { elements.new.reader.ghost_name ≡ elements.old.reader.ghost_name }
-    ensures ok { IfOk result (λ held. Decoded (List T) (array N T.codec) (R.stream elements.old.reader.now) (R.stream elements.new.reader.now) held.0) }
-    ensures err { IfErr result (λ e. NotDecoded (List T) (array N T.codec) (R.stream elements.old.reader.now) (R.stream elements.new.reader.now) (error_kind e)) }
+    ensures outcome { DecodesAs (λ held. held.0) (array N T.codec) R.stream elements.old.reader.now
+        elements.new.reader.now result }
 {
     try_array_from(elements)
 }
@@ -61,8 +63,7 @@ impl<T: BorshDeserialize> Maker<T> for Blanks {
 fn read_at_once<T: BorshDeserialize, R: Read, const N: usize>(
     reader: &mut R,
 ) -> Result<Option<[T; N]>>
-    ensures ok { IfOk result (λ o. MatchOption o (reader.new ≡ reader.old) (λ v. Decoded (List T) (array N T.codec) (R.stream reader.old) (R.stream reader.new) v)) }
-    ensures err { IfErr result (λ e. NotDecoded (List T) (array N T.codec) (R.stream reader.old) (R.stream reader.new) (error_kind e)) }
+    ensures { MayDecode (array N T.codec) R.stream reader.old reader.new result }
 {
     let Ok(mut items) = array_from::<T, Blanks, N>(&mut Blanks) else {
         return Ok(None);
@@ -80,8 +81,7 @@ fn read_row<T: BorshDeserialize, const N: usize, R: Read>(
     alloc: Global,
     reader: &mut R,
 ) -> Result<Held<[T; N]>>
-    ensures ok { IfOk result (λ held. Decoded (List T) (array N T.codec) (R.stream reader.old) (R.stream reader.new) held.0) }
-    ensures err { IfErr result (λ e. NotDecoded (List T) (array N T.codec) (R.stream reader.old) (R.stream reader.new) (error_kind e)) }
+    ensures { DecodesAs (λ held. held.0) (array N T.codec) R.stream reader.old reader.new result }
 {
     if let Some(items) = read_at_once(reader)? {
         return Ok(Held(items));

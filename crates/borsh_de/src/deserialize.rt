@@ -1,24 +1,27 @@
-// What is read.
+// Types whose values are decoded.
 ghost use Rattle.std.specs.Prelude.{true};
 ghost use Rattle.borsh_io.specs.Stream.{slice_state};
-ghost use Rattle.borsh_codec.specs.Reading.{Decodes, DecodesAfterTag, DecodesAtOnce, DecodesOver, DecodesReader, DecodesAll};
+ghost use Rattle.borsh_codec.specs.Reading.{Decodes, DecodesAfterTag, DecodesAtOnce, DecodesOver};
+ghost use Rattle.borsh_codec.specs.Reading.{DecodesReader, DecodesAll};
 
 use super::refusals::not_all_bytes_read;
 use borsh_io::{ErrorKind, Read, Result};
 use borsh_types::BorshType;
 use std::alloc::Global;
 
-/// A type whose values are read from their encodings.
+/// A type whose values are decoded from their encodings.
 ///
 /// The answer depends on the bytes to come alone, not on how the reader cuts them or where it is
-/// interrupted. Each call is refused
-/// - with `InvalidData` where no beginning of the bytes to come is a reading of the type (in the calls
-///   that want all of the bytes: where all of them are none), or where the reader failed;
-/// - with `OutOfMemory` where memory was refused, to the value or to the text of a refusal;
-/// - with the reader's error, where it failed.
-/// After a refusal a tail of the bytes to come is left.
+/// interrupted. The errors of each call are
+/// - `InvalidData` where no beginning of the bytes to come decodes to a value (in the calls that want
+///   all of the bytes: where all of them together don't), or where the reader failed;
+/// - `OutOfMemory` where memory was refused, to the value or to the text of an error;
+/// - the reader's error, where it failed.
+///
+/// After an error a tail of the bytes to come is left. A type that refuses all of its values does so
+/// with `InvalidData` before anything is read.
 pub trait BorshDeserialize: BorshType + Sized + Drop {
-    /// Reads a value from the front of the bytes to come, and leaves the rest.
+    /// Decodes a value from the beginning of the bytes to come, and leaves the rest.
     fn deserialize_reader<R: Read>(alloc: Global, reader: &mut R) -> Result<Self>
         ensures { Decodes Self.codec R.stream reader.old reader.new result };
 
@@ -42,20 +45,21 @@ pub trait BorshDeserialize: BorshType + Sized + Drop {
     /// Writes the next values over those of the slice, where the type has a way to read them at once:
     /// only `u8` has one. Where the answer is `false` nothing was read. No memory is taken.
     fn fill_slice<R: Read>(_items: &mut [Self], _reader: &mut R) -> Result<bool>
-        ensures { DecodesOver Self.codec R.stream _reader.old _reader.new _items.old _items.new result }
+        ensures { DecodesOver Self.codec R.stream
+            _reader.old _reader.new _items.old _items.new result }
     {
         Ok(false)
     }
 
-    /// Reads a value from the front of the slice, which becomes what is left.
+    /// Decodes a value from the beginning of the slice, which becomes what is left.
     final fn deserialize(alloc: Global, buf: &mut &[u8]) -> Result<Self>
         ensures { Decodes Self.codec slice_state buf.old.now buf.new.now result }
     {
         Self::deserialize_reader(alloc, buf)
     }
 
-    /// Reads a value from all of the slice. Bytes left over are refused: `InvalidData`, "Not all bytes
-    /// read".
+    /// Decodes a value from all of the slice. Where bytes are left over, the error is `InvalidData`, "Not
+    /// all bytes read".
     final fn try_from_slice(alloc: Global, v: &[u8]) -> Result<Self>
         ensures { DecodesAll Self.codec true v.now result }
     {
@@ -67,9 +71,10 @@ pub trait BorshDeserialize: BorshType + Sized + Drop {
         Ok(value)
     }
 
-    /// Reads a value from all of the bytes to come, and looks for one more byte. Where there is one, or
-    /// where the reader fails then, the answer is `InvalidData`, "Not all bytes read"; but a failure of
-    /// the kind `UnexpectedEof` is taken as the end.
+    /// Decodes a value from all of the bytes to come, and looks for one more byte. Where there is one, or
+    /// where the reader fails then, the error is `InvalidData`, "Not all bytes read"; but a failure of
+    /// the kind `UnexpectedEof` is taken as the end. After an error of the value itself no byte more is
+    /// taken.
     final fn try_from_reader<R: Read>(alloc: Global, reader: &mut R) -> Result<Self>
         ensures { DecodesReader Self.codec R.stream reader.old reader.new result }
     {
@@ -85,12 +90,12 @@ pub trait BorshDeserialize: BorshType + Sized + Drop {
     }
 }
 
-/// An enum that is read in two steps.
+/// An enum that is decoded in two steps.
 pub trait EnumExt: BorshDeserialize {
-    /// Reads what follows a tag that was read before.
+    /// Decodes what follows a tag that was read before.
     ///
-    /// Refused as [`deserialize_reader`](BorshDeserialize::deserialize_reader) is, for the tag followed
-    /// by the bytes to come.
+    /// The errors are those of [`deserialize_reader`](BorshDeserialize::deserialize_reader), for the tag
+    /// followed by the bytes to come.
     fn deserialize_variant<R: Read>(alloc: Global, reader: &mut R, tag: u8) -> Result<Self>
         ensures { DecodesAfterTag tag Self.codec R.stream reader.old reader.new result };
 }

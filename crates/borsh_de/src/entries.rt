@@ -1,13 +1,11 @@
 // Entries of maps and keys of sets that are read: the whole list first, and then the order of the keys.
 ghost use Rattle.borsh_io.specs.Errors.{error_kind};
-ghost use Rattle.borsh_codec.specs.Empty.{RefusesZeroWidth};
 ghost use Rattle.borsh_codec.specs.Maps.{IsOutOfOrder, key_only, unit_entries, entries};
-ghost use Rattle.borsh_codec.specs.Reading.{NotDecoded, Decoded};
+ghost use Rattle.borsh_codec.specs.Reading.{DecodesAs, DecodesVec};
 ghost use Rattle.borsh_codec.specs.Shapes.{length_prefixed, pair, refused_if};
-ghost use Rattle.std.specs.Bool.{⊤};
 ghost use Rattle.std.specs.List.Sorted.{IsStrictlySortedBy};
 ghost use Rattle.std.specs.Map.{keys_of};
-ghost use Rattle.std.specs.Prelude.{◌≡◌, ◌↔◌, true, List, IsTrue, IfErr, IfOk, OnErr, OnOk};
+ghost use Rattle.std.specs.Prelude.{◌≡◌, ◌↔◌, true, IsTrue, MatchResult};
 
 use super::deserialize::BorshDeserialize;
 use super::lists::{read_counted, read_list};
@@ -37,9 +35,9 @@ fn keys_ascend<K: Ord>(keys: &[K]) -> bool
 /// not serialized in ascending order".
 #[inline]
 fn check_entries<K: Ord, V>(strict: bool, entries: &[(K, V)]) -> Result<()>
-    ensures ok { OnOk result (strict ≡ true → IsStrictlySortedBy K.cmp (keys_of entries.now)) }
-    ensures kind { IfErr result (λ e. error_kind e ≡ ErrorKind.InvalidData) }
-    ensures why { OnErr result (IsOutOfOrder K.cmp strict entries.now) }
+    ensures { MatchResult result
+        (λ _. strict ≡ true → IsStrictlySortedBy K.cmp (keys_of entries.now))
+        (λ e. (error_kind e ≡ ErrorKind.InvalidData) × IsOutOfOrder K.cmp strict entries.now) }
 {
     if strict && !entries_ascend(entries) {
         return Err(wrong_order());
@@ -50,9 +48,10 @@ fn check_entries<K: Ord, V>(strict: bool, entries: &[(K, V)]) -> Result<()>
 /// The same for the keys of a set.
 #[inline]
 fn check_keys<K: Ord>(strict: bool, keys: &[K]) -> Result<()>
-    ensures ok { OnOk result (strict ≡ true → IsStrictlySortedBy K.cmp keys.now) }
-    ensures kind { IfErr result (λ e. error_kind e ≡ ErrorKind.InvalidData) }
-    ensures why { OnErr result (IsOutOfOrder K.cmp strict (unit_entries keys.now)) }
+    ensures { MatchResult result
+        (λ _. strict ≡ true → IsStrictlySortedBy K.cmp keys.now)
+        (λ e. (error_kind e ≡ ErrorKind.InvalidData)
+        × IsOutOfOrder K.cmp strict (unit_entries keys.now)) }
 {
     if strict && !keys_ascend(keys) {
         return Err(wrong_order());
@@ -67,9 +66,8 @@ pub(crate) fn read_pairs<K: BorshDeserialize, V: BorshDeserialize, R: Read>(
     alloc: Global,
     reader: &mut R,
 ) -> Result<Vec<(K, V)>>
-    ensures ok { IfOk result (λ v. Decoded (List (K × V)) (refused_if K.codec.is_zero_width (length_prefixed (pair K.codec V.codec))) (R.stream reader.old) (R.stream reader.new) v.items) }
-    ensures err { IfErr result (λ e. NotDecoded (List (K × V)) (refused_if K.codec.is_zero_width (length_prefixed (pair K.codec V.codec))) (R.stream reader.old) (R.stream reader.new) (error_kind e)) }
-    ensures untouched { RefusesZeroWidth K.codec.is_zero_width result reader.old reader.new }
+    ensures { DecodesVec (refused_if K.codec.is_zero_width (length_prefixed (pair K.codec V.codec)))
+        R.stream reader.old reader.new result }
 {
     if K::encodes_empty() {
         return Err(Error::new(ErrorKind::InvalidData, ERROR_ZST_FORBIDDEN));
@@ -83,9 +81,8 @@ pub(crate) fn read_entries<K: BorshKey + BorshDeserialize + Ord, V: BorshDeseria
     alloc: Global,
     reader: &mut R,
 ) -> Result<Vec<(K, V)>>
-    ensures ok { IfOk result (λ v. Decoded (List (K × V)) (refused_if K.codec.is_zero_width (entries K.cmp (pair K.codec V.codec))) (R.stream reader.old) (R.stream reader.new) v.items) }
-    ensures err { IfErr result (λ e. NotDecoded (List (K × V)) (refused_if K.codec.is_zero_width (entries K.cmp (pair K.codec V.codec))) (R.stream reader.old) (R.stream reader.new) (error_kind e)) }
-    ensures untouched { RefusesZeroWidth K.codec.is_zero_width result reader.old reader.new }
+    ensures { DecodesVec (refused_if K.codec.is_zero_width (entries K.cmp (pair K.codec V.codec)))
+        R.stream reader.old reader.new result }
 {
     let read = read_pairs(alloc, reader)?;
     check_entries(reader.strict_order(), &read)?;
@@ -99,9 +96,9 @@ pub(crate) fn read_keys<K: BorshKey + BorshDeserialize + Ord, R: Read>(
     alloc: Global,
     reader: &mut R,
 ) -> Result<Vec<K>>
-    ensures ok { IfOk result (λ v. Decoded (List (K × ⊤)) (refused_if K.codec.is_zero_width (entries K.cmp (key_only K.codec))) (R.stream reader.old) (R.stream reader.new) (unit_entries v.items)) }
-    ensures err { IfErr result (λ e. NotDecoded (List (K × ⊤)) (refused_if K.codec.is_zero_width (entries K.cmp (key_only K.codec))) (R.stream reader.old) (R.stream reader.new) (error_kind e)) }
-    ensures untouched { RefusesZeroWidth K.codec.is_zero_width result reader.old reader.new }
+    ensures { DecodesAs (λ v. unit_entries v.items)
+        (refused_if K.codec.is_zero_width (entries K.cmp (key_only K.codec)))
+        R.stream reader.old reader.new result }
 {
     let read = read_list(alloc, reader)?;
     check_keys(reader.strict_order(), &read)?;

@@ -11,6 +11,7 @@ pub mod lists;
 pub mod maps;
 pub mod non_zeros;
 pub mod numbers;
+pub mod parts;
 pub mod pointers;
 pub mod ranges;
 pub mod raw_bytes;
@@ -21,5 +22,6 @@ pub mod tuples;
 pub mod units;
 
 pub use deserialize::{BorshDeserialize, EnumExt};
+pub use parts::{FromParts, TryFromParts, read_checked, read_parts};
 pub use raw_bytes::{read_bytes, read_tag};
 pub use refusals::invalid_data;

@@ -1,12 +1,6 @@
 // Lists: a count of four bytes and the elements in order.
-ghost use Rattle.std.specs.Prelude.{◌≡◌, ◌+◌, ◌≤◌, List, Vec, length, IfOk, IfErr};
-ghost use Rattle.std.specs.Box.{boxed_slice_items};
-ghost use Rattle.std.specs.Rc.{rc_slice_items};
-ghost use Rattle.std.specs.Cow.{cow_slice_items};
-ghost use Rattle.borsh_io.specs.Errors.{error_kind};
-ghost use Rattle.borsh_codec.specs.Shapes.{contramap, allocated_array, length_prefixed, list};
-ghost use Rattle.borsh_codec.specs.Reading.{TakesPrefix, Decoded, NotDecoded};
-ghost use Rattle.borsh_codec.specs.Empty.{RefusesZeroWidth};
+ghost use Rattle.borsh_codec.specs.Shapes.{allocated_array, length_prefixed, list};
+ghost use Rattle.borsh_codec.specs.Reading.{DecodesVec};
 
 use super::deserialize::BorshDeserialize;
 use super::hint::cautious;
@@ -18,15 +12,15 @@ use std::boxed::BoxedSlice;
 use std::collections::{LinkedList, VecDeque};
 use std::rc::RcSlice;
 
-/// Reads `len` elements one after another, at once where their bytes lie in memory as they are.
+/// Reads `len` elements one after another, at once where their bytes lie in memory as they are. Refused as
+/// an element is, and with `OutOfMemory` where memory for the list was refused.
 #[inline]
 pub(crate) fn read_elements<T: BorshDeserialize, R: Read>(
     alloc: Global,
     len: u32,
     reader: &mut R,
 ) -> Result<Vec<T>>
-    ensures ok { IfOk result (λ v. Decoded (List T) (allocated_array len T.codec) (R.stream reader.old) (R.stream reader.new) v.items) }
-    ensures err { IfErr result (λ e. NotDecoded (List T) (allocated_array len T.codec) (R.stream reader.old) (R.stream reader.new) (error_kind e)) }
+    ensures { DecodesVec (allocated_array len T.codec) R.stream reader.old reader.new result }
 {
     if len == 0 {
         return Ok(Vec::new(alloc));
@@ -41,30 +35,26 @@ pub(crate) fn read_elements<T: BorshDeserialize, R: Read>(
     Ok(items)
 }
 
-/// Reads a count and that many elements.
+/// Reads a count of four bytes and that many elements. Refused as the count and [`read_elements`] are.
 #[inline]
 pub(crate) fn read_counted<T: BorshDeserialize, R: Read>(
     alloc: Global,
     reader: &mut R,
 ) -> Result<Vec<T>>
-    ensures ok { IfOk result (λ v. Decoded (List T) (length_prefixed T.codec) (R.stream reader.old) (R.stream reader.new) v.items) }
-    ensures err { IfErr result (λ e. NotDecoded (List T) (length_prefixed T.codec) (R.stream reader.old) (R.stream reader.new) (error_kind e)) }
+    ensures { DecodesVec (length_prefixed T.codec) R.stream reader.old reader.new result }
 {
     let count = u32::deserialize_reader(alloc, reader)?;
     read_elements(alloc, count, reader)
 }
 
-/// The same, but elements whose encodings are empty are refused before anything is read. So each
-/// element takes at least one byte, and no short input stands for many of them.
+/// The same, but elements whose encodings are empty are refused before anything is read: `InvalidData`.
+/// So each element takes at least one byte, and no short input stands for many of them.
 #[inline]
 pub(crate) fn read_list<T: BorshDeserialize, R: Read>(
     alloc: Global,
     reader: &mut R,
 ) -> Result<Vec<T>>
-    ensures ok { IfOk result (λ v. Decoded (List T) (list T.codec) (R.stream reader.old) (R.stream reader.new) v.items) }
-    ensures long { IfOk result (λ v. TakesPrefix (λ x. 4 + length v.items ≤ length x) (R.stream reader.old) (R.stream reader.new)) }
-    ensures err { IfErr result (λ e. NotDecoded (List T) (list T.codec) (R.stream reader.old) (R.stream reader.new) (error_kind e)) }
-    ensures untouched { RefusesZeroWidth T.codec.is_zero_width result reader.old reader.new }
+    ensures { DecodesVec (list T.codec) R.stream reader.old reader.new result }
 {
     if T::encodes_empty() {
         return Err(Error::new(ErrorKind::InvalidData, ERROR_ZST_FORBIDDEN));
@@ -74,36 +64,21 @@ pub(crate) fn read_list<T: BorshDeserialize, R: Read>(
 
 impl<T: BorshDeserialize> BorshDeserialize for Vec<T> {
     #[inline]
-    fn deserialize_reader<R: Read>(alloc: Global, reader: &mut R) -> Result<Vec<T>>
-        ensures ok { IfOk result (λ v. Decoded (Vec T Global) (contramap (λ v. v.items) (list T.codec)) (R.stream reader.old) (R.stream reader.new) v) }
-        ensures long { IfOk result (λ v. TakesPrefix (λ x. 4 + length v.items ≤ length x) (R.stream reader.old) (R.stream reader.new)) }
-        ensures err { IfErr result (λ e. NotDecoded (Vec T Global) (contramap (λ v. v.items) (list T.codec)) (R.stream reader.old) (R.stream reader.new) (error_kind e)) }
-        ensures untouched { RefusesZeroWidth T.codec.is_zero_width result reader.old reader.new }
-    {
+    fn deserialize_reader<R: Read>(alloc: Global, reader: &mut R) -> Result<Vec<T>> {
         read_list(alloc, reader)
     }
 }
 
 impl<T: BorshDeserialize> BorshDeserialize for VecDeque<T> {
     #[inline]
-    fn deserialize_reader<R: Read>(alloc: Global, reader: &mut R) -> Result<VecDeque<T>>
-        ensures ok { IfOk result (λ v. Decoded (VecDeque T Global) (contramap (λ v. v.items) (list T.codec)) (R.stream reader.old) (R.stream reader.new) v) }
-        ensures long { IfOk result (λ v. TakesPrefix (λ x. 4 + length v.items ≤ length x) (R.stream reader.old) (R.stream reader.new)) }
-        ensures err { IfErr result (λ e. NotDecoded (VecDeque T Global) (contramap (λ v. v.items) (list T.codec)) (R.stream reader.old) (R.stream reader.new) (error_kind e)) }
-        ensures untouched { RefusesZeroWidth T.codec.is_zero_width result reader.old reader.new }
-    {
+    fn deserialize_reader<R: Read>(alloc: Global, reader: &mut R) -> Result<VecDeque<T>> {
         Ok(VecDeque::from_vec(read_list(alloc, reader)?))
     }
 }
 
 impl<T: BorshDeserialize> BorshDeserialize for LinkedList<T> {
     #[inline]
-    fn deserialize_reader<R: Read>(alloc: Global, reader: &mut R) -> Result<LinkedList<T>>
-        ensures ok { IfOk result (λ v. Decoded (LinkedList T Global) (list T.codec) (R.stream reader.old) (R.stream reader.new) v) }
-        ensures long { IfOk result (λ v. TakesPrefix (λ x. 4 + length v ≤ length x) (R.stream reader.old) (R.stream reader.new)) }
-        ensures err { IfErr result (λ e. NotDecoded (LinkedList T Global) (list T.codec) (R.stream reader.old) (R.stream reader.new) (error_kind e)) }
-        ensures untouched { RefusesZeroWidth T.codec.is_zero_width result reader.old reader.new }
-    {
+    fn deserialize_reader<R: Read>(alloc: Global, reader: &mut R) -> Result<LinkedList<T>> {
         let mut list = LinkedList::new(alloc);
         for item in read_list(alloc, reader)? {
             list.push_back(item)?;
@@ -114,33 +89,21 @@ impl<T: BorshDeserialize> BorshDeserialize for LinkedList<T> {
 
 impl<T: BorshDeserialize> BorshDeserialize for BoxedSlice<T> {
     #[inline]
-    fn deserialize_reader<R: Read>(alloc: Global, reader: &mut R) -> Result<BoxedSlice<T>>
-        ensures ok { IfOk result (λ v. Decoded (BoxedSlice T Global) (contramap boxed_slice_items (list T.codec)) (R.stream reader.old) (R.stream reader.new) v) }
-        ensures err { IfErr result (λ e. NotDecoded (BoxedSlice T Global) (contramap boxed_slice_items (list T.codec)) (R.stream reader.old) (R.stream reader.new) (error_kind e)) }
-        ensures untouched { RefusesZeroWidth T.codec.is_zero_width result reader.old reader.new }
-    {
+    fn deserialize_reader<R: Read>(alloc: Global, reader: &mut R) -> Result<BoxedSlice<T>> {
         Ok(read_list(alloc, reader)?.into_boxed_slice())
     }
 }
 
 impl<T: BorshDeserialize> BorshDeserialize for RcSlice<T> {
     #[inline]
-    fn deserialize_reader<R: Read>(alloc: Global, reader: &mut R) -> Result<RcSlice<T>>
-        ensures ok { IfOk result (λ v. Decoded (RcSlice T Global) (contramap rc_slice_items (list T.codec)) (R.stream reader.old) (R.stream reader.new) v) }
-        ensures err { IfErr result (λ e. NotDecoded (RcSlice T Global) (contramap rc_slice_items (list T.codec)) (R.stream reader.old) (R.stream reader.new) (error_kind e)) }
-        ensures untouched { RefusesZeroWidth T.codec.is_zero_width result reader.old reader.new }
-    {
+    fn deserialize_reader<R: Read>(alloc: Global, reader: &mut R) -> Result<RcSlice<T>> {
         Ok(RcSlice::from_vec(read_list(alloc, reader)?)?)
     }
 }
 
 impl<T: BorshDeserialize> BorshDeserialize for CowSlice<'_, T> {
     #[inline]
-    fn deserialize_reader<R: Read>(alloc: Global, reader: &mut R) -> Result<Self>
-        ensures ok { IfOk result (λ v. Decoded (CowSlice T Global) (contramap cow_slice_items (list T.codec)) (R.stream reader.old) (R.stream reader.new) v) }
-        ensures err { IfErr result (λ e. NotDecoded (CowSlice T Global) (contramap cow_slice_items (list T.codec)) (R.stream reader.old) (R.stream reader.new) (error_kind e)) }
-        ensures untouched { RefusesZeroWidth T.codec.is_zero_width result reader.old reader.new }
-    {
+    fn deserialize_reader<R: Read>(alloc: Global, reader: &mut R) -> Result<Self> {
         Ok(CowSlice::Owned(read_list(alloc, reader)?))
     }
 }

@@ -1,16 +1,12 @@
 // Maps and sets: the list of entries is read, and the map is made of it. Of entries with one key the last
 // gives the value.
-ghost use Rattle.borsh_io.specs.Errors.{error_kind};
-ghost use Rattle.borsh_codec.specs.Empty.{RefusesZeroWidth};
-ghost use Rattle.borsh_codec.specs.Maps.{HasLastValues, after_inserts, index_map, index_set, btree_map, btree_set, hash_map, hash_set};
-ghost use Rattle.borsh_codec.specs.Reading.{NotDecoded, Decoded};
-ghost use Rattle.borsh_codec.specs.Shapes.{contramap};
+ghost use Rattle.borsh_codec.specs.Maps.{HasLastValues, after_inserts};
 ghost use Rattle.std.specs.BTreeSet.{IsFromIterResult as IsTreeSetOf};
 ghost use Rattle.std.specs.HashMap.{IsFromIterResult as IsHashMapOf};
 ghost use Rattle.std.specs.HashSet.{IsFromIterResult as IsHashSetOf};
 ghost use Rattle.std.specs.List.Sorted.{IsStrictlySortedBy};
 ghost use Rattle.std.specs.Map.{keys_of};
-ghost use Rattle.std.specs.Prelude.{◌≡◌, [], IfErr, IfOk};
+ghost use Rattle.std.specs.Prelude.{◌≡◌, [], IfOk};
 ghost use Rattle.indexmap.specs.IndexSet.{insert_all};
 
 use super::deserialize::BorshDeserialize;
@@ -91,11 +87,7 @@ fn index_set<K: Eq + Hash + Drop, S: BuildHasher + Default + Drop>(
 impl<K: BorshKey + BorshDeserialize + Ord, V: BorshDeserialize> BorshDeserialize
     for BTreeMap<K, V> {
     #[inline]
-    fn deserialize_reader<R: Read>(alloc: Global, reader: &mut R) -> Result<BTreeMap<K, V>>
-        ensures ok { IfOk result (λ v. Decoded (BTreeMap K V Global) (contramap (λ m. m.entries) (btree_map K.cmp K.codec V.codec)) (R.stream reader.old) (R.stream reader.new) v) }
-        ensures err { IfErr result (λ e. NotDecoded (BTreeMap K V Global) (contramap (λ m. m.entries) (btree_map K.cmp K.codec V.codec)) (R.stream reader.old) (R.stream reader.new) (error_kind e)) }
-        ensures untouched { RefusesZeroWidth K.codec.is_zero_width result reader.old reader.new }
-    {
+    fn deserialize_reader<R: Read>(alloc: Global, reader: &mut R) -> Result<BTreeMap<K, V>> {
         let read = read_entries(alloc, reader)?;
         Ok(tree_map(alloc, read)?)
     }
@@ -103,11 +95,7 @@ impl<K: BorshKey + BorshDeserialize + Ord, V: BorshDeserialize> BorshDeserialize
 
 impl<K: BorshKey + BorshDeserialize + Ord> BorshDeserialize for BTreeSet<K> {
     #[inline]
-    fn deserialize_reader<R: Read>(alloc: Global, reader: &mut R) -> Result<BTreeSet<K>>
-        ensures ok { IfOk result (λ v. Decoded (BTreeSet K Global) (contramap (λ s. s.keys) (btree_set K.cmp K.codec)) (R.stream reader.old) (R.stream reader.new) v) }
-        ensures err { IfErr result (λ e. NotDecoded (BTreeSet K Global) (contramap (λ s. s.keys) (btree_set K.cmp K.codec)) (R.stream reader.old) (R.stream reader.new) (error_kind e)) }
-        ensures untouched { RefusesZeroWidth K.codec.is_zero_width result reader.old reader.new }
-    {
+    fn deserialize_reader<R: Read>(alloc: Global, reader: &mut R) -> Result<BTreeSet<K>> {
         let read = read_keys(alloc, reader)?;
         Ok(tree_set(alloc, read)?)
     }
@@ -119,11 +107,7 @@ impl<
     S: BuildHasher + Default + Drop,
 > BorshDeserialize for HashMap<K, V, S> {
     #[inline]
-    fn deserialize_reader<R: Read>(alloc: Global, reader: &mut R) -> Result<HashMap<K, V, S>>
-        ensures ok { IfOk result (λ v. Decoded (HashMap K V S Global S.Hasher) (contramap (λ m. m.entries) (hash_map K.cmp K.codec V.codec)) (R.stream reader.old) (R.stream reader.new) v) }
-        ensures err { IfErr result (λ e. NotDecoded (HashMap K V S Global S.Hasher) (contramap (λ m. m.entries) (hash_map K.cmp K.codec V.codec)) (R.stream reader.old) (R.stream reader.new) (error_kind e)) }
-        ensures untouched { RefusesZeroWidth K.codec.is_zero_width result reader.old reader.new }
-    {
+    fn deserialize_reader<R: Read>(alloc: Global, reader: &mut R) -> Result<HashMap<K, V, S>> {
         let read = read_entries(alloc, reader)?;
         Ok(hash_map(alloc, read)?)
     }
@@ -132,11 +116,7 @@ impl<
 impl<K: BorshKey + BorshDeserialize + Ord + Hash, S: BuildHasher + Default + Drop> BorshDeserialize
     for HashSet<K, S> {
     #[inline]
-    fn deserialize_reader<R: Read>(alloc: Global, reader: &mut R) -> Result<HashSet<K, S>>
-        ensures ok { IfOk result (λ v. Decoded (HashSet K S Global S.Hasher) (contramap (λ s. s.keys) (hash_set K.cmp K.codec)) (R.stream reader.old) (R.stream reader.new) v) }
-        ensures err { IfErr result (λ e. NotDecoded (HashSet K S Global S.Hasher) (contramap (λ s. s.keys) (hash_set K.cmp K.codec)) (R.stream reader.old) (R.stream reader.new) (error_kind e)) }
-        ensures untouched { RefusesZeroWidth K.codec.is_zero_width result reader.old reader.new }
-    {
+    fn deserialize_reader<R: Read>(alloc: Global, reader: &mut R) -> Result<HashSet<K, S>> {
         let read = read_keys(alloc, reader)?;
         Ok(hash_set(alloc, read)?)
     }
@@ -148,11 +128,7 @@ impl<
     S: BuildHasher + Default + Drop,
 > BorshDeserialize for IndexMap<K, V, S> {
     #[inline]
-    fn deserialize_reader<R: Read>(alloc: Global, reader: &mut R) -> Result<IndexMap<K, V, S>>
-        ensures ok { IfOk result (λ v. Decoded (IndexMap K V S Global S.Hasher) (contramap (λ m. m.entries) (index_map K.eq K.codec V.codec)) (R.stream reader.old) (R.stream reader.new) v) }
-        ensures err { IfErr result (λ e. NotDecoded (IndexMap K V S Global S.Hasher) (contramap (λ m. m.entries) (index_map K.eq K.codec V.codec)) (R.stream reader.old) (R.stream reader.new) (error_kind e)) }
-        ensures untouched { RefusesZeroWidth K.codec.is_zero_width result reader.old reader.new }
-    {
+    fn deserialize_reader<R: Read>(alloc: Global, reader: &mut R) -> Result<IndexMap<K, V, S>> {
         let read = read_pairs(alloc, reader)?;
         Ok(index_map(alloc, read)?)
     }
@@ -161,11 +137,7 @@ impl<
 impl<K: BorshKey + BorshDeserialize + Hash, S: BuildHasher + Default + Drop> BorshDeserialize
     for IndexSet<K, S> {
     #[inline]
-    fn deserialize_reader<R: Read>(alloc: Global, reader: &mut R) -> Result<IndexSet<K, S>>
-        ensures ok { IfOk result (λ v. Decoded (IndexSet K S Global S.Hasher) (contramap (λ s. s.keys) (index_set K.eq K.codec)) (R.stream reader.old) (R.stream reader.new) v) }
-        ensures err { IfErr result (λ e. NotDecoded (IndexSet K S Global S.Hasher) (contramap (λ s. s.keys) (index_set K.eq K.codec)) (R.stream reader.old) (R.stream reader.new) (error_kind e)) }
-        ensures untouched { RefusesZeroWidth K.codec.is_zero_width result reader.old reader.new }
-    {
+    fn deserialize_reader<R: Read>(alloc: Global, reader: &mut R) -> Result<IndexSet<K, S>> {
         let read = read_list(alloc, reader)?;
         Ok(index_set(alloc, read)?)
     }

@@ -1,21 +1,19 @@
 // Whole numbers, the lowest byte first, and with a sign in two's complement. A `usize` is read as a
 // `u64`, and an `isize` as an `i64`.
-ghost use Rattle.std.specs.Prelude.{◌≡◌, ℕ, ℤ, List, Some, IfOk, IfErr, IsSomeAnd, length, true};
-ghost use Rattle.borsh_io.specs.Errors.{error_kind};
-ghost use Rattle.borsh_codec.specs.Shapes.{unsigned_encoding, signed_encoding, unsigned, signed, allocated_array, array};
-ghost use Rattle.borsh_codec.specs.Reading.{TakesPrefix, Decoded, NotDecoded};
+ghost use Rattle.std.specs.Prelude.{◌≡◌, Some, IfOk, IsSome, IsTrue};
+ghost use Rattle.borsh_codec.specs.Shapes.{unsigned_encoding, signed_encoding, unsigned};
+ghost use Rattle.borsh_codec.specs.Reading.{DecodesAtOnce, DecodesOver};
+ghost use Rattle.borsh_de.specs.Numbers.{TakesNumber};
 
 use super::deserialize::BorshDeserialize;
 use super::raw_bytes::{fill, read_bytes, read_vec};
 use borsh_io::{Read, Result};
 use std::alloc::Global;
 
-/// The bytes of a number. Refused as [`read_bytes`] is.
+/// The bytes of a number. The errors are those of [`read_bytes`].
 #[inline]
 fn number_bytes<R: Read, const N: usize>(reader: &mut R) -> Result<[u8; N]>
-    ensures ok { IfOk result (λ bytes. TakesPrefix (λ x. x ≡ bytes) (R.stream reader.old) (R.stream reader.new)) }
-    ensures unsigned { IfErr result (λ e. NotDecoded ℕ (unsigned N) (R.stream reader.old) (R.stream reader.new) (error_kind e)) }
-    ensures signed { IfErr result (λ e. NotDecoded ℤ (signed N) (R.stream reader.old) (R.stream reader.new) (error_kind e)) }
+    ensures { TakesNumber N R.stream reader.old reader.new result }
 {
     read_bytes(reader)
 }
@@ -99,8 +97,8 @@ impl BorshDeserialize for u8 {
     /// The bytes, always.
     #[inline]
     fn vec_from_reader<R: Read>(alloc: Global, len: u32, reader: &mut R) -> Result<Option<Vec<u8>>>
-        ensures ok { IfOk result (λ o. IsSomeAnd o (λ v. Decoded (List ℕ) (allocated_array len (unsigned 1)) (R.stream reader.old) (R.stream reader.new) v.items)) }
-        ensures err { IfErr result (λ e. NotDecoded (List ℕ) (allocated_array len (unsigned 1)) (R.stream reader.old) (R.stream reader.new) (error_kind e)) }
+        ensures outcome { DecodesAtOnce len (unsigned 1) R.stream reader.old reader.new result }
+        ensures some { IfOk result IsSome }
     {
         Ok(Some(read_vec(alloc, len as usize, reader)?))
     }
@@ -116,8 +114,9 @@ impl BorshDeserialize for u8 {
     /// The bytes, always: the answer is never `false`.
     #[inline]
     fn fill_slice<R: Read>(items: &mut [u8], reader: &mut R) -> Result<bool>
-        ensures ok { IfOk result (λ filled. (filled ≡ true) × Decoded (List ℕ) (array (length items.old) (unsigned 1)) (R.stream reader.old) (R.stream reader.new) items.new) }
-        ensures err { IfErr result (λ e. NotDecoded (List ℕ) (array (length items.old) (unsigned 1)) (R.stream reader.old) (R.stream reader.new) (error_kind e)) }
+        ensures outcome { DecodesOver (unsigned 1) R.stream
+            reader.old reader.new items.old items.new result }
+        ensures filled { IfOk result IsTrue }
     {
         fill(reader, items)?;
         Ok(true)

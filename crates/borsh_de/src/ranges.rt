@@ -1,45 +1,98 @@
 // Ranges: their start, where they have one, and then their end, where they have one.
+ghost use Rattle.std.specs.Range.{range_inclusive_start, range_inclusive_end};
+
 use super::deserialize::BorshDeserialize;
+use super::parts::{FromParts, read_parts};
 use borsh_io::{Read, Result};
 use std::alloc::Global;
 use std::ops::{Range, RangeFrom, RangeInclusive, RangeTo, RangeToInclusive};
 
+impl<T: BorshDeserialize> FromParts for Range<T> {
+    type Parts = (T, T);
+
+    ghost view = { λ r. (r.start, r.end) };
+
+    #[inline]
+    fn from_parts((start, end): (T, T)) -> Range<T> {
+        start..end
+    }
+}
+
 impl<T: BorshDeserialize> BorshDeserialize for Range<T> {
     #[inline]
     fn deserialize_reader<R: Read>(alloc: Global, reader: &mut R) -> Result<Range<T>> {
-        let (start, end) = <(T, T)>::deserialize_reader(alloc, reader)?;
-        Ok(start..end)
+        read_parts(alloc, reader)
+    }
+}
+
+impl<T: BorshDeserialize> FromParts for RangeInclusive<T> {
+    type Parts = (T, T);
+
+    ghost view = { λ r. (range_inclusive_start r, range_inclusive_end r) };
+
+    #[inline]
+    fn from_parts((start, end): (T, T)) -> RangeInclusive<T> {
+        start..=end
     }
 }
 
 impl<T: BorshDeserialize> BorshDeserialize for RangeInclusive<T> {
     #[inline]
     fn deserialize_reader<R: Read>(alloc: Global, reader: &mut R) -> Result<RangeInclusive<T>> {
-        let (start, end) = <(T, T)>::deserialize_reader(alloc, reader)?;
-        Ok(start..=end)
+        read_parts(alloc, reader)
+    }
+}
+
+impl<T: BorshDeserialize> FromParts for RangeFrom<T> {
+    type Parts = T;
+
+    ghost view = { λ r. r.start };
+
+    #[inline]
+    fn from_parts(start: T) -> RangeFrom<T> {
+        start..
     }
 }
 
 impl<T: BorshDeserialize> BorshDeserialize for RangeFrom<T> {
     #[inline]
     fn deserialize_reader<R: Read>(alloc: Global, reader: &mut R) -> Result<RangeFrom<T>> {
-        let start = T::deserialize_reader(alloc, reader)?;
-        Ok(start..)
+        read_parts(alloc, reader)
+    }
+}
+
+impl<T: BorshDeserialize + Copy> FromParts for RangeTo<T> {
+    type Parts = T;
+
+    ghost view = { λ r. r.end };
+
+    #[inline]
+    fn from_parts(end: T) -> RangeTo<T> {
+        ..end
     }
 }
 
 impl<T: BorshDeserialize + Copy> BorshDeserialize for RangeTo<T> {
     #[inline]
     fn deserialize_reader<R: Read>(alloc: Global, reader: &mut R) -> Result<RangeTo<T>> {
-        let end = T::deserialize_reader(alloc, reader)?;
-        Ok(..end)
+        read_parts(alloc, reader)
+    }
+}
+
+impl<T: BorshDeserialize + Copy> FromParts for RangeToInclusive<T> {
+    type Parts = T;
+
+    ghost view = { λ r. r.end };
+
+    #[inline]
+    fn from_parts(end: T) -> RangeToInclusive<T> {
+        ..=end
     }
 }
 
 impl<T: BorshDeserialize + Copy> BorshDeserialize for RangeToInclusive<T> {
     #[inline]
     fn deserialize_reader<R: Read>(alloc: Global, reader: &mut R) -> Result<RangeToInclusive<T>> {
-        let end = T::deserialize_reader(alloc, reader)?;
-        Ok(..=end)
+        read_parts(alloc, reader)
     }
 }

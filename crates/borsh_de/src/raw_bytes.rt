@@ -1,21 +1,18 @@
-// Bytes from the front of what is to come.
-ghost use Rattle.std.specs.Prelude.{◌≡◌, ◌<◌, get_or, ℕ, List, false, length, ◌∷◌, [], OnOk, IfOk, IfErr};
-ghost use Rattle.borsh_io.specs.Errors.{error_kind};
+// The next bytes, as they are.
 ghost use Rattle.borsh_codec.specs.Shapes.{unsigned, allocated_array};
 ghost use Rattle.borsh_codec.specs.Types.Addresses.{octets};
-ghost use Rattle.borsh_codec.specs.Reading.{TakesPrefix, ReadFails, Decoded, NotDecoded};
+ghost use Rattle.borsh_codec.specs.RawBytes.{FillsBuffer, TakesBytes};
+ghost use Rattle.borsh_codec.specs.Reading.{Decodes, DecodesVec, any_byte};
 
 use super::refusals::unexpected_length;
 use borsh_io::{ErrorKind, Read, Result};
 use std::alloc::Global;
 
-/// Fills the buffer with the front of the bytes to come. Input that ends early is refused with
-/// `InvalidData`, "Unexpected length of input".
+/// Fills the buffer with the next bytes. Where there are fewer, the error is `InvalidData`, "Unexpected
+/// length of input"; else it is the reader's. After an error a tail of the bytes to come is left.
 #[inline]
 pub fn fill<R: Read>(reader: &mut R, buf: &mut [u8]) -> Result<()>
-    ensures ok { OnOk result (TakesPrefix (λ x. x ≡ buf.new) (R.stream reader.old) (R.stream reader.new)) }
-    ensures fits { (i : ℕ) → get_or buf.new i 0 < 256 }
-    ensures err { IfErr result (λ e. ReadFails false (λ x. length x ≡ length buf.old) (R.stream reader.old) (R.stream reader.new) (error_kind e)) }
+    ensures { FillsBuffer R.stream reader.old reader.new buf.old buf.new result }
 {
     match reader.read_exact(buf) {
         Ok(()) => Ok(()),
@@ -26,32 +23,29 @@ pub fn fill<R: Read>(reader: &mut R, buf: &mut [u8]) -> Result<()>
     }
 }
 
-/// The next bytes, as many as the array has. Refused as [`fill`] is.
+/// The next bytes, as many as the array has. The errors are those of [`fill`].
 #[inline]
 pub fn read_bytes<R: Read, const N: usize>(reader: &mut R) -> Result<[u8; N]>
-    ensures ok { IfOk result (λ bytes. TakesPrefix (λ x. x ≡ bytes) (R.stream reader.old) (R.stream reader.new)) }
-    ensures err { IfErr result (λ e. ReadFails false (λ x. length x ≡ N) (R.stream reader.old) (R.stream reader.new) (error_kind e)) }
+    ensures { TakesBytes N R.stream reader.old reader.new result }
 {
     let mut bytes = [0u8; N];
     fill(reader, &mut bytes)?;
     Ok(bytes)
 }
 
-/// The same, as octets that are read one by one. Refused as [`fill`] is.
+/// The same, as an array of numbers of one byte. The errors are those of [`fill`].
 #[inline]
 pub(crate) fn read_octets<R: Read, const N: usize>(reader: &mut R) -> Result<[u8; N]>
-    ensures ok { IfOk result (λ bytes. Decoded (List ℕ) (octets N) (R.stream reader.old) (R.stream reader.new) bytes) }
-    ensures err { IfErr result (λ e. NotDecoded (List ℕ) (octets N) (R.stream reader.old) (R.stream reader.new) (error_kind e)) }
+    ensures { Decodes (octets N) R.stream reader.old reader.new result }
 {
     let bytes: [u8; N] = read_bytes(reader)?;
     Ok(bytes)
 }
 
-/// The next byte, which says which kind of value follows. Refused as [`fill`] is.
+/// The next byte, which says which kind of value follows. The errors are those of [`fill`].
 #[inline]
 pub fn read_tag<R: Read>(reader: &mut R) -> Result<u8>
-    ensures ok { IfOk result (λ tag. TakesPrefix (λ x. x ≡ tag ∷ []) (R.stream reader.old) (R.stream reader.new)) }
-    ensures err { IfErr result (λ e. ReadFails false (λ x. length x ≡ 1) (R.stream reader.old) (R.stream reader.new) (error_kind e)) }
+    ensures { Decodes any_byte R.stream reader.old reader.new result }
 {
     let bytes: [u8; 1] = read_bytes(reader)?;
     Ok(bytes[0])
@@ -63,8 +57,7 @@ const FIRST_ROOM: usize = 1048576;
 /// The next `len` bytes. Room is made for 1 MiB at first and then for as many again as came, so bytes
 /// that are announced and don't come cost little memory. Refused as [`fill`] is, and with `OutOfMemory`.
 pub(crate) fn read_vec<R: Read>(alloc: Global, len: usize, reader: &mut R) -> Result<Vec<u8>>
-    ensures ok { IfOk result (λ v. Decoded (List ℕ) (allocated_array len (unsigned 1)) (R.stream reader.old) (R.stream reader.new) v.items) }
-    ensures err { IfErr result (λ e. NotDecoded (List ℕ) (allocated_array len (unsigned 1)) (R.stream reader.old) (R.stream reader.new) (error_kind e)) }
+    ensures { DecodesVec (allocated_array len (unsigned 1)) R.stream reader.old reader.new result }
 {
     let mut bytes = vec![in alloc; 0u8; len.min(FIRST_ROOM)]?;
     fill(reader, &mut bytes)?;

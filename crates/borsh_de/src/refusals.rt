@@ -1,5 +1,5 @@
 // Why bytes are refused.
-ghost use Rattle.std.specs.Prelude.{◌≡◌};
+ghost use Rattle.std.specs.Prelude.{◌≡◌, true, MatchResult};
 ghost use Rattle.borsh_io.specs.Errors.{error_kind};
 ghost use Rattle.borsh_codec.specs.Reading.{IsInvalidData};
 
@@ -12,13 +12,17 @@ pub const ERROR_UNEXPECTED_LENGTH_OF_INPUT: &str = "Unexpected length of input";
 
 pub const ERROR_INVALID_ZERO_VALUE: &str = "Expected a non-zero value";
 
-/// The refusal of maps and sets whose keys don't strictly ascend, where the reader wants order.
+/// The text for maps and sets whose keys don't strictly ascend, where the reader wants order.
 pub const ERROR_WRONG_ORDER_OF_KEYS: &str = "keys were not serialized in ascending order";
 
-/// A refusal of bytes: `InvalidData` with this text, or `OutOfMemory` where the text found no memory.
+/// The error for bytes that decode to no value: `InvalidData` with this text, or `OutOfMemory` where
+/// there was no memory for the text.
 #[cold]
 pub fn invalid_data(text: Result<String, AllocError>) -> Error
-    ensures { IsInvalidData (error_kind result) }
+    ensures kind { IsInvalidData true (error_kind result) }
+    ensures by_text { MatchResult text
+        (λ _. error_kind result ≡ ErrorKind.InvalidData)
+        (λ _. error_kind result ≡ ErrorKind.OutOfMemory) }
 {
     match text {
         Ok(text) => Error::new(ErrorKind::InvalidData, text),
@@ -41,10 +45,10 @@ pub(crate) fn unexpected_length() -> Error
 }
 
 #[cold]
-pub(crate) fn not_non_zero() -> Error
+pub(crate) fn refused(text: &'static str) -> Error
     ensures { error_kind result ≡ ErrorKind.InvalidData }
 {
-    Error::new(ErrorKind::InvalidData, ERROR_INVALID_ZERO_VALUE)
+    Error::new(ErrorKind::InvalidData, text)
 }
 
 #[cold]

@@ -1,11 +1,7 @@
 // Texts: a count of four bytes and the bytes of the characters, in UTF-8.
-ghost use Rattle.std.specs.Prelude.{◌≡◌, ℕ, List, IfOk, IfErr};
 ghost use Rattle.std.specs.String.{string_bytes};
-ghost use Rattle.std.specs.Cow.{cow_str_bytes};
-ghost use Rattle.borsh_io.specs.Errors.{error_kind};
-ghost use Rattle.borsh_codec.specs.Shapes.{contramap};
 ghost use Rattle.borsh_codec.specs.Types.Texts.{text};
-ghost use Rattle.borsh_codec.specs.Reading.{Decoded, NotDecoded};
+ghost use Rattle.borsh_codec.specs.Reading.{DecodesAs};
 
 use super::deserialize::BorshDeserialize;
 use super::lists::read_counted;
@@ -19,8 +15,7 @@ use std::rc::RcStr;
 /// Reads the count of bytes and the bytes, which become the text as they lie. Bytes that aren't UTF-8
 /// are refused: `InvalidData`, with what std says of them.
 pub(crate) fn read_text<R: Read>(alloc: Global, reader: &mut R) -> Result<String>
-    ensures ok { IfOk result (λ string. Decoded (List ℕ) text (R.stream reader.old) (R.stream reader.new) (string_bytes string)) }
-    ensures err { IfErr result (λ e. NotDecoded (List ℕ) text (R.stream reader.old) (R.stream reader.new) (error_kind e)) }
+    ensures { DecodesAs string_bytes text R.stream reader.old reader.new result }
 {
     let bytes: Vec<u8> = read_counted(alloc, reader)?;
     match String::from_utf8(bytes) {

@@ -1,9 +1,8 @@
-use Rattle.std.proofs.lemmas.Result.{IfOk-weaker, IfErr-weaker}
-use Rattle.borsh_codec.proofs.ReadRows.{reads_counted, denied_counted}
+use Rattle.borsh_codec.proofs.DecodeViews.{vec_no_count, vec_counted}
 use Rattle.borsh_de.proofs.lists.read_counted.Goals as goal
 
-pub returns-clause-ok : goal.returns-clause-ok
-returns-clause-ok g c = IfOk-weaker c.read_elements.result _ _ (λ v r. reads_counted c.in_ok-count.ensures.ok r) c.read_elements.ensures.ok
+pub returns-in_err-count : goal.returns-in_err-count
+returns-in_err-count g c = vec_no_count g.T.BorshType.codec _ c.from_residual.ensures.1 c.in_err-count.ensures
 
-pub returns-clause-err : goal.returns-clause-err
-returns-clause-err g c = IfErr-weaker c.read_elements.result _ _ (λ e r. denied_counted c.in_ok-count.ensures.ok r) c.read_elements.ensures.err
+pub returns : goal.returns
+returns g c = vec_counted c.in_ok-count.ensures c.read_elements.ensures

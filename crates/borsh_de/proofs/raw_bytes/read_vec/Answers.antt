@@ -1,26 +1,24 @@
 use Rattle.std.proofs.Common.{arith, ◌≡◌, ◌-◌, ◌≤◌, ◌++◌, length, take, drop, refl, sym, ◌∙◌, ap, length-append}
 use Rattle.std.proofs.lemmas.List.{length-take, length-drop, take_all, take_at}
-use Rattle.std.proofs.lemmas.Result.{err_from_is_err_and}
 use Rattle.borsh_codec.proofs.ReadSteps.{took_weaker, took_nothing, took_then}
+use Rattle.borsh_codec.proofs.DecodeViews.{as_err, as_ok}
 use Rattle.borsh_codec.proofs.ReadBytes.{reads_bytes, denied_bytes}
 use Rattle.borsh_de.proofs.Pieces.{grown, fits_both}
 use Rattle.borsh_de.proofs.raw_bytes.read_vec.Goals as goal
 
-pub returns-in_err-fill-clause-err : goal.returns-in_err-fill-clause-err
-returns-in_err-fill-clause-err g c =
-    let p = err_from_is_err_and c.from_residual-in_err-fill.result c.from_residual-in_err-fill.ensures.1 in
-    rw (p.1, p.2) (denied_bytes (omega (arith, c.deref_mut.ensures.len, c.in_ok-bytes.ensures.len, c.min.ensures)) (took_nothing _ refl) c.in_err-fill.ensures.err)
+pub returns-in_err-fill : goal.returns-in_err-fill
+returns-in_err-fill g c =
+    as_err _ c.from_residual-in_err-fill.ensures.1 refl (denied_bytes (omega (arith, c.deref_mut.ensures.len, c.in_ok-bytes.ensures.len, c.min.ensures)) (took_nothing _ refl) c.in_err-fill.ensures.err)
 
-pub returns-in_err-fill-2-clause-err : goal.returns-in_err-fill-2-clause-err
-returns-in_err-fill-2-clause-err g c =
-    let p = err_from_is_err_and c.from_residual-in_err-fill-2.result c.from_residual-in_err-fill-2.ensures.1 in
+pub returns-in_err-fill-2 : goal.returns-in_err-fill-2
+returns-in_err-fill-2 g c =
     let now = c.deref_mut-in-loop-bytes.result.now in
     let filled = c.len-filled.result in
     let piece : length (take (length now - filled) (drop filled now)) ≤ length now - filled = omega (arith, length-take (length now - filled) (drop filled now)) in
-    rw (p.1, p.2) (denied_bytes (omega (arith, piece, c.loop-bytes.invariant.few, c.len-filled.ensures, c.deref_mut-in-loop-bytes.ensures.len, c.in_ok-resize.ensures.len, c.min-in-loop-bytes.ensures)) c.loop-bytes.invariant.took c.in_err-fill-2.ensures.err)
+    as_err _ c.from_residual-in_err-fill-2.ensures.1 refl (denied_bytes (omega (arith, piece, c.loop-bytes.invariant.few, c.len-filled.ensures, c.deref_mut-in-loop-bytes.ensures.len, c.in_ok-resize.ensures.len, c.min-in-loop-bytes.ensures)) c.loop-bytes.invariant.took c.in_err-fill-2.ensures.err)
 
-pub returns-clause-ok : goal.returns-clause-ok
-returns-clause-ok g c = reads_bytes (omega (arith, c.loop-bytes.invariant.few, c.loop-bytes-test.false, c.len.ensures)) c.loop-bytes.invariant.fit c.loop-bytes.invariant.took
+pub returns : goal.returns
+returns g c = as_ok refl (reads_bytes (omega (arith, c.loop-bytes.invariant.few, c.loop-bytes-test.false, c.len.ensures)) c.loop-bytes.invariant.fit c.loop-bytes.invariant.took)
 
 pub loop-bytes-preserved : goal.loop-bytes-preserved
 loop-bytes-preserved g c =

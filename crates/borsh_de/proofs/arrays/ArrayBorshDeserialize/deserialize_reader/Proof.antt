@@ -1,5 +1,5 @@
 -- `deserialize_reader` hands on what it was given to `read_row`, and takes the array out of what comes back. Assumes `Logic`.
-use Rattle.std.proofs.Common.{◌≡◌, ℕ, ◌<◌, ◌^◌, List, [], ◌∷◌, refl, sym, subst, Result, Ok, Err, IfOk, IfErr, MatchResult}
+use Rattle.std.proofs.Common.{◌≡◌, ℕ, ◌<◌, ◌^◌, List, [], ◌∷◌, false, refl, sym, subst, Result, Ok, Err, MatchResult}
 use mir.Syntax.{Args, Fn, named, a_type, a_number, dcons, dnil}
 use mir.Val.{Val}
 use mir.MapTy.{inst_fn}
@@ -35,9 +35,12 @@ use Rattle.std.specs.contracts.result.Result as RS
 use Rattle.std.proofs.result.Result.TheLaws as RS_laws
 use Rattle.borsh_io.specs.contracts.error.Error as error
 use Rattle.borsh_io.proofs.error.Error.TheLaws as error_laws
-use Rattle.borsh_io.specs.Errors.{error_kind}
+use Rattle.borsh_io.specs.declared.error.Error.{Error}
+use Rattle.borsh_io.specs.Stream.{ReaderState}
+use Rattle.borsh_codec.specs.Codec.{Codec}
 use Rattle.borsh_codec.specs.Shapes.{array}
-use Rattle.borsh_codec.specs.Reading.{Decoded, NotDecoded}
+use Rattle.borsh_codec.specs.Reading.{Decodes, DecodesAs}
+use Rattle.borsh_codec.proofs.DecodeOutcomes.{decodes_ok, decodes_err}
 use Rattle.places.specs.declared.tried.Held.{Held}
 use Rattle.places.specs.contracts.tried.Held as held
 use Rattle.places.proofs.tried.Held.TheLaws as held_laws
@@ -51,9 +54,9 @@ use Rattle.borsh_de.proofs.arrays.ArrayBorshDeserialize.deserialize_reader.State
 use Rattle.borsh_de.proofs.arrays.ArrayBorshDeserialize.deserialize_reader.Code as code
 
 -- what held of the value in its struct, or of the error, holds of what was taken out
-released : {A E : Type 0} (r : Result (Held A) E) (r' : Result A E) (P : A → Type 0) (Q : E → Type 0) → IfOk r (λ h. P h.0) → IfErr r Q → MatchResult r (λ h. r' ≡ Ok h.0) (λ e. r' ≡ Err e) → IfOk r' P × IfErr r' Q
-released (Ok h) r' P Q p q is = subst (λ s. IfOk s P × IfErr s Q) (sym is) (p, tt)
-released (Err e) r' P Q p q is = subst (λ s. IfOk s P × IfErr s Q) (sym is) (tt, q)
+released : {A R : Type 0} {c : Codec A} {state : R → ReaderState} {a b : R} (r : Result (Held A) Error) (r' : Result A Error) → c.refuses ≡ false → DecodesAs (λ h. h.0) c state a b r → MatchResult r (λ h. r' ≡ Ok h.0) (λ e. r' ≡ Err e) → Decodes c state a b r'
+released {c = c} {state = state} {a = a} {b = b} (Ok h) r' n d is = subst (Decodes c state a b) (sym is) (decodes_ok n d.ok)
+released {c = c} {state = state} {a = a} {b = b} (Err e) r' n d is = subst (Decodes c state a b) (sym is) (decodes_err n d.err)
 
 pub deserialize_reader_spec : {M : Type 1} → statement M
 deserialize_reader_spec 𝓤 𝓛 𝓜 𝓡 wired T n R LT fits LR gD dD gB dB dG gR dR metD metB metG metR =
@@ -78,8 +81,8 @@ deserialize_reader_spec 𝓤 𝓛 𝓜 𝓡 wired T n R LT fits LR gD dD gB dB d
     let κ : Lft = κs.0 in let κT : Lft = κs.1.0 in let κN : Lft = κs.1.1.0 in let κR : Lft = κs.1.1.1.0 in
     let q : Share = qs.0 in let qT : Share = qs.1.0 in let qN : Share = qs.1.1.0 in let qR : Share = qs.1.1.1.0 in
     let z : G.Ghost = ((κs, qs, bounds, a, (told.val a.0 ∷ [], (mut_vals a.1.0, tt))), g) in
-    let Is_read : R.Denot → List T.Denot → Type 0 = λ w xs. Decoded (List T.Denot) (array n gB.codec) (gR.stream a.1.0.now) (gR.stream w) xs in
-    let Is_denied : R.Denot → (error.the_row).Denot → Type 0 = λ w e. NotDecoded (List T.Denot) (array n gB.codec) (gR.stream a.1.0.now) (gR.stream w) (error_kind e) in
+    let Row_says : R.Denot → Mid.Denot → Type 0 = λ w r. DecodesAs (λ (h : Held (List T.Denot)). h.0) (array n gB.codec) gR.stream a.1.0.now w r in
+    let Says : R.Denot → Out.Denot → Type 0 = λ w r. Decodes (array n gB.codec) gR.stream a.1.0.now w r in
     let Post : Val → SProp 𝓤 = (walk_of 𝓛 En hs c).post z in
     -- what is owned on entry, and of what is required the last parts and all but the first
     let entry : SProp 𝓤 = on_entry 𝓛 En.signature κs qs a z.0.4 in
@@ -94,9 +97,9 @@ deserialize_reader_spec 𝓤 𝓛 𝓜 𝓡 wired T n R LT fits LR gD dD gB dB d
     calls_at ! (framed 𝓤 𝓛.H 𝓜 𝓣) G (read_row.met 𝓤 𝓛 𝓜 𝓡 (code.calls-borsh_de::arrays::read_row 𝓡.env wired) T n R LT fits LR gD dD gB dB gR dR dG metD metB metR metG) z
     (and_then ! (get ! refl) (and_then ! (get ! refl) (no_more !))) (λ v.
     use1 𝓛 (later (some (λ (r : Mid.Denot). ((‵ (flft κ q) ⊛ ‵ (flft κT qT) ⊛ ‵ (flft κN qN) ⊛ ‵ (flft κR qR) ⊛ ‵ ftrue) ⊛ ‵ (Mid.own_val r (v ∷ [])))
-    ⊛ some (λ (ws : Lasts read_ended κs a). ‵ (lasts read_ended κs a ws) ⊛ raw (fact 𝓤 (IfOk r (λ h. Is_read ws.1.0 h.0))) ⊛ raw (fact 𝓤 (IfErr r (Is_denied ws.1.0))))))) (id⊢ 𝓤 _) $
-    await ! tt $ pick ! (λ r. split ! $ move ! (1 ∷ []) $ pick ! (λ ws. split3 ! $ move ! (1 ∷ 2 ∷ []) $
-    heard ! (IfOk r (λ h. Is_read ws.1.0 h.0)) (λ is_ok. heard ! (IfErr r (Is_denied ws.1.0)) (λ is_err.
+    ⊛ some (λ (ws : Lasts read_ended κs a). ‵ (lasts read_ended κs a ws) ⊛ raw (fact 𝓤 (Row_says ws.1.0 r)))))) (id⊢ 𝓤 _) $
+    await ! tt $ pick ! (λ r. split ! $ move ! (1 ∷ []) $ pick ! (λ ws. split ! $ move ! (1 ∷ []) $
+    heard ! (Row_says ws.1.0 r) (λ row.
     -- [the last values; the tokens and the result]
     fsplit3 ! $ drop ! $ move ! (1 ∷ []) $ drop ! $ move ! (1 ∷ []) $ split ! $ move ! (1 ∷ []) $
     -- [the result; the tokens; what is left of the reader's reference]
@@ -118,7 +121,5 @@ deserialize_reader_spec 𝓤 𝓛 𝓜 𝓡 wired T n R LT fits LR gD dD gB dB d
 
     move ! (1 ∷ []) $ split3 ! $ move ! (4 ∷ 5 ∷ []) $ join ! $ move ! (2 ∷ 0 ∷ []) $ join ! $ move ! (1 ∷ 0 ∷ []) $ join ! $ move ! (3 ∷ 0 ∷ []) $ join ! $
     nothing ! $ move ! (4 ∷ 0 ∷ []) $ fjoin ! $ nothing ! $ fjoin ! $
-    let both = released r r' (Is_read ws.1.0) (Is_denied ws.1.0) is_ok is_err out in
-    let Ok_says : Type 0 = IfOk r' (Is_read ws.1.0) in let Err_says : Type 0 = IfErr r' (Is_denied ws.1.0) in
-    use0 𝓛 (raw (fact 𝓤 Err_says)) (fact_i 𝓤 Err_says (emp 𝓤) both.1) $ use0 𝓛 (raw (fact 𝓤 Ok_says)) (fact_i 𝓤 Ok_says (emp 𝓤) both.0) $ join ! $
-    keep ! (2 ∷ 1 ∷ 4 ∷ 0 ∷ []) $ by ! (leaves 𝓛 En hs c z v' r' ws (tt, (tt, tt))))))))))))))))))
+    use0 𝓛 (raw (fact 𝓤 (Says ws.1.0 r'))) (fact_i 𝓤 (Says ws.1.0 r') (emp 𝓤) (released r r' refl row out)) $
+    keep ! (2 ∷ 1 ∷ 4 ∷ 0 ∷ []) $ by ! (leaves 𝓛 En hs c z v' r' ws (tt, (tt, tt)))))))))))))))))

@@ -1,7 +1,9 @@
 use Rattle.std.specs.Box.{boxed_slice_items}
-use Rattle.borsh_codec.specs.Shapes.{list}
-use Rattle.borsh_codec.proofs.ReadParts.{reads_contramap}
+use Rattle.borsh_codec.proofs.DecodeViews.{decodes_as_exit, decodes_as_made}
 use Rattle.borsh_de.proofs.lists.BoxedSliceBorshDeserialize.deserialize_reader.Goals as goal
 
-pub returns-clause-ok : goal.returns-clause-ok
-returns-clause-ok g c = reads_contramap boxed_slice_items {c = list g.T.BorshType.codec} (rw c.into_boxed_slice.ensures.items c.in_ok-read_list.ensures.ok)
+pub returns-in_err-read_list : goal.returns-in_err-read_list
+returns-in_err-read_list g c = decodes_as_exit boxed_slice_items _ c.from_residual.ensures.1 c.in_err-read_list.ensures
+
+pub returns : goal.returns
+returns g c = decodes_as_made boxed_slice_items c.into_boxed_slice.ensures.items c.in_ok-read_list.ensures
