@@ -1,10 +1,10 @@
 // Definitions as bytes: the variant's place in the order, one byte, and its parts in order.
-ghost use Rattle.borsh_walks.specs.Codecs.{length_range, length_range-lawful, fields, fields-lawful, definition, definition-lawful};
+ghost use Rattle.borsh_walks.specs.Codecs.{ends, length_range, length_range-lawful, fields, fields-lawful, definition, definition-lawful};
 
 use crate::definition::{
     Declaration, Definition, DiscriminantValue, FieldName, Fields, LengthRange, VariantName,
 };
-use borsh_de::{BorshDeserialize, EnumExt, invalid_data, read_tag};
+use borsh_de::{BorshDeserialize, EnumExt, FromParts, invalid_data, read_parts, read_tag};
 use borsh_io::{Read, Result, Write};
 use borsh_ser::{BorshSerialize, write_bytes, write_tagged, write_three, write_two};
 use borsh_types::BorshType;
@@ -31,11 +31,21 @@ impl BorshSerialize for LengthRange {
     }
 }
 
+impl FromParts for LengthRange {
+    type Parts = (u64, u64);
+
+    ghost view = { ends };
+
+    #[inline]
+    fn from_parts((start, end): (u64, u64)) -> LengthRange {
+        LengthRange { start, end }
+    }
+}
+
 impl BorshDeserialize for LengthRange {
     #[inline]
     fn deserialize_reader<R: Read>(alloc: Global, reader: &mut R) -> Result<LengthRange> {
-        let (start, end) = <(u64, u64)>::deserialize_reader(alloc, reader)?;
-        Ok(LengthRange { start, end })
+        read_parts(alloc, reader)
     }
 }
 

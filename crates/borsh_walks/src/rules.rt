@@ -114,10 +114,8 @@ fn broken_rule<'a>(
     ensures same { LooksOn counted.old counted.new }
     ensures answer { IfOk result (RuleAnswer (definitions_of counted.old) (shape_of definition.now)) }
     ensures table { OnOk result (ZeroTable (definitions_of counted.old) table.new) }
-    ensures marked {
-        IfOk result
-            (MarksElement (definitions_of counted.old) (shape_of definition.now) table.old table.new)
-    }
+    ensures marked { IfOk result
+        (MarksElement (definitions_of counted.old) (shape_of definition.now) table.old table.new) }
     ensures counts { ZeroCounted counted.old counted.new table.old table.new result }
 {
     if let Some(broken) = broken_shape(definition) {
@@ -159,14 +157,10 @@ fn visit<'a>(
 ) -> Result<(), SchemaContainerValidateError>
     requires { ZeroTable (definitions_of counted.old) table.old }
     ensures same { LooksOn counted.old counted.new }
-    ensures visited {
-        Visits counted.old counted.new name.now seen.old seen.new
-            (reverse way.old.items) (reverse way.new.items) table.old table.new result
-    }
-    ensures counts {
-        CountsVisit counted.old counted.new name.now seen.old seen.new
-            (reverse way.old.items) table.old table.new result
-    }
+    ensures visited { Visits counted.old counted.new name.now seen.old seen.new
+        (reverse way.old.items) (reverse way.new.items) table.old table.new result }
+    ensures counts { CountsVisit counted.old counted.new name.now seen.old seen.new
+        (reverse way.old.items) table.old table.new result }
 {
     let Some(definition) = counted.look(Question::Rules, name) else {
         return Err(error_of(alloc, Broken::Missing, name));

@@ -36,9 +36,7 @@ pub fn is_zero<'a>(
     ensures same { LooksOn counted.old counted.new }
     ensures answer { IfOk result (DecidesZeroSize (definitions_of counted.old) name.now) }
     ensures table { OnOk result (ZeroTable (definitions_of counted.old) table.new) }
-    ensures marked {
-        OnOk result (ZeroMarked (definitions_of counted.old) name.now table.old table.new)
-    }
+    ensures marked { OnOk result (ZeroMarked (definitions_of counted.old) name.now table.old table.new) }
     ensures counts { ZeroCounted counted.old counted.new table.old table.new result }
 {
     if let Some(zero) = table.get(name) {

@@ -7,7 +7,7 @@ returns-in_err-write_bytes-in-Sequence g c =
 
 pub returns-in_ok-write_bytes-in-Sequence : goal.returns-in_ok-write_bytes-in-Sequence
 returns-in_ok-write_bytes-in-Sequence g c =
-    rw c.in-Sequence.is (writes_then g.met.W.Write.lawful _ c.in_ok-write_bytes-in-Sequence.ensures c.write_three.ensures)
+    rw c.in-Sequence.is (writes_then g.met.W.Write.lawful false c.in_ok-write_bytes-in-Sequence.ensures c.write_three.ensures)
 
 pub returns-in_err-write_bytes-in-Enum : goal.returns-in_err-write_bytes-in-Enum
 returns-in_err-write_bytes-in-Enum g c =
@@ -15,4 +15,4 @@ returns-in_err-write_bytes-in-Enum g c =
 
 pub returns-in_ok-write_bytes-in-Enum : goal.returns-in_ok-write_bytes-in-Enum
 returns-in_ok-write_bytes-in-Enum g c =
-    rw c.in-Enum.is (writes_then g.met.W.Write.lawful _ c.in_ok-write_bytes-in-Enum.ensures c.write_two.ensures)
+    rw c.in-Enum.is (writes_then g.met.W.Write.lawful false c.in_ok-write_bytes-in-Enum.ensures c.write_two.ensures)
