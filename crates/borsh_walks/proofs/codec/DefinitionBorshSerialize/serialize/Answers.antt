@@ -1,3 +1,4 @@
+use Rattle.std.proofs.Common.{false}
 use Rattle.borsh_codec.proofs.WriteOutcomes.{writes_exit_first, writes_then}
 use Rattle.borsh_walks.proofs.codec.DefinitionBorshSerialize.serialize.Goals as goal
 
