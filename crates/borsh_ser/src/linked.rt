@@ -17,7 +17,8 @@ fn write_queue<T: BorshSerialize, W: Write>(
     alloc: Global,
     writer: &mut W,
 ) -> Result<()>
-    ensures { Writes (length_prefixed T.codec) queue.now.items W.writing writer.old writer.new result }
+    ensures { Writes (length_prefixed T.codec) queue.now.items
+        W.writing writer.old writer.new result }
 {
     let (front, back) = queue.as_slices();
     write_count(queue.len(), writer)?;

@@ -20,7 +20,8 @@ use std::rc::RcSlice;
 
 /// Writes the elements one after another, at once where their bytes lie in memory as they are.
 ///
-/// Fails as the element that could not be written does. Then a beginning of the encoding was written.
+/// Fails as the element that could not be written does. Then a beginning of the encoding was
+/// written.
 #[inline]
 pub(crate) fn write_elements<T: BorshSerialize, W: Write>(
     items: &[T],
@@ -41,8 +42,8 @@ pub(crate) fn write_elements<T: BorshSerialize, W: Write>(
 
 /// Writes the count, four bytes.
 ///
-/// Fails with `InvalidData` for a count of more than 4294967295: then nothing was written. Fails also with
-/// the writer's error: then a beginning of the four bytes was written.
+/// Fails with `InvalidData` for a count of more than 4294967295: then nothing was written. Fails
+/// also with the writer's error: then a beginning of the four bytes was written.
 #[inline]
 pub(crate) fn write_count<W: Write>(count: usize, writer: &mut W) -> Result<()>
     ensures { WritesEncoding W.writing writer.old writer.new false false

@@ -1,5 +1,5 @@
-// Maps and sets that hold their entries in the order in which they are written: a count of four bytes and
-// the entries.
+// Maps and sets that hold their entries in the order in which they are written: a count of four
+// bytes and the entries.
 ghost use Rattle.borsh_codec.specs.Maps.{btree_entries, index_entries, key_only, unit_entries};
 ghost use Rattle.borsh_codec.specs.Shapes.{contramap, pair};
 ghost use Rattle.borsh_codec.specs.Writing.{Writes};
@@ -17,8 +17,8 @@ use std::hash::{BuildHasher, Hash};
 
 /// Writes the count and the entries.
 ///
-/// Fails with `InvalidData` for more than 4294967295, and as a key or a value that could not be written does.
-/// Then a beginning of the encoding was written.
+/// Fails with `InvalidData` for more than 4294967295, and as a key or a value that could not be
+/// written does. Then a beginning of the encoding was written.
 #[inline]
 fn write_tree<K: BorshSerialize + Ord, V: BorshSerialize, W: Write>(
     tree: &BTreeMap<K, V>,
@@ -51,8 +51,8 @@ fn write_tree_set<K: BorshSerialize + Ord, W: Write>(
 
 /// Writes the count and the entries.
 ///
-/// Fails with `InvalidData` for more than 4294967295, and as a key or a value that could not be written does.
-/// Then a beginning of the encoding was written.
+/// Fails with `InvalidData` for more than 4294967295, and as a key or a value that could not be
+/// written does. Then a beginning of the encoding was written.
 #[inline]
 fn write_index<K: BorshSerialize + Eq + Hash, V: BorshSerialize, S: BuildHasher, W: Write>(
     table: &IndexMap<K, V, S>,

@@ -336,7 +336,8 @@ pub fn write_twelve<
 
 /// Writes a tag, one byte, and a part.
 ///
-/// Fails with the writer's error, or as the part does. Then a beginning of the encoding was written.
+/// Fails with the writer's error, or as the part does. Then a beginning of the encoding was
+/// written.
 #[inline]
 pub fn write_tagged<T: BorshSerialize, W: Write>(
     tag: u8,
