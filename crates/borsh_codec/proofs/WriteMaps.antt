@@ -1,5 +1,5 @@
 -- Maps and sets that are written as counted lists of their entries.
-use Rattle.std.proofs.Common.{◌≡◌, ℕ, ◌+◌, ◌<◌, get_or, drop, Bool, false, cond, List, [], ◌∷◌, length, Option, None, refl, sym, ◌∙◌, ap, subst, map}
+use Rattle.std.proofs.Common.{◌≡◌, ℕ, ◌+◌, ◌<◌, get_or, drop, Bool, cond, List, [], ◌∷◌, length, Option, None, refl, sym, ◌∙◌, ap, subst, map}
 use Rattle.std.specs.declared.cmp.Ordering.{Ordering}
 use Rattle.std.specs.Cmp.{IsEquivalence}
 use Rattle.std.specs.Map.{keys_of}

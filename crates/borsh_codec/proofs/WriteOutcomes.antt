@@ -1,19 +1,17 @@
 -- Outcomes of writes that follow one another, over the whole answer of a call.
-use Rattle.std.proofs.Common.{◌≡◌, ◌∙◌, ℕ, ◌∷◌, [], Bool, true, false, List, length, Option, Some, None, Result, Ok, Err, true≢false, refl, sym, ap, subst, ◌||◌}
+use Rattle.std.proofs.Common.{◌≡◌, ◌∙◌, ℕ, Bool, true, false, List, length, Option, None, Result, Ok, Err, true≢false, refl, sym, ap, subst, ◌||◌}
 use Rattle.std.specs.Result.{IsErrAnd}
 use Rattle.std.proofs.lemmas.Result.{err_from_is_err_and, on_ok_weaker, IfErr-weaker}
 use Rattle.borsh_io.specs.declared.error.Error.{Error}
-use Rattle.borsh_io.specs.declared.error.ErrorKind.{ErrorKind}
 use Rattle.borsh_io.specs.declared.error.ErrorKind.TheVariants.{InvalidData, OutOfMemory}
 use Rattle.borsh_io.specs.Errors.{error_kind}
 use Rattle.borsh_io.specs.Sink.{WriterModel, WriterLaws}
 use Rattle.borsh_codec.specs.Codec.{Codec}
 use Rattle.borsh_codec.specs.Shapes.{unsigned_encoding, append_encodings, concat_encodings, refused_if, length_prefixed}
-use Rattle.borsh_codec.specs.Untouched.{Untouched}
 use Rattle.borsh_codec.specs.Writing.{Written, NotWritten, WritesEncoding, Writes}
 use Rattle.borsh_codec.proofs.Laws.Exact.{refused_is, allowed_is}
 use Rattle.borsh_codec.proofs.Laws.Lists.{or_left, or_right}
-use Rattle.borsh_codec.proofs.WriteSteps.{WritesSoFar, so_far_all, so_far_denied, writes_as, writes_both, write_denied_as, write_denied_own, write_denied_none, write_denied_memory, write_denied_first, write_denied_second}
+use Rattle.borsh_codec.proofs.WriteSteps.{WritesSoFar, so_far_all, so_far_denied, writes_both, write_denied_as, write_denied_own, write_denied_none, write_denied_memory, write_denied_first, write_denied_second}
 
 -- at the exit of a `?`: the answer is the error
 pub writes_exit : {W : Type 0} {w : WriterModel W} {a b : W} {i x : Bool} {o : Option (List ℕ)} (e : Error) {r : Result (Unit {0}) Error} → IsErrAnd r (λ y. y ≡ e) → WritesEncoding w a b i x o (Err e) → WritesEncoding w a b i x o r

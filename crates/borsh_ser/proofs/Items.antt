@@ -1,6 +1,6 @@
 -- Items of an iterator that are written one after another.
 use Rattle.std.specs.Prelude.{map, MatchOption}
-use Rattle.std.proofs.Common.{◌≡◌, ◌∙◌, ℕ, Bool, false, List, [], ◌∷◌, Option, Some, None, Result, Ok, Err, refl, sym, ap, subst}
+use Rattle.std.proofs.Common.{◌≡◌, ◌∙◌, ℕ, Bool, false, List, [], ◌∷◌, Option, Some, None, Result, Ok, refl, sym, ap, subst}
 use Rattle.std.specs.Result.{IsErrAnd}
 use Rattle.std.specs.Iterator.{AlwaysYields}
 use Rattle.borsh_io.specs.declared.error.Error.{Error}

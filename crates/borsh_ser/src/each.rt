@@ -10,8 +10,8 @@ use std::alloc::Global;
 
 /// Writes the items that the iterator gives, one after another, with no count.
 ///
-/// Fails as the item that could not be written does. Then the items before it and a beginning of its own
-/// encoding were written.
+/// Fails as the item that could not be written does. Then the items before it and a beginning of
+/// its own encoding were written.
 #[inline]
 pub(crate) fn write_each<I: Iterator, W: Write>(
     mut items: I,
@@ -23,7 +23,8 @@ where
     I: Drop,
     requires ready { I.can_next items }
     requires finite { IsFinite (I.remaining items) }
-    ensures { (es : List (Option (List ℕ))) → AlwaysYields I.next_gives I.Item.codec.encoding items es
+    ensures { (es : List (Option (List ℕ)))
+        → AlwaysYields I.next_gives I.Item.codec.encoding items es
         → WritesEncoding W.writing writer.old writer.new I.Item.codec.encoding_allocates false
         (concat_encodings (λ e. e) es) result }
 {

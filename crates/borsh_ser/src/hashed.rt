@@ -1,5 +1,5 @@
-// Hashed maps and sets: references to the entries are collected, sorted by key and written, so that the
-// bytes depend on the entries alone.
+// Hashed maps and sets: references to the entries are collected, sorted by key and written, so
+// that the bytes depend on the entries alone.
 ghost use Rattle.borsh_codec.specs.Maps.{unit_entries, sorted_by_key};
 ghost use Rattle.borsh_codec.specs.Shapes.{concat_encodings, length_prefixed, pair};
 ghost use Rattle.borsh_codec.specs.Writing.{Writes, WritesEncoding};
@@ -70,7 +70,10 @@ fn sorted_keys<'a, K: Ord + Hash, S: BuildHasher>(
     Ok(all)
 }
 
-/// Writes the entries one after another.
+/// Writes the entries one after another, each key before its value.
+///
+/// Fails as the key or the value that could not be written does. Then a beginning of the
+/// encoding was written.
 #[inline]
 fn write_entries<K: BorshSerialize, V: BorshSerialize, W: Write>(
     entries: &[(&K, &V)],
@@ -87,7 +90,10 @@ fn write_entries<K: BorshSerialize, V: BorshSerialize, W: Write>(
     Ok(())
 }
 
-/// Writes the count and the entries. More than 4294967295 have no encoding: `InvalidData`.
+/// Writes the count and the entries.
+///
+/// Fails with `InvalidData` for more than 4294967295, and as a key or a value that could not be
+/// written does. Then a beginning of the encoding was written.
 #[inline]
 fn write_sorted<K: BorshSerialize, V: BorshSerialize, W: Write>(
     entries: &[(&K, &V)],

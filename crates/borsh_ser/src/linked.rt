@@ -10,14 +10,15 @@ use borsh_io::{Error, ErrorKind, Result, Write};
 use std::alloc::Global;
 use std::collections::{LinkedList, VecDeque};
 
-/// Writes the count and the elements of both parts of the queue. Refused as `write_counted` is.
+/// Writes the count and the elements of both parts of the queue. Fails as `write_counted` does.
 #[inline]
 fn write_queue<T: BorshSerialize, W: Write>(
     queue: &VecDeque<T>,
     alloc: Global,
     writer: &mut W,
 ) -> Result<()>
-    ensures { Writes (length_prefixed T.codec) queue.now.items W.writing writer.old writer.new result }
+    ensures { Writes (length_prefixed T.codec) queue.now.items
+        W.writing writer.old writer.new result }
 {
     let (front, back) = queue.as_slices();
     write_count(queue.len(), writer)?;
@@ -25,7 +26,7 @@ fn write_queue<T: BorshSerialize, W: Write>(
     write_elements(back, alloc, writer)
 }
 
-/// Writes the count and the elements of the list. Refused as `write_counted` is.
+/// Writes the count and the elements of the list. Fails as `write_counted` does.
 #[inline]
 fn write_linked_counted<T: BorshSerialize, W: Write>(
     list: &LinkedList<T>,

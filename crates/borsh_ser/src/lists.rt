@@ -19,6 +19,9 @@ use std::boxed::BoxedSlice;
 use std::rc::RcSlice;
 
 /// Writes the elements one after another, at once where their bytes lie in memory as they are.
+///
+/// Fails as the element that could not be written does. Then a beginning of the encoding was
+/// written.
 #[inline]
 pub(crate) fn write_elements<T: BorshSerialize, W: Write>(
     items: &[T],
@@ -37,7 +40,10 @@ pub(crate) fn write_elements<T: BorshSerialize, W: Write>(
     Ok(())
 }
 
-/// Writes the count. More than 4294967295 have no encoding: `InvalidData`.
+/// Writes the count, four bytes.
+///
+/// Fails with `InvalidData` for a count of more than 4294967295: then nothing was written. Fails
+/// also with the writer's error: then a beginning of the four bytes was written.
 #[inline]
 pub(crate) fn write_count<W: Write>(count: usize, writer: &mut W) -> Result<()>
     ensures { WritesEncoding W.writing writer.old writer.new false false
@@ -49,7 +55,9 @@ pub(crate) fn write_count<W: Write>(count: usize, writer: &mut W) -> Result<()>
     write_bytes(&bytes_of_u32(number), writer)
 }
 
-/// Writes the count and the elements. More than 4294967295 elements have no encoding: `InvalidData`.
+/// Writes the count and the elements.
+///
+/// Fails as `write_count` and `write_elements` do. Then a beginning of the encoding was written.
 #[inline]
 pub(crate) fn write_counted<T: BorshSerialize, W: Write>(
     items: &[T],
@@ -62,7 +70,9 @@ pub(crate) fn write_counted<T: BorshSerialize, W: Write>(
     write_elements(items, alloc, writer)
 }
 
-/// The same, but elements whose encodings are empty are refused before anything is written.
+/// Writes the count and the elements, as `write_counted` does and with its errors.
+///
+/// Elements whose encodings are empty are refused with `InvalidData`, before anything is written.
 #[inline]
 pub(crate) fn write_list<T: BorshSerialize, W: Write>(
     items: &[T],

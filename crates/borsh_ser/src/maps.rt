@@ -1,5 +1,5 @@
-// Maps and sets that hold their entries in the order in which they are written: a count of four bytes and
-// the entries.
+// Maps and sets that hold their entries in the order in which they are written: a count of four
+// bytes and the entries.
 ghost use Rattle.borsh_codec.specs.Maps.{btree_entries, index_entries, key_only, unit_entries};
 ghost use Rattle.borsh_codec.specs.Shapes.{contramap, pair};
 ghost use Rattle.borsh_codec.specs.Writing.{Writes};
@@ -15,7 +15,10 @@ use std::alloc::Global;
 use std::collections::{BTreeMap, BTreeSet};
 use std::hash::{BuildHasher, Hash};
 
-/// Writes the count and the entries. More than 4294967295 have no encoding: `InvalidData`.
+/// Writes the count and the entries.
+///
+/// Fails with `InvalidData` for more than 4294967295, and as a key or a value that could not be
+/// written does. Then a beginning of the encoding was written.
 #[inline]
 fn write_tree<K: BorshSerialize + Ord, V: BorshSerialize, W: Write>(
     tree: &BTreeMap<K, V>,
@@ -29,7 +32,10 @@ fn write_tree<K: BorshSerialize + Ord, V: BorshSerialize, W: Write>(
     write_each(tree.iter(), alloc, writer)
 }
 
-/// Writes the count and the keys. More than 4294967295 have no encoding: `InvalidData`.
+/// Writes the count and the keys.
+///
+/// Fails with `InvalidData` for more than 4294967295, and as a key that could not be written does.
+/// Then a beginning of the encoding was written.
 #[inline]
 fn write_tree_set<K: BorshSerialize + Ord, W: Write>(
     set: &BTreeSet<K>,
@@ -43,7 +49,10 @@ fn write_tree_set<K: BorshSerialize + Ord, W: Write>(
     write_each(set.iter(), alloc, writer)
 }
 
-/// Writes the count and the entries. More than 4294967295 have no encoding: `InvalidData`.
+/// Writes the count and the entries.
+///
+/// Fails with `InvalidData` for more than 4294967295, and as a key or a value that could not be
+/// written does. Then a beginning of the encoding was written.
 #[inline]
 fn write_index<K: BorshSerialize + Eq + Hash, V: BorshSerialize, S: BuildHasher, W: Write>(
     table: &IndexMap<K, V, S>,
@@ -57,7 +66,10 @@ fn write_index<K: BorshSerialize + Eq + Hash, V: BorshSerialize, S: BuildHasher,
     write_each(table.iter(), alloc, writer)
 }
 
-/// Writes the count and the keys. More than 4294967295 have no encoding: `InvalidData`.
+/// Writes the count and the keys.
+///
+/// Fails with `InvalidData` for more than 4294967295, and as a key that could not be written does.
+/// Then a beginning of the encoding was written.
 #[inline]
 fn write_index_set<K: BorshSerialize + Eq + Hash, S: BuildHasher, W: Write>(
     set: &IndexSet<K, S>,

@@ -1,5 +1,5 @@
-// Whole numbers, the lowest byte first, and with a sign in two's complement. A `usize` is written as a
-// `u64`, and an `isize` as an `i64`.
+// Whole numbers, the lowest byte first, and with a sign in two's complement. A `usize` is
+// written as a `u64`, and an `isize` as an `i64`.
 ghost use Rattle.std.specs.Prelude.{◌≡◌, Some, IsSomeAnd};
 ghost use Rattle.borsh_codec.specs.Shapes.{unsigned_encoding, signed_encoding, concat_encodings};
 

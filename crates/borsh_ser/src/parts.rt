@@ -9,6 +9,8 @@ use borsh_io::{Result, Write};
 use std::alloc::Global;
 
 /// Writes two parts, one after the other.
+///
+/// Fails as the part that could not be written does. Then a beginning of the encoding was written.
 #[inline]
 pub fn write_two<A: BorshSerialize, B: BorshSerialize, W: Write>(
     a: &A,
@@ -23,6 +25,8 @@ pub fn write_two<A: BorshSerialize, B: BorshSerialize, W: Write>(
 }
 
 /// Writes three parts in order.
+///
+/// Fails as the part that could not be written does. Then a beginning of the encoding was written.
 #[inline]
 pub fn write_three<A: BorshSerialize, B: BorshSerialize, C: BorshSerialize, W: Write>(
     a: &A,
@@ -41,6 +45,8 @@ pub fn write_three<A: BorshSerialize, B: BorshSerialize, C: BorshSerialize, W: W
 }
 
 /// Writes four parts in order.
+///
+/// Fails as the part that could not be written does. Then a beginning of the encoding was written.
 #[inline]
 pub fn write_four<
     A: BorshSerialize,
@@ -59,6 +65,8 @@ pub fn write_four<
 }
 
 /// Writes five parts in order.
+///
+/// Fails as the part that could not be written does. Then a beginning of the encoding was written.
 #[inline]
 pub fn write_five<
     A: BorshSerialize,
@@ -78,6 +86,8 @@ pub fn write_five<
 }
 
 /// Writes six parts in order.
+///
+/// Fails as the part that could not be written does. Then a beginning of the encoding was written.
 #[inline]
 pub fn write_six<
     A: BorshSerialize,
@@ -98,6 +108,8 @@ pub fn write_six<
 }
 
 /// Writes seven parts in order.
+///
+/// Fails as the part that could not be written does. Then a beginning of the encoding was written.
 #[inline]
 pub fn write_seven<
     A: BorshSerialize,
@@ -120,6 +132,8 @@ pub fn write_seven<
 }
 
 /// Writes eight parts in order.
+///
+/// Fails as the part that could not be written does. Then a beginning of the encoding was written.
 #[inline]
 pub fn write_eight<
     A: BorshSerialize,
@@ -154,6 +168,8 @@ pub fn write_eight<
 }
 
 /// Writes nine parts in order.
+///
+/// Fails as the part that could not be written does. Then a beginning of the encoding was written.
 #[inline]
 pub fn write_nine<
     A: BorshSerialize,
@@ -190,6 +206,8 @@ pub fn write_nine<
 }
 
 /// Writes ten parts in order.
+///
+/// Fails as the part that could not be written does. Then a beginning of the encoding was written.
 #[inline]
 pub fn write_ten<
     A: BorshSerialize,
@@ -228,6 +246,8 @@ pub fn write_ten<
 }
 
 /// Writes eleven parts in order.
+///
+/// Fails as the part that could not be written does. Then a beginning of the encoding was written.
 #[inline]
 pub fn write_eleven<
     A: BorshSerialize,
@@ -269,6 +289,8 @@ pub fn write_eleven<
 }
 
 /// Writes twelve parts in order.
+///
+/// Fails as the part that could not be written does. Then a beginning of the encoding was written.
 #[inline]
 pub fn write_twelve<
     A: BorshSerialize,
@@ -313,6 +335,9 @@ pub fn write_twelve<
 }
 
 /// Writes a tag, one byte, and a part.
+///
+/// Fails with the writer's error, or as the part does. Then a beginning of the encoding was
+/// written.
 #[inline]
 pub fn write_tagged<T: BorshSerialize, W: Write>(
     tag: u8,

@@ -4,7 +4,9 @@ ghost use Rattle.borsh_codec.specs.Writing.{WritesEncoding};
 
 use borsh_io::{Result, Write};
 
-/// Writes bytes that are an encoding. Refused with the writer's error: then a beginning was written.
+/// Writes bytes that are an encoding.
+///
+/// Fails with the writer's error. Then a beginning of the bytes was written.
 #[inline]
 pub fn write_bytes<W: Write>(bytes: &[u8], writer: &mut W) -> Result<()>
     ensures { WritesEncoding W.writing writer.old writer.new false false (Some bytes.now) result }

@@ -11,9 +11,9 @@ use std::alloc::Global;
 pub trait BorshSerialize: BorshType + Sized {
     /// Writes the value's encoding.
     ///
-    /// Refused with `InvalidData` where the value has no encoding (some bytes may have been written),
-    /// with `OutOfMemory` where memory was refused to the value or to the writer, and with the writer's
-    /// error. Then a beginning of the encoding was written.
+    /// Refused with `InvalidData` where the value has no encoding (some bytes may have been
+    /// written), with `OutOfMemory` where memory was refused to the value or to the writer, and
+    /// with the writer's error. Then a beginning of the encoding was written.
     fn serialize<W: Write>(&self, alloc: Global, writer: &mut W) -> Result<()>
         ensures { Writes Self.codec self.now W.writing writer.old writer.new result };
 
