@@ -1,17 +1,15 @@
 -- Outcomes of calls that answer a value through a view: vectors of the elements that were read, texts, arrays.
-use Rattle.std.proofs.Common.{◌≡◌, ◌∙◌, ℕ, ◌<◌, Bool, true, false, length, List, [], ◌∷◌, Result, Ok, Err, inl, true≢false, refl, sym, ap, subst}
+use Rattle.std.proofs.Common.{◌≡◌, ◌∙◌, ℕ, Bool, true, false, List, Result, Ok, Err, inl, true≢false, refl, sym, ap, subst}
 use Rattle.std.specs.Prelude.{Vec}
 use Rattle.std.specs.Global.{Global}
-use Rattle.std.specs.Result.{IsErrAnd, IfOk}
+use Rattle.std.specs.Result.{IsErrAnd}
 use Rattle.std.proofs.lemmas.Result.{err_from_is_err_and, IfOk-weaker, IfErr-weaker}
 use Rattle.borsh_io.specs.declared.error.Error.{Error}
-use Rattle.borsh_io.specs.declared.error.ErrorKind.{ErrorKind}
 use Rattle.borsh_io.specs.declared.error.ErrorKind.TheVariants.{InvalidData, OutOfMemory}
 use Rattle.borsh_io.specs.Errors.{error_kind}
 use Rattle.borsh_io.specs.Stream.{ReaderState}
-use Rattle.borsh_codec.specs.Codec.{Codec, Lawful}
-use Rattle.borsh_codec.specs.Shapes.{contramap, refused_if, unsigned, allocated_array, length_prefixed, list}
-use Rattle.borsh_codec.specs.Untouched.{Untouched}
+use Rattle.borsh_codec.specs.Codec.{Codec}
+use Rattle.borsh_codec.specs.Shapes.{contramap, refused_if, unsigned, allocated_array, length_prefixed}
 use Rattle.borsh_codec.specs.Reading.{TakesPrefix, Decoded, NotDecoded, Decodes, DecodesAs, DecodesVec}
 use Rattle.borsh_codec.proofs.ReadParts.{reads_contramap, denied_contramap, reads_allowed, denied_allowed, denied_refused}
 use Rattle.borsh_codec.proofs.ReadSteps.{denied_memory}

@@ -1,11 +1,11 @@
 -- `deserialize_reader` hands on what it was given to `read_row`, and takes the array out of what comes back. Assumes `Logic`.
-use Rattle.std.proofs.Common.{◌≡◌, ℕ, ◌<◌, ◌^◌, List, [], ◌∷◌, false, refl, sym, subst, Result, Ok, Err, MatchResult}
+use Rattle.std.proofs.Common.{◌≡◌, ◌<◌, ◌^◌, List, [], ◌∷◌, false, refl, sym, subst, Result, Ok, Err, MatchResult}
 use mir.Syntax.{Args, Fn, named, a_type, a_number, dcons, dnil}
 use mir.Val.{Val}
 use mir.MapTy.{inst_fn}
 use mir.Raw.{raw as bare}
 use base.Logic.{SProp, emp, sep, via, fst∗, snd∗, id⊢}
-use base.Fml.{Fml, Lft, Share, ftrue, flft}
+use base.Fml.{Lft, Share, ftrue, flft}
 use types.Logic.{sem}
 use types.Kit.{‵, raw, ◌⊛◌, some, later, ◌$◌, ◌∵◌, !, qed, by, move, keep, drop, use0, use1, split, split3, join, pick, fsplit3, fjoin, await}
 use types.Run.{stop, addr, no_more, and_then, enter, returns}
