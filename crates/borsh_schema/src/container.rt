@@ -103,11 +103,10 @@ impl BorshSchemaContainer {
         definition: Definition,
     ) -> Result<Option<Definition>, AllocError>
         ensures declaration { declaration_of self.new ≡ declaration_of self.old }
-        ensures replaced { IfOk result (λ d. d ≡ definition_of self.old (string_bytes declaration)) }
-        ensures ok {
-            OnOk result
-            (ReplacesDefinition self.old self.new (string_bytes declaration) (Some definition))
-        }
+        ensures replaced { IfOk result
+            (λ d. d ≡ definition_of self.old (string_bytes declaration)) }
+        ensures ok { OnOk result
+            (ReplacesDefinition self.old self.new (string_bytes declaration) (Some definition)) }
         ensures err { OnErr result (IsUnchanged (map_of self.old) (map_of self.new)) }
     {
         Ok(self.definitions.insert(declaration, definition)?)

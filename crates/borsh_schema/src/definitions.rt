@@ -78,10 +78,8 @@ pub fn add_definition(
     definition: Definition,
     definitions: &mut BTreeMap<Declaration, Definition>,
 ) -> Result<(), SchemaBuildError>
-    ensures outcome {
-        AddsDefinitions definitions.old definitions.new
-        (definition_with declaration definition none) result
-    }
+    ensures outcome { AddsDefinitions definitions.old definitions.new
+        (definition_with declaration definition none) result }
     ensures unchanged { IfErr result (λ _. IsUnchanged definitions.old definitions.new) }
     ensures known { AnswersKnown definitions.old declaration definition result }
 {

@@ -77,10 +77,8 @@ pub fn add_with_parts<P: SchemaParts>(
     definition: Definition,
     definitions: &mut BTreeMap<Declaration, Definition>,
 ) -> Result<(), SchemaBuildError>
-    ensures {
-        AddsDefinitions definitions.old definitions.new
-        (definition_with declaration definition P.all_parts) result
-    }
+    ensures { AddsDefinitions definitions.old definitions.new
+        (definition_with declaration definition P.all_parts) result }
 {
     add_definition(declaration, definition, definitions)?;
     P::add_all(alloc, definitions)
@@ -146,10 +144,8 @@ pub(crate) fn add_primitive(
     size: u8,
     definitions: &mut BTreeMap<Declaration, Definition>,
 ) -> Result<(), SchemaBuildError>
-    ensures {
-        AddsDefinitions definitions.old definitions.new
-        (primitive_definitions name.now size) result
-    }
+    ensures { AddsDefinitions definitions.old definitions.new
+        (primitive_definitions name.now size) result }
 {
     add_definition(
         declared(alloc, name)?,
@@ -164,10 +160,8 @@ pub(crate) fn add_list<T: BorshSchema>(
     declaration: Declaration,
     definitions: &mut BTreeMap<Declaration, Definition>,
 ) -> Result<(), SchemaBuildError>
-    ensures {
-        AddsDefinitions definitions.old definitions.new
-        (defined (string_bytes declaration) (list_of T.name) (both T.parts none)) result
-    }
+    ensures { AddsDefinitions definitions.old definitions.new
+        (defined (string_bytes declaration) (list_of T.name) (both T.parts none)) result }
 {
     let definition = Definition::Sequence {
         length_width: Definition::DEFAULT_LENGTH_WIDTH,

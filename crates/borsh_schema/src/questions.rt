@@ -9,8 +9,8 @@ use borsh_walks::{
 use std::alloc::Global;
 
 impl BorshSchemaContainer {
-    /// Whether each name that is reached from the root is defined and keeps the rules. An error says
-    /// a reached name and a rule that it breaks, or `OutOfMemory`.
+    /// Whether each name that is reached from the root is defined and keeps the rules. An error
+    /// says a reached name and a rule that it breaks, or `OutOfMemory`.
     pub fn validate(&self, alloc: Global) -> Result<(), SchemaContainerValidateError>
         ensures { Validates self.now result }
     {

@@ -37,7 +37,6 @@ pub trait BorshSchema: BorshType {
     ) -> Result<(), SchemaBuildError>
         ensures { AddsDefinitions definitions.old definitions.new parts result };
 
-    ghost describes: {
-        (C : List ℕ → Option Shape) → Holds C parts → Describes Self C Self.codec name
-    };
+    ghost describes: { (C : List ℕ → Option Shape) → Holds C parts
+        → Describes Self C Self.codec name };
 }

@@ -96,10 +96,8 @@ pub(crate) fn add_tuple<P: Places>(
     declaration: Declaration,
     definitions: &mut BTreeMap<Declaration, Definition>,
 ) -> Result<(), SchemaBuildError>
-    ensures {
-        AddsDefinitions definitions.old definitions.new
-        (tuple_described (string_bytes declaration) P.names P.all_parts) result
-    }
+    ensures { AddsDefinitions definitions.old definitions.new
+        (tuple_described (string_bytes declaration) P.names P.all_parts) result }
 {
     let mut elements = Vec::with_capacity(alloc, P::count())?;
     P::push_declarations(alloc, &mut elements)?;
