@@ -1,5 +1,5 @@
 -- `==` of two definitions is equality of what they say.
-use Rattle.std.proofs.Common.{◌≡◌, ℕ, ℤ, Bool, true, false, ◌&&◌, List, [], ◌∷◌, map, refl, sym, ◌∙◌, ap, true≢false, String, Global, nat_eq, Decides, string_bytes}
+use Rattle.std.proofs.Common.{◌≡◌, ℤ, Bool, true, false, ◌&&◌, List, [], ◌∷◌, map, refl, sym, ◌∙◌, ap, true≢false, String, Global, nat_eq, Decides, string_bytes}
 use Rattle.std.specs.Cmp.Lexicographic.{pointwise}
 use Rattle.std.specs.String.{string_eq}
 use Rattle.std.specs.Ordering.{int_eq}

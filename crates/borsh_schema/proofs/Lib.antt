@@ -2,3 +2,4 @@ pub mod Adding
 pub mod Equality
 pub mod Containing
 pub mod Told
+pub mod Outcomes

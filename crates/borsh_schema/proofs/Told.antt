@@ -1,18 +1,18 @@
 -- A definition that was put together says what it is to say, under the name that it is to have.
 use Rattle.std.proofs.Common.{◌≡◌, ℕ, ℤ, List, [], ◌∷◌, refl, ◌∙◌, ap, subst, String, Vec, Global, string_bytes}
-use Rattle.std.specs.Prelude.{⊤, OnOk, IfErr, Result, map}
+use Rattle.std.specs.Prelude.{⊤, map, Result}
+use Rattle.std.specs.BTreeMap.{BTreeMap}
+use Rattle.borsh_walks.specs.declared.definition.Definition.{Definition}
 use Rattle.borsh_walks.specs.declared.definition.Fields.TheVariants.{NamedFields, UnnamedFields}
 use Rattle.borsh_walks.specs.declared.definition.Definition.TheVariants.{Enum}
 use Rattle.borsh_schema.specs.declared.definitions.SchemaBuildError.{SchemaBuildError}
-use Rattle.borsh_schema.specs.Described.{NamedDefinition, field_bytes, variant_bytes, DefinitionMap, DefinitionTree, defined, variants, named, unnamed, named_fields, named_definition}
-use Rattle.borsh_schema.specs.Joined.{IsUnion, UnionFails}
+use Rattle.borsh_schema.specs.Joined.{AddsDefinitions}
+use Rattle.borsh_schema.specs.Described.{NamedDefinition, DefinitionTree, field_bytes, variant_bytes, defined, variants, named, unnamed, named_fields, named_definition}
 
-module _ (r : Result (Unit {0}) SchemaBuildError) (old new : DefinitionMap) (ps : DefinitionTree) {n m : List ℕ} {d e : NamedDefinition} (f : n ≡ m) (g : d ≡ e) where
-  pub joined_told : OnOk r (IsUnion old (defined n d ps) new) → OnOk r (IsUnion old (defined m e ps) new)
-  joined_told h = subst (λ k. OnOk r (IsUnion old (defined k e ps) new)) f (subst (λ k. OnOk r (IsUnion old (defined n k ps) new)) g h)
-
-  pub not_joined_told : IfErr r (λ x. UnionFails old (defined n d ps) new x) → IfErr r (λ x. UnionFails old (defined m e ps) new x)
-  not_joined_told h = subst (λ k. IfErr r (λ x. UnionFails old (defined k e ps) new x)) f (subst (λ k. IfErr r (λ x. UnionFails old (defined n k ps) new x)) g h)
+-- the name and the definition that were added are the ones that were to be added
+pub adds_told : {a b : BTreeMap (String Global) Definition} {n m : List ℕ} {d e : NamedDefinition} {ps : DefinitionTree} {r : Result (Unit {0}) SchemaBuildError} → n ≡ m → d ≡ e → AddsDefinitions a b (defined n d ps) r → AddsDefinitions a b (defined m e ps) r
+adds_told {a = a} {b = b} {n = n} {e = e} {ps = ps} {r = r} f g q =
+    subst (λ k. AddsDefinitions a b (defined k e ps) r) f (subst (λ k. AddsDefinitions a b (defined n k ps) r) g q)
 
 -- ---- fields
 

@@ -1,7 +1,9 @@
 -- A container: a root's name and a map of definitions.
 use Rattle.std.specs.Prelude.{◌≡◌, ℕ, List, Option, Some, String, string_bytes}
 use Rattle.std.specs.Global.{Global}
-use Rattle.std.specs.BTreeMap.{BTreeMap}
+use Rattle.std.specs.BTreeMap.{BTreeMap, get_by_text}
+use Rattle.std.specs.Map.{update}
+use Rattle.std.specs.Str.{bytes_eq}
 use Rattle.borsh_codec.specs.Codec.{Codec}
 use Rattle.borsh_walks.specs.Container.{Shape, Member}
 use Rattle.borsh_walks.specs.Definitions.{definitions_in}
@@ -22,6 +24,14 @@ root_of c = string_bytes c.declaration
 -- the map of definitions
 abbrev pub map_of : BorshSchemaContainer → BTreeMap (String Global) Definition
 map_of c = c.definitions
+
+-- what stands under a name
+abbrev pub definition_of : BorshSchemaContainer → List ℕ → Option Definition
+definition_of c name = get_by_text (map_of c) name
+
+-- this stands under the name now, and under each other name what stood there before
+abbrev pub ReplacesDefinition : BorshSchemaContainer → BorshSchemaContainer → List ℕ → Option Definition → Type 0
+ReplacesDefinition old new name d = (n : List ℕ) → definition_of new n ≡ update bytes_eq (definition_of old) name d n
 
 -- the definitions, as a function of the name
 abbrev pub defined_in : BorshSchemaContainer → DefinitionMap

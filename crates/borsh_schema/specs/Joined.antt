@@ -1,8 +1,11 @@
 -- Maps of definitions that are joined with those of a type.
-use Rattle.std.specs.Prelude.{◌≡◌, ℕ, List, Some, ◌⊎◌, ⊤, string_bytes, MatchResult, Result}
+use Rattle.std.specs.Prelude.{◌≡◌, ℕ, List, Some, ◌⊎◌, ⊤, String, string_bytes, MatchResult, OnOk, IfErr, Result}
+use Rattle.std.specs.Global.{Global}
+use Rattle.std.specs.BTreeMap.{BTreeMap}
+use Rattle.borsh_walks.specs.declared.definition.Definition.{Definition}
 use Rattle.borsh_schema.specs.declared.definitions.SchemaBuildError.{SchemaBuildError}
 use Rattle.borsh_schema.specs.declared.definitions.SchemaBuildError.TheVariants.{Redefinition, OutOfMemory}
-use Rattle.borsh_schema.specs.Described.{NamedDefinition, DefinitionMap, DefinitionTree, IsInTree}
+use Rattle.borsh_schema.specs.Described.{NamedDefinition, named_definition, DefinitionMap, definitions_by_name, DefinitionTree, defined, IsInTree}
 
 -- the definition stands under the name in the old definitions, or among the new parts
 abbrev pub IsDefinedIn : DefinitionMap → DefinitionTree → List ℕ → NamedDefinition → Type 0
@@ -32,11 +35,26 @@ abbrev pub BuildFault : DefinitionMap → DefinitionTree → SchemaBuildError �
 BuildFault old ps (Redefinition m) = Conflicts old ps (string_bytes m)
 BuildFault old ps OutOfMemory = ⊤
 
--- what stands after a refusal, and its cause
+-- a call that was to add the parts was refused: some of them were added, and the error says why
 pub record UnionFails (old : DefinitionMap) (ps : DefinitionTree) (new : DefinitionMap) (e : SchemaBuildError) : Type 0 where
   pub partly : IsPartialUnion old ps new
   pub fault : BuildFault old ps e
 
+-- the outcome of a call that is to add definitions to a map
+pub record AddsDefinitions (old new : BTreeMap (String Global) Definition) (added : DefinitionTree) (result : Result (Unit {0}) SchemaBuildError) : Type 0 where
+  -- `Ok`: the map has the definitions that it had and all that were to be added, and no others
+  pub ok : OnOk result (IsUnion (definitions_by_name old) added (definitions_by_name new))
+  -- `Err`: the map has the definitions that it had and perhaps some of the others; the error names one that has two definitions, or memory was refused
+  pub err : IfErr result (λ e. UnionFails (definitions_by_name old) added (definitions_by_name new) e)
+
+-- a definition under its name, and the definitions of its parts
+abbrev pub definition_with : String Global → Definition → DefinitionTree → DefinitionTree
+definition_with name definition parts = defined (string_bytes name) (named_definition definition) parts
+
 -- the name is defined, as `known`: a definition that says the same is passed over, and any other one is refused
 abbrev pub IsKnownAnswer : NamedDefinition → NamedDefinition → SchemaBuildError → Result (Unit {0}) SchemaBuildError → Type 0
 IsKnownAnswer known d clash r = MatchResult r (λ _. known ≡ d) (λ e. (e ≡ clash) × (known ≡ d → ⊥))
+
+-- where the name is defined in the map, a definition that says the same is passed over, and any other one is refused by that name
+abbrev pub AnswersKnown : BTreeMap (String Global) Definition → String Global → Definition → Result (Unit {0}) SchemaBuildError → Type 0
+AnswersKnown m name definition r = (d : NamedDefinition) → definitions_by_name m (string_bytes name) ≡ Some d → IsKnownAnswer d (named_definition definition) (Redefinition name) r

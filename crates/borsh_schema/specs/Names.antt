@@ -1,5 +1,6 @@
 -- The names of types that are made of other types.
-use Rattle.std.specs.Prelude.{ℕ, List, [], ◌∷◌, ◌++◌, codes, decimal}
+use Rattle.std.specs.Prelude.{◌≡◌, ℕ, List, [], ◌∷◌, ◌++◌, map, codes, decimal, String, string_bytes}
+use Rattle.std.specs.Global.{Global}
 
 -- the name of a type with one parameter: its beginning up to `<`, and the parameter's name
 abbrev pub applied : List ℕ → List ℕ → List ℕ
@@ -14,12 +15,24 @@ abbrev pub following : List (List ℕ) → List ℕ
 following [] = []
 following (n ∷ ns) = codes ", " ++ (n ++ following ns)
 
+-- the name of a tuple of two elements or more: the first one's name, and those of the others
+abbrev pub longer_tuple_name : List ℕ → List (List ℕ) → List ℕ
+longer_tuple_name first others = codes "(" ++ (first ++ (following others ++ codes ")"))
+
 -- the name of a tuple
 abbrev pub tuple_name : List (List ℕ) → List ℕ
 tuple_name [] = codes "()"
 tuple_name (n ∷ []) = codes "(" ++ (n ++ codes ",)")
-tuple_name (n ∷ m ∷ ns) = codes "(" ++ (n ++ (following (m ∷ ns) ++ codes ")"))
+tuple_name (n ∷ m ∷ ns) = longer_tuple_name n (m ∷ ns)
 
 -- the name of an array: its element and how many there are
 abbrev pub array_name : List ℕ → ℕ → List ℕ
 array_name element n = codes "[" ++ (element ++ (codes "; " ++ (decimal n ++ codes "]")))
+
+-- the names were put at the end of the list
+abbrev pub AppendsNames : List (String Global) → List (String Global) → List (List ℕ) → Type 0
+AppendsNames old new names = map (λ d. string_bytes d) new ≡ map (λ d. string_bytes d) old ++ names
+
+-- the names were put at the end of the text, each behind a comma
+abbrev pub AppendsFollowing : String Global → String Global → List (List ℕ) → Type 0
+AppendsFollowing old new names = string_bytes new ≡ string_bytes old ++ following names

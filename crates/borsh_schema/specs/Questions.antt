@@ -1,11 +1,19 @@
--- What is counted where a container is judged or sized.
-use Rattle.std.specs.Prelude.{◌≡◌, ℕ, ◌≤◌, ◌↔◌, List, length, Option, Some}
+-- What a call answers that checks a container's rules or computes its size, and what it counts.
+use Rattle.std.specs.Prelude.{◌≡◌, ℕ, ◌≤◌, ◌↔◌, List, length, Option, Some, MatchResult, OnOk, Result}
+use Rattle.std.specs.BTreeMap.{btree_map_len}
 use Rattle.borsh_walks.specs.declared.counted.Expansions.{Expansions}
 use Rattle.borsh_walks.specs.declared.counted.Question.TheVariants.{Size, Zero, Rules}
-use Rattle.borsh_walks.specs.Container.{Shape, IsIn, Reached}
+use Rattle.borsh_walks.specs.declared.error.SchemaContainerValidateError.{SchemaContainerValidateError}
+use Rattle.borsh_walks.specs.declared.error.SchemaMaxSerializedSizeError.{SchemaMaxSerializedSizeError}
+use Rattle.borsh_walks.specs.Container.{Shape, IsIn, IsValid, Reached}
 use Rattle.borsh_walks.specs.Counts.{add_to}
-use Rattle.borsh_walks.specs.RulesAnswer.{checked_element}
+use Rattle.borsh_walks.specs.RulesAnswer.{RulesFault, AcceptsIfValid, checked_element}
 use Rattle.borsh_walks.specs.SizeAnswer.{Distinct, AreSizeReached}
+use Rattle.borsh_walks.specs.SizeOutcome.{AnswersSize}
+use Rattle.borsh_schema.specs.declared.container.BorshSchemaContainer.{BorshSchemaContainer}
+use Rattle.borsh_schema.specs.Containers.{map_of, language_of, root_of}
+
+-- ---- what is counted
 
 module _ (C : List ℕ → Option Shape) (root : List ℕ) where
   -- `rules` rose by the number of reached names, and `zero` by at least the number of elements that are checked
@@ -25,3 +33,37 @@ ValidateWork most old new = (j : ℕ) × (k : ℕ) × (j ≤ most) × (k ≤ mos
 -- `size` rose by at most that many, and the others stay
 abbrev pub SizeWork : ℕ → Expansions → Expansions → Type 0
 SizeWork most old new = (k : ℕ) × (k ≤ most) × (new ≡ add_to Size k old)
+
+-- ---- answers
+
+module _ (c : BorshSchemaContainer) where
+  -- the outcome of a call that is to check the rules of a container
+  pub record Validates (result : Result (Unit {0}) SchemaContainerValidateError) : Type 0 where
+    -- `Ok`: each reached name is defined and keeps the rules; `Err`: a reached name and a rule that it breaks, or memory was refused
+    pub answer : MatchResult result (λ _. IsValid (language_of c) (root_of c)) (λ e. RulesFault (language_of c) (root_of c) e)
+    -- a container in which each reached name keeps the rules is accepted, memory aside
+    pub complete : AcceptsIfValid (language_of c) (root_of c) result
+
+  -- the same of a call that counts the definitions that it looks into
+  pub record ValidatesCounting (old new : Expansions) (result : Result (Unit {0}) SchemaContainerValidateError) : Type 0 where
+    -- `Ok`: each reached name is defined and keeps the rules; `Err`: a reached name and a rule that it breaks, or memory was refused
+    pub answer : MatchResult result (λ _. IsValid (language_of c) (root_of c)) (λ e. RulesFault (language_of c) (root_of c) e)
+    -- a container in which each reached name keeps the rules is accepted, memory aside
+    pub complete : AcceptsIfValid (language_of c) (root_of c) result
+    -- `Ok`: each reached name was counted once
+    pub counts : OnOk result (JudgedCounts (language_of c) (root_of c) old new)
+    -- no count rose by more than the number of definitions, not even at an error
+    pub bounded_work : ValidateWork (btree_map_len (map_of c)) old new
+
+  -- the outcome of a call that is to answer the greatest length of a container's encodings
+  abbrev pub Sizes : Result ℕ SchemaMaxSerializedSizeError → Type 0
+  Sizes result = AnswersSize (language_of c) (root_of c) result
+
+  -- the same of a call that counts the definitions that it looks into
+  pub record SizesCounting (old new : Expansions) (result : Result ℕ SchemaMaxSerializedSizeError) : Type 0 where
+    -- `Ok`: the greatest length; `Err`: why there is none
+    pub size : Sizes result
+    -- `Ok`: each name that the size needs was counted once
+    pub counts : OnOk result (SizedCounts (language_of c) (root_of c) old new)
+    -- the count rose by no more than the number of definitions, not even at an error
+    pub bounded_work : SizeWork (btree_map_len (map_of c)) old new

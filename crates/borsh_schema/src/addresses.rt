@@ -36,7 +36,9 @@ impl BorshSchema for Ipv4Addr {
         )
     }
 
-    ghost describes = { λ C h. describes_contramap ipv4_octets (describes_parts h.0 (all_one (describes_row 4 h.1.0.0 (describes_number 1 h.1.0.1.0.0)))) };
+    ghost describes = { λ C h. describes_contramap ipv4_octets
+        (describes_parts h.0
+        (all_one (describes_row 4 h.1.0.0 (describes_number 1 h.1.0.1.0.0)))) };
 }
 
 impl BorshSchema for Ipv6Addr {
@@ -61,7 +63,9 @@ impl BorshSchema for Ipv6Addr {
         )
     }
 
-    ghost describes = { λ C h. describes_contramap ipv6_octets (describes_parts h.0 (all_one (describes_row 16 h.1.0.0 (describes_number 1 h.1.0.1.0.0)))) };
+    ghost describes = { λ C h. describes_contramap ipv6_octets
+        (describes_parts h.0
+        (all_one (describes_row 16 h.1.0.0 (describes_number 1 h.1.0.1.0.0)))) };
 }
 
 // The part of `IpAddr::V4`.
@@ -132,5 +136,19 @@ impl BorshSchema for IpAddr {
         )
     }
 
-    ghost describes = { λ C h. describes_contramap ip_view (describes_choice h.0 (choice_more first_variant refl (describes_parts h.1.0.0 (all_one (describes_contramap ipv4_octets (describes_parts h.1.0.1.0.0 (all_one (describes_row 4 h.1.0.1.0.1.0.0 (describes_number 1 h.1.0.1.0.1.0.1.0.0))))))) (choice_more (later_variant first_variant) refl (describes_parts h.1.1.0 (all_one (describes_contramap ipv6_octets (describes_parts h.1.1.1.0.0 (all_one (describes_row 16 h.1.1.1.0.1.0.0 (describes_number 1 h.1.1.1.0.1.0.1.0.0))))))) choice_none))) };
+    ghost describes = { λ C h. describes_contramap ip_view
+        (describes_choice h.0
+        (choice_more first_variant refl
+        (describes_parts h.1.0.0
+        (all_one
+        (describes_contramap ipv4_octets
+        (describes_parts h.1.0.1.0.0
+        (all_one (describes_row 4 h.1.0.1.0.1.0.0 (describes_number 1 h.1.0.1.0.1.0.1.0.0)))))))
+        (choice_more (later_variant first_variant) refl
+        (describes_parts h.1.1.0
+        (all_one
+        (describes_contramap ipv6_octets
+        (describes_parts h.1.1.1.0.0
+        (all_one (describes_row 16 h.1.1.1.0.1.0.0 (describes_number 1 h.1.1.1.0.1.0.1.0.0)))))))
+        choice_none))) };
 }

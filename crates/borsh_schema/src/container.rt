@@ -1,12 +1,10 @@
 // Containers: a type's name and the definitions that it leads to.
-ghost use Rattle.std.specs.Prelude.{◌≡◌, Decides, List, ℕ, Some, None, OnOk, IfOk, IfErr, OnErr, MatchResult, IsSome, option_map, string_bytes};
+ghost use Rattle.std.specs.Prelude.{◌≡◌, Decides, Some, None, OnOk, IfOk, IfErr, OnErr, option_map, string_bytes};
 ghost use Rattle.std.specs.Borrow.{sem};
 ghost use Rattle.std.specs.Option.{option_copied_mut};
-ghost use Rattle.std.specs.Str.{bytes_eq};
 ghost use Rattle.std.specs.String.{string_cmp};
-ghost use Rattle.std.specs.Map.{update};
-ghost use Rattle.std.specs.BTreeMap.{get_by_text, IsOrdered, IsUnchanged};
-ghost use Rattle.borsh_schema.specs.Containers.{declaration_of, map_of, defined_in, left_of, IsContainerOf, DescribesRoot};
+ghost use Rattle.std.specs.BTreeMap.{IsOrdered, IsUnchanged};
+ghost use Rattle.borsh_schema.specs.Containers.{declaration_of, map_of, definition_of, left_of, IsContainerOf, DescribesRoot, ReplacesDefinition};
 ghost use Rattle.borsh_schema.specs.Described.{nothing_defined};
 ghost use Rattle.borsh_schema.specs.Joined.{BuildFault};
 ghost use Rattle.borsh_schema.specs.Lending.{LendsDefinition};
@@ -39,8 +37,8 @@ impl BorshSchemaContainer {
         }
     }
 
-    /// The container of a type. Where a name of the type has two different definitions the answer is
-    /// `Redefinition` of such a name.
+    /// The container of a type. Where a name of the type has two different definitions the error is
+    /// `Redefinition` of such a name, and where memory is refused it is `OutOfMemory`.
     pub fn for_type<T: BorshSchema>(alloc: Global) -> Result<BorshSchemaContainer, SchemaBuildError>
         ensures ok { IfOk result (λ c. IsContainerOf T.name T.parts c) }
         ensures err { IfErr result (λ e. BuildFault nothing_defined T.parts e) }
@@ -54,8 +52,9 @@ impl BorshSchemaContainer {
         Ok(container)
     }
 
-    /// Whether this is the container of a type. Where a name of the type has two different definitions
-    /// the answer is `Redefinition` of such a name.
+    /// Whether this is the container of a type. Where a name of the type has two different
+    /// definitions the error is `Redefinition` of such a name, and where memory is refused it is
+    /// `OutOfMemory`.
     pub fn is_of_type<T: BorshSchema>(&self, alloc: Global) -> Result<bool, SchemaBuildError>
         ensures ok { IfOk result (λ yes. Decides yes (IsContainerOf T.name T.parts self.now)) }
         ensures err { IfErr result (λ e. BuildFault nothing_defined T.parts e) }
@@ -83,7 +82,7 @@ impl BorshSchemaContainer {
 
     /// The definition of a name.
     pub fn get_definition(&self, declaration: &str) -> Option<&Definition>
-        ensures { option_map (λ d. d.now) result ≡ get_by_text (map_of self.now) declaration.now }
+        ensures { option_map (λ d. d.now) result ≡ definition_of self.now declaration.now }
     {
         self.definitions.get(declaration)
     }
@@ -91,7 +90,7 @@ impl BorshSchemaContainer {
     /// The definition of a name, to write.
     pub fn get_mut_definition(&mut self, declaration: &str) -> Option<&mut Definition>
         ensures* writes_back { sem 𝓛 (LendsDefinition self.entry declaration.now result) }
-        ensures value { option_copied_mut result ≡ get_by_text (map_of self.old) declaration.now }
+        ensures value { option_copied_mut result ≡ definition_of self.old declaration.now }
     {
         self.definitions.get_mut(declaration)
     }
@@ -104,8 +103,10 @@ impl BorshSchemaContainer {
         definition: Definition,
     ) -> Result<Option<Definition>, AllocError>
         ensures declaration { declaration_of self.new ≡ declaration_of self.old }
-        ensures replaced { IfOk result (λ old. old ≡ get_by_text (map_of self.old) (string_bytes declaration)) }
-        ensures ok { OnOk result ((n : List ℕ) → get_by_text (map_of self.new) n ≡ update bytes_eq (get_by_text (map_of self.old)) (string_bytes declaration) (Some definition) n) }
+        ensures replaced { IfOk result
+            (λ d. d ≡ definition_of self.old (string_bytes declaration)) }
+        ensures ok { OnOk result
+            (ReplacesDefinition self.old self.new (string_bytes declaration) (Some definition)) }
         ensures err { OnErr result (IsUnchanged (map_of self.old) (map_of self.new)) }
     {
         Ok(self.definitions.insert(declaration, definition)?)
@@ -114,8 +115,8 @@ impl BorshSchemaContainer {
     /// Takes a name's definition out.
     pub fn remove_definition(&mut self, declaration: &str) -> Option<Definition>
         ensures declaration { declaration_of self.new ≡ declaration_of self.old }
-        ensures removed { result ≡ get_by_text (map_of self.old) declaration.now }
-        ensures others { (n : List ℕ) → get_by_text (map_of self.new) n ≡ update bytes_eq (get_by_text (map_of self.old)) declaration.now None n }
+        ensures removed { result ≡ definition_of self.old declaration.now }
+        ensures others { ReplacesDefinition self.old self.new declaration.now None }
     {
         self.definitions.remove(declaration)
     }

@@ -1,10 +1,10 @@
 // Maps of definitions.
-ghost use Rattle.std.specs.Prelude.{◌≡◌, Decides, OnOk, IfErr, Some, string_bytes, ℕ};
+ghost use Rattle.std.specs.Prelude.{◌≡◌, Decides, IfErr};
 ghost use Rattle.std.specs.BTreeMap.{IsUnchanged};
 ghost use Rattle.borsh_schema.specs.declared.definitions.SchemaBuildError.TheVariants.{OutOfMemory};
-ghost use Rattle.borsh_schema.specs.Described.{NamedDefinition, definitions_by_name, named_definition, defined, none};
+ghost use Rattle.borsh_schema.specs.Described.{named_definition, none};
 ghost use Rattle.borsh_schema.specs.Errors.{size_error};
-ghost use Rattle.borsh_schema.specs.Joined.{IsUnion, UnionFails, IsKnownAnswer};
+ghost use Rattle.borsh_schema.specs.Joined.{AddsDefinitions, AnswersKnown, definition_with};
 
 use borsh_walks::{Declaration, Definition, SchemaMaxSerializedSizeError};
 use std::alloc::{AllocError, AllocFailed};
@@ -78,10 +78,10 @@ pub fn add_definition(
     definition: Definition,
     definitions: &mut BTreeMap<Declaration, Definition>,
 ) -> Result<(), SchemaBuildError>
-    ensures ok { OnOk result (IsUnion (definitions_by_name definitions.old) (defined (string_bytes declaration) (named_definition definition) none) (definitions_by_name definitions.new)) }
-    ensures err { IfErr result (λ e. UnionFails (definitions_by_name definitions.old) (defined (string_bytes declaration) (named_definition definition) none) (definitions_by_name definitions.new) e) }
+    ensures outcome { AddsDefinitions definitions.old definitions.new
+        (definition_with declaration definition none) result }
     ensures unchanged { IfErr result (λ _. IsUnchanged definitions.old definitions.new) }
-    ensures known { (d : NamedDefinition) → definitions_by_name definitions.old (string_bytes declaration) ≡ Some d → IsKnownAnswer d (named_definition definition) (SchemaBuildError.Redefinition declaration) result }
+    ensures known { AnswersKnown definitions.old declaration definition result }
 {
     if let Some(known) = definitions.get(declaration.as_str()) {
         if says_the_same(known, &definition) {

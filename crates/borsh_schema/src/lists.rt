@@ -34,7 +34,8 @@ impl<T: BorshSchema> BorshSchema for Vec<T> {
         add_list::<T>(alloc, Self::declaration(alloc)?, definitions)
     }
 
-    ghost describes = { λ C h. describes_contramap (λ v. v.items) (describes_elements h.0 (T.describes C h.1.0)) };
+    ghost describes = { λ C h. describes_contramap (λ v. v.items)
+        (describes_elements h.0 (T.describes C h.1.0)) };
 }
 
 impl<T: BorshSchema> BorshSchema for VecDeque<T> {
@@ -54,7 +55,8 @@ impl<T: BorshSchema> BorshSchema for VecDeque<T> {
         add_list::<T>(alloc, Self::declaration(alloc)?, definitions)
     }
 
-    ghost describes = { λ C h. describes_contramap (λ v. v.items) (describes_elements h.0 (T.describes C h.1.0)) };
+    ghost describes = { λ C h. describes_contramap (λ v. v.items)
+        (describes_elements h.0 (T.describes C h.1.0)) };
 }
 
 impl<T: BorshSchema> BorshSchema for LinkedList<T> {
@@ -94,7 +96,8 @@ impl<T: BorshSchema> BorshSchema for BoxedSlice<T> {
         add_list::<T>(alloc, Self::declaration(alloc)?, definitions)
     }
 
-    ghost describes = { λ C h. describes_contramap boxed_slice_items (describes_elements h.0 (T.describes C h.1.0)) };
+    ghost describes = { λ C h. describes_contramap boxed_slice_items
+        (describes_elements h.0 (T.describes C h.1.0)) };
 }
 
 impl<T: BorshSchema> BorshSchema for RcSlice<T> {
@@ -114,7 +117,8 @@ impl<T: BorshSchema> BorshSchema for RcSlice<T> {
         add_list::<T>(alloc, Self::declaration(alloc)?, definitions)
     }
 
-    ghost describes = { λ C h. describes_contramap rc_slice_items (describes_elements h.0 (T.describes C h.1.0)) };
+    ghost describes = { λ C h. describes_contramap rc_slice_items
+        (describes_elements h.0 (T.describes C h.1.0)) };
 }
 
 impl<T: BorshSchema> BorshSchema for CowSlice<'_, T> {
@@ -134,7 +138,8 @@ impl<T: BorshSchema> BorshSchema for CowSlice<'_, T> {
         add_list::<T>(alloc, Self::declaration(alloc)?, definitions)
     }
 
-    ghost describes = { λ C h. describes_contramap cow_slice_items (describes_elements h.0 (T.describes C h.1.0)) };
+    ghost describes = { λ C h. describes_contramap cow_slice_items
+        (describes_elements h.0 (T.describes C h.1.0)) };
 }
 
 impl<T: BorshSchema> BorshSchema for &[T] {
@@ -154,5 +159,6 @@ impl<T: BorshSchema> BorshSchema for &[T] {
         add_list::<T>(alloc, Self::declaration(alloc)?, definitions)
     }
 
-    ghost describes = { λ C h. describes_contramap (λ r. r.now) (describes_counted h.0 (T.describes C h.1.0)) };
+    ghost describes = { λ C h. describes_contramap (λ r. r.now)
+        (describes_counted h.0 (T.describes C h.1.0)) };
 }

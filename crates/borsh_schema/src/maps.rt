@@ -32,7 +32,11 @@ impl<K: BorshSchema + BorshKey + Ord, V: BorshSchema> BorshSchema for BTreeMap<K
         add_list::<(K, V)>(alloc, Self::declaration(alloc)?, definitions)
     }
 
-    ghost describes = { λ C h. describes_contramap (λ m. m.entries) (describes_refused_if K.codec.is_zero_width (describes_ordered K.cmp h.0 (describes_parts h.1.0.0 (all_more (K.describes C h.1.0.1.0) (all_one (V.describes C h.1.0.1.1.0)))))) };
+    ghost describes = { λ C h. describes_contramap (λ m. m.entries)
+        (describes_refused_if K.codec.is_zero_width
+        (describes_ordered K.cmp h.0
+        (describes_parts h.1.0.0
+        (all_more (K.describes C h.1.0.1.0) (all_one (V.describes C h.1.0.1.1.0)))))) };
 }
 
 impl<K: BorshSchema + BorshKey + Ord> BorshSchema for BTreeSet<K> {
@@ -52,7 +56,10 @@ impl<K: BorshSchema + BorshKey + Ord> BorshSchema for BTreeSet<K> {
         add_list::<K>(alloc, Self::declaration(alloc)?, definitions)
     }
 
-    ghost describes = { λ C h. describes_contramap (λ s. s.keys) (describes_contramap unit_entries (describes_refused_if K.codec.is_zero_width (describes_ordered K.cmp h.0 (describes_contramap (λ e. e.0) (K.describes C h.1.0))))) };
+    ghost describes = { λ C h. describes_contramap (λ s. s.keys)
+        (describes_contramap unit_entries
+        (describes_refused_if K.codec.is_zero_width
+        (describes_ordered K.cmp h.0 (describes_contramap (λ e. e.0) (K.describes C h.1.0))))) };
 }
 
 impl<K: BorshSchema + BorshKey + Ord + Hash, V: BorshSchema, S: BuildHasher> BorshSchema
@@ -74,7 +81,11 @@ impl<K: BorshSchema + BorshKey + Ord + Hash, V: BorshSchema, S: BuildHasher> Bor
         add_list::<(K, V)>(alloc, Self::declaration(alloc)?, definitions)
     }
 
-    ghost describes = { λ C h. describes_contramap (λ m. m.entries) (describes_refused_if K.codec.is_zero_width (describes_sorted K.cmp V.codec.equivalent h.0 (describes_parts h.1.0.0 (all_more (K.describes C h.1.0.1.0) (all_one (V.describes C h.1.0.1.1.0)))))) };
+    ghost describes = { λ C h. describes_contramap (λ m. m.entries)
+        (describes_refused_if K.codec.is_zero_width
+        (describes_sorted K.cmp V.codec.equivalent h.0
+        (describes_parts h.1.0.0
+        (all_more (K.describes C h.1.0.1.0) (all_one (V.describes C h.1.0.1.1.0)))))) };
 }
 
 impl<K: BorshSchema + BorshKey + Ord + Hash, S: BuildHasher> BorshSchema for HashSet<K, S> {
@@ -94,5 +105,9 @@ impl<K: BorshSchema + BorshKey + Ord + Hash, S: BuildHasher> BorshSchema for Has
         add_list::<K>(alloc, Self::declaration(alloc)?, definitions)
     }
 
-    ghost describes = { λ C h. describes_contramap (λ s. s.keys) (describes_contramap unit_entries (describes_refused_if K.codec.is_zero_width (describes_sorted K.cmp (λ v w. ⊤) h.0 (describes_contramap (λ e. e.0) (K.describes C h.1.0))))) };
+    ghost describes = { λ C h. describes_contramap (λ s. s.keys)
+        (describes_contramap unit_entries
+        (describes_refused_if K.codec.is_zero_width
+        (describes_sorted K.cmp (λ v w. ⊤) h.0
+        (describes_contramap (λ e. e.0) (K.describes C h.1.0))))) };
 }

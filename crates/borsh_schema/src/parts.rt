@@ -1,8 +1,8 @@
 // The definitions of a type and of its parts, one after another.
-ghost use Rattle.std.specs.Prelude.{◌≡◌, IfOk, IfErr, OnOk, string_bytes};
+ghost use Rattle.std.specs.Prelude.{◌≡◌, IfOk, IfErr, string_bytes};
 ghost use Rattle.borsh_schema.specs.declared.definitions.SchemaBuildError.TheVariants.{OutOfMemory};
-ghost use Rattle.borsh_schema.specs.Described.{DefinitionTree, none, both, defined, definitions_by_name, named_definition};
-ghost use Rattle.borsh_schema.specs.Joined.{IsUnion, UnionFails};
+ghost use Rattle.borsh_schema.specs.Described.{DefinitionTree, none, both, defined};
+ghost use Rattle.borsh_schema.specs.Joined.{AddsDefinitions, definition_with};
 ghost use Rattle.borsh_schema.specs.Types.{primitive_definitions, list_of};
 
 use super::definitions::{SchemaBuildError, add_definition};
@@ -16,14 +16,13 @@ use std::marker::PhantomData;
 pub trait SchemaParts {
     ghost all_parts: { DefinitionTree };
 
-    /// Puts in the definitions of all, with the answers of
+    /// Adds the definitions of all, with the answers of
     /// [`BorshSchema::add_definitions_recursively`].
     fn add_all(
         alloc: Global,
         definitions: &mut BTreeMap<Declaration, Definition>,
     ) -> Result<(), SchemaBuildError>
-        ensures ok { OnOk result (IsUnion (definitions_by_name definitions.old) all_parts (definitions_by_name definitions.new)) }
-        ensures err { IfErr result (λ e. UnionFails (definitions_by_name definitions.old) all_parts (definitions_by_name definitions.new) e) };
+        ensures { AddsDefinitions definitions.old definitions.new all_parts result };
 }
 
 impl SchemaParts for () {
@@ -70,7 +69,7 @@ impl<P: SchemaParts, Q: SchemaParts> SchemaParts for Both<P, Q> {
     }
 }
 
-/// Puts in a type's definition and those of its parts, which are named as `(A, (B, ()))`. The answers
+/// Adds a type's definition and those of its parts, which are named as `(A, (B, ()))`. The answers
 /// are those of [`BorshSchema::add_definitions_recursively`].
 pub fn add_with_parts<P: SchemaParts>(
     alloc: Global,
@@ -78,8 +77,8 @@ pub fn add_with_parts<P: SchemaParts>(
     definition: Definition,
     definitions: &mut BTreeMap<Declaration, Definition>,
 ) -> Result<(), SchemaBuildError>
-    ensures ok { OnOk result (IsUnion (definitions_by_name definitions.old) (defined (string_bytes declaration) (named_definition definition) P.all_parts) (definitions_by_name definitions.new)) }
-    ensures err { IfErr result (λ e. UnionFails (definitions_by_name definitions.old) (defined (string_bytes declaration) (named_definition definition) P.all_parts) (definitions_by_name definitions.new) e) }
+    ensures { AddsDefinitions definitions.old definitions.new
+        (definition_with declaration definition P.all_parts) result }
 {
     add_definition(declaration, definition, definitions)?;
     P::add_all(alloc, definitions)
@@ -138,15 +137,15 @@ pub fn named_variant(
     ))
 }
 
-// Puts in a name for so many bytes.
+// Adds a name for so many bytes.
 pub(crate) fn add_primitive(
     alloc: Global,
     name: &str,
     size: u8,
     definitions: &mut BTreeMap<Declaration, Definition>,
 ) -> Result<(), SchemaBuildError>
-    ensures ok { OnOk result (IsUnion (definitions_by_name definitions.old) (primitive_definitions name.now size) (definitions_by_name definitions.new)) }
-    ensures err { IfErr result (λ e. UnionFails (definitions_by_name definitions.old) (primitive_definitions name.now size) (definitions_by_name definitions.new) e) }
+    ensures { AddsDefinitions definitions.old definitions.new
+        (primitive_definitions name.now size) result }
 {
     add_definition(
         declared(alloc, name)?,
@@ -155,14 +154,14 @@ pub(crate) fn add_primitive(
     )
 }
 
-// Puts in a list's name: a count of four bytes and the elements.
+// Adds a list's name: a count of four bytes and the elements.
 pub(crate) fn add_list<T: BorshSchema>(
     alloc: Global,
     declaration: Declaration,
     definitions: &mut BTreeMap<Declaration, Definition>,
 ) -> Result<(), SchemaBuildError>
-    ensures ok { OnOk result (IsUnion (definitions_by_name definitions.old) (defined (string_bytes declaration) (list_of T.name) (both T.parts none)) (definitions_by_name definitions.new)) }
-    ensures err { IfErr result (λ e. UnionFails (definitions_by_name definitions.old) (defined (string_bytes declaration) (list_of T.name) (both T.parts none)) (definitions_by_name definitions.new) e) }
+    ensures { AddsDefinitions definitions.old definitions.new
+        (defined (string_bytes declaration) (list_of T.name) (both T.parts none)) result }
 {
     let definition = Definition::Sequence {
         length_width: Definition::DEFAULT_LENGTH_WIDTH,

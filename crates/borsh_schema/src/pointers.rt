@@ -24,7 +24,8 @@ impl<T: BorshSchema> BorshSchema for Box<T> {
         T::add_definitions_recursively(alloc, definitions)
     }
 
-    ghost describes = { λ C h. describes_contramap (λ b. b.value) (describes_stored (T.describes C h)) };
+    ghost describes = { λ C h. describes_contramap (λ b. b.value)
+        (describes_stored (T.describes C h)) };
 }
 
 impl<T: BorshSchema> BorshSchema for Rc<T> {
@@ -43,5 +44,6 @@ impl<T: BorshSchema> BorshSchema for Rc<T> {
         T::add_definitions_recursively(alloc, definitions)
     }
 
-    ghost describes = { λ C h. describes_contramap (λ b. b.value) (describes_stored (T.describes C h)) };
+    ghost describes = { λ C h. describes_contramap (λ b. b.value)
+        (describes_stored (T.describes C h)) };
 }

@@ -17,7 +17,8 @@ use std::ops::{Range, RangeFrom, RangeInclusive, RangeTo, RangeToInclusive};
 impl<T: BorshSchema> BorshSchema for Range<T> {
     ghost name = { applied (codes "Range<") T.name };
 
-    ghost parts = { defined (applied (codes "Range<") T.name) (range_of T.name) (both T.parts none) };
+    ghost parts = { defined (applied (codes "Range<") T.name) (range_of T.name)
+        (both T.parts none) };
 
     fn declaration(alloc: Global) -> Result<Declaration, SchemaBuildError> {
         let start = T::declaration(alloc)?;
@@ -40,13 +41,15 @@ impl<T: BorshSchema> BorshSchema for Range<T> {
         )
     }
 
-    ghost describes = { λ C h. describes_contramap (λ r. (r.start, r.end)) (describes_parts h.0 (all_more (T.describes C h.1.0) (all_one (T.describes C h.1.0)))) };
+    ghost describes = { λ C h. describes_contramap (λ r. (r.start, r.end))
+        (describes_parts h.0 (all_more (T.describes C h.1.0) (all_one (T.describes C h.1.0)))) };
 }
 
 impl<T: BorshSchema> BorshSchema for RangeInclusive<T> {
     ghost name = { applied (codes "RangeInclusive<") T.name };
 
-    ghost parts = { defined (applied (codes "RangeInclusive<") T.name) (range_of T.name) (both T.parts none) };
+    ghost parts = { defined (applied (codes "RangeInclusive<") T.name) (range_of T.name)
+        (both T.parts none) };
 
     fn declaration(alloc: Global) -> Result<Declaration, SchemaBuildError> {
         let start = T::declaration(alloc)?;
@@ -69,13 +72,16 @@ impl<T: BorshSchema> BorshSchema for RangeInclusive<T> {
         )
     }
 
-    ghost describes = { λ C h. describes_contramap (λ r. (range_inclusive_start r, range_inclusive_end r)) (describes_parts h.0 (all_more (T.describes C h.1.0) (all_one (T.describes C h.1.0)))) };
+    ghost describes = { λ C h. describes_contramap
+        (λ r. (range_inclusive_start r, range_inclusive_end r))
+        (describes_parts h.0 (all_more (T.describes C h.1.0) (all_one (T.describes C h.1.0)))) };
 }
 
 impl<T: BorshSchema> BorshSchema for RangeFrom<T> {
     ghost name = { applied (codes "RangeFrom<") T.name };
 
-    ghost parts = { defined (applied (codes "RangeFrom<") T.name) (range_from T.name) (both T.parts none) };
+    ghost parts = { defined (applied (codes "RangeFrom<") T.name) (range_from T.name)
+        (both T.parts none) };
 
     fn declaration(alloc: Global) -> Result<Declaration, SchemaBuildError> {
         let start = T::declaration(alloc)?;
@@ -95,13 +101,15 @@ impl<T: BorshSchema> BorshSchema for RangeFrom<T> {
         )
     }
 
-    ghost describes = { λ C h. describes_contramap (λ r. r.start) (describes_parts h.0 (all_one (T.describes C h.1.0))) };
+    ghost describes = { λ C h. describes_contramap (λ r. r.start)
+        (describes_parts h.0 (all_one (T.describes C h.1.0))) };
 }
 
 impl<T: BorshSchema> BorshSchema for RangeTo<T> {
     ghost name = { applied (codes "RangeTo<") T.name };
 
-    ghost parts = { defined (applied (codes "RangeTo<") T.name) (range_to T.name) (both T.parts none) };
+    ghost parts = { defined (applied (codes "RangeTo<") T.name) (range_to T.name)
+        (both T.parts none) };
 
     fn declaration(alloc: Global) -> Result<Declaration, SchemaBuildError> {
         let end = T::declaration(alloc)?;
@@ -121,13 +129,15 @@ impl<T: BorshSchema> BorshSchema for RangeTo<T> {
         )
     }
 
-    ghost describes = { λ C h. describes_contramap (λ r. r.end) (describes_parts h.0 (all_one (T.describes C h.1.0))) };
+    ghost describes = { λ C h. describes_contramap (λ r. r.end)
+        (describes_parts h.0 (all_one (T.describes C h.1.0))) };
 }
 
 impl<T: BorshSchema> BorshSchema for RangeToInclusive<T> {
     ghost name = { applied (codes "RangeToInclusive<") T.name };
 
-    ghost parts = { defined (applied (codes "RangeToInclusive<") T.name) (range_to T.name) (both T.parts none) };
+    ghost parts = { defined (applied (codes "RangeToInclusive<") T.name) (range_to T.name)
+        (both T.parts none) };
 
     fn declaration(alloc: Global) -> Result<Declaration, SchemaBuildError> {
         let end = T::declaration(alloc)?;
@@ -147,5 +157,6 @@ impl<T: BorshSchema> BorshSchema for RangeToInclusive<T> {
         )
     }
 
-    ghost describes = { λ C h. describes_contramap (λ r. r.end) (describes_parts h.0 (all_one (T.describes C h.1.0))) };
+    ghost describes = { λ C h. describes_contramap (λ r. r.end)
+        (describes_parts h.0 (all_one (T.describes C h.1.0))) };
 }

@@ -1,9 +1,9 @@
 // Types with a schema.
-ghost use Rattle.std.specs.Prelude.{◌≡◌, IfOk, IfErr, OnOk, List, ℕ, Option, string_bytes};
+ghost use Rattle.std.specs.Prelude.{◌≡◌, IfOk, IfErr, List, ℕ, Option, string_bytes};
 ghost use Rattle.borsh_walks.specs.Container.{Shape};
 ghost use Rattle.borsh_schema.specs.declared.definitions.SchemaBuildError.TheVariants.{OutOfMemory};
-ghost use Rattle.borsh_schema.specs.Described.{DefinitionTree, definitions_by_name};
-ghost use Rattle.borsh_schema.specs.Joined.{IsUnion, UnionFails};
+ghost use Rattle.borsh_schema.specs.Described.{DefinitionTree};
+ghost use Rattle.borsh_schema.specs.Joined.{AddsDefinitions};
 ghost use Rattle.borsh_schema.specs.Language.{Holds, Describes};
 
 use super::definitions::SchemaBuildError;
@@ -27,15 +27,16 @@ pub trait BorshSchema: BorshType {
         ensures ok { IfOk result (λ d. string_bytes d ≡ name) }
         ensures err { IfErr result (λ e. e ≡ OutOfMemory) };
 
-    /// Puts the type's definition and those of its parts into the map. Where a name has two different
-    /// definitions the answer is `Redefinition` of such a name. After a refusal the map holds what it
-    /// held, and some of the type's definitions.
+    /// Adds the type's definition and those of its parts to the map. Where a name has two different
+    /// definitions the error is `Redefinition` of such a name, and where memory is refused it is
+    /// `OutOfMemory`. After an error the map has what it had, and perhaps some of the type's
+    /// definitions.
     fn add_definitions_recursively(
         alloc: Global,
         definitions: &mut BTreeMap<Declaration, Definition>,
     ) -> Result<(), SchemaBuildError>
-        ensures ok { OnOk result (IsUnion (definitions_by_name definitions.old) parts (definitions_by_name definitions.new)) }
-        ensures err { IfErr result (λ e. UnionFails (definitions_by_name definitions.old) parts (definitions_by_name definitions.new) e) };
+        ensures { AddsDefinitions definitions.old definitions.new parts result };
 
-    ghost describes: { (C : List ℕ → Option Shape) → Holds C parts → Describes Self C Self.codec name };
+    ghost describes: { (C : List ℕ → Option Shape) → Holds C parts
+        → Describes Self C Self.codec name };
 }

@@ -36,7 +36,8 @@ impl BorshSchema for bool {
 impl<T: BorshSchema> BorshSchema for Option<T> {
     ghost name = { applied (codes "Option<") T.name };
 
-    ghost parts = { defined (applied (codes "Option<") T.name) (option_of T.name) (both T.parts (both unit_definitions none)) };
+    ghost parts = { defined (applied (codes "Option<") T.name) (option_of T.name)
+        (both T.parts (both unit_definitions none)) };
 
     fn declaration(alloc: Global) -> Result<Declaration, SchemaBuildError> {
         let value = T::declaration(alloc)?;
@@ -62,13 +63,18 @@ impl<T: BorshSchema> BorshSchema for Option<T> {
         )
     }
 
-    ghost describes = { λ C h. describes_contramap option_view (describes_choice h.0 (choice_more first_variant refl (describes_unit h.1.1.0.0) (choice_more (later_variant first_variant) refl (T.describes C h.1.0) choice_none))) };
+    ghost describes = { λ C h. describes_contramap option_view
+        (describes_choice h.0
+        (choice_more first_variant refl (describes_unit h.1.1.0.0)
+        (choice_more (later_variant first_variant) refl (T.describes C h.1.0) choice_none))) };
 }
 
 impl<T: BorshSchema, E: BorshSchema> BorshSchema for Result<T, E> {
     ghost name = { applied_to_two (codes "Result<") T.name E.name };
 
-    ghost parts = { defined (applied_to_two (codes "Result<") T.name E.name) (result_of T.name E.name) (both T.parts (both E.parts none)) };
+    ghost parts = { defined (applied_to_two (codes "Result<") T.name E.name)
+        (result_of T.name E.name)
+        (both T.parts (both E.parts none)) };
 
     fn declaration(alloc: Global) -> Result<Declaration, SchemaBuildError> {
         let value = T::declaration(alloc)?;
@@ -95,5 +101,8 @@ impl<T: BorshSchema, E: BorshSchema> BorshSchema for Result<T, E> {
         )
     }
 
-    ghost describes = { λ C h. describes_contramap result_view (describes_choice h.0 (choice_more (later_variant first_variant) refl (E.describes C h.1.1.0) (choice_more first_variant refl (T.describes C h.1.0) choice_none))) };
+    ghost describes = { λ C h. describes_contramap result_view
+        (describes_choice h.0
+        (choice_more (later_variant first_variant) refl (E.describes C h.1.1.0)
+        (choice_more first_variant refl (T.describes C h.1.0) choice_none))) };
 }

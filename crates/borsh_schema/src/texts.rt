@@ -1,12 +1,11 @@
 // Texts: a count of four bytes and the bytes of the characters.
-ghost use Rattle.std.specs.Prelude.{◌≡◌, IfOk, IfErr, OnOk, codes};
+ghost use Rattle.std.specs.Prelude.{◌≡◌, IfOk, IfErr, codes};
 ghost use Rattle.std.specs.Box.{boxed_str_bytes};
 ghost use Rattle.std.specs.Cow.{cow_str_bytes};
 ghost use Rattle.std.specs.Rc.{rc_str_bytes};
 ghost use Rattle.std.specs.String.{string_bytes};
 ghost use Rattle.borsh_schema.specs.declared.definitions.SchemaBuildError.TheVariants.{OutOfMemory};
-ghost use Rattle.borsh_schema.specs.Described.{definitions_by_name};
-ghost use Rattle.borsh_schema.specs.Joined.{IsUnion, UnionFails};
+ghost use Rattle.borsh_schema.specs.Joined.{AddsDefinitions};
 ghost use Rattle.borsh_schema.specs.Laws.Members.{describes_contramap, describes_text};
 ghost use Rattle.borsh_schema.specs.Types.{text_definitions};
 
@@ -55,8 +54,7 @@ impl BorshSchema for &str {
         alloc: Global,
         definitions: &mut BTreeMap<Declaration, Definition>,
     ) -> Result<(), SchemaBuildError>
-        ensures ok { OnOk result (IsUnion (definitions_by_name definitions.old) text_definitions (definitions_by_name definitions.new)) }
-        ensures err { IfErr result (λ e. UnionFails (definitions_by_name definitions.old) text_definitions (definitions_by_name definitions.new) e) }
+        ensures { AddsDefinitions definitions.old definitions.new text_definitions result }
     {
         add_list::<u8>(alloc, Self::declaration(alloc)?, definitions)
     }
@@ -118,8 +116,7 @@ impl BorshSchema for CowStr<'_> {
         alloc: Global,
         definitions: &mut BTreeMap<Declaration, Definition>,
     ) -> Result<(), SchemaBuildError>
-        ensures ok { OnOk result (IsUnion (definitions_by_name definitions.old) text_definitions (definitions_by_name definitions.new)) }
-        ensures err { IfErr result (λ e. UnionFails (definitions_by_name definitions.old) text_definitions (definitions_by_name definitions.new) e) }
+        ensures { AddsDefinitions definitions.old definitions.new text_definitions result }
     {
         add_list::<u8>(alloc, Self::declaration(alloc)?, definitions)
     }

@@ -1,9 +1,9 @@
 // The places of tuples: their names, one after another.
-ghost use Rattle.std.specs.Prelude.{◌≡◌, ◌∷◌, [], ◌++◌, List, ℕ, IfOk, IfErr, OnOk, codes, map, string_bytes};
+ghost use Rattle.std.specs.Prelude.{◌≡◌, ◌∷◌, [], List, ℕ, IfOk, IfErr, OnOk, string_bytes};
 ghost use Rattle.borsh_schema.specs.declared.definitions.SchemaBuildError.TheVariants.{OutOfMemory};
-ghost use Rattle.borsh_schema.specs.Described.{both, definitions_by_name};
-ghost use Rattle.borsh_schema.specs.Joined.{IsUnion, UnionFails};
-ghost use Rattle.borsh_schema.specs.Names.{following};
+ghost use Rattle.borsh_schema.specs.Described.{both};
+ghost use Rattle.borsh_schema.specs.Joined.{AddsDefinitions};
+ghost use Rattle.borsh_schema.specs.Names.{longer_tuple_name, AppendsNames, AppendsFollowing};
 ghost use Rattle.borsh_schema.specs.Types.{tuple_described};
 
 use super::definitions::SchemaBuildError;
@@ -25,12 +25,12 @@ pub(crate) trait Places: SchemaParts {
         alloc: Global,
         elements: &mut Vec<Declaration>,
     ) -> Result<(), SchemaBuildError>
-        ensures ok { OnOk result (map (λ d. string_bytes d) elements.new.items ≡ map (λ d. string_bytes d) elements.old.items ++ names) }
+        ensures ok { OnOk result (AppendsNames elements.old.items elements.new.items names) }
         ensures err { IfErr result (λ e. e ≡ OutOfMemory) };
 
     /// Puts the names at the end of the text, each behind a comma.
     fn push_names(alloc: Global, text: &mut String) -> Result<(), SchemaBuildError>
-        ensures ok { OnOk result (string_bytes text.new ≡ string_bytes text.old ++ following names) }
+        ensures ok { OnOk result (AppendsFollowing text.old text.new names) }
         ensures err { IfErr result (λ e. e ≡ OutOfMemory) };
 }
 
@@ -80,7 +80,7 @@ impl<T: BorshSchema, R: Places> Places for (T, R) {
 pub(crate) fn tuple_declaration<T: BorshSchema, R: Places>(
     alloc: Global,
 ) -> Result<Declaration, SchemaBuildError>
-    ensures ok { IfOk result (λ d. string_bytes d ≡ codes "(" ++ (T.name ++ (following R.names ++ codes ")"))) }
+    ensures ok { IfOk result (λ d. string_bytes d ≡ longer_tuple_name T.name R.names) }
     ensures err { IfErr result (λ e. e ≡ OutOfMemory) }
 {
     let first = T::declaration(alloc)?;
@@ -96,8 +96,8 @@ pub(crate) fn add_tuple<P: Places>(
     declaration: Declaration,
     definitions: &mut BTreeMap<Declaration, Definition>,
 ) -> Result<(), SchemaBuildError>
-    ensures ok { OnOk result (IsUnion (definitions_by_name definitions.old) (tuple_described (string_bytes declaration) P.names P.all_parts) (definitions_by_name definitions.new)) }
-    ensures err { IfErr result (λ e. UnionFails (definitions_by_name definitions.old) (tuple_described (string_bytes declaration) P.names P.all_parts) (definitions_by_name definitions.new) e) }
+    ensures { AddsDefinitions definitions.old definitions.new
+        (tuple_described (string_bytes declaration) P.names P.all_parts) result }
 {
     let mut elements = Vec::with_capacity(alloc, P::count())?;
     P::push_declarations(alloc, &mut elements)?;

@@ -29,7 +29,8 @@ impl<A: BorshSchema> BorshSchema for (A,) {
         add_tuple::<(A, ())>(alloc, Self::declaration(alloc)?, definitions)
     }
 
-    ghost describes = { λ defs h. describes_contramap (λ t. t.0) (describes_parts h.0 (all_one (A.describes defs h.1.0))) };
+    ghost describes = { λ defs h. describes_contramap (λ t. t.0)
+        (describes_parts h.0 (all_one (A.describes defs h.1.0))) };
 }
 
 impl<A: BorshSchema, B: BorshSchema> BorshSchema for (A, B) {
@@ -48,13 +49,15 @@ impl<A: BorshSchema, B: BorshSchema> BorshSchema for (A, B) {
         add_tuple::<(A, (B, ()))>(alloc, Self::declaration(alloc)?, definitions)
     }
 
-    ghost describes = { λ defs h. describes_parts h.0 (all_more (A.describes defs h.1.0) (all_one (B.describes defs h.1.1.0))) };
+    ghost describes = { λ defs h. describes_parts h.0
+        (all_more (A.describes defs h.1.0) (all_one (B.describes defs h.1.1.0))) };
 }
 
 impl<A: BorshSchema, B: BorshSchema, C: BorshSchema> BorshSchema for (A, B, C) {
     ghost name = { tuple_name (A.name ∷ B.name ∷ C.name ∷ []) };
 
-    ghost parts = { tuple_definitions (A.name ∷ B.name ∷ C.name ∷ []) (both A.parts (both B.parts (both C.parts none))) };
+    ghost parts = { tuple_definitions (A.name ∷ B.name ∷ C.name ∷ [])
+        (both A.parts (both B.parts (both C.parts none))) };
 
     fn declaration(alloc: Global) -> Result<Declaration, SchemaBuildError> {
         tuple_declaration::<A, (B, (C, ()))>(alloc)
@@ -67,13 +70,18 @@ impl<A: BorshSchema, B: BorshSchema, C: BorshSchema> BorshSchema for (A, B, C) {
         add_tuple::<(A, (B, (C, ())))>(alloc, Self::declaration(alloc)?, definitions)
     }
 
-    ghost describes = { λ defs h. describes_contramap (λ t. (t.0, (t.1, t.2))) (describes_parts h.0 (all_more (A.describes defs h.1.0) (all_more (B.describes defs h.1.1.0) (all_one (C.describes defs h.1.1.1.0))))) };
+    ghost describes = { λ defs h. describes_contramap (λ t. (t.0, (t.1, t.2)))
+        (describes_parts h.0
+        (all_more (A.describes defs h.1.0)
+        (all_more (B.describes defs h.1.1.0)
+        (all_one (C.describes defs h.1.1.1.0))))) };
 }
 
 impl<A: BorshSchema, B: BorshSchema, C: BorshSchema, D: BorshSchema> BorshSchema for (A, B, C, D) {
     ghost name = { tuple_name (A.name ∷ B.name ∷ C.name ∷ D.name ∷ []) };
 
-    ghost parts = { tuple_definitions (A.name ∷ B.name ∷ C.name ∷ D.name ∷ []) (both A.parts (both B.parts (both C.parts (both D.parts none)))) };
+    ghost parts = { tuple_definitions (A.name ∷ B.name ∷ C.name ∷ D.name ∷ [])
+        (both A.parts (both B.parts (both C.parts (both D.parts none)))) };
 
     fn declaration(alloc: Global) -> Result<Declaration, SchemaBuildError> {
         tuple_declaration::<A, (B, (C, (D, ())))>(alloc)
@@ -86,14 +94,20 @@ impl<A: BorshSchema, B: BorshSchema, C: BorshSchema, D: BorshSchema> BorshSchema
         add_tuple::<(A, (B, (C, (D, ()))))>(alloc, Self::declaration(alloc)?, definitions)
     }
 
-    ghost describes = { λ defs h. describes_contramap (λ t. (t.0, (t.1, (t.2, t.3)))) (describes_parts h.0 (all_more (A.describes defs h.1.0) (all_more (B.describes defs h.1.1.0) (all_more (C.describes defs h.1.1.1.0) (all_one (D.describes defs h.1.1.1.1.0)))))) };
+    ghost describes = { λ defs h. describes_contramap (λ t. (t.0, (t.1, (t.2, t.3))))
+        (describes_parts h.0
+        (all_more (A.describes defs h.1.0)
+        (all_more (B.describes defs h.1.1.0)
+        (all_more (C.describes defs h.1.1.1.0)
+        (all_one (D.describes defs h.1.1.1.1.0)))))) };
 }
 
 impl<A: BorshSchema, B: BorshSchema, C: BorshSchema, D: BorshSchema, E: BorshSchema> BorshSchema
     for (A, B, C, D, E) {
     ghost name = { tuple_name (A.name ∷ B.name ∷ C.name ∷ D.name ∷ E.name ∷ []) };
 
-    ghost parts = { tuple_definitions (A.name ∷ B.name ∷ C.name ∷ D.name ∷ E.name ∷ []) (both A.parts (both B.parts (both C.parts (both D.parts (both E.parts none))))) };
+    ghost parts = { tuple_definitions (A.name ∷ B.name ∷ C.name ∷ D.name ∷ E.name ∷ [])
+        (both A.parts (both B.parts (both C.parts (both D.parts (both E.parts none))))) };
 
     fn declaration(alloc: Global) -> Result<Declaration, SchemaBuildError> {
         tuple_declaration::<A, (B, (C, (D, (E, ()))))>(alloc)
@@ -106,7 +120,13 @@ impl<A: BorshSchema, B: BorshSchema, C: BorshSchema, D: BorshSchema, E: BorshSch
         add_tuple::<(A, (B, (C, (D, (E, ())))))>(alloc, Self::declaration(alloc)?, definitions)
     }
 
-    ghost describes = { λ defs h. describes_contramap (λ t. (t.0, (t.1, (t.2, (t.3, t.4))))) (describes_parts h.0 (all_more (A.describes defs h.1.0) (all_more (B.describes defs h.1.1.0) (all_more (C.describes defs h.1.1.1.0) (all_more (D.describes defs h.1.1.1.1.0) (all_one (E.describes defs h.1.1.1.1.1.0))))))) };
+    ghost describes = { λ defs h. describes_contramap (λ t. (t.0, (t.1, (t.2, (t.3, t.4)))))
+        (describes_parts h.0
+        (all_more (A.describes defs h.1.0)
+        (all_more (B.describes defs h.1.1.0)
+        (all_more (C.describes defs h.1.1.1.0)
+        (all_more (D.describes defs h.1.1.1.1.0)
+        (all_one (E.describes defs h.1.1.1.1.1.0))))))) };
 }
 
 impl<
@@ -119,7 +139,13 @@ impl<
 > BorshSchema for (A, B, C, D, E, F) {
     ghost name = { tuple_name (A.name ∷ B.name ∷ C.name ∷ D.name ∷ E.name ∷ F.name ∷ []) };
 
-    ghost parts = { tuple_definitions (A.name ∷ B.name ∷ C.name ∷ D.name ∷ E.name ∷ F.name ∷ []) (both A.parts (both B.parts (both C.parts (both D.parts (both E.parts (both F.parts none)))))) };
+    ghost parts = { tuple_definitions (A.name ∷ B.name ∷ C.name ∷ D.name ∷ E.name ∷ F.name ∷ [])
+        (both A.parts
+        (both B.parts
+        (both C.parts
+        (both D.parts
+        (both E.parts
+        (both F.parts none)))))) };
 
     fn declaration(alloc: Global) -> Result<Declaration, SchemaBuildError> {
         tuple_declaration::<A, (B, (C, (D, (E, (F, ())))))>(alloc)
@@ -132,7 +158,14 @@ impl<
         add_tuple::<(A, (B, (C, (D, (E, (F, ()))))))>(alloc, Self::declaration(alloc)?, definitions)
     }
 
-    ghost describes = { λ defs h. describes_contramap (λ t. (t.0, (t.1, (t.2, (t.3, (t.4, t.5)))))) (describes_parts h.0 (all_more (A.describes defs h.1.0) (all_more (B.describes defs h.1.1.0) (all_more (C.describes defs h.1.1.1.0) (all_more (D.describes defs h.1.1.1.1.0) (all_more (E.describes defs h.1.1.1.1.1.0) (all_one (F.describes defs h.1.1.1.1.1.1.0)))))))) };
+    ghost describes = { λ defs h. describes_contramap (λ t. (t.0, (t.1, (t.2, (t.3, (t.4, t.5))))))
+        (describes_parts h.0
+        (all_more (A.describes defs h.1.0)
+        (all_more (B.describes defs h.1.1.0)
+        (all_more (C.describes defs h.1.1.1.0)
+        (all_more (D.describes defs h.1.1.1.1.0)
+        (all_more (E.describes defs h.1.1.1.1.1.0)
+        (all_one (F.describes defs h.1.1.1.1.1.1.0)))))))) };
 }
 
 impl<
@@ -146,7 +179,15 @@ impl<
 > BorshSchema for (A, B, C, D, E, F, G) {
     ghost name = { tuple_name (A.name ∷ B.name ∷ C.name ∷ D.name ∷ E.name ∷ F.name ∷ G.name ∷ []) };
 
-    ghost parts = { tuple_definitions (A.name ∷ B.name ∷ C.name ∷ D.name ∷ E.name ∷ F.name ∷ G.name ∷ []) (both A.parts (both B.parts (both C.parts (both D.parts (both E.parts (both F.parts (both G.parts none))))))) };
+    ghost parts = { tuple_definitions
+        (A.name ∷ B.name ∷ C.name ∷ D.name ∷ E.name ∷ F.name ∷ G.name ∷ [])
+        (both A.parts
+        (both B.parts
+        (both C.parts
+        (both D.parts
+        (both E.parts
+        (both F.parts
+        (both G.parts none))))))) };
 
     fn declaration(alloc: Global) -> Result<Declaration, SchemaBuildError> {
         tuple_declaration::<A, (B, (C, (D, (E, (F, (G, ()))))))>(alloc)
@@ -163,7 +204,16 @@ impl<
         )
     }
 
-    ghost describes = { λ defs h. describes_contramap (λ t. (t.0, (t.1, (t.2, (t.3, (t.4, (t.5, t.6))))))) (describes_parts h.0 (all_more (A.describes defs h.1.0) (all_more (B.describes defs h.1.1.0) (all_more (C.describes defs h.1.1.1.0) (all_more (D.describes defs h.1.1.1.1.0) (all_more (E.describes defs h.1.1.1.1.1.0) (all_more (F.describes defs h.1.1.1.1.1.1.0) (all_one (G.describes defs h.1.1.1.1.1.1.1.0))))))))) };
+    ghost describes = { λ defs h. describes_contramap
+        (λ t. (t.0, (t.1, (t.2, (t.3, (t.4, (t.5, t.6)))))))
+        (describes_parts h.0
+        (all_more (A.describes defs h.1.0)
+        (all_more (B.describes defs h.1.1.0)
+        (all_more (C.describes defs h.1.1.1.0)
+        (all_more (D.describes defs h.1.1.1.1.0)
+        (all_more (E.describes defs h.1.1.1.1.1.0)
+        (all_more (F.describes defs h.1.1.1.1.1.1.0)
+        (all_one (G.describes defs h.1.1.1.1.1.1.1.0))))))))) };
 }
 
 impl<
@@ -176,9 +226,19 @@ impl<
     G: BorshSchema,
     H: BorshSchema,
 > BorshSchema for (A, B, C, D, E, F, G, H) {
-    ghost name = { tuple_name (A.name ∷ B.name ∷ C.name ∷ D.name ∷ E.name ∷ F.name ∷ G.name ∷ H.name ∷ []) };
+    ghost name = { tuple_name
+        (A.name ∷ B.name ∷ C.name ∷ D.name ∷ E.name ∷ F.name ∷ G.name ∷ H.name ∷ []) };
 
-    ghost parts = { tuple_definitions (A.name ∷ B.name ∷ C.name ∷ D.name ∷ E.name ∷ F.name ∷ G.name ∷ H.name ∷ []) (both A.parts (both B.parts (both C.parts (both D.parts (both E.parts (both F.parts (both G.parts (both H.parts none)))))))) };
+    ghost parts = { tuple_definitions
+        (A.name ∷ B.name ∷ C.name ∷ D.name ∷ E.name ∷ F.name ∷ G.name ∷ H.name ∷ [])
+        (both A.parts
+        (both B.parts
+        (both C.parts
+        (both D.parts
+        (both E.parts
+        (both F.parts
+        (both G.parts
+        (both H.parts none)))))))) };
 
     fn declaration(alloc: Global) -> Result<Declaration, SchemaBuildError> {
         tuple_declaration::<A, (B, (C, (D, (E, (F, (G, (H, ())))))))>(alloc)
@@ -195,7 +255,17 @@ impl<
         )
     }
 
-    ghost describes = { λ defs h. describes_contramap (λ t. (t.0, (t.1, (t.2, (t.3, (t.4, (t.5, (t.6, t.7)))))))) (describes_parts h.0 (all_more (A.describes defs h.1.0) (all_more (B.describes defs h.1.1.0) (all_more (C.describes defs h.1.1.1.0) (all_more (D.describes defs h.1.1.1.1.0) (all_more (E.describes defs h.1.1.1.1.1.0) (all_more (F.describes defs h.1.1.1.1.1.1.0) (all_more (G.describes defs h.1.1.1.1.1.1.1.0) (all_one (H.describes defs h.1.1.1.1.1.1.1.1.0)))))))))) };
+    ghost describes = { λ defs h. describes_contramap
+        (λ t. (t.0, (t.1, (t.2, (t.3, (t.4, (t.5, (t.6, t.7))))))))
+        (describes_parts h.0
+        (all_more (A.describes defs h.1.0)
+        (all_more (B.describes defs h.1.1.0)
+        (all_more (C.describes defs h.1.1.1.0)
+        (all_more (D.describes defs h.1.1.1.1.0)
+        (all_more (E.describes defs h.1.1.1.1.1.0)
+        (all_more (F.describes defs h.1.1.1.1.1.1.0)
+        (all_more (G.describes defs h.1.1.1.1.1.1.1.0)
+        (all_one (H.describes defs h.1.1.1.1.1.1.1.1.0)))))))))) };
 }
 
 impl<
@@ -209,9 +279,20 @@ impl<
     H: BorshSchema,
     I: BorshSchema,
 > BorshSchema for (A, B, C, D, E, F, G, H, I) {
-    ghost name = { tuple_name (A.name ∷ B.name ∷ C.name ∷ D.name ∷ E.name ∷ F.name ∷ G.name ∷ H.name ∷ I.name ∷ []) };
+    ghost name = { tuple_name
+        (A.name ∷ B.name ∷ C.name ∷ D.name ∷ E.name ∷ F.name ∷ G.name ∷ H.name ∷ I.name ∷ []) };
 
-    ghost parts = { tuple_definitions (A.name ∷ B.name ∷ C.name ∷ D.name ∷ E.name ∷ F.name ∷ G.name ∷ H.name ∷ I.name ∷ []) (both A.parts (both B.parts (both C.parts (both D.parts (both E.parts (both F.parts (both G.parts (both H.parts (both I.parts none))))))))) };
+    ghost parts = { tuple_definitions
+        (A.name ∷ B.name ∷ C.name ∷ D.name ∷ E.name ∷ F.name ∷ G.name ∷ H.name ∷ I.name ∷ [])
+        (both A.parts
+        (both B.parts
+        (both C.parts
+        (both D.parts
+        (both E.parts
+        (both F.parts
+        (both G.parts
+        (both H.parts
+        (both I.parts none))))))))) };
 
     fn declaration(alloc: Global) -> Result<Declaration, SchemaBuildError> {
         tuple_declaration::<A, (B, (C, (D, (E, (F, (G, (H, (I, ()))))))))>(alloc)
@@ -228,7 +309,18 @@ impl<
         )
     }
 
-    ghost describes = { λ defs h. describes_contramap (λ t. (t.0, (t.1, (t.2, (t.3, (t.4, (t.5, (t.6, (t.7, t.8))))))))) (describes_parts h.0 (all_more (A.describes defs h.1.0) (all_more (B.describes defs h.1.1.0) (all_more (C.describes defs h.1.1.1.0) (all_more (D.describes defs h.1.1.1.1.0) (all_more (E.describes defs h.1.1.1.1.1.0) (all_more (F.describes defs h.1.1.1.1.1.1.0) (all_more (G.describes defs h.1.1.1.1.1.1.1.0) (all_more (H.describes defs h.1.1.1.1.1.1.1.1.0) (all_one (I.describes defs h.1.1.1.1.1.1.1.1.1.0))))))))))) };
+    ghost describes = { λ defs h. describes_contramap
+        (λ t. (t.0, (t.1, (t.2, (t.3, (t.4, (t.5, (t.6, (t.7, t.8)))))))))
+        (describes_parts h.0
+        (all_more (A.describes defs h.1.0)
+        (all_more (B.describes defs h.1.1.0)
+        (all_more (C.describes defs h.1.1.1.0)
+        (all_more (D.describes defs h.1.1.1.1.0)
+        (all_more (E.describes defs h.1.1.1.1.1.0)
+        (all_more (F.describes defs h.1.1.1.1.1.1.0)
+        (all_more (G.describes defs h.1.1.1.1.1.1.1.0)
+        (all_more (H.describes defs h.1.1.1.1.1.1.1.1.0)
+        (all_one (I.describes defs h.1.1.1.1.1.1.1.1.1.0))))))))))) };
 }
 
 impl<
@@ -243,9 +335,41 @@ impl<
     I: BorshSchema,
     J: BorshSchema,
 > BorshSchema for (A, B, C, D, E, F, G, H, I, J) {
-    ghost name = { tuple_name (A.name ∷ B.name ∷ C.name ∷ D.name ∷ E.name ∷ F.name ∷ G.name ∷ H.name ∷ I.name ∷ J.name ∷ []) };
+    ghost name = { tuple_name
+        (A.name
+        ∷ B.name
+        ∷ C.name
+        ∷ D.name
+        ∷ E.name
+        ∷ F.name
+        ∷ G.name
+        ∷ H.name
+        ∷ I.name
+        ∷ J.name
+        ∷ []) };
 
-    ghost parts = { tuple_definitions (A.name ∷ B.name ∷ C.name ∷ D.name ∷ E.name ∷ F.name ∷ G.name ∷ H.name ∷ I.name ∷ J.name ∷ []) (both A.parts (both B.parts (both C.parts (both D.parts (both E.parts (both F.parts (both G.parts (both H.parts (both I.parts (both J.parts none)))))))))) };
+    ghost parts = { tuple_definitions
+        (A.name
+        ∷ B.name
+        ∷ C.name
+        ∷ D.name
+        ∷ E.name
+        ∷ F.name
+        ∷ G.name
+        ∷ H.name
+        ∷ I.name
+        ∷ J.name
+        ∷ [])
+        (both A.parts
+        (both B.parts
+        (both C.parts
+        (both D.parts
+        (both E.parts
+        (both F.parts
+        (both G.parts
+        (both H.parts
+        (both I.parts
+        (both J.parts none)))))))))) };
 
     fn declaration(alloc: Global) -> Result<Declaration, SchemaBuildError> {
         tuple_declaration::<A, (B, (C, (D, (E, (F, (G, (H, (I, (J, ())))))))))>(alloc)
@@ -262,7 +386,19 @@ impl<
         )
     }
 
-    ghost describes = { λ defs h. describes_contramap (λ t. (t.0, (t.1, (t.2, (t.3, (t.4, (t.5, (t.6, (t.7, (t.8, t.9)))))))))) (describes_parts h.0 (all_more (A.describes defs h.1.0) (all_more (B.describes defs h.1.1.0) (all_more (C.describes defs h.1.1.1.0) (all_more (D.describes defs h.1.1.1.1.0) (all_more (E.describes defs h.1.1.1.1.1.0) (all_more (F.describes defs h.1.1.1.1.1.1.0) (all_more (G.describes defs h.1.1.1.1.1.1.1.0) (all_more (H.describes defs h.1.1.1.1.1.1.1.1.0) (all_more (I.describes defs h.1.1.1.1.1.1.1.1.1.0) (all_one (J.describes defs h.1.1.1.1.1.1.1.1.1.1.0)))))))))))) };
+    ghost describes = { λ defs h. describes_contramap
+        (λ t. (t.0, (t.1, (t.2, (t.3, (t.4, (t.5, (t.6, (t.7, (t.8, t.9))))))))))
+        (describes_parts h.0
+        (all_more (A.describes defs h.1.0)
+        (all_more (B.describes defs h.1.1.0)
+        (all_more (C.describes defs h.1.1.1.0)
+        (all_more (D.describes defs h.1.1.1.1.0)
+        (all_more (E.describes defs h.1.1.1.1.1.0)
+        (all_more (F.describes defs h.1.1.1.1.1.1.0)
+        (all_more (G.describes defs h.1.1.1.1.1.1.1.0)
+        (all_more (H.describes defs h.1.1.1.1.1.1.1.1.0)
+        (all_more (I.describes defs h.1.1.1.1.1.1.1.1.1.0)
+        (all_one (J.describes defs h.1.1.1.1.1.1.1.1.1.1.0)))))))))))) };
 }
 
 impl<
@@ -278,9 +414,44 @@ impl<
     J: BorshSchema,
     K: BorshSchema,
 > BorshSchema for (A, B, C, D, E, F, G, H, I, J, K) {
-    ghost name = { tuple_name (A.name ∷ B.name ∷ C.name ∷ D.name ∷ E.name ∷ F.name ∷ G.name ∷ H.name ∷ I.name ∷ J.name ∷ K.name ∷ []) };
+    ghost name = { tuple_name
+        (A.name
+        ∷ B.name
+        ∷ C.name
+        ∷ D.name
+        ∷ E.name
+        ∷ F.name
+        ∷ G.name
+        ∷ H.name
+        ∷ I.name
+        ∷ J.name
+        ∷ K.name
+        ∷ []) };
 
-    ghost parts = { tuple_definitions (A.name ∷ B.name ∷ C.name ∷ D.name ∷ E.name ∷ F.name ∷ G.name ∷ H.name ∷ I.name ∷ J.name ∷ K.name ∷ []) (both A.parts (both B.parts (both C.parts (both D.parts (both E.parts (both F.parts (both G.parts (both H.parts (both I.parts (both J.parts (both K.parts none))))))))))) };
+    ghost parts = { tuple_definitions
+        (A.name
+        ∷ B.name
+        ∷ C.name
+        ∷ D.name
+        ∷ E.name
+        ∷ F.name
+        ∷ G.name
+        ∷ H.name
+        ∷ I.name
+        ∷ J.name
+        ∷ K.name
+        ∷ [])
+        (both A.parts
+        (both B.parts
+        (both C.parts
+        (both D.parts
+        (both E.parts
+        (both F.parts
+        (both G.parts
+        (both H.parts
+        (both I.parts
+        (both J.parts
+        (both K.parts none))))))))))) };
 
     fn declaration(alloc: Global) -> Result<Declaration, SchemaBuildError> {
         tuple_declaration::<A, (B, (C, (D, (E, (F, (G, (H, (I, (J, (K, ()))))))))))>(alloc)
@@ -297,7 +468,20 @@ impl<
         )
     }
 
-    ghost describes = { λ defs h. describes_contramap (λ t. (t.0, (t.1, (t.2, (t.3, (t.4, (t.5, (t.6, (t.7, (t.8, (t.9, t.10))))))))))) (describes_parts h.0 (all_more (A.describes defs h.1.0) (all_more (B.describes defs h.1.1.0) (all_more (C.describes defs h.1.1.1.0) (all_more (D.describes defs h.1.1.1.1.0) (all_more (E.describes defs h.1.1.1.1.1.0) (all_more (F.describes defs h.1.1.1.1.1.1.0) (all_more (G.describes defs h.1.1.1.1.1.1.1.0) (all_more (H.describes defs h.1.1.1.1.1.1.1.1.0) (all_more (I.describes defs h.1.1.1.1.1.1.1.1.1.0) (all_more (J.describes defs h.1.1.1.1.1.1.1.1.1.1.0) (all_one (K.describes defs h.1.1.1.1.1.1.1.1.1.1.1.0))))))))))))) };
+    ghost describes = { λ defs h. describes_contramap
+        (λ t. (t.0, (t.1, (t.2, (t.3, (t.4, (t.5, (t.6, (t.7, (t.8, (t.9, t.10)))))))))))
+        (describes_parts h.0
+        (all_more (A.describes defs h.1.0)
+        (all_more (B.describes defs h.1.1.0)
+        (all_more (C.describes defs h.1.1.1.0)
+        (all_more (D.describes defs h.1.1.1.1.0)
+        (all_more (E.describes defs h.1.1.1.1.1.0)
+        (all_more (F.describes defs h.1.1.1.1.1.1.0)
+        (all_more (G.describes defs h.1.1.1.1.1.1.1.0)
+        (all_more (H.describes defs h.1.1.1.1.1.1.1.1.0)
+        (all_more (I.describes defs h.1.1.1.1.1.1.1.1.1.0)
+        (all_more (J.describes defs h.1.1.1.1.1.1.1.1.1.1.0)
+        (all_one (K.describes defs h.1.1.1.1.1.1.1.1.1.1.1.0))))))))))))) };
 }
 
 impl<
@@ -314,9 +498,47 @@ impl<
     K: BorshSchema,
     L: BorshSchema,
 > BorshSchema for (A, B, C, D, E, F, G, H, I, J, K, L) {
-    ghost name = { tuple_name (A.name ∷ B.name ∷ C.name ∷ D.name ∷ E.name ∷ F.name ∷ G.name ∷ H.name ∷ I.name ∷ J.name ∷ K.name ∷ L.name ∷ []) };
+    ghost name = { tuple_name
+        (A.name
+        ∷ B.name
+        ∷ C.name
+        ∷ D.name
+        ∷ E.name
+        ∷ F.name
+        ∷ G.name
+        ∷ H.name
+        ∷ I.name
+        ∷ J.name
+        ∷ K.name
+        ∷ L.name
+        ∷ []) };
 
-    ghost parts = { tuple_definitions (A.name ∷ B.name ∷ C.name ∷ D.name ∷ E.name ∷ F.name ∷ G.name ∷ H.name ∷ I.name ∷ J.name ∷ K.name ∷ L.name ∷ []) (both A.parts (both B.parts (both C.parts (both D.parts (both E.parts (both F.parts (both G.parts (both H.parts (both I.parts (both J.parts (both K.parts (both L.parts none)))))))))))) };
+    ghost parts = { tuple_definitions
+        (A.name
+        ∷ B.name
+        ∷ C.name
+        ∷ D.name
+        ∷ E.name
+        ∷ F.name
+        ∷ G.name
+        ∷ H.name
+        ∷ I.name
+        ∷ J.name
+        ∷ K.name
+        ∷ L.name
+        ∷ [])
+        (both A.parts
+        (both B.parts
+        (both C.parts
+        (both D.parts
+        (both E.parts
+        (both F.parts
+        (both G.parts
+        (both H.parts
+        (both I.parts
+        (both J.parts
+        (both K.parts
+        (both L.parts none)))))))))))) };
 
     fn declaration(alloc: Global) -> Result<Declaration, SchemaBuildError> {
         tuple_declaration::<A, (B, (C, (D, (E, (F, (G, (H, (I, (J, (K, (L, ())))))))))))>(alloc)
@@ -333,5 +555,19 @@ impl<
         )
     }
 
-    ghost describes = { λ defs h. describes_contramap (λ t. (t.0, (t.1, (t.2, (t.3, (t.4, (t.5, (t.6, (t.7, (t.8, (t.9, (t.10, t.11)))))))))))) (describes_parts h.0 (all_more (A.describes defs h.1.0) (all_more (B.describes defs h.1.1.0) (all_more (C.describes defs h.1.1.1.0) (all_more (D.describes defs h.1.1.1.1.0) (all_more (E.describes defs h.1.1.1.1.1.0) (all_more (F.describes defs h.1.1.1.1.1.1.0) (all_more (G.describes defs h.1.1.1.1.1.1.1.0) (all_more (H.describes defs h.1.1.1.1.1.1.1.1.0) (all_more (I.describes defs h.1.1.1.1.1.1.1.1.1.0) (all_more (J.describes defs h.1.1.1.1.1.1.1.1.1.1.0) (all_more (K.describes defs h.1.1.1.1.1.1.1.1.1.1.1.0) (all_one (L.describes defs h.1.1.1.1.1.1.1.1.1.1.1.1.0)))))))))))))) };
+    ghost describes = { λ defs h. describes_contramap
+        (λ t. (t.0, (t.1, (t.2, (t.3, (t.4, (t.5, (t.6, (t.7, (t.8, (t.9, (t.10, t.11))))))))))))
+        (describes_parts h.0
+        (all_more (A.describes defs h.1.0)
+        (all_more (B.describes defs h.1.1.0)
+        (all_more (C.describes defs h.1.1.1.0)
+        (all_more (D.describes defs h.1.1.1.1.0)
+        (all_more (E.describes defs h.1.1.1.1.1.0)
+        (all_more (F.describes defs h.1.1.1.1.1.1.0)
+        (all_more (G.describes defs h.1.1.1.1.1.1.1.0)
+        (all_more (H.describes defs h.1.1.1.1.1.1.1.1.0)
+        (all_more (I.describes defs h.1.1.1.1.1.1.1.1.1.0)
+        (all_more (J.describes defs h.1.1.1.1.1.1.1.1.1.1.0)
+        (all_more (K.describes defs h.1.1.1.1.1.1.1.1.1.1.1.0)
+        (all_one (L.describes defs h.1.1.1.1.1.1.1.1.1.1.1.1.0)))))))))))))) };
 }

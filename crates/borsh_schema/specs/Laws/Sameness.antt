@@ -1,9 +1,9 @@
 -- Containers that are the same: they say the same, and the container of a type is one.
-use Rattle.std.proofs.Common.{◌≡◌, ℕ, ℤ, Bool, true, false, cond, ◌&&◌, List, [], ◌∷◌, map, Option, Some, None, refl, sym, ◌∙◌, ap, subst, inl, inr, true≢false, String, Global, string_bytes, option_map}
+use Rattle.std.proofs.Common.{◌≡◌, ℕ, ℤ, Bool, true, false, cond, ◌&&◌, List, [], ◌∷◌, map, Option, Some, None, refl, sym, ◌∙◌, ap, subst, inl, inr, String, Global, string_bytes, option_map}
 use Rattle.std.specs.Prelude.{T}
 use Rattle.std.specs.List.{AllZip, AllByRecursion}
 use Rattle.std.specs.List.Sorted.{IsStrictlySortedBy}
-use Rattle.std.specs.BTreeMap.{BTreeMap, IsOrdered, get_by_text, is_at, keys}
+use Rattle.std.specs.BTreeMap.{BTreeMap, IsOrdered, is_at}
 use Rattle.std.specs.Map.{lookup, keys_of}
 use Rattle.std.specs.String.{string_cmp}
 use Rattle.std.specs.Ordering.{nat_cmp, is_lt, is_eq}
@@ -20,10 +20,10 @@ use Rattle.borsh_walks.specs.declared.definition.Definition.{Definition}
 use Rattle.borsh_walks.specs.declared.definition.Definition.TheVariants.{Primitive, Sequence, Tuple, Enum, Struct}
 use Rattle.borsh_walks.specs.declared.definition.Fields.{Fields}
 use Rattle.borsh_walks.specs.declared.definition.Fields.TheVariants.{NamedFields, UnnamedFields, Empty}
-use Rattle.borsh_schema.specs.Described.{NamedDefinition, field_bytes, variant_bytes, bytes, list, tuple, variants, named, unnamed, named_fields, named_definition, DefinitionMap, definitions_by_name, nothing_defined, DefinitionTree}
+use Rattle.borsh_schema.specs.Described.{NamedDefinition, field_bytes, variant_bytes, bytes, tuple, named, unnamed, named_fields, named_definition, DefinitionMap, definitions_by_name, DefinitionTree}
 use Rattle.borsh_schema.specs.Joined.{IsDefinedIn, IsUnion}
 use Rattle.borsh_schema.specs.Codecs.{container, container-lawful}
-use Rattle.borsh_schema.specs.Containers.{map_of, root_of, defined_in, IsContainerOf}
+use Rattle.borsh_schema.specs.Containers.{map_of, root_of, IsContainerOf}
 use Rattle.borsh_schema.specs.declared.container.BorshSchemaContainer.{BorshSchemaContainer}
 
 -- ---- what is the same as bytes says the same

@@ -1,14 +1,8 @@
-use Rattle.std.proofs.lemmas.Result.{err_from_is_err_and, on_ok_weaker, IfErr-weaker}
-use Rattle.borsh_schema.specs.Laws.Joining.{joined_then, not_joined_first, not_joined_then}
+use Rattle.borsh_schema.proofs.Outcomes.{adds_exit_first, adds_then}
 use Rattle.borsh_schema.proofs.parts.BothSchemaParts.add_all.Goals as goal
 
-pub returns-in_err-add_all-clause-err : goal.returns-in_err-add_all-clause-err
-returns-in_err-add_all-clause-err g c =
-    let p = err_from_is_err_and c.from_residual.result c.from_residual.ensures.1 in
-    rw (p.1, p.2) (not_joined_first g.Q.SchemaParts.all_parts c.in_err-add_all.ensures.err)
+pub returns-in_err-add_all : goal.returns-in_err-add_all
+returns-in_err-add_all g c = adds_exit_first g.Q.SchemaParts.all_parts _ c.from_residual.ensures.1 c.in_err-add_all.ensures
 
-pub returns-clause-ok : goal.returns-clause-ok
-returns-clause-ok g c = on_ok_weaker c.add_all-2.result (joined_then c.in_ok-add_all.ensures.ok) c.add_all-2.ensures.ok
-
-pub returns-clause-err : goal.returns-clause-err
-returns-clause-err g c = IfErr-weaker c.add_all-2.result _ _ (λ e h. not_joined_then c.in_ok-add_all.ensures.ok h) c.add_all-2.ensures.err
+pub returns : goal.returns
+returns g c = adds_then c.in_ok-add_all.ensures c.add_all-2.ensures
