@@ -50,9 +50,9 @@ module _ (c : BorshSchemaContainer) where
     pub answer : MatchResult result (λ _. IsValid (language_of c) (root_of c)) (λ e. RulesFault (language_of c) (root_of c) e)
     -- a container in which each reached name keeps the rules is accepted, memory aside
     pub complete : AcceptsIfValid (language_of c) (root_of c) result
-    -- `Ok`: each reached name was counted once
+    -- `Ok`: `rules` rose by the number of reached names, and `zero` by at least the number of elements that are checked
     pub counts : OnOk result (JudgedCounts (language_of c) (root_of c) old new)
-    -- no count rose by more than the number of definitions, not even at an error
+    -- `rules` and `zero` each rose by at most the number of definitions, and `size` stays, whatever the answer
     pub bounded_work : ValidateWork (btree_map_len (map_of c)) old new
 
   -- the outcome of a call that is to answer the greatest length of a container's encodings
@@ -63,7 +63,7 @@ module _ (c : BorshSchemaContainer) where
   pub record SizesCounting (old new : Expansions) (result : Result ℕ SchemaMaxSerializedSizeError) : Type 0 where
     -- `Ok`: the greatest length; `Err`: why there is none
     pub size : Sizes result
-    -- `Ok`: each name that the size needs was counted once
+    -- `Ok`: `size` rose by the number of names that the size needs
     pub counts : OnOk result (SizedCounts (language_of c) (root_of c) old new)
-    -- the count rose by no more than the number of definitions, not even at an error
+    -- `size` rose by at most the number of definitions, and the others stay, whatever the answer
     pub bounded_work : SizeWork (btree_map_len (map_of c)) old new
