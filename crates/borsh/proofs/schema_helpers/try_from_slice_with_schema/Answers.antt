@@ -10,7 +10,7 @@ returns-in_err-sent g c =
 pub returns-in_err-is_own : goal.returns-in_err-is_own
 returns-in_err-is_own g c =
     let p = err_from_is_err_and c.from_residual-in_err-is_own.result c.from_residual-in_err-is_own.ensures.1 in
-    rw (p.1, p.2) (decodes_err _ (not_read_own (_, c.in_ok-sent.ensures.ok) c.in_err-is_own.ensures.err))
+    rw (p.1, p.2) (decodes_err _ (not_read_own (c.in_ok-sent.sent, c.in_ok-sent.ensures.ok) c.in_err-is_own.ensures.err))
 
 pub returns-then-branch : goal.returns-then-branch
 returns-then-branch g c = decodes_ok g.met.T.BorshType.lawful (read_behind (pair_read c.in_ok-sent.ensures.ok) c.in_ok-is_own.ensures.ok c.if-branch.true)
