@@ -30,27 +30,14 @@ as_exit {view = view} {c = c} {state = state} {a = a} {b = b} e {r = r} is f =
     let p = err_from_is_err_and r is in
     subst (DecodesAs view c state a b) (sym (p.1 ∙ ap (λ y. Err y) p.2)) f
 
-as_look : {A B C R : Type 0} {view : B → A} (look : C → A) {c : Codec A} {state : R → ReaderState} {a b : R} {e : Error} → DecodesAs view c state a b (Err e) → DecodesAs look c state a b (Err e)
-as_look look d = record { ok = tt; err = d.err; untouched = λ h. untouched_err (d.untouched h) }
-
 -- nothing is read of a type that refuses all values
 pub as_never_ok : {A B R : Type 0} {view : B → A} {c : Codec A} {state : R → ReaderState} {a b : R} {v : B} → DecodesAs view c state a b (Ok v) → c.refuses ≡ true → ⊥
 as_never_ok d e = (d.untouched e).kind
-
--- what is shown of a value was not read, and another value would have shown the same
-pub decodes_as_exit : {A B C R : Type 0} {view : B → A} (look : C → A) {c : Codec A} {state : R → ReaderState} {a b : R} (e : Error) {r : Result C Error} → IsErrAnd r (λ y. y ≡ e) → DecodesAs view c state a b (Err e) → Decodes (contramap look c) state a b r
-decodes_as_exit look {c = c} e is d = decodes_as {view = look} {c = c} (as_exit e is (as_look look d))
 
 -- a value was made that shows the same
 pub decodes_as_made : {A B C R : Type 0} {view : B → A} (look : C → A) {c : Codec A} {state : R → ReaderState} {a b : R} {v : B} {w : C} → look w ≡ view v → DecodesAs view c state a b (Ok v) → Decodes (contramap look c) state a b (Ok w)
 decodes_as_made {view = view} look {c = c} {state = state} {a = a} {b = b} same d =
     decodes_as {view = look} {c = c} (record { ok = subst (λ u. Decoded _ c (state a) (state b) u) (sym same) d.ok; err = tt; untouched = λ h. absurd (as_never_ok d h) })
-
--- memory for it was refused
-pub decodes_as_memory : {A B C R : Type 0} {view : B → A} (look : C → A) {c : Codec A} {state : R → ReaderState} {a b : R} {v : B} (Q : Error → Type 0) {r : Result C Error} → c.decoding_allocates ≡ true → IsErrAnd r (λ e. (error_kind e ≡ OutOfMemory) × Q e) → DecodesAs view c state a b (Ok v) → Decodes (contramap look c) state a b r
-decodes_as_memory look {c = c} {state = state} {a = a} {b = b} Q {r = r} m is d =
-    let p = err_from_is_err_and r is in
-    subst (Decodes (contramap look c) state a b) (sym p.1) (decodes_as {view = look} {c = c} (record { ok = tt; err = denied_memory {c = c} m d.ok.took p.2.0; untouched = λ h. absurd (as_never_ok d h) }))
 
 -- ---- a type that reads before it refuses
 
@@ -105,12 +92,6 @@ module _ {A B C E R : Type 0} {view : B → A} {c : Codec A} (look : C → E) {d
   -- what was read makes none
   pub made_err : {v : B} (e : Error) {r : Result C Error} → IsErrAnd r (λ y. y ≡ e) → (d.refuses ≡ true → c.refuses ≡ true) → DecodesAs view c state a b (Ok v) → NotDecoded E d (state a) (state b) (error_kind e) → DecodesAs look d state a b r
   made_err e is m p f = as_exit {view = look} {c = d} e is (record { ok = tt; err = f; untouched = λ h. absurd (as_never_ok p (m h)) })
-
-  -- memory for it was refused
-  pub made_memory : {v : B} (Q : Error → Type 0) {r : Result C Error} → d.decoding_allocates ≡ true → IsErrAnd r (λ e. (error_kind e ≡ OutOfMemory) × Q e) → (d.refuses ≡ true → c.refuses ≡ true) → DecodesAs view c state a b (Ok v) → DecodesAs look d state a b r
-  made_memory Q {r = r} g is m p =
-      let q = err_from_is_err_and r is in
-      subst (DecodesAs look d state a b) (sym q.1) (record { ok = tt; err = denied_memory {c = d} g p.ok.took q.2.0; untouched = λ h. absurd (as_never_ok p (m h)) })
 
   pub made_ok : {v : B} {w : C} → (d.refuses ≡ true → c.refuses ≡ true) → DecodesAs view c state a b (Ok v) → Decoded E d (state a) (state b) (look w) → DecodesAs look d state a b (Ok w)
   made_ok m p q = record { ok = q; err = tt; untouched = λ h. absurd (as_never_ok p (m h)) }

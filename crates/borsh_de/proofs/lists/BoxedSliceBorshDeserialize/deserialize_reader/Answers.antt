@@ -1,9 +1,6 @@
 use Rattle.std.specs.Box.{boxed_slice_items}
-use Rattle.borsh_codec.proofs.DecodeViews.{decodes_as_exit, decodes_as_made}
+use Rattle.borsh_codec.proofs.DecodeViews.{decodes_as_made}
 use Rattle.borsh_de.proofs.lists.BoxedSliceBorshDeserialize.deserialize_reader.Goals as goal
-
-pub returns-in_err-read_list : goal.returns-in_err-read_list
-returns-in_err-read_list g c = decodes_as_exit boxed_slice_items _ c.from_residual.ensures.1 c.in_err-read_list.ensures
 
 pub returns : goal.returns
 returns g c = decodes_as_made boxed_slice_items c.into_boxed_slice.ensures.items c.in_ok-read_list.ensures

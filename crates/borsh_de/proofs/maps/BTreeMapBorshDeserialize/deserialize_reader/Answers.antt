@@ -1,5 +1,4 @@
-use Rattle.std.proofs.Common.{refl}
-use Rattle.borsh_codec.proofs.DecodeViews.{decodes_as, made_exit, made_memory, made_ok}
+use Rattle.borsh_codec.proofs.DecodeViews.{decodes_as, made_exit, made_ok}
 use Rattle.borsh_codec.proofs.ReadMaps.{reads_ordered, denied_ordered}
 use Rattle.borsh_de.proofs.maps.BTreeMapBorshDeserialize.deserialize_reader.Goals as goal
 
@@ -7,9 +6,6 @@ pub returns-in_err-read : goal.returns-in_err-read
 returns-in_err-read g c =
     let codec = g.K.BorshType.codec in
     decodes_as (made_exit (λ m. m.entries) _ c.from_residual.ensures.1 (λ h. h) (denied_ordered codec.is_zero_width) c.in_err-read.ensures)
-
-pub returns-in_err-tree_map : goal.returns-in_err-tree_map
-returns-in_err-tree_map g c = decodes_as (made_memory (λ m. m.entries) _ refl c.from_residual-in_err-tree_map.ensures.1 (λ h. h) c.in_ok-read.ensures)
 
 pub returns : goal.returns
 returns g c =

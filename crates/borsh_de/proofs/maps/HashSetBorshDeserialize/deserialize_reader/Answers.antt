@@ -1,8 +1,6 @@
-use Rattle.std.proofs.Common.{refl}
 use Rattle.std.specs.Bool.{⊤}
-use Rattle.borsh_codec.specs.Shapes.{refused_if}
-use Rattle.borsh_codec.specs.Maps.{hash_entries, unit_entries, key_only}
-use Rattle.borsh_codec.proofs.DecodeViews.{decodes_as, made_exit, made_memory, made_ok}
+use Rattle.borsh_codec.specs.Maps.{unit_entries}
+use Rattle.borsh_codec.proofs.DecodeViews.{decodes_as, made_exit, made_ok}
 use Rattle.borsh_codec.proofs.ReadMaps.{reads_sorted, denied_sorted, set_values, members_from_eq}
 use Rattle.borsh_de.proofs.maps.HashSetBorshDeserialize.deserialize_reader.Goals as goal
 
@@ -10,11 +8,6 @@ pub returns-in_err-read : goal.returns-in_err-read
 returns-in_err-read g c =
     let codec = g.K.BorshType.codec in
     decodes_as (made_exit (λ s. unit_entries s.keys) _ c.from_residual.ensures.1 (λ h. h) (denied_sorted codec.is_zero_width (λ v w. ⊤)) c.in_err-read.ensures)
-
-pub returns-in_err-hash_set : goal.returns-in_err-hash_set
-returns-in_err-hash_set g c =
-    let codec = g.K.BorshType.codec in
-    decodes_as (made_memory (λ s. unit_entries s.keys) {d = refused_if codec.is_zero_width (hash_entries g.K.Ord.cmp (λ v w. ⊤) (key_only codec))} _ refl c.from_residual-in_err-hash_set.ensures.1 (λ h. h) c.in_ok-read.ensures)
 
 pub returns : goal.returns
 returns g c =

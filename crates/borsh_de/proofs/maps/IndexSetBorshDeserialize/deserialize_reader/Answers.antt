@@ -1,7 +1,5 @@
-use Rattle.std.proofs.Common.{refl}
-use Rattle.borsh_codec.specs.Shapes.{refused_if}
-use Rattle.borsh_codec.specs.Maps.{index_entries, unit_entries, key_only}
-use Rattle.borsh_codec.proofs.DecodeViews.{decodes_as, made_exit, made_memory, made_ok}
+use Rattle.borsh_codec.specs.Maps.{unit_entries}
+use Rattle.borsh_codec.proofs.DecodeViews.{decodes_as, made_exit, made_ok}
 use Rattle.borsh_codec.proofs.ReadMaps.{reads_inserted, denied_inserted, reads_bare, denied_bare, gathered_bare}
 use Rattle.borsh_de.proofs.maps.IndexSetBorshDeserialize.deserialize_reader.Goals as goal
 
@@ -9,11 +7,6 @@ pub returns-in_err-read : goal.returns-in_err-read
 returns-in_err-read g c =
     let codec = g.K.BorshType.codec in
     decodes_as (made_exit (λ s. unit_entries s.keys) _ c.from_residual.ensures.1 (λ h. h) (λ p. denied_inserted codec.is_zero_width g.K.PartialEq.eq (denied_bare codec codec.is_zero_width p)) c.in_err-read.ensures)
-
-pub returns-in_err-index_set : goal.returns-in_err-index_set
-returns-in_err-index_set g c =
-    let codec = g.K.BorshType.codec in
-    decodes_as (made_memory (λ s. unit_entries s.keys) {d = refused_if codec.is_zero_width (index_entries g.K.PartialEq.eq (key_only codec))} _ refl c.from_residual-in_err-index_set.ensures.1 (λ h. h) c.in_ok-read.ensures)
 
 pub returns : goal.returns
 returns g c =
