@@ -1,8 +1,5 @@
-use Rattle.borsh.proofs.Told.{unnamed_one, joined_told, not_joined_told}
+use Rattle.borsh.proofs.Told.{unnamed_one, adds_told}
 use Rattle.borsh_samples.proofs.schemas.ManyPartSchemaParts.add_all.Goals as goal
 
-pub returns-clause-ok : goal.returns-clause-ok
-returns-clause-ok c = joined_told c.add_with_parts.result _ _ _ c.in_ok-declared.ensures.ok (unnamed_one c.in_ok-vec.field-0 c.in_ok-vec.ensures.items c.in_ok-declaration.ensures.ok) c.add_with_parts.ensures.ok
-
-pub returns-clause-err : goal.returns-clause-err
-returns-clause-err c = not_joined_told c.add_with_parts.result _ _ _ c.in_ok-declared.ensures.ok (unnamed_one c.in_ok-vec.field-0 c.in_ok-vec.ensures.items c.in_ok-declaration.ensures.ok) c.add_with_parts.ensures.err
+pub returns : goal.returns
+returns c = adds_told c.in_ok-declared.ensures.ok (unnamed_one c.in_ok-vec.field-0 c.in_ok-vec.ensures.items c.in_ok-declaration.ensures.ok) c.add_with_parts.ensures
