@@ -21,11 +21,9 @@ pub struct MyStruct {
 impl BorshType for MyStruct {
     ghost codec = { contramap (λ v. (v.a, v.b)) ⟦<(u64, Vec<u8>) as BorshType>⟧.codec };
 
-    ghost lawful = {
-        contramap-lawful (λ v. (v.a, v.b))
-            (pair-lawful (unsigned-lawful 8)
-                (contramap-lawful (λ v. v.items) (list-lawful (unsigned-lawful 1))))
-    };
+    ghost lawful = { contramap-lawful (λ v. (v.a, v.b))
+        (pair-lawful (unsigned-lawful 8)
+        (contramap-lawful (λ v. v.items) (list-lawful (unsigned-lawful 1)))) };
 
     fn encodes_empty() -> bool {
         <(u64, Vec<u8>)>::encodes_empty()

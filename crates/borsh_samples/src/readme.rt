@@ -22,10 +22,8 @@ pub struct A {
 impl BorshType for A {
     ghost codec = { contramap (λ v. (v.x, v.y)) ⟦<(u64, String) as BorshType>⟧.codec };
 
-    ghost lawful = {
-        contramap-lawful (λ v. (v.x, v.y))
-            (pair-lawful (unsigned-lawful 8) (contramap-lawful string_bytes text-lawful))
-    };
+    ghost lawful = { contramap-lawful (λ v. (v.x, v.y))
+        (pair-lawful (unsigned-lawful 8) (contramap-lawful string_bytes text-lawful)) };
 
     fn encodes_empty() -> bool {
         <(u64, String)>::encodes_empty()

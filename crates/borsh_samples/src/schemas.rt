@@ -41,14 +41,12 @@ impl BorshSchema for A {
         )
     }
 
-    ghost describes = {
-        λ C h. describes_contramap (λ v. (v.x, v.y))
-            (describes_parts h.0
-                (all_more (describes_number 8 h.1.0.0)
-                    (all_one
-                        (describes_contramap string_bytes
-                            (describes_text h.1.1.0.0 h.1.1.0.1.0.0)))))
-    };
+    ghost describes = { λ C h. describes_contramap (λ v. (v.x, v.y))
+        (describes_parts h.0
+        (all_more (describes_number 8 h.1.0.0)
+        (all_one
+        (describes_contramap string_bytes
+        (describes_text h.1.1.0.0 h.1.1.0.1.0.0))))) };
 }
 
 /// The definitions of the part of `MyEnum::Zero`, which has a name of its own.
@@ -142,21 +140,19 @@ impl BorshSchema for MyEnum {
         )
     }
 
-    ghost describes = {
-        λ C h. describes_contramap my_enum_view
-            (describes_choice h.0
-                (choice_more first_variant refl
-                    (describes_parts h.1.0.0 all_none)
-                    (choice_more (later_variant first_variant) refl
-                        (describes_parts h.1.1.0.0 (all_one (describes_number 1 h.1.1.0.1.0.0)))
-                        (choice_more
-                            (later_variant (later_variant first_variant))
-                            refl
-                            (describes_parts h.1.1.1.0
-                                (all_one
-                                    (describes_contramap (λ v. v.items)
-                                        (describes_elements h.1.1.1.1.0.0
-                                            (describes_number 1 h.1.1.1.1.0.1.0.0)))))
-                            choice_none))))
-    };
+    ghost describes = { λ C h. describes_contramap my_enum_view
+        (describes_choice h.0
+        (choice_more first_variant refl
+        (describes_parts h.1.0.0 all_none)
+        (choice_more (later_variant first_variant) refl
+        (describes_parts h.1.1.0.0 (all_one (describes_number 1 h.1.1.0.1.0.0)))
+        (choice_more
+        (later_variant (later_variant first_variant))
+        refl
+        (describes_parts h.1.1.1.0
+        (all_one
+        (describes_contramap (λ v. v.items)
+        (describes_elements h.1.1.1.1.0.0
+        (describes_number 1 h.1.1.1.1.0.1.0.0)))))
+        choice_none)))) };
 }
