@@ -78,3 +78,11 @@ abbrev pub AnswersInquiry : Inquiry → List ℕ → List ℕ → Type 0
 AnswersInquiry Check bytes out = AnswersAbout (λ c o. IsRulesText (language_of c) (root_of c) o) bytes out
 AnswersInquiry Size bytes out = AnswersAbout (λ c o. IsSizeText (language_of c) (root_of c) o) bytes out
 AnswersInquiry Counts bytes out = AnswersAbout IsCountsText bytes out
+
+-- where the container is valid, the counts are those of a validation
+abbrev pub CountsIfValid : (List ℕ → Option Shape) → List ℕ → Expansions → Expansions → Type 0
+CountsIfValid C root old new = IsValid C root → JudgedCounts C root old new
+
+-- where there is a size that fits, the counts are those of the size
+abbrev pub CountsIfSized : (List ℕ → Option Shape) → List ℕ → Expansions → Expansions → Type 0
+CountsIfSized C root old new = (n : ℕ) → MaxSize C root n → n < 2 ^ 64 → SizedCounts C root old new

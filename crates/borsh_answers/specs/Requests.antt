@@ -1,5 +1,5 @@
 -- What a line asks for.
-use Rattle.std.specs.Prelude.{ℕ, ◌+◌, ◌==◌, Bool, true, false, List, take, drop, Option, Some, None, option_and_then, if◌then◌else◌, codes, nat_eq, position}
+use Rattle.std.specs.Prelude.{◌≡◌, MatchOption, ℕ, ◌+◌, ◌==◌, Bool, true, false, List, take, drop, Option, Some, None, option_and_then, if◌then◌else◌, codes, nat_eq, position}
 use Rattle.std.specs.Option.{option_map}
 use Rattle.std.specs.Cmp.Lexicographic.{pointwise}
 use Rattle.borsh_answers.specs.declared.words.Word.{Word}
@@ -28,6 +28,10 @@ abbrev pub asked_by : Request → Asked
 asked_by (Value word strict bytes) = value word strict bytes.items
 asked_by (Schema word) = schema word
 asked_by (About inquiry bytes) = about inquiry bytes.items
+
+-- the answer is what was asked, if something was
+abbrev pub IsRequest : Option Asked → Option Request → Type 0
+IsRequest wanted answer = MatchOption answer (wanted ≡ None) (λ request. wanted ≡ Some (asked_by request))
 
 -- the part before the first space, and the part behind it
 abbrev pub cut : List ℕ → Option (List ℕ × List ℕ)

@@ -1,13 +1,12 @@
 // What is asked of a container that comes as bytes.
-ghost use Rattle.std.specs.Prelude.{◌≡◌, ◌++◌, ℕ, ◌^◌, ◌<◌, ⊤, codes, decimal, true, Some, IfOk, IfErr, OnOk, string_bytes};
+ghost use Rattle.std.specs.Prelude.{◌≡◌, ◌++◌, codes, decimal, true, Some, IfOk, IfErr, OnOk, string_bytes};
 ghost use Rattle.std.specs.BTreeMap.{btree_map_len};
 ghost use Rattle.borsh.specs.Errors.{error_kind};
 ghost use Rattle.borsh.specs.Reading.{WhyNotDecoded};
-ghost use Rattle.borsh_walks.specs.Container.{IsValid, MaxSize};
 ghost use Rattle.borsh_schema.specs.Codecs.{container as container_codec};
 ghost use Rattle.borsh_schema.specs.Containers.{language_of, root_of, map_of};
-ghost use Rattle.borsh_schema.specs.Questions.{JudgedCounts, SizedCounts, ValidateWork, SizeWork};
-ghost use Rattle.borsh_answers.specs.Containers.{AnswersInquiry, IsRulesText, IsSizeText, IsCountsText, broken_text, missing_text, counts_text};
+ghost use Rattle.borsh_schema.specs.Questions.{ValidateWork, SizeWork};
+ghost use Rattle.borsh_answers.specs.Containers.{AnswersInquiry, CountsIfSized, CountsIfValid, IsRulesText, IsSizeText, IsCountsText, broken_text, missing_text, counts_text};
 ghost use Rattle.borsh_answers.specs.Lines.{IsLine};
 ghost use Rattle.borsh_answers.specs.Telling.{TellsRule, TellsSize};
 
@@ -53,7 +52,8 @@ fn container_from(alloc: Global, bytes: &[u8]) -> Result<BorshSchemaContainer, E
 
 /// Whether the container keeps the rules.
 fn check_answer(alloc: Global, container: &BorshSchemaContainer) -> Result<Vec<u8>, AllocError>
-    ensures answers { IfOk result (λ out. IsRulesText (language_of container.now) (root_of container.now) out.items) }
+    ensures answers { IfOk result
+        (λ out. IsRulesText (language_of container.now) (root_of container.now) out.items) }
     ensures line { IfOk result (λ out. IsLine out.items) }
 {
     match container.validate(alloc) {
@@ -100,7 +100,8 @@ fn broken(alloc: Global, rule: &[u8], name: &str) -> Result<Vec<u8>, AllocError>
 
 /// How long the encodings may be that the container describes.
 fn size_answer(alloc: Global, container: &BorshSchemaContainer) -> Result<Vec<u8>, AllocError>
-    ensures answers { IfOk result (λ out. IsSizeText (language_of container.now) (root_of container.now) out.items) }
+    ensures answers { IfOk result
+        (λ out. IsSizeText (language_of container.now) (root_of container.now) out.items) }
     ensures line { IfOk result (λ out. IsLine out.items) }
 {
     match container.max_serialized_size(alloc) {
@@ -167,7 +168,8 @@ fn judge(
     counts: &mut Expansions,
 ) -> Result<(), AllocError>
     ensures few { ValidateWork (btree_map_len (map_of container.now)) counts.old counts.new }
-    ensures rules { OnOk result (IsValid (language_of container.now) (root_of container.now) → JudgedCounts (language_of container.now) (root_of container.now) counts.old counts.new) }
+    ensures rules { OnOk result
+        (CountsIfValid (language_of container.now) (root_of container.now) counts.old counts.new) }
 {
     match container.validate_counted(alloc, counts) {
         Ok(()) => Ok(()),
@@ -183,7 +185,8 @@ fn measure(
     counts: &mut Expansions,
 ) -> Result<(), AllocError>
     ensures few { SizeWork (btree_map_len (map_of container.now)) counts.old counts.new }
-    ensures size { OnOk result ((n : ℕ) → MaxSize (language_of container.now) (root_of container.now) n → n < 2 ^ 64 → SizedCounts (language_of container.now) (root_of container.now) counts.old counts.new) }
+    ensures size { OnOk result
+        (CountsIfSized (language_of container.now) (root_of container.now) counts.old counts.new) }
 {
     match container.max_serialized_size_counted(alloc, counts) {
         Ok(_) => Ok(()),

@@ -1,6 +1,6 @@
 // What a line asks for.
 ghost use Rattle.std.specs.Prelude.{◌≡◌, ◌==◌, ◌<◌, length, position, IfOk, IfSome, MatchOption, None, Some};
-ghost use Rattle.borsh_answers.specs.Requests.{cut, asked_by, asked_value, asked_schema, asked_about, asked};
+ghost use Rattle.borsh_answers.specs.Requests.{IsRequest, cut, asked_value, asked_schema, asked_about, asked};
 
 use super::digits::bytes_from;
 use super::words::Word;
@@ -48,7 +48,8 @@ fn first_space(text: &[u8]) -> Option<usize>
 
 /// The part of a text before its first space, and the part behind it.
 fn cut_at_space(text: &[u8]) -> Option<(&[u8], &[u8])>
-    ensures { MatchOption result (cut text.now ≡ None) (λ parts. cut text.now ≡ Some (parts.0.now, parts.1.now)) }
+    ensures { MatchOption result (cut text.now ≡ None)
+        (λ parts. cut text.now ≡ Some (parts.0.now, parts.1.now)) }
 {
     match first_space(text) {
         Some(at) => Some((&text[..at], &text[at + 1..])),
@@ -59,7 +60,7 @@ fn cut_at_space(text: &[u8]) -> Option<(&[u8], &[u8])>
 impl Request {
     /// What a line asks for; `None` where it is no command.
     pub fn from_line(alloc: Global, line: &[u8]) -> Result<Option<Request>, AllocError>
-        ensures { IfOk result (λ o. MatchOption o (asked line.now ≡ None) (λ request. asked line.now ≡ Some (asked_by request))) }
+        ensures { IfOk result (IsRequest (asked line.now)) }
     {
         match cut_at_space(line) {
             Some((command, text)) if command == b"read".as_slice() => {
@@ -84,7 +85,7 @@ impl Request {
 
     /// The request behind `read` and `canon`.
     fn value(alloc: Global, strict: bool, text: &[u8]) -> Result<Option<Request>, AllocError>
-        ensures { IfOk result (λ o. MatchOption o (asked_value strict text.now ≡ None) (λ request. asked_value strict text.now ≡ Some (asked_by request))) }
+        ensures { IfOk result (IsRequest (asked_value strict text.now)) }
     {
         let Some((name, digits)) = cut_at_space(text) else {
             return Ok(None);
@@ -104,7 +105,7 @@ impl Request {
 
     /// The request behind `schema`.
     fn schema(text: &[u8]) -> Option<Request>
-        ensures { MatchOption result (asked_schema text.now ≡ None) (λ request. asked_schema text.now ≡ Some (asked_by request)) }
+        ensures { IsRequest (asked_schema text.now) result }
     {
         match Word::named(text) {
             Some(word) => Some(Request::Schema { word }),
@@ -114,7 +115,7 @@ impl Request {
 
     /// The request behind `check`, `size` and `counts`.
     fn about(alloc: Global, inquiry: Inquiry, text: &[u8]) -> Result<Option<Request>, AllocError>
-        ensures { IfOk result (λ o. MatchOption o (asked_about inquiry text.now ≡ None) (λ request. asked_about inquiry text.now ≡ Some (asked_by request))) }
+        ensures { IfOk result (IsRequest (asked_about inquiry text.now)) }
     {
         match bytes_from(alloc, text)? {
             Some(bytes) => Ok(Some(Request::About { inquiry, bytes })),

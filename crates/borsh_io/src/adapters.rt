@@ -65,7 +65,8 @@ impl Counts {
     /// What stands for a device's error of this kind, which is counted.
     #[cold]
     fn error(&mut self, kind: std::io::ErrorKind) -> Error
-        ensures interrupted { error_kind result ≡ ErrorKind.Interrupted → CountsInterrupted self.old self.new }
+        ensures interrupted { error_kind result ≡ ErrorKind.Interrupted
+            → CountsInterrupted self.old self.new }
         ensures failed { error_kind result ≢ ErrorKind.Interrupted → CountsFailed self.old self.new }
         ensures text { OnlyOtherHasText result }
     {
@@ -99,7 +100,8 @@ pub struct StdReader<R> {
 impl<R: std::io::Read> StdReader<R> {
     pub fn new(inner: R, interruptions: u32) -> StdReader<R>
         ensures inner { inner_of_reader result ≡ inner }
-        ensures state { reader_stream R.remaining result ≡ first_reader_state (R.remaining inner) interruptions }
+        ensures state { reader_stream R.remaining result
+            ≡ first_reader_state (R.remaining inner) interruptions }
     {
         StdReader {
             inner,

@@ -136,7 +136,8 @@ impl Error {
 
     /// The error's own text, if it has one.
     pub fn get_ref(&self) -> Option<&str>
-        ensures { MatchOption (error_text self.now) (IsNone result) (λ text. IsSomeAnd result (λ s. s.now ≡ text_bytes text)) }
+        ensures { MatchOption (error_text self.now) (IsNone result)
+            (λ text. IsSomeAnd result (λ s. s.now ≡ text_bytes text)) }
     {
         match &self.text {
             Some(text) => Some(text.as_str()),

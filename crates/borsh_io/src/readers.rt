@@ -48,7 +48,8 @@ impl Read for &[u8] {
 
     #[inline]
     fn read_exact(&mut self, buf: &mut [u8]) -> Result<()>
-        ensures outcome { ReadsExactly (λ s. slice_state s.now) self.old self.new buf.old buf.new result }
+        ensures outcome { ReadsExactly (λ s. slice_state s.now)
+            self.old self.new buf.old buf.new result }
         ensures unchanged { OnErr result (self.new.now ≡ self.old.now) }
     {
         let all: &[u8] = *self;

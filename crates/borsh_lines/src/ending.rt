@@ -10,7 +10,8 @@ use borsh::io::{Error, Result, Write};
 /// told is passed over.
 pub fn finish<W: Write>(outcome: &Result<()>, errors: &mut W) -> u8
     ensures ok { OnOk outcome.now ((result ≡ 0) × (errors.new ≡ errors.old)) }
-    ensures err { IfErr outcome.now (λ e. (result ≡ 1) × Told W.writing errors.old errors.new (error_line e)) }
+    ensures err { IfErr outcome.now
+        (λ e. (result ≡ 1) × Told W.writing errors.old errors.new (error_line e)) }
 {
     match outcome {
         Ok(()) => 0,
@@ -23,8 +24,10 @@ pub fn finish<W: Write>(outcome: &Result<()>, errors: &mut W) -> u8
 
 /// Writes what an error displays, as one line.
 fn tell<W: Write>(error: &Error, errors: &mut W) -> Result<()>
-    ensures writes { OnOk result (WroteBytes W.writing errors.old errors.new (error_line error.now)) }
-    ensures refused { IfErr result (λ e. NotWrittenWhole W.writing errors.old errors.new (error_line error.now) (error_kind e)) }
+    ensures writes { OnOk result
+        (WroteBytes W.writing errors.old errors.new (error_line error.now)) }
+    ensures refused { IfErr result
+        (λ e. NotWrittenWhole W.writing errors.old errors.new (error_line error.now) (error_kind e)) }
 {
     errors.write_all(b"borsh_check: ")?;
     write_spaced(error.message().as_bytes(), errors)?;
@@ -35,7 +38,8 @@ fn tell<W: Write>(error: &Error, errors: &mut W) -> Result<()>
 /// Writes a text with a space for each line feed.
 fn write_spaced<W: Write>(text: &[u8], errors: &mut W) -> Result<()>
     ensures writes { OnOk result (WroteBytes W.writing errors.old errors.new (spaced text.now)) }
-    ensures refused { IfErr result (λ e. NotWrittenWhole W.writing errors.old errors.new (spaced text.now) (error_kind e)) }
+    ensures refused { IfErr result
+        (λ e. NotWrittenWhole W.writing errors.old errors.new (spaced text.now) (error_kind e)) }
 {
     for byte in text {
         errors.write_all(&[space_for_feed(*byte)])?;

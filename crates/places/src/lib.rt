@@ -29,7 +29,8 @@ pub trait Maker<T> {
 
     /// The next value, or `None` if the maker gives up.
     fn make(&mut self) -> Option<T>
-        ensures { MatchOption result (gives_up self.old self.new) (λ value. makes self.old value self.new) };
+        ensures { MatchOption result (gives_up self.old self.new)
+            (λ value. makes self.old value self.new) };
 }
 
 /// The maker gave up before the array was full.

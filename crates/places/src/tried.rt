@@ -18,7 +18,8 @@ pub trait TryMaker<T> {
 
     /// The next value, or why there is none.
     fn try_make(&mut self) -> Result<T, Self::Error>
-        ensures { MatchResult result (λ value. makes self.old value self.new) (λ error. fails self.old error self.new) };
+        ensures { MatchResult result (λ value. makes self.old value self.new)
+            (λ error. fails self.old error self.new) };
 }
 
 /// A value in a struct of its own: what stands for an array where it is answered beside an error that names a lifetime,
@@ -48,9 +49,15 @@ struct Reasoned<'a, 'b, M, E> {
 }
 
 impl<'a, 'b, T, M: TryMaker<T>> Maker<T> for Reasoned<'a, 'b, M, M::Error> {
-    ghost makes = { λ s value t. (t.maker.ghost_name ≡ s.maker.ghost_name) × (t.reason.ghost_name ≡ s.reason.ghost_name) × M.makes s.maker.now value t.maker.now };
+    ghost makes = { λ s value t. (t.maker.ghost_name ≡ s.maker.ghost_name)
+        × (t.reason.ghost_name ≡ s.reason.ghost_name)
+        × M.makes s.maker.now value t.maker.now };
 
-    ghost gives_up = { λ s t. (t.maker.ghost_name ≡ s.maker.ghost_name) × (t.reason.ghost_name ≡ s.reason.ghost_name) × (reason : M.Error) × (t.reason.now ≡ Some reason) × M.fails s.maker.now reason t.maker.now };
+    ghost gives_up = { λ s t. (t.maker.ghost_name ≡ s.maker.ghost_name)
+        × (t.reason.ghost_name ≡ s.reason.ghost_name)
+        × (reason : M.Error)
+        × (t.reason.now ≡ Some reason)
+        × M.fails s.maker.now reason t.maker.now };
 
     #[inline]
     fn make(&mut self) -> Option<T> {
@@ -71,8 +78,10 @@ fn array_or_reason<T: Drop, M: TryMaker<T>, const N: usize>(
 ) -> Result<Held<[T; N]>, M::Error>
     ensures same_maker { reasoned.new.maker.ghost_name ≡ reasoned.old.maker.ghost_name }
     ensures same_reason { reasoned.new.reason.ghost_name ≡ reasoned.old.reason.ghost_name }
-    ensures ok { IfOk result (λ held. IsMade M.makes N reasoned.old.maker.now held.0 reasoned.new.maker.now) }
-    ensures err { IfErr result (λ reason. IsGivenUp M.makes (λ s t. M.fails s reason t) N reasoned.old.maker.now reasoned.new.maker.now) }
+    ensures ok { IfOk result
+        (λ held. IsMade M.makes N reasoned.old.maker.now held.0 reasoned.new.maker.now) }
+    ensures err { IfErr result (λ reason. IsGivenUp M.makes (λ s t. M.fails s reason t) N
+        reasoned.old.maker.now reasoned.new.maker.now) }
 {
     match array_from(reasoned) {
         Ok(items) => Ok(Held(items)),
@@ -94,7 +103,8 @@ pub fn try_array_from<T: Drop, M: TryMaker<T>, const N: usize>(
     maker: &mut M,
 ) -> Result<Held<[T; N]>, M::Error>
     ensures ok { IfOk result (λ held. IsMade M.makes N maker.old held.0 maker.new) }
-    ensures err { IfErr result (λ reason. IsGivenUp M.makes (λ s t. M.fails s reason t) N maker.old maker.new) }
+    ensures err { IfErr result
+        (λ reason. IsGivenUp M.makes (λ s t. M.fails s reason t) N maker.old maker.new) }
 {
     let mut reason = None;
     array_or_reason(&mut Reasoned {
