@@ -1,10 +1,9 @@
 use Rattle.std.proofs.Common.{arith}
-use Rattle.borsh.specs.Shapes.{unit, never}
+use Rattle.borsh.specs.Shapes.{unit, unsigned, never}
 use Rattle.borsh.specs.Laws.Variants.{variant_avoids, nothing_avoids}
 use Rattle.borsh.proofs.DecodeVariants.{variant_exit, variant_ok}
 use Rattle.borsh.proofs.ReadParts.{behind_contramap, denied_behind_contramap, denied_here, denied_there, reads_here, reads_there}
-use Rattle.borsh.specs.Shapes.{unsigned}
-use Rattle.example_event.specs.Event.{event_view, payment, from_closed}
+use Rattle.example_event.specs.Event.{event_view, from_closed}
 use Rattle.example_event.proofs.event.EventEnumExt.deserialize_variant.Goals as goal
 
 pub returns-in_err-amount-in-1 : goal.returns-in_err-amount-in-1
@@ -14,11 +13,3 @@ returns-in_err-amount-in-1 g c =
 
 pub returns-in_ok-amount-in-1 : goal.returns-in_ok-amount-in-1
 returns-in_ok-amount-in-1 g c = rw c.in-1.is (variant_ok (behind_contramap event_view (reads_there 1 0 unit (reads_here 1 from_closed c.in_ok-amount-in-1.ensures.ok))))
-
-pub returns-in_err-deserialize_reader-in-2 : goal.returns-in_err-deserialize_reader-in-2
-returns-in_err-deserialize_reader-in-2 g c =
-    let refused = denied_there 2 0 unit (λ e. omega arith) (denied_there 2 1 payment (λ e. omega arith) (denied_here 2 never (nothing_avoids 2) c.in_err-deserialize_reader-in-2.ensures.err)) in
-    rw c.in-2.is (variant_exit _ c.from_residual-in_err-deserialize_reader-in-2.ensures.1 (denied_behind_contramap event_view refused))
-
-pub returns-in_ok-deserialize_reader-in-2 : goal.returns-in_ok-deserialize_reader-in-2
-returns-in_ok-deserialize_reader-in-2 g c = rw c.in-2.is (variant_ok (behind_contramap event_view (reads_there 2 0 unit (reads_there 2 1 payment (reads_here 2 never c.in_ok-deserialize_reader-in-2.ensures.ok)))))
