@@ -1,4 +1,4 @@
-// Reading.
+// Decoding.
 ghost use Rattle.std.specs.Prelude.{true, false};
 ghost use Rattle.borsh_codec.specs.Reading.{DecodesAll, DecodesReader};
 
@@ -9,31 +9,48 @@ pub use borsh_de::{
 use borsh_io::{Read, Result, Unordered};
 use std::alloc::Global;
 
-/// The value that all of the bytes are a reading of.
+/// Decodes a value from all of the bytes.
 ///
-/// Refused with `InvalidData` where they are none, and with `OutOfMemory` where memory was refused. So a
-/// value is answered, up to sameness, exactly if the bytes are a reading of it, memory aside; and always
-/// where reading the type takes no memory.
+/// Returns `InvalidData` if they decode to no value of the type, also if bytes are left over, and
+/// `OutOfMemory` if an allocation fails. Keys of maps and sets have to ascend.
+///
+/// ```
+/// let value: (u8, u16) = from_slice(alloc, b"\x05\x07\x00")?;
+/// assert_eq!(value, (5, 7));
+/// ```
 pub fn from_slice<T: BorshDeserialize>(alloc: Global, v: &[u8]) -> Result<T>
     ensures { DecodesAll T.codec true v.now result }
 {
     T::try_from_slice(alloc, v)
 }
 
-/// The value that all of the bytes to come are a reading of.
+/// Decodes a value from all that a reader has.
 ///
-/// Refused as [`BorshDeserialize::try_from_reader`] is.
+/// Returns `InvalidData` if the bytes decode to no value of the type, also if bytes are left over,
+/// `OutOfMemory` if an allocation fails, and the reader's error if it fails before the value is read.
+/// After an error a tail of the bytes is left. See [`BorshDeserialize::try_from_reader`].
+///
+/// ```
+/// let mut input = StdReader::new(rt.stdin(), 1000);
+/// let names: Vec<String> = from_reader(alloc, &mut input)?;
+/// ```
 pub fn from_reader<R: Read, T: BorshDeserialize>(alloc: Global, reader: &mut R) -> Result<T>
     ensures { DecodesReader T.codec R.stream reader.old reader.new result }
 {
     T::try_from_reader(alloc, reader)
 }
 
-/// The value that all of the bytes are a reading of, where the keys of maps and sets, at any depth, may
-/// come in any order and more than once: the last value of a key counts. So data that was written before
-/// keys were sorted is read, and the value is written again as its encoding.
+/// Decodes a value from all of the bytes, where the keys of maps and sets, at any depth, may come in any
+/// order and more than once: the last value of a key counts. So data that was written before keys were
+/// sorted is decoded; encoding the value again makes it canonical.
 ///
-/// Refused as [`from_slice`] is.
+/// The errors are those of [`from_slice`].
+///
+/// ```
+/// let old = b"\x02\x00\x00\x00\x09\x01";
+/// let set: BTreeSet<u8> = from_slice_unordered(alloc, old)?;
+/// assert_eq!(to_vec(alloc, &set)?.as_slice(), b"\x02\x00\x00\x00\x01\x09");
+/// ```
 pub fn from_slice_unordered<T: BorshDeserialize>(alloc: Global, v: &[u8]) -> Result<T>
     ensures { DecodesAll T.codec false v.now result }
 {

@@ -18,8 +18,15 @@ use borsh_ser::BorshSerialize;
 use borsh_walks::SchemaMaxSerializedSizeError;
 use std::alloc::Global;
 
-/// The container of a type. Where a name of the type has two different definitions the answer is
-/// `Redefinition` of such a name.
+/// The schema container of a type: its name, and the definition of every type that it refers to.
+///
+/// Returns `Redefinition` of a name that has two different definitions, and `OutOfMemory` if an
+/// allocation fails.
+///
+/// ```
+/// let container = schema_container_of::<Vec<u8>>(alloc)?;
+/// assert_eq!(container.declaration(), "Vec<u8>");
+/// ```
 pub fn schema_container_of<T: BorshSchema>(
     alloc: Global,
 ) -> Result<BorshSchemaContainer, SchemaBuildError>
@@ -31,11 +38,15 @@ pub fn schema_container_of<T: BorshSchema>(
     BorshSchemaContainer::for_type::<T>(alloc)
 }
 
-/// The greatest length of the encodings of a type in bytes, as its schema container says. No encoding is longer
-/// than an answered size.
+/// The greatest length of a type's encodings in bytes, as its schema container says. No encoding is
+/// longer.
 ///
-/// Refused as [`BorshSchemaContainer::max_serialized_size`] is, and with `Redefinition` where a name
-/// of the type has two different definitions.
+/// The errors are those of [`BorshSchemaContainer::max_serialized_size`], and `Redefinition` of a name
+/// that has two different definitions.
+///
+/// ```
+/// assert_eq!(max_serialized_size::<Option<u64>>(alloc)?, 9);
+/// ```
 pub fn max_serialized_size<T: BorshSchema>(
     alloc: Global,
 ) -> Result<usize, SchemaMaxSerializedSizeError>
@@ -45,10 +56,15 @@ pub fn max_serialized_size<T: BorshSchema>(
     container.max_serialized_size(alloc)
 }
 
-/// The encoding of the type's container, and behind it that of the value.
+/// Encodes the type's schema container and then the value.
 ///
-/// Refused with `InvalidData` where the value or the container has no encoding, or where a name of the
-/// type has two different definitions, and with `OutOfMemory` where memory was refused.
+/// Returns `InvalidData` if the value or the container has no encoding, or if a name of the type has two
+/// different definitions, and `OutOfMemory` if an allocation fails.
+///
+/// ```
+/// let bytes = try_to_vec_with_schema(alloc, &7u16)?;
+/// let value: u16 = try_from_slice_with_schema(alloc, bytes.as_slice())?;
+/// ```
 pub fn try_to_vec_with_schema<T: BorshSerialize + BorshSchema>(
     alloc: Global,
     value: &T,
@@ -61,12 +77,18 @@ pub fn try_to_vec_with_schema<T: BorshSerialize + BorshSchema>(
     Ok(out)
 }
 
-/// The value behind the encoding of its type's container, where all of the bytes are that.
+/// Decodes a value that follows its type's schema container, from all of the bytes.
 ///
-/// Container and value are read first, so what [`from_slice`] refuses is refused as there. A container
-/// that isn't the type's is refused with `InvalidData`, "Borsh schema does not match", and so is a type
-/// a name of which has two different definitions. So a value is answered, up to sameness, exactly if the
-/// bytes are the encoding of the type's container and then a reading of it, memory aside.
+/// Container and value are decoded first, with the errors of [`from_slice`]. Then a container that isn't
+/// the type's is refused with `InvalidData`, "Borsh schema does not match", and so is a type that has a
+/// name with two different definitions. `OutOfMemory` is returned if an allocation fails.
+///
+/// ```
+/// let bytes = try_to_vec_with_schema(alloc, &7u16)?;
+/// let value: u16 = try_from_slice_with_schema(alloc, bytes.as_slice())?;
+/// assert_eq!(value, 7);
+/// assert!(try_from_slice_with_schema::<u32>(alloc, bytes.as_slice()).is_err());
+/// ```
 pub fn try_from_slice_with_schema<T: BorshDeserialize + BorshSchema>(
     alloc: Global,
     v: &[u8],

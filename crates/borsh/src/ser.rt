@@ -1,4 +1,4 @@
-// Writing.
+// Encoding.
 ghost use Rattle.borsh_codec.specs.Writing.{Encodes, Writes};
 ghost use Rattle.borsh.specs.Length.{AnswersLength};
 
@@ -13,10 +13,15 @@ use std::alloc::Global;
 /// How many bytes [`to_vec`] makes room for at first.
 const DEFAULT_SERIALIZER_CAPACITY: usize = 1024;
 
-/// The value's encoding.
+/// Encodes a value as a vector.
 ///
-/// Refused with `InvalidData` only where the value has none, and with `OutOfMemory` where memory was
-/// refused.
+/// Returns `InvalidData` if the value has no encoding (a list of more than 4294967295 elements, or of
+/// elements without bytes), and `OutOfMemory` if an allocation fails.
+///
+/// ```
+/// let bytes = to_vec(alloc, &(5u8, 7u16))?;
+/// assert_eq!(bytes.as_slice(), b"\x05\x07\x00");
+/// ```
 pub fn to_vec<T: BorshSerialize>(alloc: Global, value: &T) -> Result<Vec<u8>>
     ensures { Encodes (T.codec.encoding value.now) result }
 {
@@ -25,7 +30,13 @@ pub fn to_vec<T: BorshSerialize>(alloc: Global, value: &T) -> Result<Vec<u8>>
     Ok(out)
 }
 
-/// Writes the value's encoding. Refused as [`BorshSerialize::serialize`] is.
+/// Writes a value's encoding. The errors are those of [`BorshSerialize::serialize`]; after one, a
+/// beginning of the encoding was written.
+///
+/// ```
+/// let mut output = StdWriter::new(rt.stdout(), 1000);
+/// to_writer(alloc, &mut output, &names)?;
+/// ```
 pub fn to_writer<T: BorshSerialize, W: Write>(
     alloc: Global,
     writer: &mut W,
@@ -36,10 +47,14 @@ pub fn to_writer<T: BorshSerialize, W: Write>(
     value.serialize(alloc, writer)
 }
 
-/// How many bytes the value's encoding has.
+/// How many bytes a value's encoding has.
 ///
-/// Refused with `InvalidData` only where the value has none, and with `OutOfMemory` where the number
-/// passes a `usize`, or where writing the value takes memory and that was refused.
+/// Returns `InvalidData` if the value has no encoding, and `OutOfMemory` if the number doesn't fit in a
+/// `usize`, or if an allocation fails (only hashed maps and sets allocate here).
+///
+/// ```
+/// assert_eq!(object_length(alloc, &(5u8, 7u16))?, 3);
+/// ```
 pub fn object_length<T: BorshSerialize>(alloc: Global, value: &T) -> Result<usize>
     ensures { AnswersLength T.codec.encoding_allocates (T.codec.encoding value.now) result }
 {

@@ -22,6 +22,12 @@ use std::alloc::Global;
 /// with `InvalidData` before anything is read.
 pub trait BorshDeserialize: BorshType + Sized + Drop {
     /// Decodes a value from the beginning of the bytes to come, and leaves the rest.
+    ///
+    /// ```
+    /// let mut input = b"\x07\x00\xff".as_slice();
+    /// let value = u16::deserialize_reader(alloc, &mut input)?;
+    /// assert_eq!((value, input), (7, b"\xff".as_slice()));
+    /// ```
     fn deserialize_reader<R: Read>(alloc: Global, reader: &mut R) -> Result<Self>
         ensures { Decodes Self.codec R.stream reader.old reader.new result };
 
@@ -52,6 +58,11 @@ pub trait BorshDeserialize: BorshType + Sized + Drop {
     }
 
     /// Decodes a value from the beginning of the slice, which becomes what is left.
+    ///
+    /// ```
+    /// let mut bytes = b"\x07\x00\xff".as_slice();
+    /// assert_eq!(u16::deserialize(alloc, &mut bytes)?, 7);
+    /// ```
     final fn deserialize(alloc: Global, buf: &mut &[u8]) -> Result<Self>
         ensures { Decodes Self.codec slice_state buf.old.now buf.new.now result }
     {
@@ -60,6 +71,10 @@ pub trait BorshDeserialize: BorshType + Sized + Drop {
 
     /// Decodes a value from all of the slice. Where bytes are left over, the error is `InvalidData`, "Not
     /// all bytes read".
+    ///
+    /// ```
+    /// assert_eq!(u16::try_from_slice(alloc, b"\x07\x00")?, 7);
+    /// ```
     final fn try_from_slice(alloc: Global, v: &[u8]) -> Result<Self>
         ensures { DecodesAll Self.codec true v.now result }
     {
@@ -75,6 +90,11 @@ pub trait BorshDeserialize: BorshType + Sized + Drop {
     /// where the reader fails then, the error is `InvalidData`, "Not all bytes read"; but a failure of
     /// the kind `UnexpectedEof` is taken as the end. After an error of the value itself no byte more is
     /// taken.
+    ///
+    /// ```
+    /// let mut input = StdReader::new(rt.stdin(), 1000);
+    /// let value = u16::try_from_reader(alloc, &mut input)?;
+    /// ```
     final fn try_from_reader<R: Read>(alloc: Global, reader: &mut R) -> Result<Self>
         ensures { DecodesReader Self.codec R.stream reader.old reader.new result }
     {
@@ -96,6 +116,11 @@ pub trait EnumExt: BorshDeserialize {
     ///
     /// The errors are those of [`deserialize_reader`](BorshDeserialize::deserialize_reader), for the tag
     /// followed by the bytes to come.
+    ///
+    /// ```
+    /// let tag = read_tag(&mut input)?;
+    /// let event = Event::deserialize_variant(alloc, &mut input, tag)?;
+    /// ```
     fn deserialize_variant<R: Read>(alloc: Global, reader: &mut R, tag: u8) -> Result<Self>
         ensures { DecodesAfterTag tag Self.codec R.stream reader.old reader.new result };
 }

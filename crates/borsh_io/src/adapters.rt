@@ -86,9 +86,14 @@ impl Counts {
 
 /// One of std's readers, with a bound on the interruptions that it passes on.
 ///
-/// An error keeps its kind where a kind of that name is there, and is `Other` otherwise; it has no text
+/// An error keeps its kind if [`ErrorKind`] has one of that name, and is `Other` otherwise; it has no text
 /// of its own. An interruption past the bound is `Other`, "interrupted too often", and a read past
 /// 2^64 - 1 of them is `Other`, "read too often": both count as faults.
+///
+/// ```
+/// let mut input = StdReader::new(rt.stdin(), 1000);
+/// let value: u64 = from_reader(alloc, &mut input)?;
+/// ```
 #[derive(Drop)]
 pub struct StdReader<R> {
     inner: R,
@@ -98,6 +103,7 @@ pub struct StdReader<R> {
 }
 
 impl<R: std::io::Read> StdReader<R> {
+    /// A reader over `inner`, which passes on at most `interruptions` interruptions.
     pub fn new(inner: R, interruptions: u32) -> StdReader<R>
         ensures inner { inner_of_reader result ≡ inner }
         ensures state { reader_stream R.remaining result
@@ -145,8 +151,14 @@ impl<R: std::io::Read> Read for StdReader<R> {
 
 /// One of std's writers, with a bound on the interruptions that it passes on.
 ///
-/// Errors are as those of [`StdReader`]. Where the inner writer takes nothing of a buffer that isn't
-/// empty, the answer is `WriteZero`, "failed to write whole buffer", which counts as a fault.
+/// Errors are as those of [`StdReader`]. If the inner writer takes nothing of a buffer that isn't
+/// empty, the error is `WriteZero`, "failed to write whole buffer", which counts as a fault. A flush is
+/// passed on to the inner writer.
+///
+/// ```
+/// let mut output = StdWriter::new(rt.stdout(), 1000);
+/// to_writer(alloc, &mut output, &7u64)?;
+/// ```
 #[derive(Drop)]
 pub struct StdWriter<W> {
     inner: W,
@@ -154,6 +166,7 @@ pub struct StdWriter<W> {
 }
 
 impl<W: std::io::Write> StdWriter<W> {
+    /// A writer over `inner`, which passes on at most `interruptions` interruptions.
     pub fn new(inner: W, interruptions: u32) -> StdWriter<W>
         ensures inner { inner_of_writer result ≡ inner }
         ensures state { (device_writing W.contents).sink result ≡ first_writer_state interruptions }

@@ -116,6 +116,11 @@ pub type Result<T> = std::result::Result<T, Error>;
 
 impl Error {
     /// An error with a text of its own, from a `&'static str`, a `String` or a [`Text`].
+    ///
+    /// ```
+    /// let error = Error::new(ErrorKind::InvalidData, "not a colour");
+    /// assert_eq!(error.message(), "not a colour");
+    /// ```
     pub fn new<T: Into<Text>>(kind: ErrorKind, text: T) -> Error
         ensures kind { error_kind result ≡ kind }
         ensures text { IsSomeAnd (error_text result) (T.converts text) }
@@ -126,7 +131,11 @@ impl Error {
         }
     }
 
-    /// An error of the kind `Other`.
+    /// An error of the kind `Other` with a text of its own.
+    ///
+    /// ```
+    /// let error = Error::other("the device is gone");
+    /// ```
     pub fn other<T: Into<Text>>(text: T) -> Error
         ensures kind { error_kind result ≡ ErrorKind.Other }
         ensures text { IsSomeAnd (error_text result) (T.converts text) }
@@ -146,6 +155,10 @@ impl Error {
     }
 
     /// What the error displays: its own text, or else that of its kind.
+    ///
+    /// ```
+    /// assert_eq!(Error::from(ErrorKind::TimedOut).message(), "timed out");
+    /// ```
     pub fn message(&self) -> &str
         ensures { result.now ≡ display_text (error_kind self.now) (error_text self.now) }
     {
@@ -169,8 +182,15 @@ impl Error {
     }
 }
 
-/// Passes over an interruption, and hands any other error back: what a loop that tries again does
-/// with the error of a turn.
+/// Passes over an interruption, and returns any other error: what a loop that tries again does with an
+/// error.
+///
+/// ```
+/// match reader.read(buffer) {
+///     Ok(n) => return Ok(n),
+///     Err(e) => pass_over(e)?,
+/// }
+/// ```
 pub fn pass_over(error: Error) -> Result<()>
     ensures ok { OnOk result (error_kind error ≡ ErrorKind.Interrupted) }
     ensures err { IfErr result (λ e. (e ≡ error) × (error_kind error ≢ ErrorKind.Interrupted)) }

@@ -6,14 +6,20 @@ ghost use Rattle.borsh_io.specs.Unordered.{unordered_inner};
 use super::error::Result;
 use super::read::Read;
 
-/// A reader whose keys may come in any order, with repeats. In all else it does what the inner reader
-/// does.
+/// A reader whose keys of maps and sets may come in any order, with repeats. In all else it does what
+/// the inner reader does.
+///
+/// ```
+/// let mut input = Unordered::new(bytes);
+/// let map = BTreeMap::<u8, u8>::deserialize_reader(alloc, &mut input)?;
+/// ```
 #[derive(Drop)]
 pub struct Unordered<R> {
     inner: R,
 }
 
 impl<R: Read> Unordered<R> {
+    /// A reader over `inner`.
     pub fn new(inner: R) -> Unordered<R>
         ensures { unordered_inner result ≡ inner }
     {

@@ -23,7 +23,11 @@ pub struct BorshSchemaContainer {
 }
 
 impl BorshSchemaContainer {
-    /// The container of these. Nothing is asked of them.
+    /// The container with this root and these definitions. Nothing is checked: see [`validate`](BorshSchemaContainer::validate).
+    ///
+    /// ```
+    /// let container = BorshSchemaContainer::new(String::from_str(alloc, "u8")?, definitions);
+    /// ```
     pub fn new(
         declaration: Declaration,
         definitions: BTreeMap<Declaration, Definition>,
@@ -37,8 +41,15 @@ impl BorshSchemaContainer {
         }
     }
 
-    /// The container of a type. Where a name of the type has two different definitions the error is
-    /// `Redefinition` of such a name, and where memory is refused it is `OutOfMemory`.
+    /// The container of a type.
+    ///
+    /// Returns `Redefinition` of a name of the type that has two different definitions, and
+    /// `OutOfMemory` if an allocation fails.
+    ///
+    /// ```
+    /// let container = BorshSchemaContainer::for_type::<Option<u8>>(alloc)?;
+    /// assert_eq!(container.declaration(), "Option<u8>");
+    /// ```
     pub fn for_type<T: BorshSchema>(alloc: Global) -> Result<BorshSchemaContainer, SchemaBuildError>
         ensures ok { IfOk result (λ c. IsContainerOf T.name T.parts c) }
         ensures err { IfErr result (λ e. BuildFault nothing_defined T.parts e) }
@@ -52,9 +63,12 @@ impl BorshSchemaContainer {
         Ok(container)
     }
 
-    /// Whether this is the container of a type. Where a name of the type has two different
-    /// definitions the error is `Redefinition` of such a name, and where memory is refused it is
-    /// `OutOfMemory`.
+    /// Whether this is the container of a type. The errors are those of
+    /// [`for_type`](BorshSchemaContainer::for_type).
+    ///
+    /// ```
+    /// assert!(container.is_of_type::<Option<u8>>(alloc)?);
+    /// ```
     pub fn is_of_type<T: BorshSchema>(&self, alloc: Global) -> Result<bool, SchemaBuildError>
         ensures ok { IfOk result (λ yes. Decides yes (IsContainerOf T.name T.parts self.now)) }
         ensures err { IfErr result (λ e. BuildFault nothing_defined T.parts e) }
@@ -63,7 +77,11 @@ impl BorshSchemaContainer {
         Ok(self.definitions.len() == own.definitions.len() && *self == own)
     }
 
-    /// The type's name.
+    /// The name of the root.
+    ///
+    /// ```
+    /// println!(rt; "{}", container.declaration())?;
+    /// ```
     pub fn declaration(&self) -> &Declaration
         ensures { result.now ≡ declaration_of self.now }
     {
@@ -71,6 +89,12 @@ impl BorshSchemaContainer {
     }
 
     /// The names with their definitions, by ascending name.
+    ///
+    /// ```
+    /// for (name, definition) in container.definitions() {
+    ///     println!(rt; "{name}")?;
+    /// }
+    /// ```
     pub fn definitions(&self) -> Definitions<'_>
         ensures entries { left_of result ≡ (map_of self.now).entries }
         ensures ascending { IsOrdered string_cmp (map_of self.now) }
@@ -80,14 +104,24 @@ impl BorshSchemaContainer {
         }
     }
 
-    /// The definition of a name.
+    /// The definition of a name, if it has one.
+    ///
+    /// ```
+    /// let definition = container.get_definition("u8");
+    /// ```
     pub fn get_definition(&self, declaration: &str) -> Option<&Definition>
         ensures { option_map (λ d. d.now) result ≡ definition_of self.now declaration.now }
     {
         self.definitions.get(declaration)
     }
 
-    /// The definition of a name, to write.
+    /// The definition of a name, if it has one, to be changed in place.
+    ///
+    /// ```
+    /// if let Some(definition) = container.get_mut_definition("u8") {
+    ///     *definition = Definition::Primitive(2);
+    /// }
+    /// ```
     pub fn get_mut_definition(&mut self, declaration: &str) -> Option<&mut Definition>
         ensures* writes_back { sem 𝓛 (LendsDefinition self.entry declaration.now result) }
         ensures value { option_copied_mut result ≡ definition_of self.old declaration.now }
@@ -95,8 +129,13 @@ impl BorshSchemaContainer {
         self.definitions.get_mut(declaration)
     }
 
-    /// Gives a name a definition, and answers the one that it had. Where memory is refused the
-    /// container is unchanged, and what was given is dropped.
+    /// Gives a name a definition, and returns the one that it had. If an allocation fails, the container
+    /// is unchanged, and what was given is dropped.
+    ///
+    /// ```
+    /// let name = String::from_str(alloc, "u8")?;
+    /// let earlier = container.insert_definition(name, Definition::Primitive(1))?;
+    /// ```
     pub fn insert_definition(
         &mut self,
         declaration: Declaration,
@@ -112,7 +151,11 @@ impl BorshSchemaContainer {
         Ok(self.definitions.insert(declaration, definition)?)
     }
 
-    /// Takes a name's definition out.
+    /// Removes the definition of a name, and returns it.
+    ///
+    /// ```
+    /// let removed = container.remove_definition("u8");
+    /// ```
     pub fn remove_definition(&mut self, declaration: &str) -> Option<Definition>
         ensures declaration { declaration_of self.new ≡ declaration_of self.old }
         ensures removed { result ≡ definition_of self.old declaration.now }

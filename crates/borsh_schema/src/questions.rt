@@ -9,8 +9,13 @@ use borsh_walks::{
 use std::alloc::Global;
 
 impl BorshSchemaContainer {
-    /// Whether each name that is reached from the root is defined and keeps the rules. An error
-    /// says a reached name and a rule that it breaks, or `OutOfMemory`.
+    /// Checks that each definition that the root reaches is there and keeps the rules. An error says
+    /// which rule is broken and by which name, one of them where there are several; `OutOfMemory` is
+    /// returned if an allocation fails.
+    ///
+    /// ```
+    /// container.validate(alloc)?;
+    /// ```
     pub fn validate(&self, alloc: Global) -> Result<(), SchemaContainerValidateError>
         ensures { Validates self.now result }
     {
@@ -22,7 +27,12 @@ impl BorshSchemaContainer {
         self.validate_counted(alloc, &mut counts)
     }
 
-    /// [`BorshSchemaContainer::validate`], with the definitions counted that it looks into.
+    /// [`BorshSchemaContainer::validate`], which adds the number of definitions that it visits to
+    /// `counts`.
+    ///
+    /// ```
+    /// container.validate_counted(alloc, &mut counts)?;
+    /// ```
     pub fn validate_counted(
         &self,
         alloc: Global,
@@ -34,7 +44,14 @@ impl BorshSchemaContainer {
         check_rules(alloc, self.declaration.as_str(), &mut counted)
     }
 
-    /// The greatest length of the encodings that the container describes.
+    /// The greatest length of the encodings that the container describes, in bytes.
+    ///
+    /// Returns `Overflow` if it doesn't fit in a `usize`, `Recursive` if a definition that it needs
+    /// contains itself, `MissingDefinition` if one is missing, and `OutOfMemory` if an allocation fails.
+    ///
+    /// ```
+    /// let most = container.max_serialized_size(alloc)?;
+    /// ```
     pub fn max_serialized_size(&self, alloc: Global) -> Result<usize, SchemaMaxSerializedSizeError>
         ensures { Sizes self.now result }
     {
@@ -46,8 +63,12 @@ impl BorshSchemaContainer {
         self.max_serialized_size_counted(alloc, &mut counts)
     }
 
-    /// [`BorshSchemaContainer::max_serialized_size`], with the definitions counted that it looks
-    /// into.
+    /// [`BorshSchemaContainer::max_serialized_size`], which adds the number of definitions that it
+    /// visits to `counts`.
+    ///
+    /// ```
+    /// let most = container.max_serialized_size_counted(alloc, &mut counts)?;
+    /// ```
     pub fn max_serialized_size_counted(
         &self,
         alloc: Global,

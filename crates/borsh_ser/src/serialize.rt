@@ -11,9 +11,16 @@ use std::alloc::Global;
 pub trait BorshSerialize: BorshType + Sized {
     /// Writes the value's encoding.
     ///
-    /// Refused with `InvalidData` where the value has no encoding (some bytes may have been
-    /// written), with `OutOfMemory` where memory was refused to the value or to the writer, and
-    /// with the writer's error. Then a beginning of the encoding was written.
+    /// Returns `InvalidData` if the value has no encoding (some bytes may have been written, but
+    /// none by a type that refuses all of its values), `OutOfMemory` if an allocation of the value
+    /// or of the writer fails, and the writer's error. After an error a beginning of the encoding
+    /// was written.
+    ///
+    /// ```
+    /// let mut out = Vec::new(alloc);
+    /// 7u16.serialize(alloc, &mut out)?;
+    /// assert_eq!(out.as_slice(), b"\x07\x00");
+    /// ```
     fn serialize<W: Write>(&self, alloc: Global, writer: &mut W) -> Result<()>
         ensures { Writes Self.codec self.now W.writing writer.old writer.new result };
 
