@@ -4,6 +4,7 @@ use Rattle.std.specs.BTreeMap.{btree_map_len}
 use Rattle.borsh.specs.Codec.{IsDecodable}
 use Rattle.borsh_walks.specs.Container.{Shape, Rule, zst_sequence, tag_too_wide, tag_too_narrow, tag_not_power_of_two, missing_definition, empty_length_range, Breaks, IsValid, Reached, SizeReaches, IsRecursive, MaxSize, PartialSize}
 use Rattle.borsh_walks.specs.declared.counted.Expansions.{Expansions}
+use Rattle.borsh_walks.specs.SizeAnswer.{VisitsNeeded}
 use Rattle.borsh_schema.specs.declared.container.BorshSchemaContainer.{BorshSchemaContainer}
 use Rattle.borsh_schema.specs.Codecs.{container}
 use Rattle.borsh_schema.specs.Containers.{language_of, map_of, root_of}
@@ -54,6 +55,10 @@ counts_text e = codes "rules " ++ (decimal e.rules ++ (codes " zero " ++ (decima
 abbrev pub nothing_counted : Expansions
 nothing_counted = record { size = 0; zero = 0; rules = 0 }
 
+-- `size` rose by the number of names in some list, each there once and each needed
+abbrev pub OnlyNeeded : (List ℕ → Option Shape) → List ℕ → Expansions → Expansions → Type 0
+OnlyNeeded C root old new = (xs : List (List ℕ)) × VisitsNeeded C root old new xs
+
 -- the counts after both questions, the rules first
 pub record IsCountsText (c : BorshSchemaContainer) (out : List ℕ) : Type 0 where
   pub judged : Expansions
@@ -64,7 +69,9 @@ pub record IsCountsText (c : BorshSchemaContainer) (out : List ℕ) : Type 0 whe
   pub few_sized : SizeWork (btree_map_len (map_of c)) judged counts
   -- where the container is valid, `rules` is the number of reached names, and `zero` at least that of checked elements
   pub rules : IsValid (language_of c) (root_of c) → JudgedCounts (language_of c) (root_of c) nothing_counted judged
-  -- where a size stands, `size` is the number of needed names
+  -- the names that the second question looked at are needed, whatever it answered
+  pub needed : OnlyNeeded (language_of c) (root_of c) judged counts
+  -- where there is a size that fits, `size` is the number of names that it needs
   pub size : (n : ℕ) → MaxSize (language_of c) (root_of c) n → n < 2 ^ 64 → SizedCounts (language_of c) (root_of c) judged counts
 
 -- ---- all of them

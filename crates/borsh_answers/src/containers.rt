@@ -6,7 +6,7 @@ ghost use Rattle.borsh.specs.Reading.{WhyNotDecoded};
 ghost use Rattle.borsh_schema.specs.Codecs.{container as container_codec};
 ghost use Rattle.borsh_schema.specs.Containers.{language_of, root_of, map_of};
 ghost use Rattle.borsh_schema.specs.Questions.{ValidateWork, SizeWork};
-ghost use Rattle.borsh_answers.specs.Containers.{AnswersInquiry, CountsIfSized, CountsIfValid, IsRulesText, IsSizeText, IsCountsText, broken_text, missing_text, counts_text};
+ghost use Rattle.borsh_answers.specs.Containers.{AnswersInquiry, CountsIfSized, CountsIfValid, OnlyNeeded, IsRulesText, IsSizeText, IsCountsText, broken_text, missing_text, counts_text};
 ghost use Rattle.borsh_answers.specs.Lines.{IsLine};
 ghost use Rattle.borsh_answers.specs.Telling.{TellsRule, TellsSize};
 
@@ -185,6 +185,8 @@ fn measure(
     counts: &mut Expansions,
 ) -> Result<(), AllocError>
     ensures few { SizeWork (btree_map_len (map_of container.now)) counts.old counts.new }
+    ensures needed { OnlyNeeded (language_of container.now) (root_of container.now)
+        counts.old counts.new }
     ensures size { OnOk result
         (CountsIfSized (language_of container.now) (root_of container.now) counts.old counts.new) }
 {

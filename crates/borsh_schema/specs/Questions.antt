@@ -8,7 +8,7 @@ use Rattle.borsh_walks.specs.declared.error.SchemaMaxSerializedSizeError.{Schema
 use Rattle.borsh_walks.specs.Container.{Shape, IsIn, IsValid, Reached}
 use Rattle.borsh_walks.specs.Counts.{add_to}
 use Rattle.borsh_walks.specs.RulesAnswer.{RulesFault, AcceptsIfValid, checked_element}
-use Rattle.borsh_walks.specs.SizeAnswer.{Distinct, AreSizeReached}
+use Rattle.borsh_walks.specs.SizeAnswer.{Distinct, AreSizeReached, CountsNeeded}
 use Rattle.borsh_walks.specs.SizeOutcome.{AnswersSize}
 use Rattle.borsh_schema.specs.declared.container.BorshSchemaContainer.{BorshSchemaContainer}
 use Rattle.borsh_schema.specs.Containers.{map_of, language_of, root_of}
@@ -63,7 +63,7 @@ module _ (c : BorshSchemaContainer) where
   pub record SizesCounting (old new : Expansions) (result : Result ℕ SchemaMaxSerializedSizeError) : Type 0 where
     -- `Ok`: the greatest length; `Err`: why there is none
     pub size : Sizes result
-    -- `Ok`: `size` rose by the number of names that the size needs
-    pub counts : OnOk result (SizedCounts (language_of c) (root_of c) old new)
+    -- only names that the size needs were looked at, each once; after `Ok` these are all that it needs
+    pub counts : CountsNeeded (language_of c) (root_of c) old new result
     -- `size` rose by at most the number of definitions, and the others stay, whatever the answer
     pub bounded_work : SizeWork (btree_map_len (map_of c)) old new

@@ -3,6 +3,7 @@ use Rattle.std.specs.Prelude.{◌≡◌, ℕ, ◌^◌, ◌<◌, ◌≤◌, ◌�
 use Rattle.borsh_walks.specs.declared.error.SchemaMaxSerializedSizeError.{SchemaMaxSerializedSizeError}
 use Rattle.borsh_walks.specs.declared.error.SchemaMaxSerializedSizeError.TheVariants.{Overflow, Recursive, MissingDefinition, OutOfMemory, Redefinition}
 use Rattle.borsh_walks.specs.declared.counted.Counted.{Counted}
+use Rattle.borsh_walks.specs.declared.counted.Expansions.{Expansions}
 use Rattle.borsh_walks.specs.declared.counted.Question.TheVariants.{Size}
 use Rattle.borsh_walks.specs.Container.{Shape, IsIn, Member, MaxSize, PartialSize, SizeReaches, IsRecursive, IsValid, HasVariants, IsLongest}
 use Rattle.borsh_walks.specs.Counts.{add_to, counts_of}
@@ -37,13 +38,19 @@ module _ (C : List ℕ → Option Shape) (root : List ℕ) where
   abbrev pub IsSizeAnswer : Result ℕ SchemaMaxSerializedSizeError → Type 0
   IsSizeAnswer r = MatchResult r (λ n. MaxSize C root n) (λ e. SizeFault e)
 
-  -- `size` rose by the number of names looked at, each once and each defined; where a size is answered these are the needed names
+  -- `size` rose by the number of names looked at, each once, each needed and each defined; where a size is answered these are all that are needed
   abbrev pub IsCounted : Counted → Counted → Result ℕ SchemaMaxSerializedSizeError → Type 0
-  IsCounted old new r = (xs : List (List ℕ)) × Distinct xs × ((x : List ℕ) → IsIn x xs → (d : Shape) × (C x ≡ Some d)) × (counts_of new ≡ add_to Size (length xs) (counts_of old)) × OnOk r (AreSizeReached xs)
+  IsCounted old new r = (xs : List (List ℕ)) × Distinct xs × ((x : List ℕ) → IsIn x xs → SizeReaches C root x × ((d : Shape) × (C x ≡ Some d))) × (counts_of new ≡ add_to Size (length xs) (counts_of old)) × OnOk r (AreSizeReached xs)
 
-  -- where a size is answered, `size` rose by the number of names that it needs
-  abbrev pub CountsNeeded : Counted → Counted → Result ℕ SchemaMaxSerializedSizeError → Type 0
-  CountsNeeded old new r = IfOk r (λ _. (xs : List (List ℕ)) × AreSizeReached xs × (counts_of new ≡ add_to Size (length xs) (counts_of old)))
+  -- `size` rose by the number of names in a list, each there once and each needed
+  pub record VisitsNeeded (old new : Expansions) (xs : List (List ℕ)) : Type 0 where
+    pub once : Distinct xs
+    pub needed : (x : List ℕ) → IsIn x xs → SizeReaches C root x
+    pub counts : new ≡ add_to Size (length xs) old
+
+  -- only names that the size needs were looked at, each once; where a size is answered these are all that it needs
+  abbrev pub CountsNeeded : Expansions → Expansions → Result ℕ SchemaMaxSerializedSizeError → Type 0
+  CountsNeeded old new r = (xs : List (List ℕ)) × VisitsNeeded old new xs × OnOk r (AreSizeReached xs)
 
   -- where the plain size fits, it is answered, memory aside; where it does not, `Overflow`
   abbrev pub AnswersIfFits : Result ℕ SchemaMaxSerializedSizeError → Type 0

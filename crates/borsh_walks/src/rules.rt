@@ -179,10 +179,10 @@ fn visit<'a>(
 /// the greatest, the width is 0, 1, 2, 4 or 8 and has room for the greatest length, and the elements
 /// aren't all without bytes. The tag of an enum has at most eight bytes. An error names a reached name
 /// and a rule that it breaks; where several are broken, the one that is met first on the way is answered.
-pub fn check_rules<'a>(
+pub fn check_rules(
     alloc: Global,
-    root: &'a str,
-    counted: &mut Counted<'a, '_>,
+    root: &str,
+    counted: &mut Counted<'_, '_>,
 ) -> Result<(), SchemaContainerValidateError>
     ensures same { LooksOn counted.old counted.new }
     ensures answer { JudgesRules (definitions_of counted.old) root.now result }
@@ -190,7 +190,11 @@ pub fn check_rules<'a>(
     ensures counts { OnOk result (RulesCountedOnYes counted.old counted.new root.now) }
     ensures bounded_work { ValidateWork counted.old counted.new }
 {
-    walk_rules(alloc, root, counted)
+    let mut lent = Counted {
+        map: counted.map,
+        counts: &mut *counted.counts,
+    };
+    walk_rules(alloc, root, &mut lent)
 }
 
 // The walk over the names that are reached. A name that was visited waits on the way until each of its

@@ -1,5 +1,5 @@
 // The greatest length of a name's encodings.
-ghost use Rattle.borsh_walks.specs.Counts.{definitions_of, LooksOn, SizeWork};
+ghost use Rattle.borsh_walks.specs.Counts.{counts_of, definitions_of, LooksOn, SizeWork};
 ghost use Rattle.borsh_walks.specs.Definitions.{shape_of};
 ghost use Rattle.borsh_walks.specs.SizeAnswer.{CountsNeeded, IsCounted, IsMissing, IsSizeAnswer};
 ghost use Rattle.borsh_walks.specs.SizeOutcome.{AnswersSize};
@@ -74,7 +74,8 @@ pub fn root_size(
 ) -> Result<usize, SchemaMaxSerializedSizeError>
     ensures same { LooksOn counted.old counted.new }
     ensures size { AnswersSize (definitions_of counted.old) root.now result }
-    ensures counts { CountsNeeded (definitions_of counted.old) root.now counted.old counted.new result }
+    ensures counts { CountsNeeded (definitions_of counted.old) root.now
+        (counts_of counted.old) (counts_of counted.new) result }
     ensures bounded_work { SizeWork counted.old counted.new }
 {
     let mut lent = Counted {

@@ -12,15 +12,11 @@ fits : {E : Type 0} (r : Result ℕ E) → IfOk r (λ n. n < 2 ^ 64) → (n : �
 fits (Ok m) h n e = let q : m ≡ n = cc in omega (arith, q, h)
 fits (Err x) h n e = cc
 
-on_ok : {E : Type 0} (P Q : List (List ℕ) → Type 0) (r : Result ℕ E) (xs : List (List ℕ)) → Q xs → OnOk r (P xs) → IfOk r (λ n. (ys : List (List ℕ)) × P ys × Q ys)
-on_ok P Q (Ok n) xs q p = (xs, p, q)
-on_ok P Q (Err e) xs q p = tt
-
 pub returns-clause-counts : goal.returns-clause-counts
-returns-clause-counts c = let k = c.walk_sizes.ensures.counts in on_ok (AreSizeReached (definitions_of c.args.counted.now) c.args.root.now) (λ xs. counts_of c.walk_sizes.new.counted ≡ add_to Size (length xs) (counts_of c.args.counted.now)) c.walk_sizes.result k.0 k.3 k.4
+returns-clause-counts c = let k = c.walk_sizes.ensures.counts in (k.0, record { once = k.1; needed = λ x a. (k.2 x a).0; counts = k.3 }, k.4)
 
 pub returns-clause-bounded_work : goal.returns-clause-bounded_work
-returns-clause-bounded_work c = let k = c.walk_sizes.ensures.counts in (length k.0, names_within c.args.counted.now.map.now k.0 k.1 k.2, k.3)
+returns-clause-bounded_work c = let k = c.walk_sizes.ensures.counts in (length k.0, names_within c.args.counted.now.map.now k.0 k.1 (λ x a. (k.2 x a).1), k.3)
 
 pub returns-clause-size : goal.returns-clause-size
 returns-clause-size c = answers_size (definitions_of c.args.counted.now) c.args.root.now c.walk_sizes.result (fits c.walk_sizes.result c.walk_sizes.ensures.fits) (has_size c.args.counted.now.map.now c.args.root.now) c.walk_sizes.ensures.answer

@@ -7,8 +7,8 @@ use Rattle.borsh_walks.specs.Counts.{counts_of, definitions_of}
 use Rattle.borsh_walks.specs.SizeAnswer.{distinct_none, distinct_more}
 use Rattle.borsh_walks.specs.declared.sizes.Mark.TheVariants.{Open, Finished}
 use Rattle.borsh_walks.specs.declared.counted.Question.TheVariants.{Size}
-use Rattle.borsh_walks.proofs.Names.{found_shape, found_none, only_root}
-use Rattle.borsh_walks.proofs.Tables.{updated_by, marks_none, grown, kept, no_items, all_defined, more_names, few_more}
+use Rattle.borsh_walks.proofs.Names.{found_shape, found_none, also_known}
+use Rattle.borsh_walks.proofs.Tables.{updated_by, marks_none, grown, kept, no_items, more_names, few_more}
 use Rattle.borsh_walks.proofs.Measure.{rests, rests_moved, left_popped, left_pushed}
 use Rattle.borsh_walks.proofs.Spots.{last_first}
 use Rattle.borsh_walks.proofs.Counting.{raised_once_more, on_err}
@@ -25,7 +25,7 @@ returns-in_default-clause-counts c = ([], distinct_none, (λ x a. elim a [ ]), c
 pub returns-in_err-insert-clause-counts : goal.returns-in_err-insert-clause-counts
 returns-in_err-insert-clause-counts c =
     let e = found_shape c.args.counted.now.map c.args.counted.now.map c.args.root.now c.in-Some.definition.now refl c.in-Some.ensures.found in
-    (c.args.root.now ∷ [], distinct_more (λ a. elim a [ ]) distinct_none, only_root (definitions_of c.args.counted.now) _ e, c.in-Some.ensures.counts, on_err _ c.from_residual.result c.from_residual.ensures.0)
+    (c.args.root.now ∷ [], distinct_more (λ a. elim a [ ]) distinct_none, also_known (stays, (_, e)) (λ x a. elim a [ ]), c.in-Some.ensures.counts, on_err _ c.from_residual.result c.from_residual.ensures.0)
 
 pub loop-part-init : goal.loop-part-init
 loop-part-init c =
@@ -77,7 +77,7 @@ returns-in_err-insert-in-None-get-clause-counts c =
     let l = more_names (definitions_of c.args.counted.now) (λ x k. k.1) i.state.marks (sym c.in-None-get.ensures.value) e in (
       p ∷ i.names,
       l.0,
-      l.1,
+      also_known (part_needed (definitions_of c.args.counted.now) p i.state (sym c.in-Some-needed_part.ensures.part), (_, e)) (λ x a. (i.state.marks.looked x a).1),
       raised_once_more Size (length i.names) (counts_of c.loop-part.counted) (counts_of c.look-in-None-get.new.self) (counts_of c.args.counted.now) i.looks c.in-Some-look.ensures.counts,
       on_err _ c.from_residual-in_err-insert-in-None-get.result c.from_residual-in_err-insert-in-None-get.ensures.0,
     )
@@ -90,7 +90,7 @@ returns-in_err-push-in-None-get-clause-counts c =
     let l = more_names (definitions_of c.args.counted.now) (λ x k. k.1) i.state.marks (sym c.in-None-get.ensures.value) e in (
       p ∷ i.names,
       l.0,
-      l.1,
+      also_known (part_needed (definitions_of c.args.counted.now) p i.state (sym c.in-Some-needed_part.ensures.part), (_, e)) (λ x a. (i.state.marks.looked x a).1),
       raised_once_more Size (length i.names) (counts_of c.loop-part.counted) (counts_of c.look-in-None-get.new.self) (counts_of c.args.counted.now) i.looks c.in-Some-look.ensures.counts,
       on_err _ c.from_residual-in_err-push-in-None-get.result c.from_residual-in_err-push-in-None-get.ensures.0,
     )
@@ -172,4 +172,4 @@ returns-in-None-pop-clause-counts c =
     let u = updated_by c.loop-part.frame.spot.name.now c.loop-part.table c.insert-in-None.new.self (Finished c.in-Some-finish.size) c.in_ok-insert-in-None.ensures.updates in
     let none = no_items c.loop-part.way.items (omega (arith, c.in-None-pop.ensures.cases.0, c.loop-part.way.ok.0)) in
     let s = subst (λ l. State C c.args.root.now (mark_of c.loop-part.table) (reverse l) c.loop-part.frame i.names) none i.state in
-    (i.names, i.state.marks.distinct, all_defined C (λ x k. k.1) i.state.marks, i.looks, (step_end C c.in-Some-finish.size s (sym c.in-None.ensures.part) c.in-Some-finish.ensures u).1)
+    (i.names, i.state.marks.distinct, (λ x a. (i.state.marks.looked x a).1), i.looks, (step_end C c.in-Some-finish.size s (sym c.in-None.ensures.part) c.in-Some-finish.ensures u).1)
