@@ -12,7 +12,6 @@ use Rattle.borsh_walks.specs.declared.error.SchemaContainerValidateError.{Schema
 use Rattle.borsh_walks.specs.declared.error.SchemaContainerValidateError.TheVariants.{ZSTSequence, TagTooWide, TagTooNarrow, TagNotPowerOfTwo, MissingDefinition, EmptyLengthRange, OutOfMemory}
 use Rattle.borsh_walks.specs.declared.error.SchemaMaxSerializedSizeError.{SchemaMaxSerializedSizeError}
 use Rattle.borsh_walks.specs.declared.error.SchemaMaxSerializedSizeError.TheVariants.{Overflow, Recursive, MissingDefinition as Missing, OutOfMemory as NoMemory, Redefinition}
-use Rattle.borsh_schema.specs.Questions.{ValidateWork, SizeWork}
 use Rattle.borsh_answers.specs.Containers.{IsRulesText, IsSizeText, nothing_counted, broken_text, missing_text, counts_text}
 use Rattle.borsh_answers.specs.Containers.IsRulesText.{invalid}
 use Rattle.borsh_answers.specs.Containers.IsSizeText.{overflows, recurs, misses}

@@ -4,11 +4,12 @@ use Rattle.std.specs.BTreeMap.{btree_map_len}
 use Rattle.borsh.specs.Codec.{IsDecodable}
 use Rattle.borsh_walks.specs.Container.{Shape, Rule, zst_sequence, tag_too_wide, tag_too_narrow, tag_not_power_of_two, missing_definition, empty_length_range, Breaks, IsValid, Reached, SizeReaches, IsRecursive, MaxSize, PartialSize}
 use Rattle.borsh_walks.specs.declared.counted.Expansions.{Expansions}
+use Rattle.borsh_walks.specs.RulesState.{RulesWork}
 use Rattle.borsh_walks.specs.SizeAnswer.{VisitsNeeded}
 use Rattle.borsh_schema.specs.declared.container.BorshSchemaContainer.{BorshSchemaContainer}
 use Rattle.borsh_schema.specs.Codecs.{container}
 use Rattle.borsh_schema.specs.Containers.{language_of, map_of, root_of}
-use Rattle.borsh_schema.specs.Questions.{JudgedCounts, SizedCounts, ValidateWork, SizeWork}
+use Rattle.borsh_schema.specs.Questions.{JudgedCounts, SizedCounts, SizeWork}
 use Rattle.borsh_answers.specs.declared.requests.Inquiry.{Inquiry}
 use Rattle.borsh_answers.specs.declared.requests.Inquiry.TheVariants.{Check, Size, Counts}
 use Rattle.borsh_answers.specs.Digits.{digits_of}
@@ -64,8 +65,8 @@ pub record IsCountsText (c : BorshSchemaContainer) (out : List ℕ) : Type 0 whe
   pub judged : Expansions
   pub counts : Expansions
   pub is : out ≡ counts_text counts
-  -- the first question raised `rules` and `zero`, and the second one `size`, each by at most the number of definitions
-  pub few_judged : ValidateWork (btree_map_len (map_of c)) nothing_counted judged
+  -- the first question raised `rules` and `zero`, and the second one `size`, each by at most the number of definitions; the names that the first one checked are reached
+  pub few_judged : RulesWork (language_of c) (root_of c) (btree_map_len (map_of c)) nothing_counted judged
   pub few_sized : SizeWork (btree_map_len (map_of c)) judged counts
   -- where the container is valid, `rules` is the number of reached names, and `zero` at least that of checked elements
   pub rules : IsValid (language_of c) (root_of c) → JudgedCounts (language_of c) (root_of c) nothing_counted judged

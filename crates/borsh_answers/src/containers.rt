@@ -3,9 +3,10 @@ ghost use Rattle.std.specs.Prelude.{◌≡◌, ◌++◌, codes, decimal, true, S
 ghost use Rattle.std.specs.BTreeMap.{btree_map_len};
 ghost use Rattle.borsh.specs.Errors.{error_kind};
 ghost use Rattle.borsh.specs.Reading.{WhyNotDecoded};
+ghost use Rattle.borsh_walks.specs.RulesState.{RulesWork};
 ghost use Rattle.borsh_schema.specs.Codecs.{container as container_codec};
 ghost use Rattle.borsh_schema.specs.Containers.{language_of, root_of, map_of};
-ghost use Rattle.borsh_schema.specs.Questions.{ValidateWork, SizeWork};
+ghost use Rattle.borsh_schema.specs.Questions.{SizeWork};
 ghost use Rattle.borsh_answers.specs.Containers.{AnswersInquiry, CountsIfSized, CountsIfValid, OnlyNeeded, IsRulesText, IsSizeText, IsCountsText, broken_text, missing_text, counts_text};
 ghost use Rattle.borsh_answers.specs.Lines.{IsLine};
 ghost use Rattle.borsh_answers.specs.Telling.{TellsRule, TellsSize};
@@ -167,7 +168,8 @@ fn judge(
     container: &BorshSchemaContainer,
     counts: &mut Expansions,
 ) -> Result<(), AllocError>
-    ensures few { ValidateWork (btree_map_len (map_of container.now)) counts.old counts.new }
+    ensures few { RulesWork (language_of container.now) (root_of container.now)
+        (btree_map_len (map_of container.now)) counts.old counts.new }
     ensures rules { OnOk result
         (CountsIfValid (language_of container.now) (root_of container.now) counts.old counts.new) }
 {

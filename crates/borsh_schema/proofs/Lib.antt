@@ -3,3 +3,4 @@ pub mod Equality
 pub mod Containing
 pub mod Told
 pub mod Outcomes
+mod Counted

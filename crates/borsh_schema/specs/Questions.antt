@@ -8,6 +8,7 @@ use Rattle.borsh_walks.specs.declared.error.SchemaMaxSerializedSizeError.{Schema
 use Rattle.borsh_walks.specs.Container.{Shape, IsIn, IsValid, Reached}
 use Rattle.borsh_walks.specs.Counts.{add_to}
 use Rattle.borsh_walks.specs.RulesAnswer.{RulesFault, AcceptsIfValid, checked_element}
+use Rattle.borsh_walks.specs.RulesState.{RulesWork}
 use Rattle.borsh_walks.specs.SizeAnswer.{Distinct, AreSizeReached, CountsNeeded}
 use Rattle.borsh_walks.specs.SizeOutcome.{AnswersSize}
 use Rattle.borsh_schema.specs.declared.container.BorshSchemaContainer.{BorshSchemaContainer}
@@ -25,10 +26,6 @@ module _ (C : List ℕ → Option Shape) (root : List ℕ) where
   -- `size` rose by the number of needed names
   abbrev pub SizedCounts : Expansions → Expansions → Type 0
   SizedCounts old new = (xs : List (List ℕ)) × AreSizeReached C root xs × (new ≡ add_to Size (length xs) old)
-
--- `rules` and `zero` rose by at most that many, and `size` stays
-abbrev pub ValidateWork : ℕ → Expansions → Expansions → Type 0
-ValidateWork most old new = (j : ℕ) × (k : ℕ) × (j ≤ most) × (k ≤ most) × (new ≡ add_to Rules j (add_to Zero k old))
 
 -- `size` rose by at most that many, and the others stay
 abbrev pub SizeWork : ℕ → Expansions → Expansions → Type 0
@@ -52,8 +49,8 @@ module _ (c : BorshSchemaContainer) where
     pub complete : AcceptsIfValid (language_of c) (root_of c) result
     -- `Ok`: `rules` rose by the number of reached names, and `zero` by at least the number of elements that are checked
     pub counts : OnOk result (JudgedCounts (language_of c) (root_of c) old new)
-    -- `rules` and `zero` each rose by at most the number of definitions, and `size` stays, whatever the answer
-    pub bounded_work : ValidateWork (btree_map_len (map_of c)) old new
+    -- only reached names were checked, each once, and at most all definitions tested for zero size, whatever the answer
+    pub work : RulesWork (language_of c) (root_of c) (btree_map_len (map_of c)) old new
 
   -- the outcome of a call that is to answer the greatest length of a container's encodings
   abbrev pub Sizes : Result ℕ SchemaMaxSerializedSizeError → Type 0

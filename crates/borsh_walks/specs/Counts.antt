@@ -51,10 +51,6 @@ add_to Rules k e = record e { rules = add_saturating e.rules k }
 abbrev pub CountsLook : {A : Type 0} → Question → Counted → Counted → Option A → Type 0
 CountsLook question old new found = counts_of new ≡ (if is_some found then add_to question 1 (counts_of old) else counts_of old)
 
--- `rules` and `zero` rose by at most the number of definitions each, and `size` stays
-abbrev pub ValidateWork : Counted → Counted → Type 0
-ValidateWork old new = (j : ℕ) × (k : ℕ) × (j ≤ definition_count old) × (k ≤ definition_count old) × (counts_of new ≡ add_to Rules j (add_to Zero k (counts_of old)))
-
 -- `size` rose by at most the number of definitions, and the others stay
 abbrev pub SizeWork : Counted → Counted → Type 0
 SizeWork old new = (k : ℕ) × (k ≤ definition_count old) × (counts_of new ≡ add_to Size k (counts_of old))

@@ -39,8 +39,12 @@ module _ (C : List ℕ → Option Shape) (root : List ℕ) where
 abbrev pub IsBothCount : Counted → ℕ → ℕ → Expansions → Type 0
 IsBothCount c j k base = counts_of c ≡ add_to Rules j (add_to Zero k base)
 
-abbrev pub RulesCounted : {E : Type 0} → Counted → Counted → BTreeMap (Bor (List ℕ)) Bool → BTreeMap (Bor (List ℕ)) Bool → BTreeMap (Bor (List ℕ)) Bool → BTreeMap (Bor (List ℕ)) Bool → Result (Unit {0}) E → Type 0
-RulesCounted old new s t u v r = (base : Expansions) → IsBothCount old (btree_map_len s) (btree_map_len u) base → (j : ℕ) × (k : ℕ) × (j ≤ definition_count old) × (k ≤ definition_count old) × IsBothCount new j k base × OnOk r ((j ≡ btree_map_len t) × (k ≡ btree_map_len v))
+-- names in a list, each there once, reached from the root and defined
+abbrev pub AreReached : (List ℕ → Option Shape) → List ℕ → List (List ℕ) → Type 0
+AreReached C root xs = Distinct xs × ((x : List ℕ) → IsIn x xs → Reached C root x × IsDefined C x)
+
+abbrev pub RulesCounted : {E : Type 0} → List ℕ → Counted → Counted → BTreeMap (Bor (List ℕ)) Bool → BTreeMap (Bor (List ℕ)) Bool → BTreeMap (Bor (List ℕ)) Bool → BTreeMap (Bor (List ℕ)) Bool → Result (Unit {0}) E → Type 0
+RulesCounted root old new s t u v r = (base : Expansions) → IsBothCount old (btree_map_len s) (btree_map_len u) base → (xs : List (List ℕ)) × (k : ℕ) × AreReached (definitions_of old) root xs × (k ≤ definition_count old) × IsBothCount new (length xs) k base × OnOk r ((length xs ≡ btree_map_len t) × (k ≡ btree_map_len v))
 
 -- the name is seen from now on, and what was seen still is
 abbrev pub HasSeen : List ℕ → BTreeMap (Bor (List ℕ)) Bool → BTreeMap (Bor (List ℕ)) Bool → Type 0
@@ -63,10 +67,20 @@ Visits old new name s t way ways u v r =
 -- and what it counts
 abbrev pub CountsVisit : Counted → Counted → List ℕ → BTreeMap (Bor (List ℕ)) Bool → BTreeMap (Bor (List ℕ)) Bool → List Spot → BTreeMap (Bor (List ℕ)) Bool → BTreeMap (Bor (List ℕ)) Bool → Result (Unit {0}) SchemaContainerValidateError → Type 0
 CountsVisit old new name s t way u v r =
-    (root : List ℕ) → RulesState (definitions_of old) root (name ∷ []) s way u → mark_of s name ≡ None → RulesCounted old new s t u v r
+    (root : List ℕ) → RulesState (definitions_of old) root (name ∷ []) s way u → Reached (definitions_of old) root name → mark_of s name ≡ None → RulesCounted root old new s t u v r
 
 -- on a yes `rules` rises by the number of reached names, and `zero` by at least the number of elements that are checked
 abbrev pub RulesCountedOnYes : Counted → Counted → List ℕ → Type 0
 RulesCountedOnYes old new root = (xs : List (List ℕ)) × (zs : List (List ℕ)) × Distinct xs × Distinct zs × ((x : List ℕ) → IsIn x xs ↔ Reached (definitions_of old) root x)
     × ((x : List ℕ) (d : Shape) (e : List ℕ) → Reached (definitions_of old) root x → definitions_of old x ≡ Some d → checked_element d ≡ Some e → IsIn e zs)
     × (counts_of new ≡ add_to Rules (length xs) (add_to Zero (length zs) (counts_of old)))
+
+-- `rules` rose by the number of `names`, each there once and each reached from the root, and `zero` by `zeros`; neither is more than `most`
+pub record RulesWork (C : List ℕ → Option Shape) (root : List ℕ) (most : ℕ) (old new : Expansions) : Type 0 where
+  pub names : List (List ℕ)
+  pub zeros : ℕ
+  pub once : Distinct names
+  pub reached : (x : List ℕ) → IsIn x names → Reached C root x
+  pub few : length names ≤ most
+  pub few_zeros : zeros ≤ most
+  pub counts : new ≡ add_to Rules (length names) (add_to Zero zeros old)

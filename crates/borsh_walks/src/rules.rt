@@ -1,9 +1,9 @@
 // Whether the names that are reached keep the rules.
-ghost use Rattle.borsh_walks.specs.Counts.{definitions_of, LooksOn, ValidateWork};
+ghost use Rattle.borsh_walks.specs.Counts.{counts_of, definition_count, definitions_of, LooksOn};
 ghost use Rattle.borsh_walks.specs.RulesAnswer.{AcceptsIfValid, AnswersShape, IsRulesError, JudgesRules, IsWidth, BreaksWidth, MarksElement, RuleAnswer, rule_of, checked_element};
 ghost use Rattle.borsh_walks.specs.Definitions.{shape_of};
 ghost use Rattle.borsh_walks.specs.ZeroAnswer.{ZeroCounted, ZeroTable};
-ghost use Rattle.borsh_walks.specs.RulesState.{CountsVisit, RulesCountedOnYes, Visits};
+ghost use Rattle.borsh_walks.specs.RulesState.{CountsVisit, RulesCountedOnYes, RulesWork, Visits};
 ghost use Rattle.std.specs.Prelude.{◌≡◌, IfOk, MatchOption, OnOk, option_map, reverse};
 
 use crate::counted::{Counted, Question};
@@ -188,7 +188,8 @@ pub fn check_rules(
     ensures answer { JudgesRules (definitions_of counted.old) root.now result }
     ensures complete { AcceptsIfValid (definitions_of counted.old) root.now result }
     ensures counts { OnOk result (RulesCountedOnYes counted.old counted.new root.now) }
-    ensures bounded_work { ValidateWork counted.old counted.new }
+    ensures work { RulesWork (definitions_of counted.old) root.now (definition_count counted.old)
+        (counts_of counted.old) (counts_of counted.new) }
 {
     let mut lent = Counted {
         map: counted.map,
@@ -207,7 +208,8 @@ fn walk_rules<'a>(
     ensures same { LooksOn counted.old counted.new }
     ensures answer { JudgesRules (definitions_of counted.old) root.now result }
     ensures counts { OnOk result (RulesCountedOnYes counted.old counted.new root.now) }
-    ensures bounded_work { ValidateWork counted.old counted.new }
+    ensures work { RulesWork (definitions_of counted.old) root.now (definition_count counted.old)
+        (counts_of counted.old) (counts_of counted.new) }
 {
     let mut table: BTreeMap<&'a str, bool> = BTreeMap::new(alloc);
     let mut seen: BTreeMap<&'a str, bool> = BTreeMap::new(alloc);

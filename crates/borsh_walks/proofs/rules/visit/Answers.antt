@@ -4,13 +4,13 @@ use Rattle.std.specs.BTreeMap.{btree_map_len}
 use Rattle.borsh_walks.specs.Container.{is_missing, missing_definition}
 use Rattle.borsh_walks.specs.Counts.{counts_of, definitions_of, add_to}
 use Rattle.borsh_walks.specs.Definitions.{definitions_in, shape_of}
-use Rattle.borsh_walks.specs.declared.counted.Question.TheVariants.{Rules}
+use Rattle.borsh_walks.specs.declared.counted.Question.TheVariants.{Rules, Zero}
 use Rattle.borsh_walks.specs.ZeroAnswer.{ZeroTable}
 use Rattle.borsh_walks.specs.RulesAnswer.{RuleAnswer, ElementMarked, rule_of}
 use Rattle.borsh_walks.specs.declared.way.Spot.{Spot}
 use Rattle.borsh_walks.proofs.RulesLaws.{rules_fault}
-use Rattle.borsh_walks.proofs.Names.{found_shape, found_none}
-use Rattle.borsh_walks.proofs.Tables.{updated_by, still, grown, few_names, few_more}
+use Rattle.borsh_walks.proofs.Names.{found_shape, found_none, also_known}
+use Rattle.borsh_walks.proofs.Tables.{updated_by, still, grown, few_names, more_names}
 use Rattle.borsh_walks.proofs.Spots.{last_first}
 use Rattle.borsh_walks.proofs.Counting.{on_err}
 use Rattle.borsh_walks.proofs.RulesGlue.{both_more, rules_visit}
@@ -21,22 +21,24 @@ returns-in_default-clause-visited c = λ root s r n.
     rules_fault (definitions_of c.args.counted.now) root c.args.name.now missing_definition c.error_of.result c.error_of.ensures r (is_missing (found_none c.args.counted.now.map c.args.counted.now.map c.args.name.now refl c.in_default.ensures.found))
 
 pub returns-in_default-clause-counts : goal.returns-in_default-clause-counts
-returns-in_default-clause-counts c = λ root s n base h.
-    let r = c.requires in
-    let zeros = few_names c.args.counted.now.map.now (λ x k. k) r.marks in
-    let few = few_names c.args.counted.now.map.now (λ x k. k.2) s.marks in
-    (btree_map_len c.args.seen.now, btree_map_len c.args.table.now, omega (arith, few, s.len), omega (arith, zeros, r.len), c.in_default.ensures.counts ∙ h, tt)
+returns-in_default-clause-counts c = λ root s r n base h.
+    let z = c.requires in
+    let zeros = few_names c.args.counted.now.map.now (λ x k. k) z.marks in
+    let same = ap (λ i. add_to Rules i (add_to Zero (btree_map_len c.args.table.now) base)) s.len in
+    (s.names, btree_map_len c.args.table.now, (s.marks.distinct, λ x a. (let k = (s.marks.looked x a).1 in (k.0, k.2))), omega (arith, zeros, z.len), c.in_default.ensures.counts ∙ h ∙ same, tt)
 
 pub broken_rule-requires : goal.broken_rule-requires
 broken_rule-requires c = subst (λ m. ZeroTable (definitions_in m.now) c.args.table.now) (sym c.in-Some.ensures.same.0) c.requires
 
 pub returns-in_err-broken-clause-counts : goal.returns-in_err-broken-clause-counts
-returns-in_err-broken-clause-counts c = λ root s n base h.
+returns-in_err-broken-clause-counts c = λ root s r n base h.
     let C = definitions_of c.args.counted.now in
     let e = found_shape c.args.counted.now.map c.args.counted.now.map c.args.name.now c.in-Some.definition.now refl c.in-Some.ensures.found in
-    let few = few_more c.args.counted.now.map.now (λ x k. k.2) s.marks n e in
+    let more = more_names (definitions_of c.args.counted.now) (λ x k. k.2) s.marks n e in
+    let known = also_known (r, (_, e)) (λ x a. (let k = (s.marks.looked x a).1 in (k.0, k.2))) in
     let k = c.in_err-broken.ensures.counts (add_to Rules (suc (btree_map_len c.args.seen.now)) base) (both_more (btree_map_len c.args.seen.now) (btree_map_len c.args.table.now) (counts_of c.args.counted.now) (counts_of c.look.new.self) base h c.in-Some.ensures.counts) in
-    (suc (btree_map_len c.args.seen.now), k.0, omega (arith, few, s.len), subst (λ m. k.0 ≤ btree_map_len m.now) c.in-Some.ensures.same.0 k.1, k.2, on_err _ c.from_residual.result c.from_residual.ensures.0)
+    let same = ap (λ i. add_to Rules (suc i) (add_to Zero k.0 base)) s.len in
+    (c.args.name.now ∷ s.names, k.0, (more.0, known), subst (λ m. k.0 ≤ btree_map_len m.now) c.in-Some.ensures.same.0 k.1, k.2 ∙ same, on_err _ c.from_residual.result c.from_residual.ensures.0)
 
 pub returns-in-Some-2-clause-visited : goal.returns-in-Some-2-clause-visited
 returns-in-Some-2-clause-visited c = λ root s r n.
@@ -47,28 +49,34 @@ returns-in-Some-2-clause-visited c = λ root s r n.
     rules_fault C root c.args.name.now (rule_of c.in-Some-2.broken) c.error_of-in-Some-2.result c.error_of-in-Some-2.ensures r (b c.args.name.now e)
 
 pub returns-in-Some-2-clause-counts : goal.returns-in-Some-2-clause-counts
-returns-in-Some-2-clause-counts c = λ root s n base h.
+returns-in-Some-2-clause-counts c = λ root s r n base h.
     let C = definitions_of c.args.counted.now in
     let e = found_shape c.args.counted.now.map c.args.counted.now.map c.args.name.now c.in-Some.definition.now refl c.in-Some.ensures.found in
-    let few = few_more c.args.counted.now.map.now (λ x k. k.2) s.marks n e in
+    let more = more_names (definitions_of c.args.counted.now) (λ x k. k.2) s.marks n e in
+    let known = also_known (r, (_, e)) (λ x a. (let k = (s.marks.looked x a).1 in (k.0, k.2))) in
     let k = c.in_ok-broken.ensures.counts (add_to Rules (suc (btree_map_len c.args.seen.now)) base) (both_more (btree_map_len c.args.seen.now) (btree_map_len c.args.table.now) (counts_of c.args.counted.now) (counts_of c.look.new.self) base h c.in-Some.ensures.counts) in
-    (suc (btree_map_len c.args.seen.now), k.0, omega (arith, few, s.len), subst (λ m. k.0 ≤ btree_map_len m.now) c.in-Some.ensures.same.0 k.1, k.2, tt)
+    let same = ap (λ i. add_to Rules (suc i) (add_to Zero k.0 base)) s.len in
+    (c.args.name.now ∷ s.names, k.0, (more.0, known), subst (λ m. k.0 ≤ btree_map_len m.now) c.in-Some.ensures.same.0 k.1, k.2 ∙ same, tt)
 
 pub returns-in_err-insert-clause-counts : goal.returns-in_err-insert-clause-counts
-returns-in_err-insert-clause-counts c = λ root s n base h.
+returns-in_err-insert-clause-counts c = λ root s r n base h.
     let C = definitions_of c.args.counted.now in
     let e = found_shape c.args.counted.now.map c.args.counted.now.map c.args.name.now c.in-Some.definition.now refl c.in-Some.ensures.found in
-    let few = few_more c.args.counted.now.map.now (λ x k. k.2) s.marks n e in
+    let more = more_names (definitions_of c.args.counted.now) (λ x k. k.2) s.marks n e in
+    let known = also_known (r, (_, e)) (λ x a. (let k = (s.marks.looked x a).1 in (k.0, k.2))) in
     let k = c.in_ok-broken.ensures.counts (add_to Rules (suc (btree_map_len c.args.seen.now)) base) (both_more (btree_map_len c.args.seen.now) (btree_map_len c.args.table.now) (counts_of c.args.counted.now) (counts_of c.look.new.self) base h c.in-Some.ensures.counts) in
-    (suc (btree_map_len c.args.seen.now), k.0, omega (arith, few, s.len), subst (λ m. k.0 ≤ btree_map_len m.now) c.in-Some.ensures.same.0 k.1, k.2, on_err _ c.from_residual-in_err-insert.result c.from_residual-in_err-insert.ensures.0)
+    let same = ap (λ i. add_to Rules (suc i) (add_to Zero k.0 base)) s.len in
+    (c.args.name.now ∷ s.names, k.0, (more.0, known), subst (λ m. k.0 ≤ btree_map_len m.now) c.in-Some.ensures.same.0 k.1, k.2 ∙ same, on_err _ c.from_residual-in_err-insert.result c.from_residual-in_err-insert.ensures.0)
 
 pub returns-in_err-push-clause-counts : goal.returns-in_err-push-clause-counts
-returns-in_err-push-clause-counts c = λ root s n base h.
+returns-in_err-push-clause-counts c = λ root s r n base h.
     let C = definitions_of c.args.counted.now in
     let e = found_shape c.args.counted.now.map c.args.counted.now.map c.args.name.now c.in-Some.definition.now refl c.in-Some.ensures.found in
-    let few = few_more c.args.counted.now.map.now (λ x k. k.2) s.marks n e in
+    let more = more_names (definitions_of c.args.counted.now) (λ x k. k.2) s.marks n e in
+    let known = also_known (r, (_, e)) (λ x a. (let k = (s.marks.looked x a).1 in (k.0, k.2))) in
     let k = c.in_ok-broken.ensures.counts (add_to Rules (suc (btree_map_len c.args.seen.now)) base) (both_more (btree_map_len c.args.seen.now) (btree_map_len c.args.table.now) (counts_of c.args.counted.now) (counts_of c.look.new.self) base h c.in-Some.ensures.counts) in
-    (suc (btree_map_len c.args.seen.now), k.0, omega (arith, few, s.len), subst (λ m. k.0 ≤ btree_map_len m.now) c.in-Some.ensures.same.0 k.1, k.2, on_err _ c.from_residual-in_err-push.result c.from_residual-in_err-push.ensures.0)
+    let same = ap (λ i. add_to Rules (suc i) (add_to Zero k.0 base)) s.len in
+    (c.args.name.now ∷ s.names, k.0, (more.0, known), subst (λ m. k.0 ≤ btree_map_len m.now) c.in-Some.ensures.same.0 k.1, k.2 ∙ same, on_err _ c.from_residual-in_err-push.result c.from_residual-in_err-push.ensures.0)
 
 none_from : {X : Type 0} (o : Option X) → ((x : X) → o ≡ Some x → ⊥) → o ≡ None
 none_from None f = refl
@@ -95,10 +103,12 @@ returns-clause-visited c = λ root s r n.
     )
 
 pub returns-clause-counts : goal.returns-clause-counts
-returns-clause-counts c = λ root s n base h.
+returns-clause-counts c = λ root s r n base h.
     let C = definitions_of c.args.counted.now in
     let e = found_shape c.args.counted.now.map c.args.counted.now.map c.args.name.now c.in-Some.definition.now refl c.in-Some.ensures.found in
-    let few = few_more c.args.counted.now.map.now (λ x k. k.2) s.marks n e in
+    let more = more_names (definitions_of c.args.counted.now) (λ x k. k.2) s.marks n e in
+    let known = also_known (r, (_, e)) (λ x a. (let k = (s.marks.looked x a).1 in (k.0, k.2))) in
     let k = c.in_ok-broken.ensures.counts (add_to Rules (suc (btree_map_len c.args.seen.now)) base) (both_more (btree_map_len c.args.seen.now) (btree_map_len c.args.table.now) (counts_of c.args.counted.now) (counts_of c.look.new.self) base h c.in-Some.ensures.counts) in
     let len = grown c.in_ok-insert.field-0 c.in_ok-insert.ensures.len (c.in_ok-insert.ensures.old ∙ n) in
-    (suc (btree_map_len c.args.seen.now), k.0, omega (arith, few, s.len), subst (λ m. k.0 ≤ btree_map_len m.now) c.in-Some.ensures.same.0 k.1, k.2, (sym len, k.3))
+    let same = ap (λ i. add_to Rules (suc i) (add_to Zero k.0 base)) s.len in
+    (c.args.name.now ∷ s.names, k.0, (more.0, known), subst (λ m. k.0 ≤ btree_map_len m.now) c.in-Some.ensures.same.0 k.1, k.2 ∙ same, (ap suc (sym s.len) ∙ sym len, k.3))

@@ -1,4 +1,4 @@
-use Rattle.std.proofs.Common.{◌≡◌, ℕ, suc, ◌+◌, ◌-◌, ◌*◌, ◌≤◌, List, [], ◌∷◌, reverse, add-one, Some, None, refl, sym, ◌∙◌, ap, subst, arith, true, false}
+use Rattle.std.proofs.Common.{◌≡◌, ℕ, suc, ◌+◌, ◌-◌, ◌*◌, ◌≤◌, List, [], ◌∷◌, length, reverse, add-one, Some, None, refl, sym, ◌∙◌, ap, subst, arith, true, false}
 use Rattle.std.specs.Prelude.{Option, is_some, Result, Ok, Err, IsErr, IsErrAnd, MatchResult, option_map}
 use Rattle.std.specs.BTreeMap.{btree_map_len, get_by_text}
 use Rattle.borsh_walks.specs.Container.{IsIn, Reached, stays, onward, references, IsValid}
@@ -7,10 +7,11 @@ use Rattle.borsh_walks.specs.Definitions.{definitions_in, shape_of}
 use Rattle.borsh_walks.specs.ZeroAnswer.{ZeroTable}
 use Rattle.borsh_walks.specs.Tables.{mark_of}
 use Rattle.borsh_walks.specs.RulesAnswer.{RulesFault}
-use Rattle.borsh_walks.specs.RulesState.{RulesState}
+use Rattle.borsh_walks.specs.RulesState.{RulesState, AreReached}
 use Rattle.borsh_walks.specs.declared.counted.Question.TheVariants.{Rules, Zero}
 use Rattle.borsh_walks.specs.declared.counted.Expansions.{Expansions}
 use Rattle.borsh_walks.proofs.RulesLaws.{checked_mentioned}
+use Rattle.borsh_walks.proofs.Names.{names_within}
 use Rattle.borsh_walks.proofs.Tables.{marks_none, has_mark, no_items, few_names, few_more}
 use Rattle.borsh_walks.proofs.Spots.{moved, last_first}
 use Rattle.borsh_walks.proofs.Measure.{work, rests, rests_moved, left_popped, left_pushed}
@@ -45,8 +46,8 @@ loop-spot-init c =
     let s = rules_start C root c.new-seen.result c.new-table.result (reverse c.new-way.result.items) c.new-seen.ensures.empty c.new-table.ensures.empty (ap (λ l. reverse l) c.new-way.ensures.items) in
     let n = marks_none c.new-seen.result c.new-seen.ensures.empty root in
     let v = c.in_ok-visit.ensures.visited root s stays n in
-    let k = c.in_ok-visit.ensures.counts root s n (counts_of c.args.counted.now) (both_none (btree_map_len c.new-seen.result) (btree_map_len c.new-table.result) (counts_of c.args.counted.now) c.new-seen.ensures.len c.new-table.ensures.len) in
-    record { state = v.0; root_seen = v.1.1; looks = both_at k.0 k.1 _ _ (counts_of c.visit.new.counted) (counts_of c.args.counted.now) k.4 k.5.0 k.5.1; same = (c.in_ok-visit.ensures.same.0, c.in_ok-visit.ensures.same.1) }
+    let k = c.in_ok-visit.ensures.counts root s stays n (counts_of c.args.counted.now) (both_none (btree_map_len c.new-seen.result) (btree_map_len c.new-table.result) (counts_of c.args.counted.now) c.new-seen.ensures.len c.new-table.ensures.len) in
+    record { state = v.0; root_seen = v.1.1; looks = both_at (length k.0) k.1 _ _ (counts_of c.visit.new.counted) (counts_of c.args.counted.now) k.4 k.5.0 k.5.1; same = (c.in_ok-visit.ensures.same.0, c.in_ok-visit.ensures.same.1) }
 
 pub returns-in_err-visit-clause-answer : goal.returns-in_err-visit-clause-answer
 returns-in_err-visit-clause-answer c =
@@ -56,14 +57,14 @@ returns-in_err-visit-clause-answer c =
     let n = marks_none c.new-seen.result c.new-seen.ensures.empty root in
     err_is (λ x. IsValid C root) (RulesFault C root) c.from_residual.result c.in_err-visit.field-0.0 c.from_residual.ensures.0 c.from_residual.ensures.1 (c.in_err-visit.ensures.visited root s stays n)
 
-pub returns-in_err-visit-clause-bounded_work : goal.returns-in_err-visit-clause-bounded_work
-returns-in_err-visit-clause-bounded_work c =
+pub returns-in_err-visit-clause-work : goal.returns-in_err-visit-clause-work
+returns-in_err-visit-clause-work c =
     let C = definitions_of c.args.counted.now in
     let root = c.args.root.now in
     let s = rules_start C root c.new-seen.result c.new-table.result (reverse c.new-way.result.items) c.new-seen.ensures.empty c.new-table.ensures.empty (ap (λ l. reverse l) c.new-way.ensures.items) in
     let n = marks_none c.new-seen.result c.new-seen.ensures.empty root in
-    let k = c.in_err-visit.ensures.counts root s n (counts_of c.args.counted.now) (both_none (btree_map_len c.new-seen.result) (btree_map_len c.new-table.result) (counts_of c.args.counted.now) c.new-seen.ensures.len c.new-table.ensures.len) in
-    (k.0, k.1, k.2, k.3, k.4)
+    let k = c.in_err-visit.ensures.counts root s stays n (counts_of c.args.counted.now) (both_none (btree_map_len c.new-seen.result) (btree_map_len c.new-table.result) (counts_of c.args.counted.now) c.new-seen.ensures.len c.new-table.ensures.len) in
+    record { names = k.0; zeros = k.1; once = k.2.0; reached = λ x a. (k.2.1 x a).0; few = names_within c.args.counted.now.map.now k.0 k.2.0 (λ x a. (k.2.1 x a).1); few_zeros = k.3; counts = k.4 }
 
 pub loop-spot-smaller-in_default-mentioned_part : goal.loop-spot-smaller-in_default-mentioned_part
 loop-spot-smaller-in_default-mentioned_part c =
@@ -141,12 +142,12 @@ loop-spot-preserved-in-Continue-branch-3 c =
     let r' = subst (λ m. Reached (definitions_in m.now) root p) (sym i.same.0) r in
     let n = seen_none _ c.if-not-contains_key.ensures in
     let v = c.in_ok-visit-2.ensures.visited root t' r' n in
-    let k = c.in_ok-visit-2.ensures.counts root t' n (counts_of c.args.counted.now) i.looks in
+    let k = c.in_ok-visit-2.ensures.counts root t' r' n (counts_of c.args.counted.now) i.looks in
     let b = subst (λ m. RulesState (definitions_in m.now) root [] c.visit-then-not-contains_key.new.seen (reverse c.visit-then-not-contains_key.new.way.items) c.visit-then-not-contains_key.new.table) i.same.0 v.0 in
     record {
       state = b;
       root_seen = v.1.0 root i.root_seen;
-      looks = both_at k.0 k.1 _ _ (counts_of c.visit-then-not-contains_key.new.counted) (counts_of c.args.counted.now) k.4 k.5.0 k.5.1;
+      looks = both_at (length k.0) k.1 _ _ (counts_of c.visit-then-not-contains_key.new.counted) (counts_of c.args.counted.now) k.4 k.5.0 k.5.1;
       same = (c.in_ok-visit-2.ensures.same.0 ∙ i.same.0, c.in_ok-visit-2.ensures.same.1 ∙ i.same.1);
     }
 
@@ -168,8 +169,8 @@ returns-in_err-visit-2-clause-answer c =
     err_is (λ x. IsValid C root) (RulesFault C root) c.from_residual-in_err-visit-2.result c.in_err-visit-2.field-0.0 c.from_residual-in_err-visit-2.ensures.0 c.from_residual-in_err-visit-2.ensures.1
     (subst (λ m. RulesFault (definitions_in m.now) root c.in_err-visit-2.field-0.0) i.same.0 fault)
 
-pub returns-in_err-visit-2-clause-bounded_work : goal.returns-in_err-visit-2-clause-bounded_work
-returns-in_err-visit-2-clause-bounded_work c =
+pub returns-in_err-visit-2-clause-work : goal.returns-in_err-visit-2-clause-work
+returns-in_err-visit-2-clause-work c =
     let i = c.loop-spot.invariant in
     let C = definitions_of c.args.counted.now in
     let root = c.args.root.now in
@@ -182,8 +183,9 @@ returns-in_err-visit-2-clause-bounded_work c =
     let t' = subst (λ m. RulesState (definitions_in m.now) root (p ∷ []) c.loop-spot.seen (reverse c.push.new.self.items) c.loop-spot.table) (sym i.same.0) t in
     let r' = subst (λ m. Reached (definitions_in m.now) root p) (sym i.same.0) r in
     let n = seen_none _ c.if-not-contains_key.ensures in
-    let k = c.in_err-visit-2.ensures.counts root t' n (counts_of c.args.counted.now) i.looks in
-    (k.0, k.1, subst (λ m. k.0 ≤ btree_map_len m.now) i.same.0 k.2, subst (λ m. k.1 ≤ btree_map_len m.now) i.same.0 k.3, k.4)
+    let k = c.in_err-visit-2.ensures.counts root t' r' n (counts_of c.args.counted.now) i.looks in
+    let all = subst (λ m. AreReached (definitions_in m.now) root k.0) i.same.0 k.2 in
+    record { names = k.0; zeros = k.1; once = all.0; reached = λ x a. (all.1 x a).0; few = names_within c.args.counted.now.map.now k.0 all.0 (λ x a. (all.1 x a).1); few_zeros = subst (λ m. k.1 ≤ btree_map_len m.now) i.same.0 k.3; counts = k.4 }
 
 pub returns-clause-answer : goal.returns-clause-answer
 returns-clause-answer c =
@@ -192,13 +194,13 @@ returns-clause-answer c =
     let none = ap (λ l. reverse l) (no_items c.loop-spot.way.items (omega (arith, c.in_default.ensures.cases.0, c.loop-spot.way.ok.0))) in
     λ x r. (i.state.marks.looked x (rules_all C c.args.root.now (reverse c.loop-spot.way.items) i.state none i.root_seen r)).1.1
 
-pub returns-clause-bounded_work : goal.returns-clause-bounded_work
-returns-clause-bounded_work c =
+pub returns-clause-work : goal.returns-clause-work
+returns-clause-work c =
     let i = c.loop-spot.invariant in
     let st = i.state in
     let few = few_names c.args.counted.now.map.now (λ x k. k.2) st.marks in
     let zeros = few_names c.args.counted.now.map.now (λ x k. k) st.zero.marks in
-    (btree_map_len c.loop-spot.seen, btree_map_len c.loop-spot.table, omega (arith, few, st.len), omega (arith, zeros, st.zero.len), i.looks)
+    record { names = st.names; zeros = btree_map_len c.loop-spot.table; once = st.marks.distinct; reached = λ x a. (st.marks.looked x a).1.0; few = few; few_zeros = omega (arith, zeros, st.zero.len); counts = both_at _ _ _ _ (counts_of c.loop-spot.counted) (counts_of c.args.counted.now) i.looks st.len refl }
 
 pub returns-clause-counts : goal.returns-clause-counts
 returns-clause-counts c =
