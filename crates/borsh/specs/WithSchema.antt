@@ -32,7 +32,7 @@ pub record IsWithSchema (name : List ℕ) (parts : DefinitionTree) (encoding : O
   pub is : encoding ≡ Some value
   pub sent : FollowsSchema name parts value bytes
 
--- the bytes are the encoding of the type's container, and then a reading of the value
+-- the bytes are the encoding of the type's container, and then decode to the value
 pub record IsReadWithSchema {A : Type 0} (name : List ℕ) (parts : DefinitionTree) (c : Codec A) (bytes : List ℕ) (v : A) : Type 0 where
   pub rest : List ℕ
   pub decodes : c.decodes true rest v

@@ -18,7 +18,7 @@ use Rattle.borsh_answers.specs.Requests.Asked.{value, schema, about}
 use Rattle.borsh_answers.specs.Schemas.{AnswersSchema}
 use Rattle.borsh_answers.specs.Containers.{AnswersInquiry}
 
--- what answers bytes that are to be a reading of some value: `ok` and the value's encoding, or an error
+-- what answers bytes that are to decode to some value: `ok` and the value's encoding, or an error
 pub data AnswersValue {A : Type 0} (c : Codec A) (strict : Bool) (bytes out : List ℕ) : Type 0 where
   accepted : (v : A) (again : List ℕ) → c.decodes strict bytes v → c.encoding v ≡ Some again → out ≡ codes "ok " ++ digits_of again → AnswersValue c strict bytes out
   refused : (IsDecodable c strict bytes → ⊥) → IsErrorLine out → AnswersValue c strict bytes out

@@ -63,7 +63,7 @@ fn check_answer(alloc: Global, container: &BorshSchemaContainer) -> Result<Vec<u
     }
 }
 
-/// The rule that is broken, and the name that breaks it. Want of memory is no answer.
+/// The rule that is broken, and the name that breaks it. Running out of memory is no answer, but an error.
 fn broken_rule(alloc: Global, error: &SchemaContainerValidateError) -> Result<Vec<u8>, AllocError>
     ensures tells { IfOk result (λ out. TellsRule error.now out.items) }
     ensures line { IfOk result (λ out. IsLine out.items) }
@@ -120,7 +120,7 @@ fn number(alloc: Global, n: usize) -> Result<Vec<u8>, AllocError>
     line_of(alloc, text.as_bytes())
 }
 
-/// Why there is no size. Want of memory is no answer.
+/// Why there is no size. Running out of memory is no answer, but an error.
 fn no_size(alloc: Global, error: &SchemaMaxSerializedSizeError) -> Result<Vec<u8>, AllocError>
     ensures tells { IfOk result (λ out. TellsSize error.now out.items) }
     ensures line { IfOk result (λ out. IsLine out.items) }

@@ -30,7 +30,7 @@ pub fn value_answer<T: BorshSerialize + BorshDeserialize>(
     }
 }
 
-/// The value that all of the bytes are a reading of, in the strict or the unordered mode.
+/// The value that all of the bytes decode to, in the strict or the unordered mode.
 fn value_from<T: BorshDeserialize>(alloc: Global, strict: bool, bytes: &[u8]) -> Result<T, Error>
     ensures ok { IfOk result (λ v. T.codec.decodes strict bytes.now v) }
     ensures err { IfErr result (λ e. WhyNotDecoded T.codec strict bytes.now (error_kind e)) }
@@ -52,7 +52,8 @@ pub fn ok_answer(alloc: Global, bytes: &[u8]) -> Result<Vec<u8>, AllocError>
     Ok(out)
 }
 
-/// `error` and what the error displays, with a space for each line feed. Want of memory is no answer.
+/// `error` and what the error displays, with a space for each line feed. Running out of memory is no
+/// answer, but an error.
 pub fn error_answer(alloc: Global, error: &Error) -> Result<Vec<u8>, AllocError>
     ensures is { IfOk result (λ out. IsErrorLine out.items) }
     ensures told { IfOk result (λ _. error_kind error.now ≢ ErrorKind.OutOfMemory) }

@@ -42,7 +42,7 @@ pub record ReadFails (memory text : Bool) (P : List ℕ → Type 0) (old new : R
 
 -- ---- a value
 
--- a reading of the value was taken, and the rest is left
+-- bytes that decode to the value were taken, and the rest is left
 pub record Decoded (A : Type 0) (c : Codec A) (old new : ReaderState) (v : A) : Type 0 where
   pub took : TakesPrefix (λ x. c.decodes old.strict_order x v) old new
 
@@ -64,13 +64,13 @@ pub data WhyNotDecoded {A : Type 0} (c : Codec A) (strict : Bool) (xs : List ℕ
   malformed : IsInvalidData c.texts_allocate kind → (IsDecodable c strict xs → ⊥) → WhyNotDecoded c strict xs kind
   no_memory : kind ≡ OutOfMemory → c.decoding_allocates ≡ true → WhyNotDecoded c strict xs kind
 
--- all of the bytes to come, where the reader tells them, were a reading of the value, and none is left
+-- all of the bytes to come, where the reader knows them, decode to the value, and none is left
 pub record DecodedWhole (A : Type 0) (c : Codec A) (old new : ReaderState) (v : A) : Type 0 where
   pub decoded : Decoded A c old new v
   pub whole : IfSome old.bytes (λ xs. c.decodes old.strict_order xs v)
   pub ended : OnSome old.bytes (IsAtEnd new.bytes)
 
--- a reading of the value was taken, and then the reader failed
+-- bytes that decode to the value were taken, and then the reader failed
 pub record DecodedThenFailed (A : Type 0) (c : Codec A) (old new : ReaderState) (v : A) : Type 0 where
   pub mid : ReaderState
   pub decoded : Decoded A c old mid v

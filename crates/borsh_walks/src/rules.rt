@@ -178,7 +178,8 @@ fn visit<'a>(
 /// A sequence of width 0 with one length keeps them. Of any other sequence the least length is at most
 /// the greatest, the width is 0, 1, 2, 4 or 8 and has room for the greatest length, and the elements
 /// aren't all without bytes. The tag of an enum has at most eight bytes. An error names a reached name
-/// and a rule that it breaks; where several are broken, the one that is met first on the way is answered.
+/// and a rule that it breaks; where several are broken, it is the first in the order of a depth-first
+/// visit from the root.
 pub fn check_rules(
     alloc: Global,
     root: &str,

@@ -59,14 +59,17 @@ fn finish(definition: &Definition, gathered: usize) -> Option<usize>
     }
 }
 
-/// The greatest length of the root's encodings, as the definitions say it: a primitive is its size, a
-/// sequence its width and its end times its element, an enum its width and its greatest variant, a tuple
-/// or struct the sum of its parts. The element of a sequence with end 0 isn't looked at.
+/// The greatest length of the root's encodings, in bytes, as the definitions give it: a primitive has
+/// its own size, a sequence its length width and its greatest length times its element, an enum its tag
+/// width and its greatest variant, a tuple or struct the sum of its parts. The element of a sequence
+/// whose greatest length is 0 isn't visited.
 ///
-/// Refused are a size that doesn't fit (`Overflow`), a needed name that leads back to itself
-/// (`Recursive`) and a needed name without a definition (`MissingDefinition`). Where several of these
-/// stand, the one that is met first on the way is answered. After a refusal `counted` has counted the
-/// definitions that were looked into, as after an answer.
+/// # Errors
+///
+/// `Overflow` for a size that doesn't fit a `usize`, `Recursive` for a needed name that leads back to
+/// itself, `MissingDefinition` for a needed name without a definition. Where several of these hold, the
+/// error is the first in the order of a depth-first visit from the root. After an error `counted` has
+/// counted the definitions that were visited, as it has after an answer.
 pub fn root_size(
     alloc: Global,
     root: &str,
