@@ -77,7 +77,7 @@ pub record IsCountsText (c : BorshSchemaContainer) (out : List ℕ) : Type 0 whe
 
 -- ---- all of them
 
--- what answers a question about the container whose encoding the bytes are; where they are none's, a line that tells an error
+-- what answers a question about the container whose encoding the bytes are; for other bytes, a line with an error's text
 pub data AnswersAbout (P : BorshSchemaContainer → List ℕ → Type 0) (bytes out : List ℕ) : Type 0 where
   answered : (c : BorshSchemaContainer) → container.encoding c ≡ Some bytes → P c out → AnswersAbout P bytes out
   unread : (IsDecodable container true bytes → ⊥) → IsErrorLine out → AnswersAbout P bytes out

@@ -6,7 +6,7 @@ use Rattle.std.specs.List.{All}
 abbrev pub IsLine : List ℕ → Type 0
 IsLine line = All (λ b. b ≢ 10) line
 
--- one line that tells an error
+-- one line that has an error's text
 pub record IsErrorLine (out : List ℕ) : Type 0 where
   pub text : List ℕ
   pub is : out ≡ codes "error " ++ text

@@ -60,7 +60,7 @@ asked_about inquiry text = do
 abbrev is : List ℕ → List ℕ → Bool
 is command name = pointwise nat_eq command name
 
--- a command and what stands behind its space
+-- a command and what follows its space
 abbrev pub asked_command : List ℕ → List ℕ → Option Asked
 asked_command command text =
     if is command (codes "read") then asked_value true text else (if is command (codes "canon") then asked_value false text else (if is command (codes "schema") then asked_schema text else (if is command (codes "check") then asked_about Check text else (if is command (codes "size") then asked_about Size text else (if is command (codes "counts") then asked_about Counts text else None)))))

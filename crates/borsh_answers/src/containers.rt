@@ -147,7 +147,7 @@ fn missing(alloc: Global, name: &str) -> Result<Vec<u8>, AllocError>
 
 // ---- `counts`
 
-/// How many definitions the two other answers look into, the rules first.
+/// How many definitions the two other questions visit: the rules (with their tests for zero size), then the size.
 fn counts_answer(alloc: Global, container: &BorshSchemaContainer) -> Result<Vec<u8>, AllocError>
     ensures answers { IfOk result (λ out. IsCountsText container.now out.items) }
     ensures line { IfOk result (λ out. IsLine out.items) }
@@ -162,7 +162,7 @@ fn counts_answer(alloc: Global, container: &BorshSchemaContainer) -> Result<Vec<
     counts_line(alloc, counts)
 }
 
-/// Counts what the check of the rules looks into. Refused only where memory was.
+/// Counts the definitions that the check of the rules visits. Fails only if an allocation fails.
 fn judge(
     alloc: Global,
     container: &BorshSchemaContainer,
@@ -180,7 +180,7 @@ fn judge(
     }
 }
 
-/// Counts what the size looks into. Refused only where memory was.
+/// Counts the definitions that the size visits. Fails only if an allocation fails.
 fn measure(
     alloc: Global,
     container: &BorshSchemaContainer,

@@ -13,7 +13,7 @@ pub enum Inquiry {
     Check,
     /// How long the encodings that it describes may be.
     Size,
-    /// How many of its definitions both answers look into.
+    /// How many of its definitions both questions visit.
     Counts,
 }
 

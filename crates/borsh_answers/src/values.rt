@@ -11,7 +11,7 @@ use borsh::io::{Error, ErrorKind};
 use borsh::{BorshDeserialize, BorshSerialize, from_slice, from_slice_unordered, to_vec};
 use std::alloc::{AllocError, Global};
 
-/// The answer to bytes that are to be read as a `T`; `strict` where keys have to stand in order.
+/// The answer to bytes that are to be decoded as a `T`; `strict` if keys must be in ascending order.
 pub fn value_answer<T: BorshSerialize + BorshDeserialize>(
     alloc: Global,
     strict: bool,

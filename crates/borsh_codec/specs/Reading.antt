@@ -17,7 +17,7 @@ pub record TakesPrefix (P : List ℕ → Type 0) (old new : ReaderState) : Type 
   pub takes : Consumed old new front
   pub holds : P front
 
--- no front of the bytes to come has P, where the reader tells them
+-- no beginning of the bytes to come has P, where the reader knows them
 abbrev pub NoPrefix : (List ℕ → Type 0) → ReaderState → Type 0
 NoPrefix P s = (front rest : List ℕ) → s.bytes ≡ Some (front ++ rest) → P front → ⊥
 

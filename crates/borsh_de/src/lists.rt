@@ -48,7 +48,7 @@ pub(crate) fn read_counted<T: BorshDeserialize, R: Read>(
 }
 
 /// The same, but elements whose encodings are empty are refused before anything is read: `InvalidData`.
-/// So each element takes at least one byte, and no short input stands for many of them.
+/// So each element takes at least one byte, and a short input can't announce many of them.
 #[inline]
 pub(crate) fn read_list<T: BorshDeserialize, R: Read>(
     alloc: Global,

@@ -8,7 +8,7 @@ use Rattle.borsh_io.specs.Errors.{error_kind}
 
 -- a reader's state
 pub record ReaderState : Type 0 where
-  -- the bytes still to come, where the reader tells them
+  -- the bytes still to come, where the reader knows them
   pub bytes : Option (List ℕ)
   -- how often it has failed
   pub faults : ℕ
@@ -16,7 +16,7 @@ pub record ReaderState : Type 0 where
   pub interruptions : ℕ
   -- how many reads may still take bytes, so that a loop over any reader ends
   pub reads_left : ℕ
-  -- whether keys have to stand in ascending order
+  -- whether keys must be in ascending order
   pub strict_order : Bool
 
 -- a count went up by one; at the greatest value of a `u64` it stays, and counts as risen
@@ -63,7 +63,7 @@ pub record ConsumedSome (before after : ReaderState) : Type 0 where
   pub reads_left : after.reads_left ≤ before.reads_left
   pub strict_order : after.strict_order ≡ before.strict_order
 
--- fewer than n bytes are to come, where the reader tells them
+-- fewer than n bytes are to come, where the reader knows them
 abbrev pub HasFewerThan : ReaderState → ℕ → Type 0
 HasFewerThan s n = IfSome s.bytes (λ xs. length xs < n)
 

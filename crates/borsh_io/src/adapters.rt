@@ -62,7 +62,7 @@ impl Counts {
         self.faults = self.faults.saturating_add(1);
     }
 
-    /// What stands for a device's error of this kind, which is counted.
+    /// The error of this kind that is returned for an I/O error of the device. It is counted.
     #[cold]
     fn error(&mut self, kind: std::io::ErrorKind) -> Error
         ensures interrupted { error_kind result ≡ ErrorKind.Interrupted

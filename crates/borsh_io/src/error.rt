@@ -8,8 +8,8 @@ use std::alloc::{AllocError, AllocFailed};
 use std::fmt;
 use std::fmt::{Debug, Display, Formatter};
 
-/// The refusal of collections whose elements have empty encodings: a short input would stand for any
-/// number of them.
+/// The text of the error for collections whose elements have empty encodings: a short input could
+/// announce any number of them.
 pub const ERROR_ZST_FORBIDDEN: &str =
     "Collections of zero-sized types are not allowed due to deny-of-service concerns on deserialization.";
 

@@ -2,8 +2,8 @@
 //!
 //! A reader gives the front of the bytes that are still to come, may be interrupted, and may fail.
 //! A writer takes the front of a buffer, and may do the same. Contracts name the bytes, a count of
-//! faults and the interruptions that may still come, so that a caller can tell a device's fault from
-//! bytes that are wrong.
+//! faults and the interruptions that may still come, so that a caller can distinguish an I/O
+//! error from bytes that are wrong.
 #![tactic(auto)]
 
 pub mod adapters;

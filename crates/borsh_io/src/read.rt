@@ -21,7 +21,7 @@ pub trait Read {
     fn read(&mut self, buf: &mut [u8]) -> Result<usize>
         ensures { ReadsSome stream self.old self.new buf.new result };
 
-    /// Whether the keys of maps and sets have to stand in ascending order. No read changes it.
+    /// Whether the keys of maps and sets must be in ascending order. No read changes it.
     fn strict_order(&self) -> bool
         ensures { result ≡ (stream self.now).strict_order };
 

@@ -10,7 +10,7 @@ use Rattle.borsh_io.specs.declared.error.ErrorKind.TheVariants.{OutOfMemory}
 use Rattle.borsh_lines.specs.Counts.{add_saturating}
 use Rattle.borsh_lines.specs.Lines.{lines_of, ended_lines, OutputOf}
 
--- the bytes that a reader tells
+-- the bytes of a reader that knows them
 abbrev pub told : Option (List ℕ) → List ℕ
 told None = []
 told (Some xs) = xs
@@ -72,7 +72,7 @@ pub record RunsCounted {W : Type 0} (answers : List ℕ → List ℕ → Type 0)
 abbrev pub spaced : List ℕ → List ℕ
 spaced text = map (λ b. cond (b == 10) 32 b) text
 
--- the line that tells an error
+-- the line that has an error's text
 abbrev pub error_line : Error → List ℕ
 error_line e = codes "borsh_check: " ++ (spaced (display_text (error_kind e) (error_text e)) ++ 10 ∷ [])
 

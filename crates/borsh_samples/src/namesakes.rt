@@ -1,4 +1,4 @@
-// Two types that go by one name: their schemas can't stand in one container.
+// Two types that go by one name: no container can have the schemas of both.
 ghost use Rattle.std.specs.Prelude.{codes};
 ghost use Rattle.borsh.specs.Shapes.{contramap, unsigned};
 ghost use Rattle.borsh.specs.Laws.Exact.{contramap-lawful};

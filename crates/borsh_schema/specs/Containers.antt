@@ -25,11 +25,11 @@ root_of c = string_bytes c.declaration
 abbrev pub map_of : BorshSchemaContainer → BTreeMap (String Global) Definition
 map_of c = c.definitions
 
--- what stands under a name
+-- the definition of a name
 abbrev pub definition_of : BorshSchemaContainer → List ℕ → Option Definition
 definition_of c name = get_by_text (map_of c) name
 
--- this stands under the name now, and under each other name what stood there before
+-- the name has this definition now, and each other name the one that it had before
 abbrev pub ReplacesDefinition : BorshSchemaContainer → BorshSchemaContainer → List ℕ → Option Definition → Type 0
 ReplacesDefinition old new name d = (n : List ℕ) → definition_of new n ≡ update bytes_eq (definition_of old) name d n
 

@@ -60,7 +60,7 @@ named_definition (Struct fs) = named_fields fs
 abbrev pub DefinitionMap : Type 0
 DefinitionMap = List ℕ → Option NamedDefinition
 
--- what stands in a map of definitions
+-- the entries of a map of definitions
 abbrev pub definitions_by_name : {A : Type 0} → BTreeMap (String A) Definition → DefinitionMap
 definitions_by_name m n = option_map named_definition (get_by_text m n)
 

@@ -7,7 +7,7 @@ use Rattle.borsh_schema.specs.declared.definitions.SchemaBuildError.{SchemaBuild
 use Rattle.borsh_schema.specs.declared.definitions.SchemaBuildError.TheVariants.{Redefinition, OutOfMemory}
 use Rattle.borsh_schema.specs.Described.{NamedDefinition, named_definition, DefinitionMap, definitions_by_name, DefinitionTree, defined, IsInTree}
 
--- the definition stands under the name in the old definitions, or among the new parts
+-- the name has the definition in the old definitions, or among the new parts
 abbrev pub IsDefinedIn : DefinitionMap → DefinitionTree → List ℕ → NamedDefinition → Type 0
 IsDefinedIn old ps n d = (old n ≡ Some d) ⊎ IsInTree n d ps
 

@@ -4,7 +4,7 @@ use Rattle.borsh_codec.specs.Codec.{Codec}
 use Rattle.borsh_walks.specs.Container.{Shape, Member, Members, IsListedVariant, tag}
 use Rattle.borsh_schema.specs.Described.{DefinitionTree, none, defined, both, shape}
 
--- each of the named definitions stands in the container
+-- the container has each of the named definitions
 abbrev pub Holds : (List ℕ → Option Shape) → DefinitionTree → Type 0
 Holds C none = ⊤
 Holds C (defined n d ps) = (C n ≡ Some (shape d)) × Holds C ps

@@ -16,6 +16,6 @@ EndsWith old name new d =
     (declaration_of new ≡ declaration_of old)
     × (IsSome (get_by_text (map_of old) name) → (m : List ℕ) → get_by_text (map_of new) m ≡ update bytes_eq (get_by_text (map_of old)) name (Some d) m)
 
--- what is last written through r stands under the name, and at `None` nothing changes
+-- what is last written through r is the name's definition then, and at `None` nothing changes
 abbrev pub LendsDefinition : MutBor BorshSchemaContainer → List ℕ → Option (MutBor Definition) → Fml
 LendsDefinition c name r = LendsSo the_row definition_row c r (EndsWith c.now name) (λ n. n ≡ c.now)

@@ -41,7 +41,7 @@ module _ (c : BorshSchemaContainer) where
     -- a container in which each reached name keeps the rules is accepted, memory aside
     pub complete : AcceptsIfValid (language_of c) (root_of c) result
 
-  -- the same of a call that counts the definitions that it looks into
+  -- the same of a call that counts the definitions that it visits
   pub record ValidatesCounting (old new : Expansions) (result : Result (Unit {0}) SchemaContainerValidateError) : Type 0 where
     -- `Ok`: each reached name is defined and keeps the rules; `Err`: a reached name and a rule that it breaks, or memory was refused
     pub answer : MatchResult result (λ _. IsValid (language_of c) (root_of c)) (λ e. RulesFault (language_of c) (root_of c) e)
@@ -56,7 +56,7 @@ module _ (c : BorshSchemaContainer) where
   abbrev pub Sizes : Result ℕ SchemaMaxSerializedSizeError → Type 0
   Sizes result = AnswersSize (language_of c) (root_of c) result
 
-  -- the same of a call that counts the definitions that it looks into
+  -- the same of a call that counts the definitions that it visits
   pub record SizesCounting (old new : Expansions) (result : Result ℕ SchemaMaxSerializedSizeError) : Type 0 where
     -- `Ok`: the greatest length; `Err`: why there is none
     pub size : Sizes result

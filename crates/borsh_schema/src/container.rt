@@ -15,7 +15,7 @@ use borsh_walks::{Declaration, Definition};
 use std::alloc::{AllocError, Global};
 use std::collections::{BTreeMap, btree_map};
 
-/// A type's name, and what the names stand for that it leads to.
+/// A type's name, and the definition of each name that it refers to.
 #[derive(Clone, Debug, PartialEq, Eq, Drop)]
 pub struct BorshSchemaContainer {
     pub(crate) declaration: Declaration,

@@ -13,7 +13,7 @@ use borsh_walks::{Declaration, Definition};
 use std::alloc::Global;
 use std::collections::BTreeMap;
 
-/// Types whose names stand one after another, as `(A, (B, ()))`.
+/// Types whose names follow one another, as `(A, (B, ()))`.
 pub(crate) trait Places: SchemaParts {
     ghost names: { List (List ℕ) };
 

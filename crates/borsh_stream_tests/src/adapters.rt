@@ -7,7 +7,7 @@ use std::test::Fail;
 
 const TWELVE: [u8; 8] = [12, 0, 0, 0, 0, 0, 0, 0];
 
-/// Every kind of std's errors but an interruption, and the kind that stands for it.
+/// Every kind of std's errors but an interruption, and the kind that it becomes.
 const KINDS: [(std::io::ErrorKind, ErrorKind); 41] = [
     (std::io::ErrorKind::NotFound, ErrorKind::NotFound),
     (

@@ -12,7 +12,7 @@ pub trait BorshType {
     ghost codec: { Codec Self };
 
     /// Whether the encodings of the type are empty. Such a type can't be the element of a list, since
-    /// a short input would stand for any number of elements.
+    /// a short input could announce any number of elements.
     fn encodes_empty() -> bool
         ensures { result ≡ codec.is_zero_width };
 

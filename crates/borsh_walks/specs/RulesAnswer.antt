@@ -1,4 +1,4 @@
--- The local rules, and what an answer of `check_rules` stands for.
+-- The local rules, and what a result of `check_rules` means.
 use Rattle.std.specs.Prelude.{◌≡◌, ℕ, ◌<◌, ◌≤◌, ◌⊎◌, List, Option, Some, None, string_bytes, ⊤, eqb, ◌&&◌, cond, MatchOption, MatchResult, Result, Bool}
 use Rattle.std.specs.Borrow.{Bor}
 use Rattle.std.specs.BTreeMap.{BTreeMap}

@@ -15,7 +15,7 @@ use Rattle.borsh_walks.specs.declared.counted.Question.TheVariants.{Zero, Rules}
 use Rattle.borsh_walks.specs.declared.way.Spot.{Spot}
 use Rattle.borsh_walks.specs.declared.error.SchemaContainerValidateError.{SchemaContainerValidateError}
 
--- the mentions that wait on the way, whose last spot comes first
+-- the mentions that wait on the stack, the top first
 abbrev pub pending : List Spot → List (List ℕ)
 pending [] = []
 pending (f ∷ fs) = drop f.next (references (spot_shape f)) ++ pending fs
@@ -25,7 +25,7 @@ module _ (C : List ℕ → Option Shape) (root : List ℕ) where
   AllSpots [] = ⊤
   AllSpots (f ∷ fs) = ((C f.name.now ≡ Some (spot_shape f)) × Reached C root f.name.now × (f.next ≤ length (references (spot_shape f)))) × AllSpots fs
 
-  -- the names seen are reached and keep their rules, and what they mention is seen, waits on the way, or is among `extra`
+  -- the names seen are reached and keep their rules, and what they mention is seen, waits on the stack, or is among `extra`
   pub record RulesState (extra : List (List ℕ)) (seen : BTreeMap (Bor (List ℕ)) Bool) (way : List Spot) (zeros : BTreeMap (Bor (List ℕ)) Bool) : Type 0 where
     pub names : List (List ℕ)
     pub marks : Visited (λ x. Reached C root x × ((r : Rule) → Breaks C r x → ⊥) × IsDefined C x) (mark_of seen) names
@@ -50,7 +50,7 @@ RulesCounted root old new s t u v r = (base : Expansions) → IsBothCount old (b
 abbrev pub HasSeen : List ℕ → BTreeMap (Bor (List ℕ)) Bool → BTreeMap (Bor (List ℕ)) Bool → Type 0
 HasSeen name s t = ((x : List ℕ) → (mark_of s x ≡ None → ⊥) → mark_of t x ≡ None → ⊥) × (mark_of t name ≡ None → ⊥) × (btree_map_len t ≡ btree_map_len s + 1)
 
--- the name was put on the way
+-- the name was put on the stack
 abbrev pub HasPushed : Counted → List Spot → List Spot → List ℕ → Type 0
 HasPushed c old new name = (f : Spot) × (new ≡ f ∷ old) × (f.next ≡ 0) × (definition_at c name ≡ Some f.definition.now)
 

@@ -1,4 +1,4 @@
--- What an answer of `root_size` stands for.
+-- What a result of `root_size` means.
 use Rattle.std.specs.Prelude.{◌≡◌, ℕ, ◌^◌, ◌<◌, ◌≤◌, ◌↔◌, ◌⊎◌, IfOk, List, [], ◌∷◌, length, Option, Some, None, string_bytes, ⊤, MatchResult, OnOk, Result}
 use Rattle.borsh_walks.specs.declared.error.SchemaMaxSerializedSizeError.{SchemaMaxSerializedSizeError}
 use Rattle.borsh_walks.specs.declared.error.SchemaMaxSerializedSizeError.TheVariants.{Overflow, Recursive, MissingDefinition, OutOfMemory, Redefinition}
@@ -22,7 +22,7 @@ IsMissing name OutOfMemory = ⊤
 IsMissing name (Redefinition m) = ⊥
 
 module _ (C : List ℕ → Option Shape) (root : List ℕ) where
-  -- the cause that an error stands for
+  -- the cause of an error
   abbrev pub SizeFault : SchemaMaxSerializedSizeError → Type 0
   SizeFault Overflow = (k : ℕ) × PartialSize C [] root k × (2 ^ 64 ≤ k)
   SizeFault Recursive = IsRecursive C root
@@ -60,6 +60,6 @@ module _ (C : List ℕ → Option Shape) (root : List ℕ) where
   abbrev pub IsBound : Result ℕ SchemaMaxSerializedSizeError → Type 0
   IsBound r = IfOk r (λ n. ((bs : List ℕ) → Member C root bs → length bs ≤ n) × (IsValid C root → HasVariants C root → IsLongest C root n))
 
-  -- where no needed name is missing or leads back to itself, a size stands
+  -- where no needed name is missing or leads back to itself, there is a size
   abbrev pub HasSize : Type 0
   HasSize = ((x : List ℕ) → SizeReaches C root x → C x ≡ None → ⊥) → (IsRecursive C root → ⊥) → (n : ℕ) × MaxSize C root n

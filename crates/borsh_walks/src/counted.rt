@@ -1,11 +1,11 @@
-// How many definitions a walk looks into.
+// How many definitions a walk visits.
 ghost use Rattle.borsh_walks.specs.Counts.{CountsLook, definition_at, IsCounting, LooksOn};
 ghost use Rattle.std.specs.Prelude.{◌≡◌, option_map};
 
 use crate::definition::Definition;
 use std::collections::BTreeMap;
 
-/// How many definitions were looked into, for each kind of question. A count at its greatest value
+/// How many definitions were visited, for each kind of question. A count at its greatest value
 /// stays.
 #[derive(Clone, Copy, Debug, PartialEq, Eq)]
 pub struct Expansions {
@@ -14,7 +14,7 @@ pub struct Expansions {
     pub rules: u64,
 }
 
-/// What a definition is looked into for.
+/// What a definition is visited for.
 #[derive(Clone, Copy, Debug, PartialEq, Eq)]
 pub enum Question {
     /// How long its encodings may be.
@@ -25,7 +25,7 @@ pub enum Question {
     Rules,
 }
 
-/// A map of definitions that are counted where they are looked into.
+/// A map of definitions that counts how many of them are visited.
 #[derive(Drop)]
 pub struct Counted<'a, 'b> {
     pub(crate) map: &'a BTreeMap<String, Definition>,

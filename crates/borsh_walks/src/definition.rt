@@ -1,4 +1,4 @@
-// What a name stands for in a container.
+// The definition of a name in a container.
 
 /// The name of a type.
 pub type Declaration = String;
@@ -9,7 +9,7 @@ pub type VariantName = String;
 /// The name of a field of a struct.
 pub type FieldName = String;
 
-/// The number that stands for a variant in the bytes.
+/// The number that encodes a variant.
 pub type DiscriminantValue = i64;
 
 /// How many elements a sequence may have: from `start` to `end`, both included. Where `end` is below

@@ -37,7 +37,7 @@ pub enum SchemaMaxSerializedSizeError {
     MissingDefinition(Declaration),
     /// Memory was refused.
     OutOfMemory,
-    /// The name stands for two definitions. Only the size of a type is refused so.
+    /// The name has two definitions. Only the size of a type is refused with it.
     Redefinition(Declaration),
 }
 

@@ -2,7 +2,7 @@
 //!
 //! [`check_rules`] says whether the names reached from a root keep the rules, and [`root_size`] how long
 //! the encodings of the root may be. Both go over any definitions, also over names that lead back to
-//! themselves, look into each definition at most once for each kind of question, and don't recurse.
+//! themselves, visit each definition at most once for each kind of question, and don't recurse.
 #![tactic(auto)]
 
 mod codec;

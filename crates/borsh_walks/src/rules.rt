@@ -146,7 +146,7 @@ fn error_of(alloc: Global, broken: Broken, name: &str) -> SchemaContainerValidat
     }
 }
 
-// Looks at a reached name for the first time: its rules are checked, and its mentions wait on the way.
+// The first visit of a reached name: its rules are checked, and the names that it mentions wait on the stack.
 fn visit<'a>(
     alloc: Global,
     name: &'a str,
@@ -178,8 +178,7 @@ fn visit<'a>(
 /// A sequence of width 0 with one length keeps them. Of any other sequence the least length is at most
 /// the greatest, the width is 0, 1, 2, 4 or 8 and has room for the greatest length, and the elements
 /// aren't all without bytes. The tag of an enum has at most eight bytes. An error names a reached name
-/// and a rule that it breaks; where several are broken, it is the first in the order of a depth-first
-/// visit from the root.
+/// and a rule that it breaks; where several are broken, the contract doesn't say which of them.
 pub fn check_rules(
     alloc: Global,
     root: &str,
@@ -199,8 +198,8 @@ pub fn check_rules(
     walk_rules(alloc, root, &mut lent)
 }
 
-// The walk over the names that are reached. A name that was visited waits on the way until each of its
-// mentions was.
+// The walk over the names that are reached. A name that was visited waits on the stack `way` until each
+// name that it mentions was visited.
 fn walk_rules<'a>(
     alloc: Global,
     root: &'a str,

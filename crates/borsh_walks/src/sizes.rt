@@ -68,8 +68,8 @@ fn finish(definition: &Definition, gathered: usize) -> Option<usize>
 ///
 /// `Overflow` for a size that doesn't fit a `usize`, `Recursive` for a needed name that leads back to
 /// itself, `MissingDefinition` for a needed name without a definition. Where several of these hold, the
-/// error is the first in the order of a depth-first visit from the root. After an error `counted` has
-/// counted the definitions that were visited, as it has after an answer.
+/// contract doesn't say which of them is returned. After an error `counted` has counted the definitions
+/// that were visited, as it has after a size.
 pub fn root_size(
     alloc: Global,
     root: &str,
@@ -88,7 +88,7 @@ pub fn root_size(
     walk_sizes(alloc, root, &mut lent)
 }
 
-// The walk for the size of the root. A name on the way down is `Open`, and one with a size is `Finished`.
+// The walk for the size of the root. A name on the stack is `Open`, and one with a size is `Finished`.
 fn walk_sizes<'a>(
     alloc: Global,
     root: &'a str,

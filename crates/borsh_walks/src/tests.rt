@@ -7,7 +7,7 @@ use std::test::Fail;
 type Definitions = BTreeMap<String, Definition>;
 
 // The rule that is broken, the fault of the size, the size where there is one, and how many definitions
-// were looked into for the rules, the zero sizes and the size.
+// were visited for the rules, the zero sizes and the size.
 type Answers = (&'static str, &'static str, usize, [u64; 3]);
 
 fn text(alloc: Global, name: &str) -> Result<String, Fail> {

@@ -3,7 +3,7 @@ ghost use Rattle.std.specs.Prelude.{◌≡◌};
 
 use crate::definition::Definition;
 
-// A name on the way down; its first `next` parts are settled.
+// A name on the stack of a depth-first walk; its first `next` parts are done.
 #[derive(Clone, Copy)]
 pub struct Spot<'a> {
     pub name: &'a str,

@@ -24,8 +24,8 @@ fn never_zero(definition: &Definition) -> bool
     }
 }
 
-// Whether the name is of zero size. A name on the way down is marked `false`: met again, it is not of zero size,
-// and neither is any name above it; `true` is its mark once all its parts are of zero size.
+// Whether the name is of zero size. A name on the stack is marked `false`: if it is met again, it is not of zero
+// size, and neither is any name below it on the stack; its mark is `true` once all its parts are of zero size.
 pub fn is_zero<'a>(
     alloc: Global,
     name: &'a str,

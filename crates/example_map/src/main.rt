@@ -14,7 +14,7 @@ const INTERRUPTIONS: u32 = 1000;
 fn main(rt: HostRuntime) -> Result<(), anyhow::Error> {
     let alloc = rt.alloc();
 
-    // Decode: the entries have to stand in ascending order, and nothing may follow them.
+    // Decode: the entries must be in ascending order, and nothing may follow them.
     let mut input = StdReader::new(rt.stdin(), INTERRUPTIONS);
     let mut balances: BTreeMap<String, u64> = from_reader(alloc, &mut input)?;
     for (name, balance) in balances.iter() {

@@ -1,4 +1,4 @@
-// Bytes that are signed, and the values that they stand for.
+// Bytes that are signed, and the values that they encode.
 ghost use Rattle.std.specs.Prelude.{◌≡◌, true, Some, IfOk};
 
 use borsh::io::Result;

@@ -22,8 +22,8 @@ pub trait TryMaker<T> {
             (λ error. fails self.old error self.new) };
 }
 
-/// A value in a struct of its own: what stands for an array where it is answered beside an error that names a lifetime,
-/// until [`release`] takes it out.
+/// A value in a struct of its own: it holds an array that is returned beside an error that names a lifetime, until
+/// [`release`] takes it out.
 #[derive(Drop)]
 pub struct Held<A>(pub A);
 

@@ -33,7 +33,7 @@ shape_found : (o : Option Definition) (d : NamedDefinition) → option_map named
 shape_found None d e = absurd (cc)
 shape_found (Some v) d e = ap Some (shape_described v ∙ ap shape (let h : named_definition v ≡ d = cc in h))
 
--- what stands in a map stands in its language
+-- what is in a map is in its language
 pub shape_at : (m : BTreeMap (String Global) Definition) (n : List ℕ) (d : NamedDefinition) → definitions_by_name m n ≡ Some d → definitions_in m n ≡ Some (shape d)
 shape_at m n d = shape_found (get_by_text m n) d
 
@@ -43,7 +43,7 @@ holds_parts m none has = tt
 holds_parts m (defined n d ps) has = (shape_at m n d (has n d (inl (refl, refl))), holds_parts m ps (λ k e h. has k e (inr h)))
 holds_parts m (both ps qs) has = (holds_parts m ps (λ k e h. has k e (inl h)), holds_parts m qs (λ k e h. has k e (inr h)))
 
--- nothing stands in a map without entries
+-- nothing is in a map without entries
 pub nothing_in : (m : BTreeMap (String Global) Definition) → m.entries ≡ [] → definitions_by_name m ≡ nothing_defined
 nothing_in m e = ap (λ es n. option_map named_definition (lookup (is_at (λ k. slice_cmp nat_cmp n (string_bytes k))) es)) e
 

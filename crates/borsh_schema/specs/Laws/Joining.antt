@@ -11,7 +11,7 @@ given_first : (a : DefinitionMap) (ps qs : DefinitionTree) (n : List ℕ) (d : N
 given_first a ps qs n d (inl h) = inl h
 given_first a ps qs n d (inr h) = inr (inl h)
 
--- what stands in b or among qs stands in a or among all
+-- what is in b or among qs is in a or among all
 given_then : (a b : DefinitionMap) (ps qs : DefinitionTree) → ((n : List ℕ) (d : NamedDefinition) → b n ≡ Some d → IsDefinedIn a ps n d) → (n : List ℕ) (d : NamedDefinition) → IsDefinedIn b qs n d → IsDefinedIn a (both ps qs) n d
 given_then a b ps qs only n d (inl h) = given_first a ps qs n d (only n d h)
 given_then a b ps qs only n d (inr h) = inr (inr h)
