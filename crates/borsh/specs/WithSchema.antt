@@ -76,7 +76,7 @@ pub record IsOtherSchema {A : Type 0} (name : List ℕ) (parts : DefinitionTree)
   pub value : IsDecodable c true rest
   pub other : IsContainerOf name parts sent → ⊥
 
--- why container and value aren't read; bytes that aren't a container and then a value are refused before the container is looked at
+-- why container and value aren't read; that the container is another one is a reason only for bytes that decode to a container and a value
 pub data WhyNotRead {A : Type 0} (name : List ℕ) (parts : DefinitionTree) (c : Codec A) (bytes : List ℕ) (kind : ErrorKind) : Type 0 where
   malformed : IsInvalidData (pair container c).texts_allocate kind → (IsDecodable (pair container c) true bytes → ⊥) → WhyNotRead name parts c bytes kind
   other_schema : kind ≡ InvalidData → IsOtherSchema name parts c bytes → WhyNotRead name parts c bytes kind
