@@ -1,18 +1,17 @@
 -- What is told of a container.
-use Rattle.std.proofs.Common.{◌≡◌, ◌≢◌, ℕ, zero, suc, ◌+◌, ◌%◌, ◌^◌, ◌<◌, ◌≤◌, List, [], ◌++◌, Option, codes, refl, sym, ◌∙◌, ap, subst, arith, string_bytes, decimal}
+use Rattle.std.proofs.Common.{◌≡◌, ◌≢◌, ℕ, zero, suc, ◌+◌, ◌%◌, ◌^◌, ◌<◌, ◌≤◌, List, [], ◌++◌, Option, codes, refl, sym, subst, arith, string_bytes, decimal}
 use Rattle.std.proofs.lemmas.Fmt.{decimal_by_steps}
 use Rattle.std.proofs.lemmas.List.Elements.{All-nil, All-push, All-append}
 use Rattle.borsh_walks.specs.Container.{Shape, zst_sequence, tag_too_wide, tag_too_narrow, tag_not_power_of_two, missing_definition, empty_length_range}
-use Rattle.borsh_walks.specs.Counts.{add_saturating, add_to}
+use Rattle.borsh_walks.specs.Counts.{add_saturating}
 use Rattle.borsh_walks.specs.RulesAnswer.{RulesFault}
 use Rattle.borsh_walks.specs.SizeAnswer.{SizeFault}
 use Rattle.borsh_walks.specs.declared.counted.Expansions.{Expansions}
-use Rattle.borsh_walks.specs.declared.counted.Question.TheVariants.{Size, Zero, Rules}
 use Rattle.borsh_walks.specs.declared.error.SchemaContainerValidateError.{SchemaContainerValidateError}
 use Rattle.borsh_walks.specs.declared.error.SchemaContainerValidateError.TheVariants.{ZSTSequence, TagTooWide, TagTooNarrow, TagNotPowerOfTwo, MissingDefinition, EmptyLengthRange, OutOfMemory}
 use Rattle.borsh_walks.specs.declared.error.SchemaMaxSerializedSizeError.{SchemaMaxSerializedSizeError}
 use Rattle.borsh_walks.specs.declared.error.SchemaMaxSerializedSizeError.TheVariants.{Overflow, Recursive, MissingDefinition as Missing, OutOfMemory as NoMemory, Redefinition}
-use Rattle.borsh_answers.specs.Containers.{IsRulesText, IsSizeText, nothing_counted, broken_text, missing_text, counts_text}
+use Rattle.borsh_answers.specs.Containers.{IsRulesText, IsSizeText, broken_text, missing_text, counts_text}
 use Rattle.borsh_answers.specs.Containers.IsRulesText.{invalid}
 use Rattle.borsh_answers.specs.Containers.IsSizeText.{overflows, recurs, misses}
 use Rattle.borsh_answers.specs.Digits.{digits_of}

@@ -7,9 +7,37 @@ ghost use Rattle.borsh_answers.specs.Answers.{AnswersValue};
 ghost use Rattle.borsh_answers.specs.Lines.{IsLine, IsErrorLine};
 
 use super::lines::push_digits;
+use super::words::Question;
 use borsh::io::{Error, ErrorKind};
+use borsh::schema::BorshSchema;
 use borsh::{BorshDeserialize, BorshSerialize, from_slice, from_slice_unordered, to_vec};
 use std::alloc::{AllocError, Global};
+
+/// Which value the bytes decode to; `strict` if keys must be in ascending order.
+#[derive(Drop)]
+pub(crate) struct ValueQuestion<'a> {
+    pub strict: bool,
+    pub bytes: &'a [u8],
+}
+
+impl<'a> Question for ValueQuestion<'a> {
+    ghost answers = { λ question meaning out.
+        AnswersValue meaning.codec question.strict question.bytes.now out };
+
+    fn answer<T: BorshSerialize + BorshDeserialize + BorshSchema>(
+        &self,
+        alloc: Global,
+    ) -> Result<Vec<u8>, AllocError> {
+        value_answer::<T>(alloc, self.strict, self.bytes)
+    }
+
+    fn answer_without_schema<T: BorshSerialize + BorshDeserialize>(
+        &self,
+        alloc: Global,
+    ) -> Result<Vec<u8>, AllocError> {
+        value_answer::<T>(alloc, self.strict, self.bytes)
+    }
+}
 
 /// The answer to bytes that are to be decoded as a `T`; `strict` if keys must be in ascending order.
 pub fn value_answer<T: BorshSerialize + BorshDeserialize>(

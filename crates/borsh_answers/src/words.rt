@@ -1,6 +1,45 @@
 // The words that name a type.
-ghost use Rattle.std.specs.Prelude.{◌≡◌, map};
-ghost use Rattle.borsh_answers.specs.Words.{word_text, word_named, all_words};
+ghost use Rattle.std.specs.Prelude.{◌≡◌, map, List, ℕ, Some, None, IfOk};
+ghost use Rattle.borsh_answers.specs.Lines.{IsLine};
+ghost use Rattle.borsh_answers.specs.Words.{Meaning, meaning, meaning_of, row, word_named, all_words};
+
+use borsh::schema::{BorshSchema, BorshSchemaContainer};
+use borsh::{BorshDeserialize, BorshSerialize};
+use borsh_samples::{A, MyEnum, MyStruct, One, OneOrZero};
+use bytes::Bytes;
+use indexmap::{IndexMap, IndexSet};
+use std::alloc::{AllocError, Global};
+use std::boxed::BoxedSlice;
+use std::collections::{BTreeMap, BTreeSet, HashMap, HashSet, LinkedList, VecDeque};
+use std::net::{IpAddr, SocketAddr, SocketAddrV6};
+use std::num::NonZeroI16;
+use std::ops::{Range, RangeFrom, RangeFull, RangeInclusive, RangeTo, RangeToInclusive};
+use std::rc::RcStr;
+use uuid::Uuid;
+
+/// A question that is asked about the type of a word. Its answer is a line.
+pub(crate) trait Question {
+    /// What answers the question about a type of this meaning.
+    ghost answers: { Self → Meaning → List ℕ → Type 0 };
+
+    /// The answer for a type that has a schema.
+    fn answer<T: BorshSerialize + BorshDeserialize + BorshSchema>(
+        &self,
+        alloc: Global,
+    ) -> Result<Vec<u8>, AllocError>
+        ensures answers { IfOk result (λ out.
+            answers self.now (meaning_of T.codec (Some (T.name, T.parts))) out.items) }
+        ensures line { IfOk result (λ out. IsLine out.items) };
+
+    /// The answer for a type that has none.
+    fn answer_without_schema<T: BorshSerialize + BorshDeserialize>(
+        &self,
+        alloc: Global,
+    ) -> Result<Vec<u8>, AllocError>
+        ensures answers { IfOk result (λ out.
+            answers self.now (meaning_of T.codec None) out.items) }
+        ensures line { IfOk result (λ out. IsLine out.items) };
+}
 
 /// A type that lines can speak of.
 #[derive(Clone, Copy, Debug, PartialEq, Eq)]
@@ -98,7 +137,7 @@ const WORDS: [Word; 42] = [
 impl Word {
     /// How the type is written.
     pub fn as_str(self) -> &'static str
-        ensures { result.now ≡ word_text self }
+        ensures { result.now ≡ (row self).text }
     {
         match self {
             Word::U8 => "u8",
@@ -154,5 +193,66 @@ impl Word {
             .iter()
             .copied()
             .find(|word| word.as_str().as_bytes() == name)
+    }
+
+    /// The answer to a question about the type that the word names.
+    pub(crate) fn ask<Q: Question>(self, question: &Q, alloc: Global) -> Result<Vec<u8>, AllocError>
+        ensures answers { IfOk result (λ out.
+            Q.answers question.now (meaning self) out.items) }
+        ensures line { IfOk result (λ out. IsLine out.items) }
+    {
+        match self {
+            Word::U8 => question.answer::<u8>(alloc),
+            Word::U32 => question.answer::<u32>(alloc),
+            Word::U64 => question.answer::<u64>(alloc),
+            Word::Bool => question.answer::<bool>(alloc),
+            Word::OptionU8 => question.answer::<Option<u8>>(alloc),
+            Word::String => question.answer::<String>(alloc),
+            Word::ListU8 => question.answer::<Vec<u8>>(alloc),
+            Word::U128 => question.answer::<u128>(alloc),
+            Word::Isize => question.answer::<isize>(alloc),
+            Word::NonZeroI16 => question.answer::<NonZeroI16>(alloc),
+            Word::Unit => question.answer::<()>(alloc),
+            Word::ResultU8 => question.answer::<Result<u8, u8>>(alloc),
+            Word::ArrayOption => question.answer::<[Option<u8>; 10]>(alloc),
+            Word::Ranges => question.answer::<
+                (
+                    Range<i32>,
+                    RangeInclusive<i32>,
+                    RangeFrom<i32>,
+                    RangeTo<i32>,
+                    RangeToInclusive<i32>,
+                    RangeFull,
+                ),
+            >(alloc),
+            Word::ListString => question.answer::<Vec<String>>(alloc),
+            Word::ListOption => question.answer::<Vec<Option<u8>>>(alloc),
+            Word::ListUnit => question.answer::<Vec<()>>(alloc),
+            Word::ListBoxUnit => question.answer::<Vec<Box<()>>>(alloc),
+            Word::ListZero => question.answer::<Vec<([u8; 0], [u8; 0])>>(alloc),
+            Word::DequeU8 => question.answer::<VecDeque<u8>>(alloc),
+            Word::LinkedU8 => question.answer::<LinkedList<u8>>(alloc),
+            Word::SetU8 => question.answer::<BTreeSet<u8>>(alloc),
+            Word::HashSetU8 => question.answer::<HashSet<u8>>(alloc),
+            Word::MapU8 => question.answer::<BTreeMap<u8, u8>>(alloc),
+            Word::HashMapU8 => question.answer::<HashMap<u8, u8>>(alloc),
+            Word::MapSet => question.answer::<BTreeMap<u8, BTreeSet<u8>>>(alloc),
+            Word::MapUnit => question.answer::<BTreeMap<(), u8>>(alloc),
+            Word::Ip => question.answer::<IpAddr>(alloc),
+            Word::BoxU8 => question.answer::<BoxedSlice<u8>>(alloc),
+            Word::RcString => question.answer::<RcStr>(alloc),
+            Word::Container => question.answer::<BorshSchemaContainer>(alloc),
+            Word::Readme => question.answer::<A>(alloc),
+            Word::MyEnum => question.answer::<MyEnum>(alloc),
+            Word::IndexMapU8 => question.answer_without_schema::<IndexMap<u8, u8>>(alloc),
+            Word::IndexSetU8 => question.answer_without_schema::<IndexSet<u8>>(alloc),
+            Word::Bytes => question.answer_without_schema::<Bytes>(alloc),
+            Word::Uuid => question.answer_without_schema::<Uuid>(alloc),
+            Word::Socket => question.answer_without_schema::<SocketAddr>(alloc),
+            Word::SocketV6 => question.answer_without_schema::<SocketAddrV6>(alloc),
+            Word::MyStruct => question.answer_without_schema::<MyStruct>(alloc),
+            Word::OneOrZero => question.answer_without_schema::<OneOrZero>(alloc),
+            Word::ListOne => question.answer_without_schema::<Vec<One>>(alloc),
+        }
     }
 }

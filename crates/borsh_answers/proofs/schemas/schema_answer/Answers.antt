@@ -3,4 +3,4 @@ use Rattle.borsh_answers.proofs.Agreed.{never_clashes}
 use Rattle.borsh_answers.proofs.schemas.schema_answer.Goals as goal
 
 pub returns-clause-answers : goal.returns-clause-answers
-returns-clause-answers c = IfOk-weaker c.schema_or_clash.result _ _ (λ out p. never_clashes c.args.word out.items p) c.schema_or_clash.ensures.answers
+returns-clause-answers c = IfOk-weaker c.ask.result _ _ (λ out p. never_clashes c.args.word out.items p) c.ask.ensures.answers
