@@ -4,7 +4,7 @@ use Rattle.std.specs.Prelude.{if◌then◌else◌}
 use Rattle.std.specs.Bool.{⊤}
 use Rattle.std.specs.declared.cmp.Ordering.{Ordering}
 use Rattle.std.specs.Ordering.{is_eq, eq_by_cmp}
-use Rattle.std.specs.Cmp.{IsTotalOrder, IsEquivalence, eq_by_cmp_equiv}
+use Rattle.std.specs.Cmp.{IsTotalOrder, eq_by_cmp_equiv}
 use Rattle.std.specs.BTreeMap.{is_at}
 use Rattle.std.specs.Map.{keys_of, lookup, update_all}
 use Rattle.std.specs.Set.{is_member}
@@ -23,7 +23,6 @@ use Rattle.borsh_codec.specs.Reading.{NoPrefix, IsInvalidData, Decoded, NotDecod
 use Rattle.borsh_codec.proofs.Laws.Rows.{counted_fronts}
 use Rattle.borsh_codec.proofs.Laws.Maps.Sorted.{IsKeyed}
 use Rattle.borsh_codec.proofs.Laws.Maps.Ordered.{ascending_back}
-use Rattle.borsh_codec.proofs.Laws.Maps.Inserted.{gathered_again}
 use Rattle.borsh_codec.proofs.ReadSteps.{took_weaker, told_after, refused_map, refused_here}
 
 -- what one meaning reads as v, another one reads as w
@@ -71,8 +70,8 @@ module _ {K V : Type 0} {cmp : K → K → Ordering} {item : Codec (K × V)} (re
   denied_ordered = denied_as (refused_if refused (btree_entries cmp item)) (λ e. e) (λ e. e) (λ m x h. (h.1.decodes.decodes.read, record { allowed = h.1.allowed; decodes = h.1.decodes.decodes.entries }))
 
 module _ {K V : Type 0} {item : Codec (K × V)} (refused : Bool) where
-  pub reads_inserted : {eq : K → K → Bool} {s t : ReaderState} {read : List (K × V)} (es : List (K × V)) → IsEquivalence eq → es ≡ after_inserts eq read → Decoded (List (K × V)) (refused_if refused (length_prefixed item)) s t read → Decoded (List (K × V)) (refused_if refused (index_entries eq item)) s t es
-  reads_inserted {eq = eq} {read = read} es q e = reads_as (refused_if refused (index_entries eq item)) es (λ m x h. record { allowed = h.allowed; decodes = record { read = read; bytes = h.decodes; entries = ap (after_inserts eq) e ∙ gathered_again q read } })
+  pub reads_inserted : {eq : K → K → Bool} {s t : ReaderState} {read : List (K × V)} (es : List (K × V)) → es ≡ after_inserts eq read → Decoded (List (K × V)) (refused_if refused (length_prefixed item)) s t read → Decoded (List (K × V)) (refused_if refused (index_entries eq item)) s t es
+  reads_inserted {eq = eq} {read = read} es e = reads_as (refused_if refused (index_entries eq item)) es (λ m x h. record { allowed = h.allowed; decodes = record { read = read; bytes = h.decodes; entries = e } })
 
   pub denied_inserted : (eq : K → K → Bool) {s t : ReaderState} {k : ErrorKind} → NotDecoded (List (K × V)) (refused_if refused (length_prefixed item)) s t k → NotDecoded (List (K × V)) (refused_if refused (index_entries eq item)) s t k
   denied_inserted eq = denied_as (refused_if refused (index_entries eq item)) (λ e. e) (λ e. e) (λ m x h. (h.1.decodes.read, record { allowed = h.1.allowed; decodes = h.1.decodes.bytes }))

@@ -1,7 +1,6 @@
 -- Maps and sets that are written as counted lists of their entries.
 use Rattle.std.proofs.Common.{◌≡◌, ℕ, ◌+◌, ◌<◌, get_or, drop, Bool, cond, List, [], ◌∷◌, length, Option, None, refl, sym, ◌∙◌, ap, subst, map}
 use Rattle.std.specs.declared.cmp.Ordering.{Ordering}
-use Rattle.std.specs.Cmp.{IsEquivalence}
 use Rattle.std.specs.Map.{keys_of}
 use Rattle.std.specs.List.{IsDistinct}
 use Rattle.std.specs.List.Sorted.{IsStrictlySortedBy}
@@ -10,7 +9,7 @@ use Rattle.borsh_codec.specs.Codec.{Codec}
 use Rattle.borsh_codec.specs.Shapes.{unsigned_encoding, append_encodings, concat_encodings, contramap, length_prefixed}
 use Rattle.borsh_codec.specs.Maps.{btree_entries, index_entries, unit_entries, key_only}
 use Rattle.borsh_codec.proofs.Laws.Maps.Ordered.{ascends_is}
-use Rattle.borsh_codec.proofs.Laws.Maps.Inserted.{gathered_distinct}
+use Rattle.borsh_codec.proofs.Laws.Maps.Inserted.{distinct_encoding}
 use Rattle.borsh_codec.proofs.ReadMaps.{keys-bare_entries}
 use Rattle.borsh_codec.proofs.WriteRows.{all_joined-next}
 
@@ -40,12 +39,12 @@ module _ {K V : Type 0} (item : Codec (K × V)) where
   btree_written cmp es s = sym (ap (λ t. cond t ((length_prefixed item).encoding es) None) ((ascends_is cmp (keys_of es)).1 s))
 
   -- entries of which no two have one key
-  pub index_written : {eq : K → K → Bool} → IsEquivalence eq → (es : List (K × V)) → IsDistinct eq (keys_of es) → (length_prefixed item).encoding es ≡ (index_entries eq item).encoding es
-  index_written q es d = sym (ap (length_prefixed item).encoding (gathered_distinct q es d))
+  pub index_written : (eq : K → K → Bool) (es : List (K × V)) → IsDistinct eq (keys_of es) → (length_prefixed item).encoding es ≡ (index_entries eq item).encoding es
+  index_written eq es d = sym (distinct_encoding eq item es d)
 
 -- the same for the keys of a set
 pub btree_set_written : {K : Type 0} (c : Codec K) (cmp : K → K → Ordering) (ks : List K) → IsStrictlySortedBy cmp ks → (length_prefixed c).encoding ks ≡ (contramap unit_entries (btree_entries cmp (key_only c))).encoding ks
 btree_set_written c cmp ks s = counted-bare c ks ∙ btree_written (key_only c) cmp (unit_entries ks) (subst (IsStrictlySortedBy cmp) (sym (keys-bare_entries ks)) s)
 
-pub index_set_written : {K : Type 0} (c : Codec K) {eq : K → K → Bool} → IsEquivalence eq → (ks : List K) → IsDistinct eq ks → (length_prefixed c).encoding ks ≡ (contramap unit_entries (index_entries eq (key_only c))).encoding ks
-index_set_written c {eq = eq} q ks d = counted-bare c ks ∙ index_written (key_only c) q (unit_entries ks) (subst (IsDistinct eq) (sym (keys-bare_entries ks)) d)
+pub index_set_written : {K : Type 0} (c : Codec K) (eq : K → K → Bool) (ks : List K) → IsDistinct eq ks → (length_prefixed c).encoding ks ≡ (contramap unit_entries (index_entries eq (key_only c))).encoding ks
+index_set_written c eq ks d = counted-bare c ks ∙ index_written (key_only c) eq (unit_entries ks) (subst (IsDistinct eq) (sym (keys-bare_entries ks)) d)

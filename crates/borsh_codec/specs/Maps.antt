@@ -1,5 +1,5 @@
 -- The meanings of maps and sets: a count and the entries, by ascending key or in the order of insertion.
-use Rattle.std.specs.Prelude.{◌≡◌, ℕ, Bool, true, false, ◌&&◌, cond, List, [], ◌∷◌, Option, Some, None, ⊤, map}
+use Rattle.std.specs.Prelude.{◌≡◌, ℕ, Bool, true, false, not, ◌&&◌, cond, List, [], ◌∷◌, Option, Some, None, ⊤, map}
 use Rattle.std.specs.Bool.{Decides}
 use Rattle.std.specs.declared.cmp.Ordering.{Ordering}
 use Rattle.std.specs.Ordering.{is_lt, eq_by_cmp}
@@ -107,17 +107,22 @@ btree_entries cmp item = record {
 abbrev pub after_inserts : {K V : Type 0} → (K → K → Bool) → List (K × V) → List (K × V)
 after_inserts eq es = insert_all eq [] es
 
--- the bytes are a count and that many entries, which inserted in turn leave the same
+-- whether no two of the keys are equal
+abbrev pub are_distinct : {K : Type 0} → (K → K → Bool) → List K → Bool
+are_distinct eq [] = true
+are_distinct eq (k ∷ ks) = list_all (λ y. not (eq k y)) ks && are_distinct eq ks
+
+-- the bytes are a count and that many entries, and inserting these in turn leaves exactly this list
 pub record IndexMapDecodes {K V : Type 0} (eq : K → K → Bool) (item : Codec (K × V)) (strict : Bool) (x : List ℕ) (es : List (K × V)) : Type 0 where
   pub read : List (K × V)
   pub bytes : (length_prefixed item).decodes strict x read
-  pub entries : after_inserts eq es ≡ after_inserts eq read
+  pub entries : es ≡ after_inserts eq read
 
--- entries of a map in the order of insertion; bytes with a key twice are read too
+-- entries of a map in the order of insertion; bytes with a key twice are read too; entries with a key twice, as in no such map, have no encoding
 abbrev pub index_entries : {K V : Type 0} → (K → K → Bool) → Codec (K × V) → Codec (List (K × V))
 index_entries eq item = record {
-  encoding = λ es. (length_prefixed item).encoding (after_inserts eq es);
-  equivalent = λ es fs. AllZip item.equivalent (after_inserts eq es) (after_inserts eq fs);
+  encoding = λ es. cond (are_distinct eq (keys_of es)) ((length_prefixed item).encoding es) None;
+  equivalent = AllZip item.equivalent;
   decodes = IndexMapDecodes eq item;
   is_zero_width = false;
   is_canonical = false;

@@ -1,13 +1,15 @@
 -- The laws of maps that keep the order of insertion.
-use Rattle.std.proofs.Common.{◌≡◌, ℕ, ◌+◌, ◌<◌, ◌≤◌, ◌^◌, Bool, true, false, List, [], ◌∷◌, ◌++◌, length, Some, refl, sym, ◌∙◌, ap, subst, append_assoc, arith, true≢false}
+use Rattle.std.proofs.Common.{◌≡◌, ℕ, ◌+◌, ◌<◌, ◌≤◌, ◌^◌, Bool, true, false, not, ◌&&◌, cond, List, [], ◌∷◌, ◌++◌, length, Some, None, refl, sym, ◌∙◌, ap, subst, append_assoc, arith, true≢false}
 use Rattle.std.specs.Prelude.{if◌then◌else◌}
+use Rattle.std.specs.Bool.{Decides}
 use Rattle.std.specs.Cmp.{IsEquivalence}
 use Rattle.std.specs.Map.{keys_of}
-use Rattle.std.specs.List.{AllByRecursion, AllZip, IsDistinct}
+use Rattle.std.specs.List.{AllByRecursion, AllZip, IsDistinct, list_all}
 use Rattle.indexmap.specs.IndexMap.{insert_entry, insert_all}
 use Rattle.borsh_codec.specs.Codec.{Codec, Lawful}
 use Rattle.borsh_codec.specs.Shapes.{length_prefixed}
-use Rattle.borsh_codec.specs.Maps.{after_inserts, IndexMapDecodes, index_entries}
+use Rattle.borsh_codec.specs.Maps.{after_inserts, are_distinct, IndexMapDecodes, index_entries}
+use Rattle.borsh_codec.proofs.Laws.Lists.{and_true, some_if_true}
 use Rattle.borsh_codec.proofs.Laws.Rows.{length_prefixed-lawful}
 use Rattle.borsh_codec.proofs.Laws.Maps.Counted.{HasEncoding, same_counted, encoded_elements, same_elements, counted_long, counted_encoded}
 
@@ -74,9 +76,9 @@ module _ {K V : Type 0} {eq : K → K → Bool} (q : IsEquivalence eq) where
   distinct_all done [] d = d
   distinct_all done (e ∷ es) d = distinct_all (insert_entry eq done e.0 e.1) es (distinct_inserted e.0 e.1 done d)
 
-  pub gathered_again : (es : List (K × V)) → after_inserts eq (after_inserts eq es) ≡ after_inserts eq es
+  pub distinct_after : (es : List (K × V)) → IsDistinct eq (keys_of (after_inserts eq es))
   unfolding IsDistinct
-  gathered_again es = gathered_distinct (after_inserts eq es) (distinct_all [] es tt)
+  distinct_after es = distinct_all [] es tt
 
   length_inserted : (k : K) (v : V) (es : List (K × V)) → length (insert_entry eq es k v) ≤ length es + 1
   length_inserted k v [] = omega arith
@@ -90,17 +92,47 @@ module _ {K V : Type 0} {eq : K → K → Bool} (q : IsEquivalence eq) where
   length_all done [] = omega arith
   length_all done (e ∷ es) = let h = length_all (insert_entry eq done e.0 e.1) es in let k = length_inserted e.0 e.1 done in omega arith
 
+-- ---- the test for keys of which no two are equal
+
+not_true : (b : Bool) → Decides (not b) (b ≡ false)
+not_true true = (λ e. absurd (cc), λ e. absurd (cc))
+not_true false = (λ e. refl, λ e. refl)
+
+none_equal : {K : Type 0} (eq : K → K → Bool) (k : K) (ks : List K) → Decides (list_all (λ y. not (eq k y)) ks) (AllByRecursion (λ y. eq k y ≡ false) ks)
+none_equal eq k [] = (λ e. tt, λ h. refl)
+none_equal eq k (y ∷ ks) =
+    let rest = none_equal eq k ks in (
+      λ e. (let h = and_true (not (eq k y)) (list_all (λ y. not (eq k y)) ks) e in ((not_true (eq k y)).0 h.0, rest.0 h.1)),
+      λ h. ap (λ b. b && list_all (λ y. not (eq k y)) ks) ((not_true (eq k y)).1 h.0) ∙ rest.1 h.1,
+    )
+
+pub are_distinct_is : {K : Type 0} (eq : K → K → Bool) (ks : List K) → Decides (are_distinct eq ks) (IsDistinct eq ks)
+unfolding IsDistinct
+are_distinct_is eq [] = (λ e. tt, λ h. refl)
+are_distinct_is eq (k ∷ ks) =
+    let here = none_equal eq k ks in
+    let rest = are_distinct_is eq ks in (
+      λ e. (let h = and_true (list_all (λ y. not (eq k y)) ks) (are_distinct eq ks) e in (here.0 h.0, rest.0 h.1)),
+      λ h. ap (λ b. b && are_distinct eq ks) (here.1 h.0) ∙ rest.1 h.1,
+    )
+
+-- entries of distinct keys are encoded as a list of entries
+pub distinct_encoding : {K V : Type 0} (eq : K → K → Bool) (item : Codec (K × V)) (es : List (K × V)) → IsDistinct eq (keys_of es) → (index_entries eq item).encoding es ≡ (length_prefixed item).encoding es
+distinct_encoding eq item es d = ap (λ t. cond t ((length_prefixed item).encoding es) None) ((are_distinct_is eq (keys_of es)).1 d)
+
 module _ {K V : Type 0} (eq : K → K → Bool) (S : V → V → Type 0) (item : Codec (K × V)) (laws : Lawful (K × V) item) (keyed : IsKeyedBy eq S item) where
+  -- whether two entries have equal keys is the same of equivalent entries
+  same_test : (e f : K × V) → item.equivalent e f → (a b : K × V) → item.equivalent a b → eq e.0 a.0 ≡ eq f.0 b.0
+  same_test e f s a b z =
+      keyed.equiv.congr e.0 f.0 a.0 (keyed.split e f s).0 ∙ keyed.equiv.symm f.0 a.0 ∙ keyed.equiv.congr a.0 b.0 f.0 (keyed.split a b z).0 ∙ keyed.equiv.symm b.0 f.0
+
   inserted_same : (e f : K × V) → item.equivalent e f → (es fs : List (K × V)) → AllZip item.equivalent es fs → AllZip item.equivalent (insert_entry eq es e.0 e.1) (insert_entry eq fs f.0 f.1)
   inserted_same e f s [] [] z = (keyed.build e f (keyed.split e f s).0 (keyed.split e f s).1, tt)
   inserted_same e f s [] (b ∷ fs) z = absurd z
   inserted_same e f s (a ∷ es) [] z = absurd z
   inserted_same e f s (a ∷ es) (b ∷ fs) z =
-      subst (λ t. AllZip item.equivalent (insert_entry eq (a ∷ es) e.0 e.1) (if t then (b.0, f.1) ∷ fs else b ∷ insert_entry eq fs f.0 f.1)) level (by (eq e.0 a.0) (inserted_same e f s es fs z.1))
+      subst (λ t. AllZip item.equivalent (insert_entry eq (a ∷ es) e.0 e.1) (if t then (b.0, f.1) ∷ fs else b ∷ insert_entry eq fs f.0 f.1)) (same_test e f s a b z.0) (by (eq e.0 a.0) (inserted_same e f s es fs z.1))
     where
-      level : eq e.0 a.0 ≡ eq f.0 b.0
-      level = keyed.equiv.congr e.0 f.0 a.0 (keyed.split e f s).0 ∙ keyed.equiv.symm f.0 a.0 ∙ keyed.equiv.congr a.0 b.0 f.0 (keyed.split a b z.0).0 ∙ keyed.equiv.symm b.0 f.0
-
       by : (t : Bool) → AllZip item.equivalent (insert_entry eq es e.0 e.1) (insert_entry eq fs f.0 f.1) → AllZip item.equivalent (if t then (a.0, e.1) ∷ es else a ∷ insert_entry eq es e.0 e.1) (if t then (b.0, f.1) ∷ fs else b ∷ insert_entry eq fs f.0 f.1)
       by true h = (keyed.build (a.0, e.1) (b.0, f.1) (keyed.split a b z.0).0 (keyed.split e f s).1, z.1)
       by false h = (z.0, h)
@@ -143,20 +175,37 @@ module _ {K V : Type 0} (eq : K → K → Bool) (S : V → V → Type 0) (item :
   all_first P Q [] h = tt
   all_first P Q (e ∷ es) h = (h.0.0, all_first P Q es h.1)
 
+  -- ---- equivalent entries have equal keys
+
+  tests_same : (e f : K × V) → item.equivalent e f → (es fs : List (K × V)) → AllZip item.equivalent es fs → list_all (λ y. not (eq e.0 y)) (keys_of es) ≡ list_all (λ y. not (eq f.0 y)) (keys_of fs)
+  tests_same e f s [] [] z = refl
+  tests_same e f s [] (b ∷ fs) z = absurd z
+  tests_same e f s (a ∷ es) [] z = absurd z
+  tests_same e f s (a ∷ es) (b ∷ fs) z =
+      ap (λ t. not t && list_all (λ y. not (eq e.0 y)) (keys_of es)) (same_test e f s a b z.0) ∙ ap (λ t. not (eq f.0 b.0) && t) (tests_same e f s es fs z.1)
+
+  distinct_same : (es fs : List (K × V)) → AllZip item.equivalent es fs → are_distinct eq (keys_of es) ≡ are_distinct eq (keys_of fs)
+  distinct_same [] [] z = refl
+  distinct_same [] (f ∷ fs) z = absurd z
+  distinct_same (e ∷ es) [] z = absurd z
+  distinct_same (e ∷ es) (f ∷ fs) z = ap (λ b. b && are_distinct eq (keys_of es)) (tests_same e f z.0 es fs z.1) ∙ ap (λ b. list_all (λ y. not (eq f.0 y)) (keys_of fs) && b) (distinct_same es fs z.1)
+
   -- ---- the laws
 
   round_trip : (m : Bool) (a : List (K × V)) (x : List ℕ) → (index_entries eq item).encoding a ≡ Some x → IndexMapDecodes eq item m x a
-  round_trip m a x e = record {
-    read = after_inserts eq a;
-    bytes = (length_prefixed-lawful laws).round_trip m (after_inserts eq a) x e;
-    entries = sym (gathered_again keyed.equiv a);
-  }
+  round_trip m a x e =
+      let p = some_if_true (are_distinct eq (keys_of a)) ((length_prefixed item).encoding a) x e in
+      record {
+        read = a;
+        bytes = (length_prefixed-lawful laws).round_trip m a x p.is;
+        entries = sym (gathered_distinct keyed.equiv a ((are_distinct_is eq (keys_of a)).0 p.holds));
+      }
 
-  unambiguous : (m : Bool) (x : List ℕ) (a b : List (K × V)) → IndexMapDecodes eq item m x a → IndexMapDecodes eq item m x b → AllZip item.equivalent (after_inserts eq a) (after_inserts eq b)
+  unambiguous : (m : Bool) (x : List ℕ) (a b : List (K × V)) → IndexMapDecodes eq item m x a → IndexMapDecodes eq item m x b → AllZip item.equivalent a b
   unambiguous m x a b h k =
       let both = (length_prefixed-lawful laws).unambiguous m x h.read k.read h.bytes k.bytes in
       let same = all_inserted_same h.read k.read both [] [] tt in
-      subst (λ l. AllZip item.equivalent l (after_inserts eq b)) (sym h.entries) (subst (λ l. AllZip item.equivalent (after_inserts eq h.read) l) (sym k.entries) same)
+      subst (λ l. AllZip item.equivalent l b) (sym h.entries) (subst (λ l. AllZip item.equivalent (after_inserts eq h.read) l) (sym k.entries) same)
 
   re_encodable : (m : Bool) (x : List ℕ) (a : List (K × V)) → IndexMapDecodes eq item m x a → HasEncoding (index_entries eq item) a
   unfolding IsEncoded
@@ -165,11 +214,11 @@ module _ {K V : Type 0} (eq : K → K → Bool) (S : V → V → Type 0) (item :
       let all = all_first (HasEncoding item) (λ e. item.equivalent e e) (after_inserts eq h.read) (encoded_all h.read each [] tt) in
       let fits : length (after_inserts eq h.read) < 256 ^ 4 = (let le = length_all keyed.equiv [] h.read in let lt = counted_long item m x h.read h.bytes in omega arith) in
       let f = counted_encoded item (after_inserts eq h.read) fits all in
-      (f.0, ap (length_prefixed item).encoding h.entries ∙ f.1)
+      (f.0, ap (index_entries eq item).encoding h.entries ∙ distinct_encoding eq item (after_inserts eq h.read) (distinct_after keyed.equiv h.read) ∙ f.1)
 
   pub index_entries-lawful : Lawful (List (K × V)) (index_entries eq item)
   index_entries-lawful = record {
-    equivalent_encoding = λ a b h. (length_prefixed-lawful laws).equivalent_encoding (after_inserts eq a) (after_inserts eq b) h;
+    equivalent_encoding = λ a b h. ap (λ t. cond t ((length_prefixed item).encoding a) None) (distinct_same a b h) ∙ ap (λ o. cond (are_distinct eq (keys_of b)) o None) ((length_prefixed-lawful laws).equivalent_encoding a b h);
     prefix_free = λ m x z a b h k. (same_counted laws m x z h.read k.read h.bytes k.bytes).0;
     empty = λ m x a e h. absurd (true≢false (sym e));
     non_empty = λ m a e h. (length_prefixed-lawful laws).non_empty m h.read refl h.bytes;

@@ -1,5 +1,5 @@
 -- The laws of maps that hold their entries by ascending key.
-use Rattle.std.proofs.Common.{◌≡◌, ℕ, Bool, true, false, ◌&&◌, cond, List, [], ◌∷◌, Option, Some, None, refl, sym, ◌∙◌, ap, true≢false}
+use Rattle.std.proofs.Common.{◌≡◌, ℕ, Bool, true, ◌&&◌, cond, List, [], ◌∷◌, Some, None, refl, sym, ◌∙◌, ap, true≢false}
 use Rattle.std.specs.declared.cmp.Ordering.{Ordering}
 use Rattle.std.specs.declared.cmp.Ordering.TheVariants.{Less, Equal, Greater}
 use Rattle.std.specs.Ordering.{is_lt}
@@ -11,7 +11,7 @@ use Rattle.std.specs.List.{AllByRecursion, AllZip, list_all}
 use Rattle.borsh_codec.specs.Codec.{Codec, Lawful}
 use Rattle.borsh_codec.specs.Shapes.{length_prefixed}
 use Rattle.borsh_codec.specs.Maps.{ascends, BTreeMapDecodes, btree_entries}
-use Rattle.borsh_codec.proofs.Laws.Lists.{and_true}
+use Rattle.borsh_codec.proofs.Laws.Lists.{and_true, some_if_true}
 use Rattle.borsh_codec.proofs.Laws.Rows.{length_prefixed-lawful}
 use Rattle.borsh_codec.proofs.Laws.Maps.Counted.{same_counted}
 use Rattle.borsh_codec.proofs.Laws.Maps.Entries.{aligned}
@@ -54,15 +54,6 @@ module _ {K : Type 0} {cmp : K → K → Ordering} (o : IsTotalOrder cmp) where
   ascends_same (x ∷ ks) [] z = absurd z
   ascends_same (x ∷ ks) (y ∷ ls) z = ap (λ b. b && ascends cmp ks) (below_same x y z.0 ks ls z.1) ∙ ap (λ b. list_all (λ v. is_lt (cmp y v)) ls && b) (ascends_same ks ls z.1)
 
--- a list that ascends and has an encoding
-record Ascending (A : Type 0) (ascending : Bool) (o : Option A) (x : A) : Type 0 where
-  pub ordered : ascending ≡ true
-  pub is : o ≡ Some x
-
-ascending_some : {A : Type 0} (b : Bool) (o : Option A) (x : A) → cond b o None ≡ Some x → Ascending A b o x
-ascending_some true o x e = record { ordered = refl; is = e }
-ascending_some false o x e = absurd (cc)
-
 module _ {K V : Type 0} (cmp : K → K → Ordering) (S : V → V → Type 0) (item : Codec (K × V)) (laws : Lawful (K × V) item) (keyed : IsKeyed cmp S item) where
   pub keys_same : (es fs : List (K × V)) → AllZip item.equivalent es fs → AllZip (λ x y. cmp x y ≡ Equal) (keys_of es) (keys_of fs)
   keys_same [] [] z = tt
@@ -84,8 +75,8 @@ module _ {K V : Type 0} (cmp : K → K → Ordering) (S : V → V → Type 0) (i
 
   round_trip : (m : Bool) (a : List (K × V)) (x : List ℕ) → (btree_entries cmp item).encoding a ≡ Some x → BTreeMapDecodes cmp item m x a
   round_trip m a x e =
-      let p = ascending_some (ascends cmp (keys_of a)) ((length_prefixed item).encoding a) x e in
-      let s = (ascends_is cmp (keys_of a)).0 p.ordered in
+      let p = some_if_true (ascends cmp (keys_of a)) ((length_prefixed item).encoding a) x e in
+      let s = (ascends_is cmp (keys_of a)).0 p.holds in
       record {
         ordered = s;
         decodes = record {

@@ -6,9 +6,9 @@ use Rattle.borsh_ser.proofs.maps.write_index_set.Goals as goal
 pub returns-in_err-write_count : goal.returns-in_err-write_count
 returns-in_err-write_count g c =
     let item = g.K.BorshType.codec in
-    writes_is (index_set_written item g.met.K.Eq.laws c.args.set.now.keys c.len.ensures.unique) (writes_count_exit g.met.W.Write.lawful item c.args.set.now.keys _ c.len.ensures.len c.from_residual.ensures.1 c.in_err-write_count.ensures)
+    writes_is (index_set_written item g.K.PartialEq.eq c.args.set.now.keys c.len.ensures.unique) (writes_count_exit g.met.W.Write.lawful item c.args.set.now.keys _ c.len.ensures.len c.from_residual.ensures.1 c.in_err-write_count.ensures)
 
 pub returns : goal.returns
 returns g c =
     let item = g.K.BorshType.codec in
-    writes_is (index_set_written item g.met.K.Eq.laws c.args.set.now.keys c.len.ensures.unique) (writes_counted g.met.W.Write.lawful item c.args.set.now.keys c.len.ensures.len c.in_ok-write_count.ensures (writes_first (λ r. r.now) item.encoding _ _ c.iter.ensures.rest c.write_each.ensures))
+    writes_is (index_set_written item g.K.PartialEq.eq c.args.set.now.keys c.len.ensures.unique) (writes_counted g.met.W.Write.lawful item c.args.set.now.keys c.len.ensures.len c.in_ok-write_count.ensures (writes_first (λ r. r.now) item.encoding _ _ c.iter.ensures.rest c.write_each.ensures))

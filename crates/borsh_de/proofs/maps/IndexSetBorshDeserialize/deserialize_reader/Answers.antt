@@ -14,4 +14,4 @@ returns g c =
     let made = c.in_ok-index_set.field-0 in
     let read = reads_bare codec codec.is_zero_width _ c.in_ok-read.ensures.ok in
     let gathers = gathered_bare g.K.PartialEq.eq c.in_ok-read.read.items made.keys c.in_ok-index_set.ensures in
-    decodes_as (made_ok (λ s. unit_entries s.keys) (λ h. h) c.in_ok-read.ensures (reads_inserted codec.is_zero_width (unit_entries made.keys) g.met.K.Eq.laws gathers read))
+    decodes_as (made_ok (λ s. unit_entries s.keys) (λ h. h) c.in_ok-read.ensures (reads_inserted codec.is_zero_width (unit_entries made.keys) gathers read))
