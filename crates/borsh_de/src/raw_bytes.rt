@@ -8,8 +8,13 @@ use super::refusals::unexpected_length;
 use borsh_io::{ErrorKind, Read, Result};
 use std::alloc::Global;
 
-/// Fills the buffer with the next bytes. Where there are fewer, the error is `InvalidData`, "Unexpected
-/// length of input"; else it is the reader's. After an error a tail of the bytes to come is left.
+/// Fills the buffer with the next bytes. If there are fewer, the error is `InvalidData`, "Unexpected
+/// length of input"; any other error is the reader's. After an error some of the bytes may have been read.
+///
+/// ```
+/// let mut tag = [0u8; 4];
+/// fill(reader, &mut tag)?;
+/// ```
 #[inline]
 pub fn fill<R: Read>(reader: &mut R, buf: &mut [u8]) -> Result<()>
     ensures { FillsBuffer R.stream reader.old reader.new buf.old buf.new result }
@@ -23,7 +28,12 @@ pub fn fill<R: Read>(reader: &mut R, buf: &mut [u8]) -> Result<()>
     }
 }
 
-/// The next bytes, as many as the array has. The errors are those of [`fill`].
+/// The next bytes, as many as the array has. If there are fewer, the error is `InvalidData`, "Unexpected
+/// length of input"; any other error is the reader's. After an error some of the bytes may have been read.
+///
+/// ```
+/// let magic: [u8; 4] = read_bytes(reader)?;
+/// ```
 #[inline]
 pub fn read_bytes<R: Read, const N: usize>(reader: &mut R) -> Result<[u8; N]>
     ensures { TakesBytes N R.stream reader.old reader.new result }
@@ -42,7 +52,11 @@ pub(crate) fn read_octets<R: Read, const N: usize>(reader: &mut R) -> Result<[u8
     Ok(bytes)
 }
 
-/// The next byte, which says which kind of value follows. The errors are those of [`fill`].
+/// The next byte, which says which variant follows. The errors are those of [`read_bytes`].
+///
+/// ```
+/// let tag = read_tag(reader)?;
+/// ```
 #[inline]
 pub fn read_tag<R: Read>(reader: &mut R) -> Result<u8>
     ensures { Decodes any_byte R.stream reader.old reader.new result }
