@@ -65,11 +65,12 @@ pub fn read_tag<R: Read>(reader: &mut R) -> Result<u8>
     Ok(bytes[0])
 }
 
-/// Room is made for so many announced bytes before any of them came.
+/// For how many announced bytes room is made before any of them came.
 const FIRST_ROOM: usize = 1048576;
 
 /// The next `len` bytes. Room is made for 1 MiB at first and then for as many again as came, so bytes
-/// that are announced and don't come cost little memory. Refused as [`fill`] is, and with `OutOfMemory`.
+/// that are announced and don't come cost little memory. The errors are those of [`fill`], and
+/// `OutOfMemory` if an allocation fails.
 pub(crate) fn read_vec<R: Read>(alloc: Global, len: usize, reader: &mut R) -> Result<Vec<u8>>
     ensures { DecodesVec (allocated_array len (unsigned 1)) R.stream reader.old reader.new result }
 {

@@ -1,4 +1,4 @@
-// Why bytes are refused.
+// The errors of bytes that decode to no value.
 ghost use Rattle.std.specs.Prelude.{◌≡◌, true, MatchResult};
 ghost use Rattle.borsh_io.specs.Errors.{error_kind};
 ghost use Rattle.borsh_codec.specs.Reading.{IsInvalidData};
