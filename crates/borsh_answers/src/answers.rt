@@ -23,7 +23,7 @@ use std::ops::{Range, RangeFrom, RangeFull, RangeInclusive, RangeTo, RangeToIncl
 use std::rc::RcStr;
 use uuid::Uuid;
 
-/// The answer to a line, without a line feed. Neither has one.
+/// The answer to a line. It has no line feed.
 ///
 /// ```
 /// let reply = answer(alloc, b"read u8 07")?;
