@@ -28,7 +28,7 @@ pub fn from_slice<T: BorshDeserialize>(alloc: Global, v: &[u8]) -> Result<T>
 ///
 /// Returns `InvalidData` if the bytes decode to no value of the type, also if bytes are left over,
 /// `OutOfMemory` if an allocation fails, and the reader's error if it fails before the value is read.
-/// After an error a tail of the bytes is left. See [`BorshDeserialize::try_from_reader`].
+/// After an error some of the bytes may have been read. See [`BorshDeserialize::try_from_reader`].
 ///
 /// ```
 /// let mut input = StdReader::new(rt.stdin(), 1000);
