@@ -16,7 +16,7 @@ use std::alloc::Global;
 ///
 /// ```
 /// let value: (u8, u16) = from_slice(alloc, b"\x05\x07\x00")?;
-/// assert_eq!(value, (5, 7));
+/// assert_eq!(rt; value, (5, 7));
 /// ```
 pub fn from_slice<T: BorshDeserialize>(alloc: Global, v: &[u8]) -> Result<T>
     ensures { DecodesAll T.codec true v.now result }
@@ -28,7 +28,7 @@ pub fn from_slice<T: BorshDeserialize>(alloc: Global, v: &[u8]) -> Result<T>
 ///
 /// Returns `InvalidData` if the bytes decode to no value of the type, also if bytes are left over,
 /// `OutOfMemory` if an allocation fails, and the reader's error if it fails before the value is read.
-/// After an error a tail of the bytes is left. See [`BorshDeserialize::try_from_reader`].
+/// After an error some of the bytes may have been read. See [`BorshDeserialize::try_from_reader`].
 ///
 /// ```
 /// let mut input = StdReader::new(rt.stdin(), 1000);
@@ -40,16 +40,16 @@ pub fn from_reader<R: Read, T: BorshDeserialize>(alloc: Global, reader: &mut R) 
     T::try_from_reader(alloc, reader)
 }
 
-/// Decodes a value from all of the bytes, where the keys of maps and sets, at any depth, may come in any
-/// order and more than once: the last value of a key counts. So data that was written before keys were
-/// sorted is decoded; encoding the value again makes it canonical.
+/// Decodes a value from all of the bytes. The keys of maps and sets, at any depth, may come in any order
+/// and more than once: the last value of a key counts. So data that was written before keys had to be
+/// sorted can be decoded; encoding the value again makes it canonical.
 ///
 /// The errors are those of [`from_slice`].
 ///
 /// ```
 /// let old = b"\x02\x00\x00\x00\x09\x01";
 /// let set: BTreeSet<u8> = from_slice_unordered(alloc, old)?;
-/// assert_eq!(to_vec(alloc, &set)?.as_slice(), b"\x02\x00\x00\x00\x01\x09");
+/// assert_eq!(rt; to_vec(alloc, &set)?.as_slice(), b"\x02\x00\x00\x00\x01\x09".as_slice());
 /// ```
 pub fn from_slice_unordered<T: BorshDeserialize>(alloc: Global, v: &[u8]) -> Result<T>
     ensures { DecodesAll T.codec false v.now result }

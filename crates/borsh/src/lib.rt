@@ -2,7 +2,12 @@
 //!
 //! [`to_vec`] encodes a value, [`from_slice`] decodes it again. Each value has exactly one encoding, and
 //! bytes decode to one value: what is hashed or signed means the same to everyone.
-//! The items stand under the paths of the original crate.
+//! The items have the paths of the original crate.
+//!
+//! ```
+//! let bytes = to_vec(alloc, &(5u8, 7u16))?;
+//! let value: (u8, u16) = from_slice(alloc, bytes.as_slice())?;
+//! ```
 #![tactic(auto)]
 
 pub mod de;

@@ -1,4 +1,4 @@
-// Which bytes a type has, told by named definitions.
+// Schemas: which bytes a type has, as a map from names to definitions.
 pub use borsh_schema::{
     BorshSchema, BorshSchemaContainer, Both, Definitions, SchemaBuildError, SchemaParts,
     add_definition, add_with_parts, declared, field, named_variant, variant,

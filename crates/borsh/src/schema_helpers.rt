@@ -25,7 +25,7 @@ use std::alloc::Global;
 ///
 /// ```
 /// let container = schema_container_of::<Vec<u8>>(alloc)?;
-/// assert_eq!(container.declaration(), "Vec<u8>");
+/// assert_eq!(rt; container.declaration().as_str(), "Vec<u8>");
 /// ```
 pub fn schema_container_of<T: BorshSchema>(
     alloc: Global,
@@ -45,7 +45,7 @@ pub fn schema_container_of<T: BorshSchema>(
 /// that has two different definitions.
 ///
 /// ```
-/// assert_eq!(max_serialized_size::<Option<u64>>(alloc)?, 9);
+/// assert_eq!(rt; max_serialized_size::<Option<u64>>(alloc)?, 9);
 /// ```
 pub fn max_serialized_size<T: BorshSchema>(
     alloc: Global,
@@ -86,8 +86,8 @@ pub fn try_to_vec_with_schema<T: BorshSerialize + BorshSchema>(
 /// ```
 /// let bytes = try_to_vec_with_schema(alloc, &7u16)?;
 /// let value: u16 = try_from_slice_with_schema(alloc, bytes.as_slice())?;
-/// assert_eq!(value, 7);
-/// assert!(try_from_slice_with_schema::<u32>(alloc, bytes.as_slice()).is_err());
+/// assert_eq!(rt; value, 7);
+/// assert!(rt; try_from_slice_with_schema::<u32>(alloc, bytes.as_slice()).is_err());
 /// ```
 pub fn try_from_slice_with_schema<T: BorshDeserialize + BorshSchema>(
     alloc: Global,
@@ -126,7 +126,7 @@ fn container_of<T: BorshSchema>(alloc: Global) -> borsh_io::Result<BorshSchemaCo
     }
 }
 
-/// A refusal to build a container.
+/// The error for a container that could not be built.
 fn not_built(alloc: Global, error: SchemaBuildError) -> Error
     ensures { IsBuildKind error (error_kind result) }
 {

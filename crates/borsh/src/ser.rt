@@ -20,7 +20,7 @@ const DEFAULT_SERIALIZER_CAPACITY: usize = 1024;
 ///
 /// ```
 /// let bytes = to_vec(alloc, &(5u8, 7u16))?;
-/// assert_eq!(bytes.as_slice(), b"\x05\x07\x00");
+/// assert_eq!(rt; bytes.as_slice(), b"\x05\x07\x00".as_slice());
 /// ```
 pub fn to_vec<T: BorshSerialize>(alloc: Global, value: &T) -> Result<Vec<u8>>
     ensures { Encodes (T.codec.encoding value.now) result }
@@ -31,7 +31,7 @@ pub fn to_vec<T: BorshSerialize>(alloc: Global, value: &T) -> Result<Vec<u8>>
 }
 
 /// Writes a value's encoding. The errors are those of [`BorshSerialize::serialize`]; after one, a
-/// beginning of the encoding was written.
+/// beginning of the encoding was written. It doesn't flush the writer.
 ///
 /// ```
 /// let mut output = StdWriter::new(rt.stdout(), 1000);
@@ -53,7 +53,7 @@ pub fn to_writer<T: BorshSerialize, W: Write>(
 /// `usize`, or if an allocation fails (only hashed maps and sets allocate here).
 ///
 /// ```
-/// assert_eq!(object_length(alloc, &(5u8, 7u16))?, 3);
+/// assert_eq!(rt; object_length(alloc, &(5u8, 7u16))?, 3);
 /// ```
 pub fn object_length<T: BorshSerialize>(alloc: Global, value: &T) -> Result<usize>
     ensures { AnswersLength T.codec.encoding_allocates (T.codec.encoding value.now) result }

@@ -11,7 +11,12 @@ use super::schemas::schema_answer;
 use super::values::ValueQuestion;
 use std::alloc::{AllocError, Global};
 
-/// The answer to a line, without a line feed.
+/// The answer to a line. It has no line feed.
+///
+/// ```
+/// let reply = answer(alloc, b"read u8 07")?;
+/// assert_eq!(rt; reply.as_slice(), b"ok 07".as_slice());
+/// ```
 pub fn answer(alloc: Global, line: &[u8]) -> Result<Vec<u8>, AllocError>
     ensures answers { IfOk result (λ out. Answers line.now out.items) }
     ensures line { IfOk result (λ out. IsLine out.items) }

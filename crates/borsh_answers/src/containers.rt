@@ -129,7 +129,7 @@ fn no_size(alloc: Global, error: &SchemaMaxSerializedSizeError) -> Result<Vec<u8
         SchemaMaxSerializedSizeError::Overflow => line_of(alloc, b"overflow"),
         SchemaMaxSerializedSizeError::Recursive => line_of(alloc, b"recursive"),
         SchemaMaxSerializedSizeError::MissingDefinition(name) => missing(alloc, name),
-        // The size of a container is never refused so.
+        // The size of a container never has this error: only that of a type has.
         SchemaMaxSerializedSizeError::Redefinition(_) => Err(AllocError),
         SchemaMaxSerializedSizeError::OutOfMemory => Err(AllocError),
     }

@@ -20,8 +20,8 @@ pub enum Inquiry {
 /// What a line asks for.
 #[derive(Drop)]
 pub enum Request {
-    /// Bytes are to be read as a value of the type, which is written again; in the strict mode keys have
-    /// to stand in order.
+    /// Bytes are to be decoded as a value of the type, which is encoded again; in strict mode keys have to
+    /// be in order.
     Value {
         word: Word,
         strict: bool,
@@ -58,7 +58,7 @@ fn cut_at_space(text: &[u8]) -> Option<(&[u8], &[u8])>
 }
 
 impl Request {
-    /// What a line asks for; `None` where it is no command.
+    /// What a line asks for; `None` if it is no command.
     pub fn from_line(alloc: Global, line: &[u8]) -> Result<Option<Request>, AllocError>
         ensures { IfOk result (IsRequest (asked line.now)) }
     {

@@ -9,30 +9,31 @@ use borsh_io::{ErrorKind, Read, Result};
 use borsh_types::BorshType;
 use std::alloc::Global;
 
-/// A type whose values are decoded from their encodings.
+/// A type whose values can be decoded.
 ///
-/// The answer depends on the bytes to come alone, not on how the reader cuts them or where it is
-/// interrupted. The errors of each call are
-/// - `InvalidData` where no beginning of the bytes to come decodes to a value (in the calls that want
-///   all of the bytes: where all of them together don't), or where the reader failed;
-/// - `OutOfMemory` where memory was refused, to the value or to the text of an error;
-/// - the reader's error, where it failed.
+/// What is decoded depends on the bytes to come (those that the reader will still give) alone, and not on
+/// how the reader cuts them or where it is interrupted. The errors of each call are
+/// - `InvalidData` if no beginning of the bytes to come decodes to a value (in the calls that decode all
+///   of the bytes: if all of them together don't), or if the reader fails so;
+/// - `OutOfMemory` if an allocation fails, for the value or for the text of an error;
+/// - the reader's error if it fails.
 ///
-/// After an error a tail of the bytes to come is left. A type that refuses all of its values does so
-/// with `InvalidData` before anything is read.
+/// After an error some of the bytes to come may have been read, and the rest is left. A type that refuses
+/// all of its values returns `InvalidData` before anything is read.
 pub trait BorshDeserialize: BorshType + Sized + Drop {
     /// Decodes a value from the beginning of the bytes to come, and leaves the rest.
     ///
     /// ```
     /// let mut input = b"\x07\x00\xff".as_slice();
     /// let value = u16::deserialize_reader(alloc, &mut input)?;
-    /// assert_eq!((value, input), (7, b"\xff".as_slice()));
+    /// assert_eq!(rt; value, 7);
+    /// assert_eq!(rt; input, b"\xff".as_slice());
     /// ```
     fn deserialize_reader<R: Read>(alloc: Global, reader: &mut R) -> Result<Self>
         ensures { Decodes Self.codec R.stream reader.old reader.new result };
 
-    /// Reads `len` values one after another, where the type has a way to read them at once: only `u8`
-    /// has one. Where the answer is `None` nothing was read.
+    /// Reads `len` values one after another, if the type can read them at once: only `u8` can, and types of
+    /// one's own need not override it. If it returns `None`, nothing was read.
     fn vec_from_reader<R: Read>(
         _alloc: Global,
         _len: u32,
@@ -43,13 +44,13 @@ pub trait BorshDeserialize: BorshType + Sized + Drop {
         Ok(None)
     }
 
-    /// Any value, to be written over by [`fill_slice`](BorshDeserialize::fill_slice): only `u8` has one.
+    /// Any value, to be overwritten by [`fill_slice`](BorshDeserialize::fill_slice): only `u8` returns one.
     fn blank() -> Option<Self> {
         None
     }
 
-    /// Writes the next values over those of the slice, where the type has a way to read them at once:
-    /// only `u8` has one. Where the answer is `false` nothing was read. No memory is taken.
+    /// Overwrites the values of the slice by the next ones, if the type can read them at once: only `u8`
+    /// can. If it returns `false`, nothing was read. It doesn't allocate.
     fn fill_slice<R: Read>(_items: &mut [Self], _reader: &mut R) -> Result<bool>
         ensures { DecodesOver Self.codec R.stream
             _reader.old _reader.new _items.old _items.new result }
@@ -61,7 +62,7 @@ pub trait BorshDeserialize: BorshType + Sized + Drop {
     ///
     /// ```
     /// let mut bytes = b"\x07\x00\xff".as_slice();
-    /// assert_eq!(u16::deserialize(alloc, &mut bytes)?, 7);
+    /// assert_eq!(rt; u16::deserialize(alloc, &mut bytes)?, 7);
     /// ```
     final fn deserialize(alloc: Global, buf: &mut &[u8]) -> Result<Self>
         ensures { Decodes Self.codec slice_state buf.old.now buf.new.now result }
@@ -69,11 +70,11 @@ pub trait BorshDeserialize: BorshType + Sized + Drop {
         Self::deserialize_reader(alloc, buf)
     }
 
-    /// Decodes a value from all of the slice. Where bytes are left over, the error is `InvalidData`, "Not
+    /// Decodes a value from all of the slice. If bytes are left over, the error is `InvalidData`, "Not
     /// all bytes read".
     ///
     /// ```
-    /// assert_eq!(u16::try_from_slice(alloc, b"\x07\x00")?, 7);
+    /// assert_eq!(rt; u16::try_from_slice(alloc, b"\x07\x00")?, 7);
     /// ```
     final fn try_from_slice(alloc: Global, v: &[u8]) -> Result<Self>
         ensures { DecodesAll Self.codec true v.now result }
@@ -86,10 +87,9 @@ pub trait BorshDeserialize: BorshType + Sized + Drop {
         Ok(value)
     }
 
-    /// Decodes a value from all of the bytes to come, and looks for one more byte. Where there is one, or
-    /// where the reader fails then, the error is `InvalidData`, "Not all bytes read"; but a failure of
-    /// the kind `UnexpectedEof` is taken as the end. After an error of the value itself no byte more is
-    /// taken.
+    /// Decodes a value from all of the bytes to come, and looks for one more byte. If there is one, or if
+    /// the reader fails then, the error is `InvalidData`, "Not all bytes read"; but a failure of kind
+    /// `UnexpectedEof` is taken as the end. After an error of the value itself no further byte is read.
     ///
     /// ```
     /// let mut input = StdReader::new(rt.stdin(), 1000);
@@ -110,7 +110,8 @@ pub trait BorshDeserialize: BorshType + Sized + Drop {
     }
 }
 
-/// An enum that is decoded in two steps.
+/// An enum that is decoded in two steps: its tag, and what follows it. So a caller can look at the tag in
+/// between.
 pub trait EnumExt: BorshDeserialize {
     /// Decodes what follows a tag that was read before.
     ///

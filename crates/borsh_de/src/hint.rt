@@ -3,8 +3,12 @@ ghost use Rattle.std.specs.Prelude.{◌≡◌, ◌≤◌, ◌/◌, min, max};
 
 use borsh_types::BorshType;
 
-/// How many elements to make room for at first, where `hint` are announced: as many as lie in 4096
-/// bytes of memory, and at least one. So an announcement alone takes no more memory than that.
+/// How many elements to make room for at first, if `hint` are announced: no more than fit in about 4096
+/// bytes of memory, but at least one. So an announcement alone takes no more memory than that.
+///
+/// ```
+/// assert_eq!(rt; cautious::<u64>(1000000), 512);
+/// ```
 #[inline]
 pub fn cautious<T: BorshType>(hint: u32) -> usize
     ensures some { 1 ≤ result }

@@ -1,4 +1,4 @@
-//! Reading.
+//! Decoding.
 #![tactic(auto)]
 
 pub mod addresses;

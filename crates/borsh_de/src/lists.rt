@@ -12,8 +12,8 @@ use std::boxed::BoxedSlice;
 use std::collections::{LinkedList, VecDeque};
 use std::rc::RcSlice;
 
-/// Reads `len` elements one after another, at once where their bytes lie in memory as they are. Refused as
-/// an element is, and with `OutOfMemory` where memory for the list was refused.
+/// Reads `len` elements one after another, or at once if the type can. The errors are those of an
+/// element, and `OutOfMemory` if memory for the list can't be allocated.
 #[inline]
 pub(crate) fn read_elements<T: BorshDeserialize, R: Read>(
     alloc: Global,
@@ -35,7 +35,8 @@ pub(crate) fn read_elements<T: BorshDeserialize, R: Read>(
     Ok(items)
 }
 
-/// Reads a count of four bytes and that many elements. Refused as the count and [`read_elements`] are.
+/// Reads a length of four bytes and that many elements. The errors are those of a number and of
+/// [`read_elements`].
 #[inline]
 pub(crate) fn read_counted<T: BorshDeserialize, R: Read>(
     alloc: Global,

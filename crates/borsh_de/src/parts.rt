@@ -8,9 +8,9 @@ use super::refusals::refused;
 use borsh_io::{Read, Result};
 use std::alloc::Global;
 
-/// A type whose values are put together from parts, whatever the parts are: a struct of its fields.
+/// A type whose values can be put together from all values of some parts: a struct from its fields.
 ///
-/// With [`read_parts`] such a type is decoded with no proof.
+/// By [`read_parts`] such a type is decoded without a proof file.
 ///
 /// ```
 /// pub struct Point {
@@ -47,12 +47,22 @@ pub trait FromParts: Sized {
     ghost view: { Self → Self.Parts };
 
     /// The value with these parts.
+    ///
+    /// ```
+    /// fn from_parts((x, y): (u32, u32)) -> Point {
+    ///     Point { x, y }
+    /// }
+    /// ```
     fn from_parts(parts: Self::Parts) -> Self
         ensures { view result ≡ parts };
 }
 
-/// Decodes the parts, and puts the value together. The errors are those of the parts, and they leave
-/// what those leave.
+/// Decodes the parts, and puts the value together. The errors are those of the parts, and what is left
+/// after one is what the parts leave.
+///
+/// ```
+/// let point: Point = read_parts(alloc, reader)?;
+/// ```
 #[inline]
 pub fn read_parts<T: FromParts, R: Read>(alloc: Global, reader: &mut R) -> Result<T>
     ensures { Decodes (contramap T.view T.Parts.codec) R.stream reader.old reader.new result }
@@ -61,9 +71,9 @@ pub fn read_parts<T: FromParts, R: Read>(alloc: Global, reader: &mut R) -> Resul
     Ok(T::from_parts(parts))
 }
 
-/// A type whose values are put together from parts that pass a test.
+/// A type whose values can be put together from some values of the parts only: those that pass a test.
 ///
-/// With [`read_checked`] such a type is decoded with no proof.
+/// By [`read_checked`] such a type is decoded without a proof file.
 ///
 /// ```
 /// impl TryFromParts for NonZeroU8 {
@@ -94,18 +104,33 @@ pub trait TryFromParts: Sized {
     ghost view: { Self → Self.Parts };
 
     /// The value with these parts, if there is one.
+    ///
+    /// ```
+    /// fn try_from_parts(number: u8) -> Option<NonZeroU8> {
+    ///     NonZeroU8::new(number)
+    /// }
+    /// ```
     fn try_from_parts(parts: Self::Parts) -> Option<Self>
         ensures some { IfSome result (λ v. view v ≡ parts) }
         ensures none { IfNone result (
             (v : Self) → Self.Parts.codec.equivalent (view v) parts → ⊥) };
 
-    /// The text of the error where there is none.
+    /// The text of the error if there is none.
+    ///
+    /// ```
+    /// fn refusal() -> &'static str {
+    ///     "Expected a non-zero value"
+    /// }
+    /// ```
     fn refusal() -> &'static str;
 }
 
 /// Decodes the parts, and puts the value together. The errors are those of the parts, and `InvalidData`
-/// with the text of the type where no value has these parts: then the parts are read, and the rest is
-/// left.
+/// with the type's text if no value has these parts: then the parts are read, and the rest is left.
+///
+/// ```
+/// let number: NonZeroU8 = read_checked(alloc, reader)?;
+/// ```
 #[inline]
 pub fn read_checked<T: TryFromParts, R: Read>(alloc: Global, reader: &mut R) -> Result<T>
     ensures { Decodes (contramap T.view T.Parts.codec) R.stream reader.old reader.new result }

@@ -8,8 +8,13 @@ use super::refusals::unexpected_length;
 use borsh_io::{ErrorKind, Read, Result};
 use std::alloc::Global;
 
-/// Fills the buffer with the next bytes. Where there are fewer, the error is `InvalidData`, "Unexpected
-/// length of input"; else it is the reader's. After an error a tail of the bytes to come is left.
+/// Fills the buffer with the next bytes. If there are fewer, the error is `InvalidData`, "Unexpected
+/// length of input"; any other error is the reader's. After an error some of the bytes may have been read.
+///
+/// ```
+/// let mut tag = [0u8; 4];
+/// fill(reader, &mut tag)?;
+/// ```
 #[inline]
 pub fn fill<R: Read>(reader: &mut R, buf: &mut [u8]) -> Result<()>
     ensures { FillsBuffer R.stream reader.old reader.new buf.old buf.new result }
@@ -23,7 +28,12 @@ pub fn fill<R: Read>(reader: &mut R, buf: &mut [u8]) -> Result<()>
     }
 }
 
-/// The next bytes, as many as the array has. The errors are those of [`fill`].
+/// The next bytes, as many as the array has. If there are fewer, the error is `InvalidData`, "Unexpected
+/// length of input"; any other error is the reader's. After an error some of the bytes may have been read.
+///
+/// ```
+/// let magic: [u8; 4] = read_bytes(reader)?;
+/// ```
 #[inline]
 pub fn read_bytes<R: Read, const N: usize>(reader: &mut R) -> Result<[u8; N]>
     ensures { TakesBytes N R.stream reader.old reader.new result }
@@ -42,7 +52,11 @@ pub(crate) fn read_octets<R: Read, const N: usize>(reader: &mut R) -> Result<[u8
     Ok(bytes)
 }
 
-/// The next byte, which says which kind of value follows. The errors are those of [`fill`].
+/// The next byte, which says which variant follows. The errors are those of [`read_bytes`].
+///
+/// ```
+/// let tag = read_tag(reader)?;
+/// ```
 #[inline]
 pub fn read_tag<R: Read>(reader: &mut R) -> Result<u8>
     ensures { Decodes any_byte R.stream reader.old reader.new result }
@@ -51,11 +65,12 @@ pub fn read_tag<R: Read>(reader: &mut R) -> Result<u8>
     Ok(bytes[0])
 }
 
-/// Room is made for so many announced bytes before any of them came.
+/// For how many announced bytes room is made before any of them came.
 const FIRST_ROOM: usize = 1048576;
 
 /// The next `len` bytes. Room is made for 1 MiB at first and then for as many again as came, so bytes
-/// that are announced and don't come cost little memory. Refused as [`fill`] is, and with `OutOfMemory`.
+/// that are announced and don't come cost little memory. The errors are those of [`fill`], and
+/// `OutOfMemory` if an allocation fails.
 pub(crate) fn read_vec<R: Read>(alloc: Global, len: usize, reader: &mut R) -> Result<Vec<u8>>
     ensures { DecodesVec (allocated_array len (unsigned 1)) R.stream reader.old reader.new result }
 {

@@ -12,8 +12,8 @@ use std::borrow::CowStr;
 use std::boxed::BoxedStr;
 use std::rc::RcStr;
 
-/// Reads the count of bytes and the bytes, which become the text as they lie. Bytes that aren't UTF-8
-/// are refused: `InvalidData`, with what std says of them.
+/// Reads the number of bytes and the bytes, which become the text without a copy. Bytes that aren't UTF-8
+/// are refused: `InvalidData`, with the text of std's error.
 pub(crate) fn read_text<R: Read>(alloc: Global, reader: &mut R) -> Result<String>
     ensures { DecodesAs string_bytes text R.stream reader.old reader.new result }
 {

@@ -91,11 +91,11 @@ pub fn is_encoding<T: BorshSerialize + BorshDeserialize>(
     Ok(checks.readings > 0 && checks.writings > 0)
 }
 
-/// Checks that the bytes are the encoding of a value of `T`, and answers how many checks were made.
+/// Checks that the bytes are the encoding of a value of `T`, and returns how many checks were made.
 ///
-/// The bytes are read from slices and from readers of every kind, and written again into writers of
-/// every kind. Each proper beginning is refused by each reader. Where a reader fails, at whichever read,
-/// its error is answered. A writer that fails, at whichever write, and a writer without room for all of
+/// The bytes are decoded from slices and from readers of every kind, and written again into writers of
+/// every kind. Each proper beginning is refused from each reader. If a reader fails, at whichever read,
+/// its error is returned. A writer that fails, at whichever write, and a writer without room for all of
 /// the encoding hold a beginning of it.
 pub fn check_encoding<T: BorshSerialize + BorshDeserialize>(
     alloc: Global,
@@ -110,8 +110,8 @@ pub fn check_encoding<T: BorshSerialize + BorshDeserialize>(
     Ok(checks)
 }
 
-/// Checks that the bytes are read, from slices and from readers of every kind, as a value of `T` with
-/// this encoding; it differs from the bytes where they repeat a key.
+/// Checks that the bytes decode, from slices and from readers of every kind, to a value of `T` with
+/// this encoding, which differs from the bytes if they repeat a key.
 pub fn check_reading<T: BorshSerialize + BorshDeserialize>(
     alloc: Global,
     bytes: &[u8],
@@ -124,8 +124,8 @@ pub fn check_reading<T: BorshSerialize + BorshDeserialize>(
     Ok(checks)
 }
 
-/// Checks that the bytes are refused as a `T`, as wrong, with this text, when they are read from slices
-/// and from each reader that doesn't fail; and answers how many readings that were.
+/// Checks that decoding the bytes as a `T`, from slices and from each reader that doesn't fail, returns
+/// `InvalidData` with this text; returns how often they were decoded.
 pub fn check_refused<T: BorshDeserialize>(
     alloc: Global,
     bytes: &[u8],
@@ -164,13 +164,13 @@ pub fn is_error<T>(outcome: &IoResult<T>, kind: ErrorKind, text: &str) -> bool {
     }
 }
 
-/// Whether the bytes are refused as a `T`, as wrong, with this text.
+/// Whether decoding the bytes as a `T` returns `InvalidData` with this text.
 pub fn is_refused<T: BorshDeserialize>(alloc: Global, bytes: &[u8], text: &str) -> bool {
     let outcome: IoResult<T> = from_slice(alloc, bytes);
     is_error(&outcome, ErrorKind::InvalidData, text)
 }
 
-/// Fails the test unless the condition holds, with the name of the check and a number that tells which
+/// Fails the test unless the condition holds, with the name of the check and a number that says which
 /// one it is, or what was found.
 pub fn check(holds: bool, name: &str, number: usize) -> Result<(), Fail> {
     if holds {

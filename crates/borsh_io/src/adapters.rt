@@ -36,7 +36,7 @@ fn kind_by_name(kind: std::io::ErrorKind) -> ErrorKind
     }
 }
 
-/// How many interruptions may still be passed on, and how many faults came.
+/// How many interruptions may still be passed on, and how many faults there were.
 #[derive(Drop)]
 pub struct Counts {
     interruptions: u32,
@@ -87,8 +87,8 @@ impl Counts {
 /// One of std's readers, with a bound on the interruptions that it passes on.
 ///
 /// An error keeps its kind if [`ErrorKind`] has one of that name, and is `Other` otherwise; it has no text
-/// of its own. An interruption past the bound is `Other`, "interrupted too often", and a read past
-/// 2^64 - 1 of them is `Other`, "read too often": both count as faults.
+/// of its own. An interruption past the bound is `Other`, "interrupted too often", and a read after
+/// 2^64 - 1 successful ones is `Other`, "read too often": both count as faults.
 ///
 /// ```
 /// let mut input = StdReader::new(rt.stdin(), 1000);
@@ -104,6 +104,10 @@ pub struct StdReader<R> {
 
 impl<R: std::io::Read> StdReader<R> {
     /// A reader over `inner`, which passes on at most `interruptions` interruptions.
+    ///
+    /// ```
+    /// let mut input = StdReader::new(rt.stdin(), 1000);
+    /// ```
     pub fn new(inner: R, interruptions: u32) -> StdReader<R>
         ensures inner { inner_of_reader result ≡ inner }
         ensures state { reader_stream R.remaining result
@@ -117,6 +121,10 @@ impl<R: std::io::Read> StdReader<R> {
     }
 
     /// How often it failed; at most 2^64 - 1.
+    ///
+    /// ```
+    /// assert_eq!(rt; StdReader::new(rt.stdin(), 1000).faults(), 0);
+    /// ```
     pub fn faults(&self) -> u64
         ensures { result ≡ (reader_stream R.remaining self.now).faults }
     {
@@ -167,6 +175,10 @@ pub struct StdWriter<W> {
 
 impl<W: std::io::Write> StdWriter<W> {
     /// A writer over `inner`, which passes on at most `interruptions` interruptions.
+    ///
+    /// ```
+    /// let mut output = StdWriter::new(rt.stdout(), 1000);
+    /// ```
     pub fn new(inner: W, interruptions: u32) -> StdWriter<W>
         ensures inner { inner_of_writer result ≡ inner }
         ensures state { (device_writing W.contents).sink result ≡ first_writer_state interruptions }
@@ -178,6 +190,10 @@ impl<W: std::io::Write> StdWriter<W> {
     }
 
     /// How often it failed; at most 2^64 - 1.
+    ///
+    /// ```
+    /// assert_eq!(rt; StdWriter::new(rt.stdout(), 1000).faults(), 0);
+    /// ```
     pub fn faults(&self) -> u64
         ensures { result ≡ ((device_writing W.contents).sink self.now).faults }
     {

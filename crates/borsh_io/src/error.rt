@@ -13,7 +13,7 @@ use std::fmt::{Debug, Display, Formatter};
 pub const ERROR_ZST_FORBIDDEN: &str =
     "Collections of zero-sized types are not allowed due to deny-of-service concerns on deserialization.";
 
-/// What kind of error it is. The order is that of the list.
+/// What kind of error it is. Kinds compare in the order of this list.
 #[derive(Clone, Copy, Debug, PartialEq, Eq, PartialOrd, Ord, Hash)]
 pub enum ErrorKind {
     NotFound,
@@ -33,17 +33,21 @@ pub enum ErrorKind {
     TimedOut,
     /// The writer has no room.
     WriteZero,
-    /// Nothing was taken or written, and the call may be made again.
+    /// Nothing was read or written, and the call may be made again.
     Interrupted,
     Other,
     /// The input ended before a buffer was full.
     UnexpectedEof,
-    /// Memory was refused.
+    /// An allocation failed.
     OutOfMemory,
 }
 
 impl ErrorKind {
     /// The text of an error that has none of its own.
+    ///
+    /// ```
+    /// assert_eq!(rt; ErrorKind::WriteZero.as_str(), "write zero");
+    /// ```
     pub fn as_str(&self) -> &'static str
         ensures { result.now ≡ kind_text self.now }
     {
@@ -71,7 +75,7 @@ impl ErrorKind {
     }
 }
 
-/// The text of an error: fixed in the program, or put together when the error came.
+/// The text of an error: fixed in the program, or put together when the error came up.
 #[derive(Debug, Drop)]
 pub enum Text {
     Fixed(&'static str),
@@ -79,6 +83,11 @@ pub enum Text {
 }
 
 impl Text {
+    /// The text.
+    ///
+    /// ```
+    /// assert_eq!(rt; Text::from("not a colour").as_str(), "not a colour");
+    /// ```
     pub fn as_str(&self) -> &str
         ensures { result.now ≡ text_bytes self.now }
     {
@@ -105,13 +114,14 @@ impl From<String> for Text {
     }
 }
 
-/// An error of a kind, with a text of its own or that of its kind. Making one takes no memory.
+/// An error of a kind, with a text of its own or that of its kind. Making one doesn't allocate.
 #[derive(Debug, Drop)]
 pub struct Error {
     kind: ErrorKind,
     text: Option<Text>,
 }
 
+/// The result of a call that reads, writes, encodes or decodes.
 pub type Result<T> = std::result::Result<T, Error>;
 
 impl Error {
@@ -119,7 +129,7 @@ impl Error {
     ///
     /// ```
     /// let error = Error::new(ErrorKind::InvalidData, "not a colour");
-    /// assert_eq!(error.message(), "not a colour");
+    /// assert_eq!(rt; error.message(), "not a colour");
     /// ```
     pub fn new<T: Into<Text>>(kind: ErrorKind, text: T) -> Error
         ensures kind { error_kind result ≡ kind }
@@ -144,6 +154,11 @@ impl Error {
     }
 
     /// The error's own text, if it has one.
+    ///
+    /// ```
+    /// assert_eq!(rt; Error::other("the device is gone").get_ref(), Some("the device is gone"));
+    /// assert!(rt; Error::from(ErrorKind::TimedOut).get_ref().is_none());
+    /// ```
     pub fn get_ref(&self) -> Option<&str>
         ensures { MatchOption (error_text self.now) (IsNone result)
             (λ text. IsSomeAnd result (λ s. s.now ≡ text_bytes text)) }
@@ -157,7 +172,7 @@ impl Error {
     /// What the error displays: its own text, or else that of its kind.
     ///
     /// ```
-    /// assert_eq!(Error::from(ErrorKind::TimedOut).message(), "timed out");
+    /// assert_eq!(rt; Error::from(ErrorKind::TimedOut).message(), "timed out");
     /// ```
     pub fn message(&self) -> &str
         ensures { result.now ≡ display_text (error_kind self.now) (error_text self.now) }
@@ -168,13 +183,24 @@ impl Error {
         }
     }
 
-    /// The error's own text, taken out of it.
+    /// The error's own text, if it has one, taken out of it.
+    ///
+    /// ```
+    /// if let Some(text) = error.into_inner() {
+    ///     println!(rt; "{}", text.as_str())?;
+    /// }
+    /// ```
     pub fn into_inner(self) -> Option<Text>
         ensures { result ≡ error_text self }
     {
         self.text
     }
 
+    /// The kind of the error.
+    ///
+    /// ```
+    /// assert_eq!(rt; Error::other("the device is gone").kind(), ErrorKind::Other);
+    /// ```
     pub fn kind(&self) -> ErrorKind
         ensures { result ≡ error_kind self.now }
     {
@@ -182,13 +208,15 @@ impl Error {
     }
 }
 
-/// Passes over an interruption, and returns any other error: what a loop that tries again does with an
-/// error.
+/// `Ok` of an interruption, and any other error as it is: a loop that reads until it isn't interrupted
+/// applies it to each error.
 ///
 /// ```
-/// match reader.read(buffer) {
-///     Ok(n) => return Ok(n),
-///     Err(e) => pass_over(e)?,
+/// loop {
+///     match reader.read(buffer) {
+///         Ok(n) => return Ok(n),
+///         Err(e) => pass_over(e)?,
+///     }
 /// }
 /// ```
 pub fn pass_over(error: Error) -> Result<()>

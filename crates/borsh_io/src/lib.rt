@@ -1,9 +1,9 @@
 //! Readers, writers and errors.
 //!
-//! A reader gives the front of the bytes that are still to come, may be interrupted, and may fail.
-//! A writer takes the front of a buffer, and may do the same. Contracts name the bytes, a count of
-//! faults and the interruptions that may still come, so that a caller can distinguish an I/O
-//! error from bytes that are wrong.
+//! A read takes bytes from the beginning of those that are still to come, is interrupted, or fails. A
+//! write takes bytes from the beginning of a buffer, is interrupted, or fails. Contracts name the bytes,
+//! a count of faults, and how many interruptions may still come, so that a caller can tell an I/O error
+//! from malformed bytes.
 #![tactic(auto)]
 
 pub mod adapters;

@@ -7,29 +7,48 @@ use super::error::{Error, ErrorKind, Result, pass_over};
 
 /// A source of bytes.
 ///
-/// An implementation says by `stream` which bytes are still to come (where it knows them), how often
-/// it has failed, how often it may still be interrupted, and how many reads may still take bytes. So
-/// a reader ends: it gives bytes a bounded number of times.
+/// An implementation says by the ghost member `stream` which bytes are still to come (if it knows them),
+/// how often it has failed, how often it may still be interrupted, and how many reads may still take
+/// bytes. So a loop over a reader ends: it yields bytes a bounded number of times.
 pub trait Read {
     ghost stream: { Self → ReaderState };
 
-    /// Puts a front of the bytes to come into the buffer, and answers how many: at least one where one
-    /// is left and the buffer isn't empty. Which ones depends on the bytes alone.
+    /// Reads the next bytes into the beginning of the buffer, and returns how many: at least one, if one
+    /// is left and the buffer isn't empty.
     ///
-    /// Refused with `Interrupted`: nothing was taken, and the call may be made again. Refused with any
-    /// other kind: nothing was taken, and the count of faults rose.
+    /// After an error of kind `Interrupted` nothing was read, and the call may be made again. After any
+    /// other error nothing was read, and the count of faults has risen.
+    ///
+    /// ```
+    /// let mut input = b"\x07\x00\xff".as_slice();
+    /// let mut buffer = [0u8; 2];
+    /// assert_eq!(rt; input.read(&mut buffer)?, 2);
+    /// assert_eq!(rt; input, b"\xff".as_slice());
+    /// ```
     fn read(&mut self, buf: &mut [u8]) -> Result<usize>
         ensures { ReadsSome stream self.old self.new buf.new result };
 
     /// Whether the keys of maps and sets must be in ascending order. No read changes it.
+    ///
+    /// ```
+    /// assert!(rt; b"\x07".as_slice().strict_order());
+    /// assert!(rt; !Unordered::new(b"\x07".as_slice()).strict_order());
+    /// ```
     fn strict_order(&self) -> bool
         ensures { result ≡ (stream self.now).strict_order };
 
-    /// Fills the buffer with the front of the bytes to come, trying again after interruptions.
+    /// Fills the buffer with the next bytes, trying again after interruptions.
     ///
-    /// Refused with `UnexpectedEof`, "failed to fill whole buffer", where fewer bytes are to come, and
-    /// with the reader's error, where it failed. Then a tail of the bytes to come is left, and the
-    /// buffer holds anything.
+    /// Returns `UnexpectedEof`, "failed to fill whole buffer", if there are fewer bytes, and the reader's
+    /// error if it fails. After an error some of the bytes may have been read, and the contents of the
+    /// buffer are unspecified.
+    ///
+    /// ```
+    /// let mut input = b"\x07\x00\xff".as_slice();
+    /// let mut buffer = [0u8; 2];
+    /// input.read_exact(&mut buffer)?;
+    /// assert_eq!(rt; buffer, [7, 0]);
+    /// ```
     fn read_exact(&mut self, buf: &mut [u8]) -> Result<()>
         ensures { ReadsExactly stream self.old self.new buf.old buf.new result }
     {
@@ -44,7 +63,13 @@ pub trait Read {
         Ok(())
     }
 
-    /// The reader itself, to be lent.
+    /// A mutable reference to the reader, so that it can be used again after a call that takes a reader
+    /// by value.
+    ///
+    /// ```
+    /// let mut unordered = Unordered::new(input.by_ref());
+    /// let set = BTreeSet::<u8>::deserialize_reader(alloc, &mut unordered)?;
+    /// ```
     final fn by_ref(&mut self) -> &mut Self
     where
         Self: Sized,
@@ -57,7 +82,12 @@ pub trait Read {
 
 /// One read, trying again after interruptions.
 ///
-/// Refused with the reader's error, where it failed. Nothing was taken then.
+/// Returns the reader's error if it fails; nothing was read then.
+///
+/// ```
+/// let mut buffer = [0u8; 4096];
+/// let n = read_some(&mut input, &mut buffer)?;
+/// ```
 pub fn read_some<R: Read>(reader: &mut R, buf: &mut [u8]) -> Result<usize>
     ensures { ReadsSomeRetrying R.stream reader.old reader.new buf.new result }
 {

@@ -24,8 +24,8 @@ impl<R: Read> Read for &mut R {
     }
 }
 
-/// The slice becomes what is left. It never fails and is never interrupted, and a short `read_exact`
-/// leaves it unchanged.
+/// The slice becomes what is left. It never fails and is never interrupted; if it is too short for a
+/// `read_exact`, it is left unchanged.
 impl Read for &[u8] {
     ghost stream = { λ s. slice_state s.now };
 

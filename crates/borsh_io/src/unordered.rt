@@ -6,8 +6,8 @@ ghost use Rattle.borsh_io.specs.Unordered.{unordered_inner};
 use super::error::Result;
 use super::read::Read;
 
-/// A reader whose keys of maps and sets may come in any order, with repeats. In all else it does what
-/// the inner reader does.
+/// A reader from which maps and sets are decoded with their keys in any order, and repeatedly. In all
+/// else it does what the inner reader does.
 ///
 /// ```
 /// let mut input = Unordered::new(bytes);
@@ -20,6 +20,12 @@ pub struct Unordered<R> {
 
 impl<R: Read> Unordered<R> {
     /// A reader over `inner`.
+    ///
+    /// ```
+    /// let mut input = Unordered::new(b"\x02\x00\x00\x00\x09\x01".as_slice());
+    /// let set = BTreeSet::<u8>::deserialize_reader(alloc, &mut input)?;
+    /// assert_eq!(rt; set.len(), 2);
+    /// ```
     pub fn new(inner: R) -> Unordered<R>
         ensures { unordered_inner result ≡ inner }
     {

@@ -5,30 +5,47 @@ ghost use Rattle.borsh_io.specs.Sink.{WriterModel, WriterLaws, WritesSome, Write
 
 use super::error::{Error, ErrorKind, Result, pass_over};
 
-/// A sink of bytes.
+/// A destination of bytes.
 ///
-/// An implementation says by `writing` which bytes came between two of its states, how often it has
-/// failed, how often it may still be interrupted, when it has no room, and whether it may take memory.
-/// It proves that no bytes come between a state and itself, and that bytes after bytes are joined.
+/// An implementation says by the ghost member `writing` which bytes were written between two of its
+/// states, how often it has failed, how often it may still be interrupted, when it is full, and whether
+/// it may allocate. It proves that no bytes were written between a state and itself, and that of two
+/// writes one after the other the bytes are joined.
 pub trait Write {
     ghost writing: { WriterModel Self };
 
-    /// Writes the front of the buffer, and answers how many bytes: none of a buffer that isn't empty
-    /// only where the writer is full.
+    /// Writes the beginning of the buffer, and returns how many bytes: of a buffer that isn't empty, none
+    /// only if the writer is full.
     ///
-    /// Refused with `Interrupted`: nothing was written, and the call may be made again. Refused with
-    /// any other kind: nothing was written, and memory was refused or the count of faults rose.
+    /// After an error of kind `Interrupted` nothing was written, and the call may be made again. After any
+    /// other error nothing was written, and an allocation failed or the count of faults has risen.
+    ///
+    /// ```
+    /// let mut room = [0u8; 2];
+    /// let mut output = room.as_mut_slice();
+    /// assert_eq!(rt; output.write(b"\x07\x00\xff")?, 2);
+    /// ```
     fn write(&mut self, buf: &[u8]) -> Result<usize>
         ensures { WritesSome writing self.old self.new buf.now result };
 
-    /// Hands on what the writer holds back. Adds no bytes; refused as [`write`](Write::write) is.
+    /// Passes on what the writer has buffered. Adds no bytes; the errors are those of
+    /// [`write`](Write::write).
+    ///
+    /// ```
+    /// output.flush()?;
+    /// ```
     fn flush(&mut self) -> Result<()>
         ensures { Flushes writing self.old self.new result };
 
     /// Writes the whole buffer, trying again after interruptions.
     ///
-    /// Refused with `WriteZero`, "failed to write whole buffer", where the writer is full, and with the
-    /// writer's error, where it failed. Then a beginning of the buffer was written, and not all of it.
+    /// Returns `WriteZero`, "failed to write whole buffer", if the writer is full, and the writer's error if
+    /// it fails. After an error a beginning of the buffer was written, and not all of it.
+    ///
+    /// ```
+    /// let mut out = Vec::new(alloc);
+    /// out.write_all(b"\x07\x00")?;
+    /// ```
     fn write_all(&mut self, buf: &[u8]) -> Result<()>
         ensures { WritesAll writing self.old self.new buf.now result }
     {
@@ -43,7 +60,12 @@ pub trait Write {
         Ok(())
     }
 
-    /// The writer itself, to be lent.
+    /// A mutable reference to the writer, so that it can be used again after a call that takes a writer
+    /// by value.
+    ///
+    /// ```
+    /// 7u16.serialize(alloc, &mut output.by_ref())?;
+    /// ```
     final fn by_ref(&mut self) -> &mut Self
     where
         Self: Sized,
@@ -63,7 +85,12 @@ pub(crate) fn short_write() -> Error
     Error::new(ErrorKind::WriteZero, "failed to write whole buffer")
 }
 
-/// A flush, trying again after interruptions. Refused with the writer's error, where it failed.
+/// A flush, trying again after interruptions. Returns the writer's error if it fails.
+///
+/// ```
+/// to_writer(alloc, &mut output, &value)?;
+/// flush_all(&mut output)?;
+/// ```
 pub fn flush_all<W: Write>(writer: &mut W) -> Result<()>
     ensures { FlushesRetrying W.writing writer.old writer.new result }
 {

@@ -27,8 +27,8 @@ impl<W: Write> Write for &mut W {
     ghost lawful = { contramap_writer-laws (λ r. r.now) W.lawful };
 }
 
-/// The bytes go to the end of the vector. Memory that is refused leaves it unchanged (`OutOfMemory`);
-/// it is refused only where the vector has to grow.
+/// The bytes are appended to the vector. If an allocation fails (`OutOfMemory`), which happens only if the
+/// vector has to grow, it is unchanged.
 impl Write for Vec<u8> {
     ghost writing = { appending (λ v. v.items) };
 
@@ -64,8 +64,8 @@ impl Write for Vec<u8> {
     ghost lawful = { appending-laws (λ v. v.items) };
 }
 
-/// The bytes go over the front of the slice, which then begins behind them. It is full when it is
-/// empty; where not all fits, what fits is written.
+/// The bytes overwrite the beginning of the slice, which then begins behind them. It is full when it is
+/// empty; if not all of them fit, those that fit are written.
 impl Write for &mut [u8] {
     ghost writing = { overwriting (λ s. s.now) };
 

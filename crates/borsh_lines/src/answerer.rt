@@ -7,7 +7,7 @@ ghost use Rattle.borsh_lines.specs.Lines.{Appends};
 use borsh_answers::answer;
 use std::alloc::{AllocError, Global};
 
-/// Answers lines, and counts the lines that it has answered. A count at its greatest value stays.
+/// Answers lines, and counts the lines that it has answered. A count at its greatest value stays there.
 #[derive(Debug, Drop)]
 pub struct Answerer {
     count: u64,
@@ -15,6 +15,12 @@ pub struct Answerer {
 
 impl Answerer {
     /// An answerer that has answered no line.
+    ///
+    /// ```
+    /// let mut answerer = Answerer::new();
+    /// run_counted(alloc, &mut reader, &mut writer, &mut answerer)?;
+    /// println!(rt; "{} lines", answerer.count())?;
+    /// ```
     pub fn new() -> Answerer
         ensures { line_count result ≡ 0 }
     {
@@ -30,7 +36,7 @@ impl Answerer {
 
     /// Appends the answer to `line` and a line feed to `out`, and counts the line.
     ///
-    /// Where memory is refused, nothing was appended and the line isn't counted.
+    /// If an allocation fails, nothing was appended and the line isn't counted.
     pub fn answer(
         &mut self,
         alloc: Global,

@@ -6,8 +6,13 @@ ghost use Rattle.borsh_lines.specs.Runs.{error_line, spaced, Told};
 
 use borsh::io::{Error, Result, Write};
 
-/// The exit status after a run: 0, or 1 after an error, which is told in one line. That it can't be
-/// told is passed over.
+/// The exit status after a run: 0, or 1 after an error, which is written as one line. An error of that
+/// write is ignored.
+///
+/// ```
+/// let outcome = run(rt.alloc(), &mut reader, &mut writer);
+/// ExitCode::from(finish(&outcome, &mut errors))
+/// ```
 pub fn finish<W: Write>(outcome: &Result<()>, errors: &mut W) -> u8
     ensures ok { OnOk outcome.now ((result ≡ 0) × (errors.new ≡ errors.old)) }
     ensures err { IfErr outcome.now

@@ -9,7 +9,7 @@ use std::alloc::{AllocError, Global};
 /// Appends to `out` the answers to the lines that end in `chunk`. `line` is the part of a line that
 /// came before the chunk, and afterwards the part behind the chunk's last line feed.
 ///
-/// Where memory is refused for a line, `out` has the answers to the lines before it.
+/// If an allocation fails within a line, `out` has the answers to the lines before it.
 pub(crate) fn answer_chunk(
     alloc: Global,
     chunk: &[u8],

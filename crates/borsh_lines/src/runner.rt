@@ -8,15 +8,21 @@ use super::replies::answer_chunk;
 use borsh::io::{Read, Result, Write, flush_all, read_some};
 use std::alloc::Global;
 
-/// How many bytes are asked of the reader at once.
+/// How many bytes are read at most at once.
 const CHUNK: usize = 8192;
 
 /// Answers each line of the reader's bytes by one line, and flushes the writer.
 ///
-/// Lines end by a line feed; a last line without one counts if it isn't empty. An error means that
-/// memory was refused, that the reader or the writer failed, or that the writer was full. The lines
-/// that were answered by then are the first ones of the input. Their answers were all written where
-/// memory was refused or the reader failed; where the writer was full or failed, a beginning of them.
+/// Lines end by a line feed; a last line without one counts if it isn't empty. An error means that an
+/// allocation failed, that the reader or the writer failed, or that the writer was full. The lines that
+/// were answered by then are the first ones of the input. Their answers were all written if an
+/// allocation or the reader failed; if the writer was full or failed, a beginning of them was.
+///
+/// ```
+/// let mut out = Vec::new(alloc);
+/// run(alloc, &mut b"read u8 07\n".as_slice(), &mut out)?;
+/// assert_eq!(rt; out.as_slice(), b"ok 07\n".as_slice());
+/// ```
 pub fn run<R: Read, W: Write>(alloc: Global, reader: &mut R, writer: &mut W) -> Result<()>
     ensures { Runs Answers W.writing (R.stream reader.old) (R.stream reader.new)
         writer.old writer.new result }
@@ -25,7 +31,7 @@ pub fn run<R: Read, W: Write>(alloc: Global, reader: &mut R, writer: &mut W) -> 
 }
 
 /// As [`run`], with an answerer of the caller's. Its count rises by the number of lines that were
-/// answered. So no answer is lost where memory is refused or the reader fails: as many were written.
+/// answered. So no answer is lost if an allocation or the reader fails: as many were written.
 pub fn run_counted<R: Read, W: Write>(
     alloc: Global,
     reader: &mut R,

@@ -1,7 +1,8 @@
-//! Each request for memory refused in turn: every call then answers rightly or with an allocation failure.
+//! Each allocation fails in turn: every call then returns the right result or an allocation failure.
 //!
-//! The tests give orders to the heap. `rt ci` runs them over an ordinary heap, which refuses the orders and nothing else, so
-//! each call is made with ample memory there. `.ci/refused` then links the same proved tests over `.ci/heap.c`, which obeys.
+//! The tests tell the heap which allocations are to fail, by allocations of more bytes than any heap grants. `rt ci` runs them
+//! over an ordinary heap, which refuses these and nothing else, so each call is made with ample memory there. `.ci/refused`
+//! then links the same proved tests over `.ci/heap.c`, which does as it is told.
 #![tactic(auto)]
 
 #[cfg(test)]

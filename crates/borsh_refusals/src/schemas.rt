@@ -12,7 +12,7 @@ use std::net::IpAddr;
 use std::ops::Range;
 use std::test::Fail;
 
-/// The container is built, told from others and sized, or an allocation failure is answered.
+/// The container is built, distinguished from others and sized, or an allocation failure is returned.
 fn is_built<T: BorshSchema>(
     rt: HostRuntime,
     name: &str,

@@ -1,4 +1,4 @@
-// Calls that take no memory: each is made with every request refused, and asks for none.
+// Calls that don't allocate: each is made with every allocation failing, and makes none.
 //
 // They are: all calls of `Error` and `Text`; readers and writers over slices; `by_ref`; `flush` of vectors; `encodes_empty`,
 // `element_size`, `cautious`, `u8_slice` and `strict_order`; the `new` of the adapters, of `Unordered` and of `Counted`; `look`;

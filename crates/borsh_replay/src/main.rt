@@ -2,7 +2,7 @@
 //!
 //! Standard input begins with a row that names the columns. Each further row is a line, where its answers
 //! come from, and the answers, with tabs between them. What differs is printed, and last how many lines of
-//! each source agree. replay/README.md tells how the rows are made.
+//! each source agree. replay/README.md says how the rows are made.
 #![tactic(auto)]
 
 mod rows;

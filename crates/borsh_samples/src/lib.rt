@@ -1,4 +1,4 @@
-//! Types as a user of the library writes them: their meaning, their laws, writing and reading, by the
+//! Types as a user of the library writes them: their codecs, laws, encoding and decoding, proved from the
 //! library's public contracts alone; and the schemas of two of them.
 #![tactic(auto)]
 

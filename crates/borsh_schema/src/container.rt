@@ -15,7 +15,7 @@ use borsh_walks::{Declaration, Definition};
 use std::alloc::{AllocError, Global};
 use std::collections::{BTreeMap, btree_map};
 
-/// A type's name, and the definition of each name that it refers to.
+/// A schema as a value: a type's name, the root, and a map from names to definitions.
 #[derive(Clone, Debug, PartialEq, Eq, Drop)]
 pub struct BorshSchemaContainer {
     pub(crate) declaration: Declaration,
@@ -48,7 +48,7 @@ impl BorshSchemaContainer {
     ///
     /// ```
     /// let container = BorshSchemaContainer::for_type::<Option<u8>>(alloc)?;
-    /// assert_eq!(container.declaration(), "Option<u8>");
+    /// assert_eq!(rt; container.declaration().as_str(), "Option<u8>");
     /// ```
     pub fn for_type<T: BorshSchema>(alloc: Global) -> Result<BorshSchemaContainer, SchemaBuildError>
         ensures ok { IfOk result (λ c. IsContainerOf T.name T.parts c) }
@@ -67,7 +67,7 @@ impl BorshSchemaContainer {
     /// [`for_type`](BorshSchemaContainer::for_type).
     ///
     /// ```
-    /// assert!(container.is_of_type::<Option<u8>>(alloc)?);
+    /// assert!(rt; container.is_of_type::<Option<u8>>(alloc)?);
     /// ```
     pub fn is_of_type<T: BorshSchema>(&self, alloc: Global) -> Result<bool, SchemaBuildError>
         ensures ok { IfOk result (λ yes. Decides yes (IsContainerOf T.name T.parts self.now)) }
@@ -129,8 +129,8 @@ impl BorshSchemaContainer {
         self.definitions.get_mut(declaration)
     }
 
-    /// Gives a name a definition, and returns the one that it had. If an allocation fails, the container
-    /// is unchanged, and what was given is dropped.
+    /// Gives a name a definition, and returns the one that it had, if any. If an allocation fails, the
+    /// container is unchanged, and what was given is dropped.
     ///
     /// ```
     /// let name = String::from_str(alloc, "u8")?;
@@ -151,7 +151,7 @@ impl BorshSchemaContainer {
         Ok(self.definitions.insert(declaration, definition)?)
     }
 
-    /// Removes the definition of a name, and returns it.
+    /// Removes the definition of a name, and returns it, if there was one.
     ///
     /// ```
     /// let removed = container.remove_definition("u8");

@@ -12,11 +12,12 @@ use std::collections::BTreeMap;
 use std::error::Error;
 use std::fmt;
 
-/// Why the definitions of a type could not be put together.
+/// Why the definitions of a type could not be collected.
 #[derive(Clone, Debug, PartialEq, Eq, Drop)]
 pub enum SchemaBuildError {
     /// Two different definitions have this name.
     Redefinition(Declaration),
+    /// An allocation failed.
     OutOfMemory,
 }
 
@@ -70,9 +71,14 @@ fn says_the_same(known: &Definition, given: &Definition) -> bool
     known == given
 }
 
-/// Puts a definition into the map under its name. A definition that says the same changes nothing,
-/// and where the name has another one the answer is `Redefinition`. After a refusal the map is
-/// unchanged, and the definition given is dropped.
+/// Adds a definition to the map under its name. If the name has an equal definition, nothing changes; if
+/// it has a different one, the error is `Redefinition`. After an error the map is unchanged, and the
+/// definition that was given is dropped.
+///
+/// ```
+/// let name = String::from_str(alloc, "u8")?;
+/// add_definition(name, Definition::Primitive(1), &mut definitions)?;
+/// ```
 pub fn add_definition(
     declaration: Declaration,
     definition: Definition,

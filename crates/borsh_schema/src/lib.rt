@@ -1,4 +1,4 @@
-//! Which bytes a type has, told by named definitions.
+//! Schemas: which bytes a type has, as a map from names to definitions.
 #![tactic(auto)]
 
 mod addresses;

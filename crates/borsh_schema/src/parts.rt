@@ -12,12 +12,16 @@ use std::alloc::Global;
 use std::collections::BTreeMap;
 use std::marker::PhantomData;
 
-/// Types whose definitions are put in together: a type and the others, as `(A, (B, (C, ())))`.
+/// Several types whose definitions are added to a map: `(A, (B, (C, ())))` stands for `A`, `B` and `C`.
 pub trait SchemaParts {
     ghost all_parts: { DefinitionTree };
 
-    /// Adds the definitions of all, with the answers of
+    /// Adds the definitions of all of them, with the errors of
     /// [`BorshSchema::add_definitions_recursively`].
+    ///
+    /// ```
+    /// <(u8, (String, ()))>::add_all(alloc, &mut definitions)?;
+    /// ```
     fn add_all(
         alloc: Global,
         definitions: &mut BTreeMap<Declaration, Definition>,
@@ -50,7 +54,7 @@ impl<T: BorshSchema, R: SchemaParts> SchemaParts for (T, R) {
     }
 }
 
-/// Two lists of types, one after the other.
+/// The types of `P`, and then those of `Q`.
 #[derive(Drop)]
 pub struct Both<P, Q> {
     _lists: PhantomData<(P, Q)>,
@@ -69,8 +73,12 @@ impl<P: SchemaParts, Q: SchemaParts> SchemaParts for Both<P, Q> {
     }
 }
 
-/// Adds a type's definition and those of its parts, which are named as `(A, (B, ()))`. The answers
-/// are those of [`BorshSchema::add_definitions_recursively`].
+/// Adds a type's definition and those of its parts, which are given as `(A, (B, ()))`. The errors are
+/// those of [`BorshSchema::add_definitions_recursively`].
+///
+/// ```
+/// add_with_parts::<(u64, (String, ()))>(alloc, name, Definition::Struct { fields }, definitions)?;
+/// ```
 pub fn add_with_parts<P: SchemaParts>(
     alloc: Global,
     declaration: Declaration,
@@ -84,7 +92,11 @@ pub fn add_with_parts<P: SchemaParts>(
     P::add_all(alloc, definitions)
 }
 
-/// A name as a text of its own. The error is always `OutOfMemory`.
+/// A name as a `String`. The error is always `OutOfMemory`.
+///
+/// ```
+/// let name = declared(alloc, "Account")?;
+/// ```
 pub fn declared(alloc: Global, name: &str) -> Result<Declaration, SchemaBuildError>
     ensures ok { IfOk result (λ d. string_bytes d ≡ name.now) }
     ensures err { IfErr result (λ e. e ≡ OutOfMemory) }
@@ -92,7 +104,11 @@ pub fn declared(alloc: Global, name: &str) -> Result<Declaration, SchemaBuildErr
     Ok(String::from_str(alloc, name)?)
 }
 
-/// A field's name and type. The error is always `OutOfMemory`.
+/// A field's name and the name of its type. The error is always `OutOfMemory`.
+///
+/// ```
+/// let fields = Fields::NamedFields(vec![in alloc; field::<u64>(alloc, "amount")?]?);
+/// ```
 pub fn field<T: BorshSchema>(
     alloc: Global,
     name: &str,
@@ -104,7 +120,11 @@ pub fn field<T: BorshSchema>(
     Ok((declared(alloc, name)?, T::declaration(alloc)?))
 }
 
-/// A variant's discriminant, name and type. The error is always `OutOfMemory`.
+/// A variant's discriminant, its name and the name of its type. The error is always `OutOfMemory`.
+///
+/// ```
+/// let some = variant::<u8>(alloc, 1, "Some")?;
+/// ```
 pub fn variant<T: BorshSchema>(
     alloc: Global,
     discriminant: DiscriminantValue,
@@ -118,7 +138,12 @@ pub fn variant<T: BorshSchema>(
     Ok((discriminant, declared(alloc, name)?, T::declaration(alloc)?))
 }
 
-/// A variant whose part has a name of its own and no type. The error is always `OutOfMemory`.
+/// A variant whose fields have a definition under this name, and no type. The error is always
+/// `OutOfMemory`.
+///
+/// ```
+/// let paid = named_variant(alloc, 1, "Paid", "Event__Paid")?;
+/// ```
 pub fn named_variant(
     alloc: Global,
     discriminant: DiscriminantValue,

@@ -9,9 +9,9 @@ use borsh_walks::{
 use std::alloc::Global;
 
 impl BorshSchemaContainer {
-    /// Checks that each definition that the root reaches is there and keeps the rules. An error says
-    /// which rule is broken and by which name, one of them where there are several; `OutOfMemory` is
-    /// returned if an allocation fails.
+    /// Checks that each name that the root refers to, directly or through other definitions, has a
+    /// definition that keeps the rules, which [`check_rules`] lists. An error says which name breaks which
+    /// rule, one of them if there are several; `OutOfMemory` is returned if an allocation fails.
     ///
     /// ```
     /// container.validate(alloc)?;

@@ -12,25 +12,34 @@ use borsh_walks::{Declaration, Definition};
 use std::alloc::Global;
 use std::collections::BTreeMap;
 
-/// A type whose bytes a container describes.
+/// A type with a schema.
 ///
-/// An implementation says the bytes of the type's name (`name`) and the definitions of all that the
-/// name leads to (`parts`), and proves that in every container that holds these definitions each
-/// encoding is a member of the name (`describes`).
+/// An implementation says by ghost members the bytes of the type's name (`name`) and the definitions of
+/// the name and of all names that it refers to (`parts`), and proves that in every container that has
+/// these definitions each encoding is a member of the name (`describes`).
 pub trait BorshSchema: BorshType {
     ghost name: { List ℕ };
 
     ghost parts: { DefinitionTree };
 
     /// The name of the type. The error is always `OutOfMemory`.
+    ///
+    /// ```
+    /// assert_eq!(rt; <Vec<u8>>::declaration(alloc)?.as_str(), "Vec<u8>");
+    /// ```
     fn declaration(alloc: Global) -> Result<Declaration, SchemaBuildError>
         ensures ok { IfOk result (λ d. string_bytes d ≡ name) }
         ensures err { IfErr result (λ e. e ≡ OutOfMemory) };
 
-    /// Adds the type's definition and those of its parts to the map. Where a name has two different
-    /// definitions the error is `Redefinition` of such a name, and where memory is refused it is
-    /// `OutOfMemory`. After an error the map has what it had, and perhaps some of the type's
-    /// definitions.
+    /// Adds the type's definition and those of its parts to the map. The error is `Redefinition` of a name
+    /// that has two different definitions, or `OutOfMemory` if an allocation fails. After an error the map
+    /// has what it had, and perhaps some of the type's definitions.
+    ///
+    /// ```
+    /// let mut definitions = BTreeMap::new(alloc);
+    /// <Vec<u8>>::add_definitions_recursively(alloc, &mut definitions)?;
+    /// assert_eq!(rt; definitions.len(), 2);
+    /// ```
     fn add_definitions_recursively(
         alloc: Global,
         definitions: &mut BTreeMap<Declaration, Definition>,

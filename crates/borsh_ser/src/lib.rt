@@ -1,4 +1,4 @@
-//! Writing.
+//! Encoding.
 #![tactic(auto)]
 
 pub mod addresses;

@@ -18,7 +18,7 @@ use std::borrow::CowSlice;
 use std::boxed::BoxedSlice;
 use std::rc::RcSlice;
 
-/// Writes the elements one after another, at once where their bytes lie in memory as they are.
+/// Writes the elements one after another, or at once if their encodings lie in memory so.
 ///
 /// Fails as the element that could not be written does. Then a beginning of the encoding was
 /// written.

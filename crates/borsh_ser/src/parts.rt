@@ -10,7 +10,11 @@ use std::alloc::Global;
 
 /// Writes two parts, one after the other.
 ///
-/// Fails as the part that could not be written does. Then a beginning of the encoding was written.
+/// Returns the error of the part that could not be written. Then a beginning of the encoding was written.
+///
+/// ```
+/// write_two(&self.a, &self.b, alloc, writer)?;
+/// ```
 #[inline]
 pub fn write_two<A: BorshSerialize, B: BorshSerialize, W: Write>(
     a: &A,
@@ -26,7 +30,11 @@ pub fn write_two<A: BorshSerialize, B: BorshSerialize, W: Write>(
 
 /// Writes three parts in order.
 ///
-/// Fails as the part that could not be written does. Then a beginning of the encoding was written.
+/// Returns the error of the part that could not be written. Then a beginning of the encoding was written.
+///
+/// ```
+/// write_three(&self.a, &self.b, &self.c, alloc, writer)?;
+/// ```
 #[inline]
 pub fn write_three<A: BorshSerialize, B: BorshSerialize, C: BorshSerialize, W: Write>(
     a: &A,
@@ -46,7 +54,11 @@ pub fn write_three<A: BorshSerialize, B: BorshSerialize, C: BorshSerialize, W: W
 
 /// Writes four parts in order.
 ///
-/// Fails as the part that could not be written does. Then a beginning of the encoding was written.
+/// Returns the error of the part that could not be written. Then a beginning of the encoding was written.
+///
+/// ```
+/// write_four(&self.a, &self.b, &self.c, &self.d, alloc, writer)?;
+/// ```
 #[inline]
 pub fn write_four<
     A: BorshSerialize,
@@ -66,7 +78,11 @@ pub fn write_four<
 
 /// Writes five parts in order.
 ///
-/// Fails as the part that could not be written does. Then a beginning of the encoding was written.
+/// Returns the error of the part that could not be written. Then a beginning of the encoding was written.
+///
+/// ```
+/// write_five(&self.a, &self.b, &self.c, &self.d, &self.e, alloc, writer)?;
+/// ```
 #[inline]
 pub fn write_five<
     A: BorshSerialize,
@@ -87,7 +103,11 @@ pub fn write_five<
 
 /// Writes six parts in order.
 ///
-/// Fails as the part that could not be written does. Then a beginning of the encoding was written.
+/// Returns the error of the part that could not be written. Then a beginning of the encoding was written.
+///
+/// ```
+/// write_six(&self.a, &self.b, &self.c, &self.d, &self.e, &self.f, alloc, writer)?;
+/// ```
 #[inline]
 pub fn write_six<
     A: BorshSerialize,
@@ -109,7 +129,11 @@ pub fn write_six<
 
 /// Writes seven parts in order.
 ///
-/// Fails as the part that could not be written does. Then a beginning of the encoding was written.
+/// Returns the error of the part that could not be written. Then a beginning of the encoding was written.
+///
+/// ```
+/// write_seven(&self.a, &self.b, &self.c, &self.d, &self.e, &self.f, &self.g, alloc, writer)?;
+/// ```
 #[inline]
 pub fn write_seven<
     A: BorshSerialize,
@@ -133,7 +157,14 @@ pub fn write_seven<
 
 /// Writes eight parts in order.
 ///
-/// Fails as the part that could not be written does. Then a beginning of the encoding was written.
+/// Returns the error of the part that could not be written. Then a beginning of the encoding was written.
+///
+/// ```
+/// write_eight(
+///     &self.a, &self.b, &self.c, &self.d,
+///     &self.e, &self.f, &self.g, &self.h, alloc, writer,
+/// )?;
+/// ```
 #[inline]
 pub fn write_eight<
     A: BorshSerialize,
@@ -169,7 +200,14 @@ pub fn write_eight<
 
 /// Writes nine parts in order.
 ///
-/// Fails as the part that could not be written does. Then a beginning of the encoding was written.
+/// Returns the error of the part that could not be written. Then a beginning of the encoding was written.
+///
+/// ```
+/// write_nine(
+///     &self.a, &self.b, &self.c, &self.d, &self.e,
+///     &self.f, &self.g, &self.h, &self.i, alloc, writer,
+/// )?;
+/// ```
 #[inline]
 pub fn write_nine<
     A: BorshSerialize,
@@ -207,7 +245,14 @@ pub fn write_nine<
 
 /// Writes ten parts in order.
 ///
-/// Fails as the part that could not be written does. Then a beginning of the encoding was written.
+/// Returns the error of the part that could not be written. Then a beginning of the encoding was written.
+///
+/// ```
+/// write_ten(
+///     &self.a, &self.b, &self.c, &self.d, &self.e,
+///     &self.f, &self.g, &self.h, &self.i, &self.j, alloc, writer,
+/// )?;
+/// ```
 #[inline]
 pub fn write_ten<
     A: BorshSerialize,
@@ -247,7 +292,14 @@ pub fn write_ten<
 
 /// Writes eleven parts in order.
 ///
-/// Fails as the part that could not be written does. Then a beginning of the encoding was written.
+/// Returns the error of the part that could not be written. Then a beginning of the encoding was written.
+///
+/// ```
+/// write_eleven(
+///     &self.a, &self.b, &self.c, &self.d, &self.e, &self.f,
+///     &self.g, &self.h, &self.i, &self.j, &self.k, alloc, writer,
+/// )?;
+/// ```
 #[inline]
 pub fn write_eleven<
     A: BorshSerialize,
@@ -290,7 +342,14 @@ pub fn write_eleven<
 
 /// Writes twelve parts in order.
 ///
-/// Fails as the part that could not be written does. Then a beginning of the encoding was written.
+/// Returns the error of the part that could not be written. Then a beginning of the encoding was written.
+///
+/// ```
+/// write_twelve(
+///     &self.a, &self.b, &self.c, &self.d, &self.e, &self.f,
+///     &self.g, &self.h, &self.i, &self.j, &self.k, &self.l, alloc, writer,
+/// )?;
+/// ```
 #[inline]
 pub fn write_twelve<
     A: BorshSerialize,
@@ -334,10 +393,14 @@ pub fn write_twelve<
     write_eleven(b, c, d, e, f, g, h, i, j, k, l, alloc, writer)
 }
 
-/// Writes a tag, one byte, and a part.
+/// Writes a tag, one byte, and a part: a variant with one field.
 ///
-/// Fails with the writer's error, or as the part does. Then a beginning of the encoding was
+/// Returns the writer's error if it fails, or the error of the part. Then a beginning of the encoding was
 /// written.
+///
+/// ```
+/// write_tagged(2, reason, alloc, writer)?;
+/// ```
 #[inline]
 pub fn write_tagged<T: BorshSerialize, W: Write>(
     tag: u8,

@@ -4,9 +4,13 @@ ghost use Rattle.borsh_codec.specs.Writing.{WritesEncoding};
 
 use borsh_io::{Result, Write};
 
-/// Writes bytes that are an encoding.
+/// Writes bytes that are an encoding, as the tag of a variant.
 ///
-/// Fails with the writer's error. Then a beginning of the bytes was written.
+/// Returns the writer's error if it fails. Then a beginning of the bytes was written.
+///
+/// ```
+/// write_bytes(&[0], writer)?;
+/// ```
 #[inline]
 pub fn write_bytes<W: Write>(bytes: &[u8], writer: &mut W) -> Result<()>
     ensures { WritesEncoding W.writing writer.old writer.new false false (Some bytes.now) result }

@@ -7,7 +7,7 @@ use borsh_io::{Result, Write};
 use borsh_types::BorshType;
 use std::alloc::Global;
 
-/// A type whose values are written as their encodings.
+/// A type whose values can be encoded.
 pub trait BorshSerialize: BorshType + Sized {
     /// Writes the value's encoding.
     ///
@@ -19,13 +19,13 @@ pub trait BorshSerialize: BorshType + Sized {
     /// ```
     /// let mut out = Vec::new(alloc);
     /// 7u16.serialize(alloc, &mut out)?;
-    /// assert_eq!(out.as_slice(), b"\x07\x00");
+    /// assert_eq!(rt; out.as_slice(), b"\x07\x00".as_slice());
     /// ```
     fn serialize<W: Write>(&self, alloc: Global, writer: &mut W) -> Result<()>
         ensures { Writes Self.codec self.now W.writing writer.old writer.new result };
 
-    /// The encodings of the values, one after another, where they lie in memory as they are: only
-    /// `u8` answers them.
+    /// The encodings of the values, one after another, if they lie in memory so: only `u8` returns them,
+    /// and types of one's own need not override it.
     fn u8_slice(_slice: &[Self]) -> Option<&[u8]>
         ensures { IfSome result (λ bytes.
             concat_encodings Self.codec.encoding _slice.now ≡ Some bytes.now) }

@@ -79,7 +79,7 @@ fn has_told(alloc: Global, outcome: &borsh::io::Result<()>, status: u8, told: &[
     finish(outcome, &mut errors) == status && errors.as_slice() == told
 }
 
-/// Runs with a writer that has room for so many bytes: these are written, and the error is told.
+/// Runs with a writer that has room for so many bytes: these are written, and the error is reported.
 fn check_full_writer(
     alloc: Global,
     input: &[u8],
@@ -126,7 +126,7 @@ fn a_full_writer_has_the_first_bytes(rt: HostRuntime) -> Result<(), Fail> {
     Ok(())
 }
 
-/// Runs with a writer of single bytes that fails after so many: these are written, and the error is told.
+/// Runs with a writer of single bytes that fails after so many: these are written, and the error is reported.
 fn check_failing_writer(
     alloc: Global,
     input: &[u8],
@@ -175,7 +175,7 @@ fn a_failing_writer_has_the_first_bytes(rt: HostRuntime) -> Result<(), Fail> {
 }
 
 /// Runs with a reader that fails at a read: the answers to the lines whose line feed was taken are
-/// written, and the error is told. Answers whether that read was made.
+/// written, and the error is reported. Returns whether that read was made.
 fn check_failing_reader(
     alloc: Global,
     input: &[u8],

@@ -1,4 +1,4 @@
-// Keys of maps and elements of sets: types whose `==` says whether two values are the same.
+// Keys of maps and elements of sets: types whose `==` says whether two values have one encoding.
 ghost use Rattle.borsh_codec.proofs.Laws.Keys.{all_key, and_key, bare_key, bool_key, key_as, number_key, option_key, pair_key, result_key, signed_key, text_key, unit_key};
 ghost use Rattle.borsh_codec.proofs.Laws.AddressKeys.{ip_key, octets_key, segments_key};
 ghost use Rattle.borsh_codec.specs.Maps.{KeyLaw};
@@ -29,8 +29,8 @@ use uuid::Uuid;
 
 /// A type whose values can be keys of a map or elements of a set.
 ///
-/// Two keys are equal exactly if they are one value as far as the meaning as bytes goes. So a map has no two entries
-/// whose keys are written alike, and equal keys are written alike.
+/// Two keys are equal exactly if they are equivalent for the codec, so exactly if they have one encoding. So no two keys
+/// of a map have one encoding, and equal keys have one.
 pub trait BorshKey: BorshType + Eq {
     ghost key: { KeyLaw Self.eq Self.codec };
 }

@@ -1,4 +1,4 @@
-//! What types mean as bytes.
+//! The codecs of types: which bytes encode a value, and which bytes decode to it.
 #![tactic(auto)]
 
 pub mod addresses;

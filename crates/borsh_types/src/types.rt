@@ -2,21 +2,32 @@
 ghost use Rattle.std.specs.Prelude.{◌≡◌};
 ghost use Rattle.borsh_codec.specs.Codec.{Codec, Lawful};
 
-/// A type whose values have a meaning as bytes.
+/// A type with a Borsh encoding.
 ///
-/// An implementation says what the bytes of a value are, which values are the same, which bytes are
-/// read as a value, and whether reading or writing takes memory (`codec`), and proves the laws that
-/// make this a codec (`lawful`): one value has one encoding, no accepted input is a beginning of another,
-/// what is written is read again, and bytes are read as one value.
+/// An implementation says by the ghost member `codec` which bytes encode a value, which values are
+/// equivalent, which bytes decode to a value, and whether encoding or decoding allocates, and proves by
+/// `lawful` the laws of codecs: equivalent values have one encoding, no accepted input is a proper
+/// beginning of another, an encoding decodes to the value that was encoded, and bytes decode to one
+/// value.
 pub trait BorshType {
     ghost codec: { Codec Self };
 
-    /// Whether the encodings of the type are empty. Such a type can't be the element of a list, since
-    /// a short input could announce any number of elements.
+    /// Whether the encodings of the type are empty. Lists of such elements are refused, since a short
+    /// input could announce any number of them.
+    ///
+    /// ```
+    /// assert!(rt; <((), [u8; 0])>::encodes_empty());
+    /// assert!(rt; !Vec::<u8>::encodes_empty());
+    /// ```
     fn encodes_empty() -> bool
         ensures { result ≡ codec.is_zero_width };
 
-    /// About how many bytes of memory a value takes, for the first reservation of a list.
+    /// About how many bytes of memory a value takes; it sets for how many elements a list makes room at
+    /// first.
+    ///
+    /// ```
+    /// let bytes = <(u64, String)>::element_size();
+    /// ```
     fn element_size() -> usize;
 
     ghost lawful: { Lawful Self codec };

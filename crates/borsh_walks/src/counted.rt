@@ -6,7 +6,7 @@ use crate::definition::Definition;
 use std::collections::BTreeMap;
 
 /// How many definitions were visited, for each kind of question. A count at its greatest value
-/// stays.
+/// stays there.
 #[derive(Clone, Copy, Debug, PartialEq, Eq)]
 pub struct Expansions {
     pub size: u64,
@@ -34,13 +34,22 @@ pub struct Counted<'a, 'b> {
 
 impl<'a, 'b> Counted<'a, 'b> {
     /// The definitions of `map`, counted in `counts`.
+    ///
+    /// ```
+    /// let mut counts = Expansions { size: 0, zero: 0, rules: 0 };
+    /// let mut counted = Counted::new(&definitions, &mut counts);
+    /// ```
     pub fn new(map: &'a BTreeMap<String, Definition>, counts: &'b mut Expansions) -> Counted<'a, 'b>
         ensures { IsCounting result map.entry counts.entry }
     {
         Counted { map, counts }
     }
 
-    /// The definition of the name. Where there is one, the count of the question is raised by one.
+    /// The definition of the name. If there is one, the count of the question is raised by one.
+    ///
+    /// ```
+    /// let definition = counted.look(Question::Size, "u8");
+    /// ```
     pub fn look(&mut self, question: Question, name: &str) -> Option<&'a Definition>
         ensures same { LooksOn self.old self.new }
         ensures found { option_map (λ d. d.now) result ≡ definition_at self.old name.now }

@@ -1,4 +1,4 @@
-// Why a container is refused, or has no greatest size.
+// Why a container breaks the rules, or has no greatest size.
 ghost use Rattle.borsh_walks.specs.Errors.{no_memory, out_of_memory};
 ghost use Rattle.std.specs.Prelude.{◌≡◌};
 
@@ -7,7 +7,7 @@ use std::alloc::{AllocError, AllocFailed};
 use std::error::Error;
 use std::fmt;
 
-/// The rule that a reached name breaks.
+/// The rule that is broken, by a name that the root reaches.
 #[derive(Clone, Debug, PartialEq, Eq, Drop)]
 pub enum SchemaContainerValidateError {
     /// The elements of the sequence have empty encodings.
@@ -22,22 +22,22 @@ pub enum SchemaContainerValidateError {
     MissingDefinition(Declaration),
     /// The least length is above the greatest.
     EmptyLengthRange(Declaration),
-    /// Memory was refused.
+    /// An allocation failed.
     OutOfMemory,
 }
 
 /// Why there is no greatest size.
 #[derive(Clone, Debug, PartialEq, Eq, Drop)]
 pub enum SchemaMaxSerializedSizeError {
-    /// The size doesn't fit.
+    /// The size doesn't fit in a `usize`.
     Overflow,
-    /// A name leads back to itself.
+    /// A definition contains itself.
     Recursive,
     /// The name has no definition.
     MissingDefinition(Declaration),
-    /// Memory was refused.
+    /// An allocation failed.
     OutOfMemory,
-    /// The name has two definitions. Only the size of a type is refused with it.
+    /// The type gives this name two different definitions. Only the size of a type has this error.
     Redefinition(Declaration),
 }
 

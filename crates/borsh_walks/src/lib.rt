@@ -1,8 +1,8 @@
 //! Definitions of types by names, and what can be said of all their encodings.
 //!
-//! [`check_rules`] says whether the names reached from a root keep the rules, and [`root_size`] how long
-//! the encodings of the root may be. Both go over any definitions, also over names that lead back to
-//! themselves, visit each definition at most once for each kind of question, and don't recurse.
+//! [`check_rules`] says whether the names that a root refers to keep the rules, and [`root_size`] how long
+//! the encodings of the root may be. Both take any definitions, also ones that contain themselves, visit
+//! each definition at most once for each kind of question, and don't recurse.
 #![tactic(auto)]
 
 mod codec;

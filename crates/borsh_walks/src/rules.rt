@@ -173,12 +173,17 @@ fn visit<'a>(
     Ok(())
 }
 
-/// Whether each name that is reached from the root, by any mention, is defined and keeps the rules.
+/// Checks that each name that the root refers to, directly or through other definitions, is defined and
+/// keeps the rules.
 ///
-/// A sequence of width 0 with one length keeps them. Of any other sequence the least length is at most
-/// the greatest, the width is 0, 1, 2, 4 or 8 and has room for the greatest length, and the elements
-/// aren't all without bytes. The tag of an enum has at most eight bytes. An error names a reached name
-/// and a rule that it breaks; where several are broken, the contract doesn't say which of them.
+/// A sequence of width 0 whose least length is its greatest (an array) keeps them. Of any other sequence
+/// the least length is at most the greatest, the width is 0, 1, 2, 4 or 8 with room for the greatest
+/// length, and the elements have bytes. The tag of an enum has at most eight bytes. An error says which
+/// name breaks which rule; if several are broken, the contract doesn't say which of them.
+///
+/// ```
+/// check_rules(alloc, "Vec<u8>", &mut Counted::new(&definitions, &mut counts))?;
+/// ```
 pub fn check_rules(
     alloc: Global,
     root: &str,

@@ -62,14 +62,18 @@ fn finish(definition: &Definition, gathered: usize) -> Option<usize>
 /// The greatest length of the root's encodings, in bytes, as the definitions give it: a primitive has
 /// its own size, a sequence its length width and its greatest length times its element, an enum its tag
 /// width and its greatest variant, a tuple or struct the sum of its parts. The element of a sequence
-/// whose greatest length is 0 isn't visited.
+/// whose greatest length is 0 isn't needed and isn't visited.
+///
+/// ```
+/// let most = root_size(alloc, "Vec<u8>", &mut Counted::new(&definitions, &mut counts))?;
+/// ```
 ///
 /// # Errors
 ///
-/// `Overflow` for a size that doesn't fit a `usize`, `Recursive` for a needed name that leads back to
-/// itself, `MissingDefinition` for a needed name without a definition. Where several of these hold, the
-/// contract doesn't say which of them is returned. After an error `counted` has counted the definitions
-/// that were visited, as it has after a size.
+/// `Overflow` for a size that doesn't fit in a `usize`, `Recursive` for a needed definition that contains
+/// itself, `MissingDefinition` for a needed name without a definition, `OutOfMemory` if an allocation
+/// fails. If several of these hold, the contract doesn't say which of them is returned. After an error
+/// `counted` has counted the definitions that were visited, as it has after a size.
 pub fn root_size(
     alloc: Global,
     root: &str,
