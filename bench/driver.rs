@@ -1,91 +1,177 @@
-//! Times writing and reading by this library and by the original on the same values.
-use borsh::{BorshDeserialize, BorshSerialize, from_slice, to_vec};
-use std::collections::BTreeMap;
+//! Times this library and the original on the same values, in turn, in one program. Prints one line for each kind of
+//! value and action: the kind, the action, microseconds of ours and of the original.
+use borsh::schema::{BorshSchemaContainer, Definition, Fields};
+use borsh::{BorshDeserialize, BorshSerialize, from_slice, object_length, to_vec};
+use indexmap::IndexMap;
+use std::collections::{BTreeMap, BTreeSet, HashMap, VecDeque};
 use std::hint::black_box;
+use std::net::{IpAddr, Ipv4Addr, Ipv6Addr};
 use std::time::Instant;
+use uuid::Uuid;
 
 unsafe extern "C" {
-    fn ours(kind: u32, writes: bool, bytes: *const u8, len: usize, rounds: usize) -> usize;
+    fn ours(kind: u32, action: u32, bytes: *const u8, len: usize, rounds: usize) -> usize;
+    fn ours_of_container(sizes: bool, bytes: *const u8, len: usize, rounds: usize) -> usize;
+    fn ours_refuses(bytes: *const u8, len: usize, rounds: usize) -> usize;
 }
 
-const ROUNDS: usize = 50;
-const RUNS: usize = 20;
+const TURNS: usize = 30;
+const ACTIONS: [&str; 3] = ["write", "read", "length"];
 
-fn theirs<T: BorshSerialize + BorshDeserialize>(writes: bool, bytes: &[u8]) -> usize {
+/// The least time of a round in microseconds, of each of the two, run in turn. A turn has `rounds` rounds; the least time
+/// of a turn without rounds, which decodes the value alone, is taken off.
+fn compare(rounds: usize, mine: impl Fn(usize) -> usize, other: impl Fn(usize) -> usize) -> [f64; 2] {
+    let works: [&dyn Fn(usize) -> usize; 2] = [&mine, &other];
+    let mut whole = [f64::MAX; 2];
+    let mut empty = [f64::MAX; 2];
+    let wanted = other(rounds);
+    for _ in 0..TURNS {
+        for (n, work) in works.iter().enumerate() {
+            let start = Instant::now();
+            work(0);
+            empty[n] = empty[n].min(start.elapsed().as_secs_f64());
+            let start = Instant::now();
+            assert_eq!(work(rounds), wanted);
+            whole[n] = whole[n].min(start.elapsed().as_secs_f64());
+        }
+    }
+    [0, 1].map(|n| (whole[n] - empty[n]).max(0.0) * 1e6 / rounds as f64)
+}
+
+fn theirs<T: BorshSerialize + BorshDeserialize>(action: usize, bytes: &[u8], rounds: usize) -> usize {
+    if action == 1 {
+        for _ in 0..rounds {
+            black_box(from_slice::<T>(black_box(bytes)).unwrap());
+        }
+        return bytes.len() * rounds;
+    }
     let value: T = from_slice(bytes).unwrap();
     let mut sum = 0;
-    for _ in 0..ROUNDS {
-        if writes {
-            sum += black_box(to_vec(black_box(&value)).unwrap()).len();
-        } else {
-            black_box(from_slice::<T>(black_box(bytes)).unwrap());
-            sum += bytes.len();
-        }
+    for _ in 0..rounds {
+        sum += match action {
+            0 => black_box(to_vec(black_box(&value)).unwrap()).len(),
+            _ => black_box(object_length(black_box(&value)).unwrap()),
+        };
     }
     sum
 }
 
-/// The least time of a round, in microseconds.
-fn least(work: impl Fn() -> usize, wanted: usize) -> f64 {
-    let mut least = f64::MAX;
-    for _ in 0..RUNS {
-        let start = Instant::now();
-        assert_eq!(work(), wanted);
-        least = least.min(start.elapsed().as_secs_f64());
-    }
-    least * 1e6 / ROUNDS as f64
+fn print(kind: &str, action: &str, [mine, other]: [f64; 2]) {
+    println!("{kind}\t{action}\t{mine:.4}\t{other:.4}");
 }
 
 fn row<T: BorshSerialize + BorshDeserialize>(kind: u32, name: &str, value: T) {
     let bytes = to_vec(&value).unwrap();
-    let wanted = bytes.len() * ROUNDS;
-    let mut times = Vec::new();
-    for writes in [true, false] {
-        times.push(least(
-            || unsafe { ours(kind, writes, bytes.as_ptr(), bytes.len(), ROUNDS) },
-            wanted,
-        ));
-        times.push(least(|| theirs::<T>(writes, &bytes), wanted));
+    // Some megabytes a turn.
+    let rounds = (1 << 22) / bytes.len().max(64) + 4;
+    for (action, word) in ACTIONS.iter().enumerate() {
+        let times = compare(
+            rounds,
+            |n| unsafe { ours(kind, action as u32, bytes.as_ptr(), bytes.len(), n) },
+            |n| theirs::<T>(action, &bytes, n),
+        );
+        print(name, word, times);
     }
-    println!(
-        "| {name} | {:.0} | {:.0} | {:.0} | {:.0} |",
-        times[0], times[1], times[2], times[3]
+}
+
+fn container(name: &str, value: &BorshSchemaContainer, rounds: usize, with_original: bool) {
+    let bytes = to_vec(value).unwrap();
+    for (sizes, word) in [(false, "validate"), (true, "size")] {
+        let mine = |n| unsafe { ours_of_container(sizes, bytes.as_ptr(), bytes.len(), n) };
+        let times = if with_original {
+            compare(rounds, mine, |n| {
+                (0..n)
+                    .filter(|_| match black_box(sizes) {
+                        true => black_box(value.max_serialized_size()).is_ok(),
+                        false => black_box(value.validate()).is_ok(),
+                    })
+                    .count()
+            })
+        } else {
+            [compare(rounds, mine, mine)[0], f64::NAN]
+        };
+        print(name, word, times);
+    }
+}
+
+/// A container of `count` structs, of which each refers to those that `parts` names, and the last ones to `u64`.
+fn structs(count: usize, parts: impl Fn(usize) -> Vec<usize>) -> BorshSchemaContainer {
+    let name = |n: usize| if n < count { format!("S{n}") } else { "u64".to_string() };
+    let mut definitions = BTreeMap::new();
+    definitions.insert("u64".to_string(), Definition::Primitive(8));
+    for n in 0..count {
+        let fields = Fields::UnnamedFields(parts(n).into_iter().map(name).collect());
+        definitions.insert(name(n), Definition::Struct { fields });
+    }
+    BorshSchemaContainer::new(name(0), definitions)
+}
+
+fn refusals() {
+    let bytes = [0xff, 0xff, 0xff, 0, 7];
+    let rounds = 200;
+    let times = compare(
+        rounds,
+        |n| unsafe { ours_refuses(bytes.as_ptr(), bytes.len(), n) },
+        |n| (0..n).filter(|_| black_box(from_slice::<Vec<u8>>(black_box(&bytes))).is_err()).count(),
     );
+    print("Vec<u8> that announces 16 MiB and has a byte", "read", times);
 }
 
 fn main() {
-    let count = 65536u64;
-    println!("| {count} elements of | written: ours | the original | read: ours | the original |");
-    println!("|---|---|---|---|---|");
-    row(0, "`u8`", (0..count).map(|n| n as u8).collect::<Vec<u8>>());
-    row(1, "`u64`", (0..count).collect::<Vec<u64>>());
+    let many = 65536u64;
+    let fewer = 16384u64;
+    row(0, "Vec<u8>, 1 MiB", (0..1 << 20).map(|n| n as u8).collect::<Vec<u8>>());
+    row(1, "Vec<u64>", (0..many).collect::<Vec<u64>>());
+    row(2, "Vec<u32>", (0..many as u32).collect::<Vec<u32>>());
+    row(3, "Vec<u128>", (0..many).map(|n| u128::from(n) << 60).collect::<Vec<_>>());
+    row(4, "Vec<bool>", (0..many).map(|n| n % 3 == 0).collect::<Vec<_>>());
+    row(5, "Vec<Option<u64>>", (0..many).map(|n| Some(n).filter(|n| n % 3 > 0)).collect::<Vec<_>>());
+    row(6, "Vec<(u32, (bool, u16))>", (0..many).map(|n| (n as u32, (n % 2 == 0, n as u16))).collect::<Vec<_>>());
+    row(7, "Vec<(u64, u64, u64)>", (0..many).map(|n| (n, n + 1, n + 2)).collect::<Vec<_>>());
+    row(8, "Vec<String>, short", (0..many).map(|n| format!("text {n}")).collect::<Vec<_>>());
+    row(9, "String, 1 MiB", "text".repeat(1 << 18));
+    row(10, "Vec<Vec<u8>> of 32", (0..many).map(|n| vec![n as u8; 32]).collect::<Vec<_>>());
+    row(11, "Vec<Vec<u64>>, 8192 of 16", (0..8192).map(|n| vec![n; 16]).collect::<Vec<Vec<u64>>>());
+    row(12, "BTreeMap<u64, u64>", (0..many).map(|n| (n, n)).collect::<BTreeMap<_, _>>());
     row(
-        2,
-        "`Option<u64>`",
-        (0..count)
-            .map(|n| Some(n).filter(|n| n % 3 > 0))
+        13,
+        "BTreeMap<String, Vec<u8>>, 16384",
+        (0..fewer).map(|n| (format!("key {n:06}"), vec![n as u8; 16])).collect::<BTreeMap<_, _>>(),
+    );
+    row(14, "HashMap<u64, u64>", (0..many).map(|n| (n, n)).collect::<HashMap<_, _>>());
+    row(
+        15,
+        "BTreeSet<[u8; 32]>, 16384",
+        (0..fewer).map(|n| std::array::from_fn(|i| (n >> (8 * (i % 3))) as u8)).collect::<BTreeSet<[u8; 32]>>(),
+    );
+    row(16, "Vec<[u8; 32]>", (0..many).map(|n| [n as u8; 32]).collect::<Vec<_>>());
+    row(17, "Vec<[u64; 4]>, 16384", (0..fewer).map(|n| [n; 4]).collect::<Vec<_>>());
+    row(18, "[u8; 65536]", [7u8; 65536]);
+    row(
+        19,
+        "Vec<IpAddr>",
+        (0..many as u32)
+            .map(|n| match n % 2 {
+                0 => IpAddr::V4(Ipv4Addr::from(n)),
+                _ => IpAddr::V6(Ipv6Addr::from(u128::from(n))),
+            })
             .collect::<Vec<_>>(),
     );
-    row(
-        3,
-        "`(u32, (bool, u16))`",
-        (0..count)
-            .map(|n| (n as u32, (n % 2 == 0, n as u16)))
-            .collect::<Vec<_>>(),
-    );
-    row(
-        4,
-        "`String`",
-        (0..count).map(|n| format!("text {n}")).collect::<Vec<_>>(),
-    );
-    row(
-        5,
-        "`BTreeMap<u64, u64>`",
-        (0..count).map(|n| (n, n)).collect::<BTreeMap<_, _>>(),
-    );
-    row(
-        6,
-        "`[u8; 32]`",
-        (0..count).map(|n| [n as u8; 32]).collect::<Vec<_>>(),
-    );
+    row(20, "VecDeque<u32>", (0..many as u32).collect::<VecDeque<_>>());
+    row(21, "(u32, u64, bool, u8), one value", (7u32, 8u64, true, 9u8));
+    row(23, "IndexMap<u64, u64>", (0..many).map(|n| (n, n)).collect::<IndexMap<_, _>>());
+    row(24, "Vec<Uuid>", (0..many).map(|n| Uuid::from_u128(u128::from(n))).collect::<Vec<_>>());
+    refusals();
+
+    let chain = |count| structs(count, |n| vec![n + 1]);
+    let tree = structs(2000, |n| vec![2 * n + 1, 2 * n + 2]);
+    row(22, "container of 2000, a tree", tree.clone());
+    row(22, "container of 2000, a chain", chain(2000));
+    // Each definition twice in the one before: the original visits 65536.
+    let doubled = structs(16, |n| vec![n + 1, n + 1]);
+    container("container of 16, each twice", &doubled, 20, true);
+    container("container of 2000, a tree", &tree, 20, true);
+    container("container of 2000, a chain", &chain(2000), 20, true);
+    // The original recurses as deep as the chain is long, so it isn't asked here.
+    container("container of 100000, a chain", &chain(100_000), 2, false);
 }

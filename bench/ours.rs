@@ -1,9 +1,20 @@
-//! What the benchmark calls of this library: a value is written, or bytes are read, so many times.
-use borsh::{BorshDeserialize, BorshSerialize, from_slice, to_vec};
-use std::alloc::Global;
-use std::collections::BTreeMap;
+//! What the benchmark calls of this library: values are encoded, decoded or counted, so many times.
+#![tactic(auto)]
 
-/// Writes the value so many times; the sum of the lengths.
+use borsh::schema::BorshSchemaContainer;
+use borsh::{BorshDeserialize, BorshSerialize, from_slice, object_length, to_vec};
+use indexmap::IndexMap;
+use std::alloc::Global;
+use std::collections::{BTreeMap, BTreeSet, HashMap, VecDeque};
+use std::net::IpAddr;
+use uuid::Uuid;
+
+/// What is done with a value.
+const WRITE: u32 = 0;
+const READ: u32 = 1;
+const LENGTH: u32 = 2;
+
+/// Encodes the value so many times; the sum of the lengths.
 fn write<T: BorshSerialize>(alloc: Global, value: &T, rounds: usize) -> usize {
     let mut sum = 0usize;
     for _ in 0..rounds {
@@ -14,7 +25,7 @@ fn write<T: BorshSerialize>(alloc: Global, value: &T, rounds: usize) -> usize {
     sum
 }
 
-/// Reads the bytes so many times; the sum of their lengths.
+/// Decodes the bytes so many times; the sum of their lengths.
 fn read<T: BorshDeserialize>(alloc: Global, bytes: &[u8], rounds: usize) -> usize {
     let mut sum = 0usize;
     for _ in 0..rounds {
@@ -25,38 +36,108 @@ fn read<T: BorshDeserialize>(alloc: Global, bytes: &[u8], rounds: usize) -> usiz
     sum
 }
 
+/// Counts the bytes of the value's encoding so many times; the sum.
+fn length<T: BorshSerialize>(alloc: Global, value: &T, rounds: usize) -> usize {
+    let mut sum = 0usize;
+    for _ in 0..rounds {
+        if let Ok(n) = object_length(alloc, value) {
+            sum = sum.wrapping_add(n);
+        }
+    }
+    sum
+}
+
 fn work<T: BorshSerialize + BorshDeserialize>(
     alloc: Global,
-    writes: bool,
+    action: u32,
     bytes: &[u8],
     rounds: usize,
 ) -> usize {
-    if !writes {
+    if action == READ {
         return read::<T>(alloc, bytes, rounds);
     }
-    match from_slice::<T>(alloc, bytes) {
-        Ok(value) => write(alloc, &value, rounds),
-        Err(_) => 0,
+    let Ok(value) = from_slice::<T>(alloc, bytes) else {
+        return 0;
+    };
+    if action == LENGTH {
+        length(alloc, &value, rounds)
+    } else {
+        write(alloc, &value, rounds)
     }
 }
 
-/// Works on values of the type with this number; the driver has the same types.
+/// Works on values of the type with this number; the driver has the same types in the same order.
 #[unsafe(no_mangle)]
 pub extern "C" fn ours(
     alloc: Global,
     kind: u32,
-    writes: bool,
+    action: u32,
     bytes: &[u8],
     rounds: usize,
 ) -> usize {
     match kind {
-        0 => work::<Vec<u8>>(alloc, writes, bytes, rounds),
-        1 => work::<Vec<u64>>(alloc, writes, bytes, rounds),
-        2 => work::<Vec<Option<u64>>>(alloc, writes, bytes, rounds),
-        3 => work::<Vec<(u32, (bool, u16))>>(alloc, writes, bytes, rounds),
-        4 => work::<Vec<String>>(alloc, writes, bytes, rounds),
-        5 => work::<BTreeMap<u64, u64>>(alloc, writes, bytes, rounds),
-        6 => work::<Vec<[u8; 32]>>(alloc, writes, bytes, rounds),
+        0 => work::<Vec<u8>>(alloc, action, bytes, rounds),
+        1 => work::<Vec<u64>>(alloc, action, bytes, rounds),
+        2 => work::<Vec<u32>>(alloc, action, bytes, rounds),
+        3 => work::<Vec<u128>>(alloc, action, bytes, rounds),
+        4 => work::<Vec<bool>>(alloc, action, bytes, rounds),
+        5 => work::<Vec<Option<u64>>>(alloc, action, bytes, rounds),
+        6 => work::<Vec<(u32, (bool, u16))>>(alloc, action, bytes, rounds),
+        7 => work::<Vec<(u64, u64, u64)>>(alloc, action, bytes, rounds),
+        8 => work::<Vec<String>>(alloc, action, bytes, rounds),
+        9 => work::<String>(alloc, action, bytes, rounds),
+        10 => work::<Vec<Vec<u8>>>(alloc, action, bytes, rounds),
+        11 => work::<Vec<Vec<u64>>>(alloc, action, bytes, rounds),
+        12 => work::<BTreeMap<u64, u64>>(alloc, action, bytes, rounds),
+        13 => work::<BTreeMap<String, Vec<u8>>>(alloc, action, bytes, rounds),
+        14 => work::<HashMap<u64, u64>>(alloc, action, bytes, rounds),
+        15 => work::<BTreeSet<[u8; 32]>>(alloc, action, bytes, rounds),
+        16 => work::<Vec<[u8; 32]>>(alloc, action, bytes, rounds),
+        17 => work::<Vec<[u64; 4]>>(alloc, action, bytes, rounds),
+        18 => work::<[u8; 65536]>(alloc, action, bytes, rounds),
+        19 => work::<Vec<IpAddr>>(alloc, action, bytes, rounds),
+        20 => work::<VecDeque<u32>>(alloc, action, bytes, rounds),
+        21 => work::<(u32, u64, bool, u8)>(alloc, action, bytes, rounds),
+        22 => work::<BorshSchemaContainer>(alloc, action, bytes, rounds),
+        23 => work::<IndexMap<u64, u64>>(alloc, action, bytes, rounds),
+        24 => work::<Vec<Uuid>>(alloc, action, bytes, rounds),
         _ => 0,
     }
+}
+
+/// Validates the container so many times, or takes its greatest size; how many times there was an answer.
+#[unsafe(no_mangle)]
+pub extern "C" fn ours_of_container(
+    alloc: Global,
+    sizes: bool,
+    bytes: &[u8],
+    rounds: usize,
+) -> usize {
+    let Ok(container) = from_slice::<BorshSchemaContainer>(alloc, bytes) else {
+        return 0;
+    };
+    let mut sum = 0usize;
+    for _ in 0..rounds {
+        let answered = if sizes {
+            container.max_serialized_size(alloc).is_ok()
+        } else {
+            container.validate(alloc).is_ok()
+        };
+        if answered {
+            sum = sum.wrapping_add(1);
+        }
+    }
+    sum
+}
+
+/// Decodes bytes that announce more elements than they have, so many times; how many were refused.
+#[unsafe(no_mangle)]
+pub extern "C" fn ours_refuses(alloc: Global, bytes: &[u8], rounds: usize) -> usize {
+    let mut sum = 0usize;
+    for _ in 0..rounds {
+        if from_slice::<Vec<u8>>(alloc, bytes).is_err() {
+            sum = sum.wrapping_add(1);
+        }
+    }
+    sum
 }

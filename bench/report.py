@@ -1,0 +1,66 @@
+"""Makes a table and a bar chart of what the benchmark prints: one line a kind and action, with the microseconds of ours
+and of the original. The rows come slowest first.
+
+Usage: report.py CHART.svg < LINES > TABLE.md
+"""
+import sys
+
+ACTIONS = ["write", "read", "length", "validate", "size"]
+
+
+def rows(lines):
+    """(ratio, kind, action, ours, original) of each line, slowest ratio first; those without an original last."""
+    found = []
+    for line in lines:
+        kind, action, ours, original = line.rstrip("\n").split("\t")
+        ours, original = float(ours), float(original)
+        ratio = ours / original if original > 0 else float("nan")
+        found.append((ratio, kind, action, ours, original))
+    return sorted(found, key=lambda row: (row[0] != row[0], -row[0] if row[0] == row[0] else 0))
+
+
+def microseconds(time):
+    if time != time:
+        return "-"
+    return f"{time:.0f}" if time >= 10 else f"{time:.2g}"
+
+
+def table(found):
+    yield "| kind | action | ours, µs | the original, µs | ratio |"
+    yield "|---|---|---|---|---|"
+    for ratio, kind, action, ours, original in found:
+        shown = f"{ratio:.2f}" if ratio == ratio else "-"
+        yield f"| `{kind}` | {action} | {microseconds(ours)} | {microseconds(original)} | {shown} |"
+
+
+def chart(found):
+    """Bars as long as the ratio, up to 2, with a line at 1."""
+    found = [row for row in found if row[0] == row[0]]
+    height, left, scale = 18, 330, 220
+    yield (
+        f'<svg xmlns="http://www.w3.org/2000/svg" width="{left + 2 * scale + 60}" '
+        f'height="{height * len(found) + 40}" font-family="sans-serif" font-size="12">'
+    )
+    yield '<text x="4" y="14">time of ours / time of the original; shorter is faster</text>'
+    for n, (ratio, kind, action, _, _) in enumerate(found):
+        top = 24 + n * height
+        color = "#c0504d" if ratio > 1.05 else "#4f81bd"
+        text = f"{kind}, {action}".replace("&", "&amp;").replace("<", "&lt;")
+        length = max(1, round(min(ratio, 2) * scale))
+        yield f'<text x="{left - 6}" y="{top + 12}" text-anchor="end">{text}</text>'
+        yield f'<rect x="{left}" y="{top + 2}" width="{length}" height="{height - 5}" fill="{color}"/>'
+        yield f'<text x="{left + length + 4}" y="{top + 12}">{ratio:.2f}</text>'
+    bottom = 24 + height * len(found)
+    yield f'<line x1="{left + scale}" y1="22" x2="{left + scale}" y2="{bottom}" stroke="black"/>'
+    yield "</svg>"
+
+
+def main():
+    found = rows(sys.stdin)
+    with open(sys.argv[1], "w", encoding="utf-8") as file:
+        file.write("\n".join(chart(found)) + "\n")
+    print("\n".join(table(found)))
+
+
+if __name__ == "__main__":
+    main()
