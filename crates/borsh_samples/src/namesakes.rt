@@ -1,9 +1,7 @@
 // Two types that go by one name: no container can have the schemas of both.
+ghost use Rattle.borsh.specs.Laws.OfParts.{contramap, contramap-lawful, from, key_facts};
 ghost use Rattle.std.specs.Prelude.{codes};
-ghost use Rattle.borsh.specs.Shapes.{contramap, unsigned};
-ghost use Rattle.borsh.specs.Laws.Exact.{contramap-lawful};
-ghost use Rattle.borsh.specs.Laws.Numbers.{unsigned-lawful};
-ghost use Rattle.borsh.specs.Schema.Laws.Members.{describes_contramap, describes_number};
+ghost use Rattle.borsh.specs.Schema.Laws.Quoted.{contramap_described, number_described};
 ghost use Rattle.borsh.specs.Schema.Types.{primitive_definitions};
 
 use borsh::io::{Read, Result, Write};
@@ -21,9 +19,11 @@ pub struct ShortA(pub u8);
 pub struct LongA(pub u16);
 
 impl BorshType for ShortA {
-    ghost codec = { contramap (λ v. v.0) (unsigned 1) };
+    ghost codec = { contramap (λ v. v.0) ⟦<u8 as BorshType>⟧.codec };
 
-    ghost lawful = { contramap-lawful (λ v. v.0) (unsigned-lawful 1) };
+    ghost lawful_if = { from (contramap-lawful (λ v. v.0)) ⟦<u8 as BorshType>⟧.lawful_if };
+
+    ghost premises = { Prim.search key_facts };
 
     fn encodes_empty() -> bool {
         false
@@ -35,9 +35,11 @@ impl BorshType for ShortA {
 }
 
 impl BorshType for LongA {
-    ghost codec = { contramap (λ v. v.0) (unsigned 2) };
+    ghost codec = { contramap (λ v. v.0) ⟦<u16 as BorshType>⟧.codec };
 
-    ghost lawful = { contramap-lawful (λ v. v.0) (unsigned-lawful 2) };
+    ghost lawful_if = { from (contramap-lawful (λ v. v.0)) ⟦<u16 as BorshType>⟧.lawful_if };
+
+    ghost premises = { Prim.search key_facts };
 
     fn encodes_empty() -> bool {
         false
@@ -77,6 +79,8 @@ impl BorshSchema for ShortA {
 
     ghost parts = { primitive_definitions (codes "A") 1 };
 
+    ghost described = { contramap_described (λ v. v.0) (number_described (codes "A") 1) };
+
     fn declaration(alloc: Global) -> std::result::Result<Declaration, SchemaBuildError> {
         declared(alloc, "A")
     }
@@ -89,13 +93,15 @@ impl BorshSchema for ShortA {
         add_with_parts::<()>(alloc, name, Definition::Primitive(1), definitions)
     }
 
-    ghost describes = { λ C h. describes_contramap (λ v. v.0) (describes_number 1 h.0) };
+    ghost describes = { Self.described.describes };
 }
 
 impl BorshSchema for LongA {
     ghost name = { codes "A" };
 
     ghost parts = { primitive_definitions (codes "A") 2 };
+
+    ghost described = { contramap_described (λ v. v.0) (number_described (codes "A") 2) };
 
     fn declaration(alloc: Global) -> std::result::Result<Declaration, SchemaBuildError> {
         declared(alloc, "A")
@@ -109,5 +115,5 @@ impl BorshSchema for LongA {
         add_with_parts::<()>(alloc, name, Definition::Primitive(2), definitions)
     }
 
-    ghost describes = { λ C h. describes_contramap (λ v. v.0) (describes_number 2 h.0) };
+    ghost describes = { Self.described.describes };
 }

@@ -1,11 +1,13 @@
 // Tuples: their parts in order.
-ghost use Rattle.std.specs.Prelude.{◌∷◌, []};
+ghost use Rattle.std.specs.Prelude.{◌∷◌, [], refl};
 ghost use Rattle.borsh_schema.specs.Described.{both, none};
 ghost use Rattle.borsh_schema.specs.Laws.Members.{describes_contramap, describes_parts, all_one, all_more};
 ghost use Rattle.borsh_schema.specs.Names.{tuple_name};
 ghost use Rattle.borsh_schema.specs.Types.{tuple_definitions};
+ghost use Rattle.borsh_schema.specs.Laws.Quoted.{struct_described};
 
 use super::definitions::SchemaBuildError;
+use super::fields::FieldTypes;
 use super::schema::BorshSchema;
 use super::tuple_parts::{add_tuple, tuple_declaration};
 use borsh_walks::{Declaration, Definition};
@@ -16,6 +18,8 @@ impl<A: BorshSchema> BorshSchema for (A,) {
     ghost name = { tuple_name (A.name ∷ []) };
 
     ghost parts = { tuple_definitions (A.name ∷ []) (both A.parts none) };
+
+    ghost described = { struct_described (λ t. (t.0, tt)) ⟦<(A, ()) as FieldTypes>⟧.described refl };
 
     fn declaration(alloc: Global) -> Result<Declaration, SchemaBuildError> {
         let a = A::declaration(alloc)?;
@@ -38,6 +42,8 @@ impl<A: BorshSchema, B: BorshSchema> BorshSchema for (A, B) {
 
     ghost parts = { tuple_definitions (A.name ∷ B.name ∷ []) (both A.parts (both B.parts none)) };
 
+    ghost described = { struct_described (λ t. (t.0, (t.1, tt))) ⟦<(A, (B, ())) as FieldTypes>⟧.described refl };
+
     fn declaration(alloc: Global) -> Result<Declaration, SchemaBuildError> {
         tuple_declaration::<A, (B, ())>(alloc)
     }
@@ -58,6 +64,8 @@ impl<A: BorshSchema, B: BorshSchema, C: BorshSchema> BorshSchema for (A, B, C) {
 
     ghost parts = { tuple_definitions (A.name ∷ B.name ∷ C.name ∷ [])
         (both A.parts (both B.parts (both C.parts none))) };
+
+    ghost described = { struct_described (λ t. (t.0, (t.1, (t.2, tt)))) ⟦<(A, (B, (C, ()))) as FieldTypes>⟧.described refl };
 
     fn declaration(alloc: Global) -> Result<Declaration, SchemaBuildError> {
         tuple_declaration::<A, (B, (C, ()))>(alloc)
@@ -82,6 +90,8 @@ impl<A: BorshSchema, B: BorshSchema, C: BorshSchema, D: BorshSchema> BorshSchema
 
     ghost parts = { tuple_definitions (A.name ∷ B.name ∷ C.name ∷ D.name ∷ [])
         (both A.parts (both B.parts (both C.parts (both D.parts none)))) };
+
+    ghost described = { struct_described (λ t. (t.0, (t.1, (t.2, (t.3, tt))))) ⟦<(A, (B, (C, (D, ())))) as FieldTypes>⟧.described refl };
 
     fn declaration(alloc: Global) -> Result<Declaration, SchemaBuildError> {
         tuple_declaration::<A, (B, (C, (D, ())))>(alloc)
@@ -108,6 +118,11 @@ impl<A: BorshSchema, B: BorshSchema, C: BorshSchema, D: BorshSchema, E: BorshSch
 
     ghost parts = { tuple_definitions (A.name ∷ B.name ∷ C.name ∷ D.name ∷ E.name ∷ [])
         (both A.parts (both B.parts (both C.parts (both D.parts (both E.parts none))))) };
+
+    ghost described = { struct_described
+        (λ t. (t.0, (t.1, (t.2, (t.3, (t.4, tt))))))
+        ⟦<(A, (B, (C, (D, (E, ()))))) as FieldTypes>⟧.described
+        refl };
 
     fn declaration(alloc: Global) -> Result<Declaration, SchemaBuildError> {
         tuple_declaration::<A, (B, (C, (D, (E, ()))))>(alloc)
@@ -146,6 +161,11 @@ impl<
         (both D.parts
         (both E.parts
         (both F.parts none)))))) };
+
+    ghost described = { struct_described
+        (λ t. (t.0, (t.1, (t.2, (t.3, (t.4, (t.5, tt)))))))
+        ⟦<(A, (B, (C, (D, (E, (F, ())))))) as FieldTypes>⟧.described
+        refl };
 
     fn declaration(alloc: Global) -> Result<Declaration, SchemaBuildError> {
         tuple_declaration::<A, (B, (C, (D, (E, (F, ())))))>(alloc)
@@ -188,6 +208,11 @@ impl<
         (both E.parts
         (both F.parts
         (both G.parts none))))))) };
+
+    ghost described = { struct_described
+        (λ t. (t.0, (t.1, (t.2, (t.3, (t.4, (t.5, (t.6, tt))))))))
+        ⟦<(A, (B, (C, (D, (E, (F, (G, ()))))))) as FieldTypes>⟧.described
+        refl };
 
     fn declaration(alloc: Global) -> Result<Declaration, SchemaBuildError> {
         tuple_declaration::<A, (B, (C, (D, (E, (F, (G, ()))))))>(alloc)
@@ -239,6 +264,11 @@ impl<
         (both F.parts
         (both G.parts
         (both H.parts none)))))))) };
+
+    ghost described = { struct_described
+        (λ t. (t.0, (t.1, (t.2, (t.3, (t.4, (t.5, (t.6, (t.7, tt)))))))))
+        ⟦<(A, (B, (C, (D, (E, (F, (G, (H, ())))))))) as FieldTypes>⟧.described
+        refl };
 
     fn declaration(alloc: Global) -> Result<Declaration, SchemaBuildError> {
         tuple_declaration::<A, (B, (C, (D, (E, (F, (G, (H, ())))))))>(alloc)
@@ -293,6 +323,11 @@ impl<
         (both G.parts
         (both H.parts
         (both I.parts none))))))))) };
+
+    ghost described = { struct_described
+        (λ t. (t.0, (t.1, (t.2, (t.3, (t.4, (t.5, (t.6, (t.7, (t.8, tt))))))))))
+        ⟦<(A, (B, (C, (D, (E, (F, (G, (H, (I, ()))))))))) as FieldTypes>⟧.described
+        refl };
 
     fn declaration(alloc: Global) -> Result<Declaration, SchemaBuildError> {
         tuple_declaration::<A, (B, (C, (D, (E, (F, (G, (H, (I, ()))))))))>(alloc)
@@ -370,6 +405,11 @@ impl<
         (both H.parts
         (both I.parts
         (both J.parts none)))))))))) };
+
+    ghost described = { struct_described
+        (λ t. (t.0, (t.1, (t.2, (t.3, (t.4, (t.5, (t.6, (t.7, (t.8, (t.9, tt)))))))))))
+        ⟦<(A, (B, (C, (D, (E, (F, (G, (H, (I, (J, ())))))))))) as FieldTypes>⟧.described
+        refl };
 
     fn declaration(alloc: Global) -> Result<Declaration, SchemaBuildError> {
         tuple_declaration::<A, (B, (C, (D, (E, (F, (G, (H, (I, (J, ())))))))))>(alloc)
@@ -452,6 +492,11 @@ impl<
         (both I.parts
         (both J.parts
         (both K.parts none))))))))))) };
+
+    ghost described = { struct_described
+        (λ t. (t.0, (t.1, (t.2, (t.3, (t.4, (t.5, (t.6, (t.7, (t.8, (t.9, (t.10, tt))))))))))))
+        ⟦<(A, (B, (C, (D, (E, (F, (G, (H, (I, (J, (K, ()))))))))))) as FieldTypes>⟧.described
+        refl };
 
     fn declaration(alloc: Global) -> Result<Declaration, SchemaBuildError> {
         tuple_declaration::<A, (B, (C, (D, (E, (F, (G, (H, (I, (J, (K, ()))))))))))>(alloc)
@@ -539,6 +584,11 @@ impl<
         (both J.parts
         (both K.parts
         (both L.parts none)))))))))))) };
+
+    ghost described = { struct_described
+        (λ t. (t.0, (t.1, (t.2, (t.3, (t.4, (t.5, (t.6, (t.7, (t.8, (t.9, (t.10, (t.11, tt)))))))))))))
+        ⟦<(A, (B, (C, (D, (E, (F, (G, (H, (I, (J, (K, (L, ())))))))))))) as FieldTypes>⟧.described
+        refl };
 
     fn declaration(alloc: Global) -> Result<Declaration, SchemaBuildError> {
         tuple_declaration::<A, (B, (C, (D, (E, (F, (G, (H, (I, (J, (K, (L, ())))))))))))>(alloc)

@@ -1,6 +1,7 @@
 // What a type means.
 ghost use Rattle.std.specs.Prelude.{◌≡◌};
 ghost use Rattle.borsh_codec.specs.Codec.{Codec, Lawful};
+ghost use Rattle.borsh_codec.proofs.Laws.Conditional.{Conditional};
 
 /// A type with a Borsh encoding.
 ///
@@ -11,6 +12,8 @@ ghost use Rattle.borsh_codec.specs.Codec.{Codec, Lawful};
 /// value.
 pub trait BorshType {
     ghost codec: { Codec Self };
+
+    ghost lawful_if: { Conditional (Lawful Self codec) };
 
     /// Whether the encodings of the type are empty. Lists of such elements are refused, since a short
     /// input could announce any number of them.
@@ -30,5 +33,7 @@ pub trait BorshType {
     /// ```
     fn element_size() -> usize;
 
-    ghost lawful: { Lawful Self codec };
+    ghost premises: { lawful_if.premises };
+
+    ghost lawful: { Lawful Self codec } = { lawful_if.fact premises };
 }
