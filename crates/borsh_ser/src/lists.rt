@@ -8,6 +8,7 @@ ghost use Rattle.borsh_codec.specs.Shapes.{
 };
 ghost use Rattle.borsh_codec.specs.Writing.{Writes, WritesEncoding};
 
+use super::each::write_each;
 use super::numbers::bytes_of_u32;
 use super::raw_bytes::write_bytes;
 use super::serialize::BorshSerialize;
@@ -34,10 +35,7 @@ pub(crate) fn write_elements<T: BorshSerialize, W: Write>(
     if let Some(bytes) = T::u8_slice(items) {
         return write_bytes(bytes, writer);
     }
-    for item in items {
-        item.serialize(alloc, writer)?;
-    }
-    Ok(())
+    write_each(items.iter(), alloc, writer)
 }
 
 /// Writes the count, four bytes.
