@@ -1,7 +1,9 @@
 //! What the benchmark calls of this library: a value is written, or bytes are read, so many times.
 use borsh::{BorshDeserialize, BorshSerialize, from_slice, to_vec};
+use indexmap::IndexMap;
 use std::alloc::Global;
-use std::collections::BTreeMap;
+use std::collections::{BTreeMap, HashMap, VecDeque};
+use uuid::Uuid;
 
 /// Writes the value so many times; the sum of the lengths.
 fn write<T: BorshSerialize>(alloc: Global, value: &T, rounds: usize) -> usize {
@@ -57,6 +59,16 @@ pub extern "C" fn ours(
         4 => work::<Vec<String>>(alloc, writes, bytes, rounds),
         5 => work::<BTreeMap<u64, u64>>(alloc, writes, bytes, rounds),
         6 => work::<Vec<[u8; 32]>>(alloc, writes, bytes, rounds),
+        7 => work::<Vec<u32>>(alloc, writes, bytes, rounds),
+        8 => work::<Vec<u128>>(alloc, writes, bytes, rounds),
+        9 => work::<Vec<bool>>(alloc, writes, bytes, rounds),
+        10 => work::<Vec<(u64, u64, u64)>>(alloc, writes, bytes, rounds),
+        11 => work::<Vec<[u64; 4]>>(alloc, writes, bytes, rounds),
+        12 => work::<Vec<Vec<u64>>>(alloc, writes, bytes, rounds),
+        13 => work::<VecDeque<u32>>(alloc, writes, bytes, rounds),
+        14 => work::<HashMap<u64, u64>>(alloc, writes, bytes, rounds),
+        15 => work::<IndexMap<u64, u64>>(alloc, writes, bytes, rounds),
+        16 => work::<Vec<Uuid>>(alloc, writes, bytes, rounds),
         _ => 0,
     }
 }

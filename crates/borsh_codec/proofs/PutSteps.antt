@@ -1,8 +1,8 @@
 -- Encodings that are put over a room, one behind another.
-use Rattle.std.proofs.Common.{◌≡◌, ℕ, ◌+◌, ◌<◌, ◌≤◌, Bool, false, true≢false, List, [], ◌∷◌, ◌++◌, length, get_or, take, suc, add-one, Option, Some, None, Result, Err, refl, sym, ◌∙◌, ap, subst, arith, length-append}
+use Rattle.std.proofs.Common.{◌≡◌, ℕ, ◌+◌, ◌<◌, ◌≤◌, Bool, false, true≢false, List, [], ◌∷◌, ◌++◌, length, get_or, take, drop, suc, add-one, Option, Some, None, Result, Err, refl, sym, ◌∙◌, ap, subst, arith, length-append}
 use Rattle.std.specs.Result.{IsErrAnd}
 use Rattle.std.proofs.Math.Seq.{take-suc}
-use Rattle.std.proofs.lemmas.List.{length-take-le}
+use Rattle.std.proofs.lemmas.List.{length-take, length-take-le, length-drop, take-take, take-append-drop, drop-drop}
 use borrow.Rule.Slice.PartMut.{mid_of, put_mid, post_of, same_len_mid, take_put}
 use Rattle.borsh_io.specs.declared.error.Error.{Error}
 use Rattle.borsh_io.specs.Errors.{error_kind}
@@ -45,11 +45,32 @@ puts_then {o = o} {p = p} n m k old new part a b = record {
 pub puts_none_then : {o p q : Option (List ℕ)} (n k : ℕ) (old new part : List ℕ) {r : Option ℕ} → Puts o old new r → Puts p (mid_of n k new) part None → Puts q old (put_mid n k new part) None
 puts_none_then n k old new part a b = puts_none (same_len_mid n k new part b.same ∙ a.same)
 
+-- what was put stays where nothing is put behind it
+pub puts_kept : {o : Option (List ℕ)} (n k : ℕ) (old new part : List ℕ) → Puts o old new (Some n) → length part ≡ length (mid_of n k new) → Puts o old (put_mid n k new part) (Some n)
+puts_kept n k old new part a e =
+    let long = same_len_mid n k new part e in
+    record { same = long ∙ a.same; put = (omega (arith, long, a.put.0), a.put.1 ∙ ap Some (sym (take_put n k new part a.put.0))) }
+
 -- the first elements and one more
 pub all_joined-more : {A : Type 0} (f : A → Option (List ℕ)) (xs : List A) (i : ℕ) (a : A) → i < length xs → a ≡ get_or xs i a → append_encodings (concat_encodings f (take i xs)) (f a) ≡ concat_encodings f (take (i + 1) xs)
 all_joined-more f xs i a h e =
     let t : take (i + 1) xs ≡ take i xs ++ (a ∷ []) = rw add-one (take-suc xs i a h ∙ ap (λ z. take i xs ++ (z ∷ [])) (sym e)) in
     sym (ap (concat_encodings f) t ∙ all_joined-append f (take i xs) (a ∷ []) ∙ ap (append_encodings (concat_encodings f (take i xs))) (joined_last (f a)))
+
+-- what is left of a list begins with the first of its next m elements
+pub all_joined-front : {A : Type 0} (f : A → Option (List ℕ)) (xs : List A) (i m n : ℕ) → n ≤ length (take m (drop i xs)) → concat_encodings f (drop i xs) ≡ append_encodings (concat_encodings f (take n (take m (drop i xs)))) (concat_encodings f (drop (i + n) xs))
+all_joined-front f xs i m n h =
+    let rest = drop i xs in
+    let within : n ≤ m = omega (arith, h, length-take m rest) in
+    let first : take n (take m rest) ≡ take n rest = take-take n m rest within in
+    ap (concat_encodings f) (sym (take-append-drop n rest))
+    ∙ all_joined-append f (take n rest) (drop n rest)
+    ∙ ap (λ z. append_encodings z (concat_encodings f (drop n rest))) (ap (concat_encodings f) (sym first))
+    ∙ ap (λ z. append_encodings (concat_encodings f (take n (take m rest))) (concat_encodings f z)) (drop-drop n i xs)
+
+-- so many elements are there
+pub front_within : {A : Type 0} (xs : List A) (i m n : ℕ) → i ≤ length xs → n ≤ length (take m (drop i xs)) → i + n ≤ length xs
+front_within xs i m n h l = omega (arith, h, l, length-take m (drop i xs), length-drop i xs)
 
 -- ---- parts in a loop that holds some back
 

@@ -1,10 +1,8 @@
 -- Items of an iterator that are written one after another.
 use Rattle.std.specs.Prelude.{map, length, take, MatchOption}
-use Rattle.std.proofs.Common.{◌≡◌, ℕ, ◌+◌, ◌≤◌, Bool, false, List, [], ◌∷◌, Option, Some, None, Result, Err, refl, sym, ap, Iter}
+use Rattle.std.proofs.Common.{◌≡◌, ℕ, ◌+◌, ◌≤◌, Bool, false, List, [], ◌∷◌, Option, Some, None, Result, Err, refl, sym, ap, subst}
 use Rattle.std.specs.Result.{IsErrAnd}
 use Rattle.std.specs.Iterator.{AlwaysYields}
-use Rattle.std.specs.Slice.Iter.{iter_rest, iter_steps}
-use Rattle.std.proofs.lemmas.List.{nil_from_length}
 use borrow.Rule.Slice.PartMut.{mid_of, put_mid}
 use Rattle.borsh_io.specs.declared.error.Error.{Error}
 use Rattle.borsh_io.specs.Errors.{error_kind}
@@ -69,33 +67,17 @@ concat_map : {X : Type 0} (f : X → Option (List ℕ)) (xs : List X) → concat
 concat_map f [] = refl
 concat_map f (x ∷ xs) = ap (append_encodings (f x)) (concat_map f xs)
 
--- an iterator whose state shows what is left, and which gives the first of that
-abbrev pub GivesFirst : {I A X : Type 0} → (I → Option A → I → Type 0) → (I → List X) → (A → X) → Type 0
-GivesFirst {I = I} {A = A} steps rest shows = (s t : I) → (steps s None t → rest s ≡ []) × ((a : A) → steps s (Some a) t → rest s ≡ shows a ∷ rest t)
-
-always_rest : {I A X : Type 0} (steps : I → Option A → I → Type 0) (rest : I → List X) (shows : A → X) (f : X → Option (List ℕ)) → GivesFirst steps rest shows → (s : I) (xs : List X) → rest s ≡ xs → AlwaysYields steps (λ a. f (shows a)) s (map f xs)
-always_rest steps rest shows f gives s [] e = λ a t i. (let h = (gives s t).1 a i in cc)
-always_rest steps rest shows f gives s (x ∷ xs) e = (
-  (λ t i. (let h = (gives s t).0 i in cc)),
-  (λ a t i. (
-      let h = (gives s t).1 a i in
-      let first : shows a ≡ x = cc in
-      let others : rest t ≡ xs = cc in
-      (ap f first, always_rest steps rest shows f gives t xs others)
-      )),
-)
-
--- what is written of such an iterator is its list
-pub writes_rest : {I A X W : Type 0} {w : WriterModel W} {old new : W} {own : Bool} {r : Result (Unit {0}) Error} (steps : I → Option A → I → Type 0) (rest : I → List X) (shows : A → X) (f : X → Option (List ℕ)) → GivesFirst steps rest shows → (s : I) (xs : List X) → rest s ≡ xs → ((es : Encodings) → AlwaysYields steps (λ a. f (shows a)) s es → WritesEncoding w old new own false (concat_encodings (λ e. e) es) r) → WritesEncoding w old new own false (concat_encodings f xs) r
-writes_rest steps rest shows f gives s xs e h = writes_is (concat_map f xs) (h (map f xs) (always_rest steps rest shows f gives s xs e))
-
 -- an iterator whose state is the list of what is left
 abbrev pub FirstOf : {A X : Type 0} → (A → X) → List X → Option A → List X → Type 0
 FirstOf shows s r t = MatchOption r ((s ≡ []) × (t ≡ [])) (λ x. s ≡ shows x ∷ t)
 
-pub writes_first : {A X W : Type 0} {w : WriterModel W} {old new : W} {own : Bool} {r : Result (Unit {0}) Error} (shows : A → X) (f : X → Option (List ℕ)) (s xs : List X) → s ≡ xs → ((es : Encodings) → AlwaysYields (FirstOf shows) (λ a. f (shows a)) s es → WritesEncoding w old new own false (concat_encodings (λ e. e) es) r) → WritesEncoding w old new own false (concat_encodings f xs) r
-writes_first shows f s xs e h = writes_rest (FirstOf shows) (λ l. l) shows f (λ l t. ((λ i. i.0), (λ a i. i))) s xs e h
+always_first : {A X : Type 0} (shows : A → X) (f : X → Option (List ℕ)) (xs : List X) → AlwaysYields (FirstOf shows) (λ a. f (shows a)) xs (map f xs)
+always_first shows f [] = λ x j e. cc
+always_first shows f (y ∷ ys) = (
+  (λ j e. cc),
+  (λ x j e. (let h : shows x ≡ y = cc in ap f h, let t : ys ≡ j = cc in subst (λ l. AlwaysYields (FirstOf shows) (λ a. f (shows a)) l (map f ys)) t (always_first shows f ys))),
+)
 
--- what is written of a slice is its elements
-pub writes_slice : {A W : Type 0} {w : WriterModel W} {old new : W} {own : Bool} {r : Result (Unit {0}) Error} (f : A → Option (List ℕ)) (s : Iter A) (xs : List A) → iter_rest s ≡ xs → ((es : Encodings) → AlwaysYields iter_steps (λ a. f a.now) s es → WritesEncoding w old new own false (concat_encodings (λ e. e) es) r) → WritesEncoding w old new own false (concat_encodings f xs) r
-writes_slice f s xs e h = writes_rest iter_steps iter_rest (λ a. a.now) f (λ l t. ((λ i. nil_from_length (iter_rest l) i.0), (λ a i. i))) s xs e h
+-- what is written of such an iterator is its list
+pub writes_first : {A X W : Type 0} {w : WriterModel W} {old new : W} {own : Bool} {r : Result (Unit {0}) Error} (shows : A → X) (f : X → Option (List ℕ)) (s xs : List X) → s ≡ xs → ((es : Encodings) → AlwaysYields (FirstOf shows) (λ a. f (shows a)) s es → WritesEncoding w old new own false (concat_encodings (λ e. e) es) r) → WritesEncoding w old new own false (concat_encodings f xs) r
+writes_first shows f s xs e h = writes_is (concat_map f s ∙ ap (concat_encodings f) e) (h (map f s) (always_first shows f s))

@@ -12,8 +12,8 @@ use std::alloc::Global;
 /// Writes the items that the iterator gives, one after another, with no count. What their `put`
 /// puts into a room is written once the room is full.
 ///
-/// Fails as the item that could not be written does. Then the items before it and a beginning of
-/// its own encoding were written.
+/// Fails with the writer's error, or as the item that could not be written does. Then a beginning
+/// of the items' encodings was written.
 #[inline]
 pub(crate) fn write_each<I: Iterator, W: Write>(
     mut items: I,

@@ -3,7 +3,7 @@
 // write it at once.
 ghost use Rattle.borsh_codec.specs.Shapes.{concat_encodings, pair, tagged};
 ghost use Rattle.borsh_codec.specs.Writing.{Puts};
-ghost use Rattle.std.specs.Prelude.{Some};
+ghost use Rattle.std.specs.Prelude.{◌≤◌, Some, length, take};
 
 use super::serialize::BorshSerialize;
 
@@ -43,6 +43,25 @@ pub(crate) fn put_elements<T: BorshSerialize>(items: &[T], room: &mut [u8]) -> O
         filled += item.put(&mut room[filled..])?;
     }
     Some(filled)
+}
+
+/// Puts elements one after another, as many as fit: how many these are, and how many bytes.
+#[inline]
+pub(crate) fn put_front<T: BorshSerialize>(items: &[T], room: &mut [u8]) -> (usize, usize)
+    ensures some { result.0 ≤ length items.now }
+    ensures put { Puts (concat_encodings T.codec.encoding (take result.0 items.now))
+        room.old room.new (Some result.1) }
+{
+    let mut count = 0;
+    let mut filled = 0;
+    while count < items.len() {
+        match items[count].put(&mut room[filled..]) {
+            Some(n) => filled += n,
+            None => return (count, filled),
+        }
+        count += 1;
+    }
+    (count, filled)
 }
 
 /// Puts two parts in order.
