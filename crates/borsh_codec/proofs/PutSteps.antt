@@ -90,9 +90,9 @@ module _ {W : Type 0} {w : WriterModel W} (laws : WriterLaws W w) {whole : Optio
   pub held_put : {a b : W} {left part more : Option (List ℕ)} (n m k : ℕ) (room new : List ℕ) → n ≤ length room → HeldSoFar w a b whole (take n room) left → left ≡ append_encodings part more → Puts part (mid_of n k room) new (Some m) → HeldSoFar w a b whole (take (n + m) (put_mid n k room new)) more
   held_put {a = a} {b = b} {left = left} {part = part} {more = more} n m k room new h s e p =
       let front : append_encodings (Some (take n room)) left ≡ append_encodings (Some (take n room ++ take m new)) more =
-          ap (append_encodings (Some (take n room))) (e ∙ ap (λ o. append_encodings o more) p.put.1) ∙ sym (joined_assoc (Some (take n room)) (Some (take m new)) more) in
+      ap (append_encodings (Some (take n room))) (e ∙ ap (λ o. append_encodings o more) p.put.1) ∙ sym (joined_assoc (Some (take n room)) (Some (take m new)) more) in
       let held : append_encodings (Some (take n room ++ take m new)) more ≡ append_encodings (Some (take (n + m) (put_mid n k room new))) more =
-          ap (λ l. append_encodings (Some l) more) (sym (take-filled n k m room new h p.put.0)) in
+      ap (λ l. append_encodings (Some l) more) (sym (take-filled n k m room new h p.put.0)) in
       record { so_far = subst (WritesSoFar w a b whole) (front ∙ held) s.so_far }
 
   -- what is in the room stays there where the next part isn't put

@@ -1,6 +1,6 @@
 -- Items of an iterator that are written one after another.
 use Rattle.std.specs.Prelude.{map, length, take, MatchOption}
-use Rattle.std.proofs.Common.{◌≡◌, ℕ, ◌+◌, ◌≤◌, Bool, false, List, [], ◌∷◌, Option, Some, None, Result, Err, refl, sym, ap, subst}
+use Rattle.std.proofs.Common.{◌≡◌, ◌∙◌, ℕ, ◌+◌, ◌≤◌, Bool, false, List, [], ◌∷◌, Option, Some, None, Result, Err, refl, sym, ap, subst}
 use Rattle.std.specs.Result.{IsErrAnd}
 use Rattle.std.specs.Iterator.{AlwaysYields}
 use borrow.Rule.Slice.PartMut.{mid_of, put_mid}

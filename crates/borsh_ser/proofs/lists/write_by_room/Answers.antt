@@ -1,4 +1,4 @@
-use Rattle.std.proofs.Common.{◌≡◌, ◌∙◌, ◌+◌, Option, Some, List, ℕ, take, drop, true≢false, refl, sym, ap, arith}
+use Rattle.std.proofs.Common.{◌∙◌, ◌+◌, drop, true≢false, refl, sym, ap, arith}
 use Rattle.borsh_codec.specs.Shapes.{append_encodings, concat_encodings}
 use Rattle.borsh_codec.proofs.PutSteps.{all_joined-front, front_within}
 use Rattle.borsh_codec.proofs.WriteOutcomes.{so_far_exit, writes_own}
