@@ -10,6 +10,7 @@ pub use Rattle.borsh_codec.proofs.ReadSums
 pub use Rattle.borsh_codec.proofs.ReadRows
 pub use Rattle.borsh_codec.proofs.ReadWhole
 pub use Rattle.borsh_codec.proofs.WriteSteps
+pub use Rattle.borsh_codec.proofs.PutSteps
 pub use Rattle.borsh_codec.proofs.WriteOutcomes
 pub use Rattle.borsh_codec.proofs.WriteRows
 pub use Rattle.borsh_codec.proofs.DecodeOutcomes

@@ -5,8 +5,10 @@ ghost use Rattle.borsh.specs.Length.{AnswersLength};
 use super::length::LengthWriter;
 use borsh_io::{Error, ErrorKind, Result, Write};
 pub use borsh_ser::{
-    BorshSerialize, write_bytes, write_eight, write_eleven, write_five, write_four, write_nine,
-    write_seven, write_six, write_tagged, write_ten, write_three, write_twelve, write_two,
+    BorshSerialize, put_bytes, put_eight, put_eleven, put_five, put_four, put_nine, put_seven,
+    put_six, put_tagged, put_ten, put_three, put_twelve, put_two, write_bytes, write_eight,
+    write_eleven, write_five, write_four, write_nine, write_seven, write_six, write_tagged,
+    write_ten, write_three, write_twelve, write_two,
 };
 use std::alloc::Global;
 

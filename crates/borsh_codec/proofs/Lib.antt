@@ -11,6 +11,7 @@ pub mod DecodeOutcomes
 pub mod DecodeVariants
 pub mod DecodeViews
 pub mod WriteRows
+pub mod PutSteps
 pub mod NumberBytes
 pub mod ReadWhole
 pub mod ReadSums

@@ -1,12 +1,13 @@
 -- The bytes that `to_le_bytes` and `from_le_bytes` speak of are those of a number's encoding, at any width.
-use Rattle.std.proofs.Common.{◌≡◌, ℕ, zero, suc, ◌+◌, ◌*◌, ◌/◌, ◌%◌, ◌^◌, ◌<◌, ◌≤◌, List, [], ◌∷◌, length, get_or, Some, ℤ, negsuc, ◌-◌, to_z, of_z, SFits, ⊎_elim, refl, sym, ◌∙◌, ap, arith, pow-suc}
+use Rattle.std.proofs.Common.{◌≡◌, ℕ, zero, suc, ◌+◌, ◌*◌, ◌/◌, ◌%◌, ◌^◌, ◌<◌, ◌≤◌, List, [], ◌∷◌, ◌++◌, length, get_or, Some, ℤ, negsuc, ◌-◌, to_z, of_z, SFits, ⊎_elim, refl, sym, ◌∙◌, ap, arith, pow-suc}
 use mir.Val.{bits, hbits}
 use Rattle.std.specs.Int.{Width, bytes_low_first, byte_worth, sum_through}
 use Rattle.std.proofs.lemmas.Int.{to_z_pos, to_z-of_z}
 use Rattle.std.proofs.lemmas.Bool.{cases_lt}
 use Rattle.std.proofs.Math.Facts.{to_z-neg}
-use native.Mathlib.Nat.{div-div-eq-div-mul, div-one, mul_assoc}
-use Rattle.borsh_codec.specs.Shapes.{little_endian, unsigned_encoding, sign_bound, signed_encoding, concat_encodings}
+use native.Mathlib.Nat.{div-div-eq-div-mul, div-one, mul_assoc, mul_comm}
+use Rattle.borsh_codec.specs.Shapes.{little_endian, unsigned_encoding, sign_bound, signed_encoding, append_encodings, concat_encodings}
+use Rattle.borsh_codec.proofs.Laws.Lists.{joined_is}
 use Rattle.borsh_codec.proofs.Laws.Numbers.{number_fits, number_some, signed_bits, signed_bits_high}
 
 -- ---- to bytes
@@ -31,6 +32,28 @@ bytes_of k n fits e = number_fits k n fits ∙ ap Some (ap (little_endian k) (sy
 -- a number of one byte, written
 pub byte_of : (n : ℕ) → n < 256 → unsigned_encoding 1 n ≡ Some (n ∷ [])
 byte_of n fits = bytes_of 1 n fits (let e : n % 256 ≡ n = omega arith in cc)
+
+little_split : (a b r q : ℕ) → r < 256 ^ a → little_endian (a + b) (r + 256 ^ a * q) ≡ little_endian a r ++ little_endian b q
+unfolding little_endian
+little_split zero b r q h =
+    let k : 0 + b ≡ b = omega arith in
+    let e : r + 256 ^ 0 * q ≡ q = omega (arith, h) in
+    ap (λ j. little_endian j (r + 256 ^ 0 * q)) k ∙ ap (little_endian b) e
+little_split (suc a) b r q h =
+    let k : suc a + b ≡ suc (a + b) = omega arith in
+    let p : 256 ^ suc a ≡ 256 ^ a * 256 = pow-suc 256 a in
+    let t : 256 ^ suc a * q ≡ 256 * (256 ^ a * q) = ap (λ z. z * q) (p ∙ mul_comm (256 ^ a) 256) ∙ mul_assoc 256 (256 ^ a) q in
+    let low : (r + 256 ^ suc a * q) % 256 ≡ r % 256 = omega (arith, t) in
+    let high : (r + 256 ^ suc a * q) / 256 ≡ r / 256 + 256 ^ a * q = omega (arith, t) in
+    let rest : little_endian (a + b) ((r + 256 ^ suc a * q) / 256) ≡ little_endian a (r / 256) ++ little_endian b q = ap (little_endian (a + b)) high ∙ little_split a b (r / 256) q (omega (arith, h, p)) in
+    ap (λ j. little_endian j (r + 256 ^ suc a * q)) k ∙ cc
+
+-- the bytes of a number are those of its low part and then those of its high part
+pub unsigned_parts : (a b r q n : ℕ) → r < 256 ^ a → q < 256 ^ b → n < 256 ^ (a + b) → r + 256 ^ a * q ≡ n → append_encodings (unsigned_encoding a r) (unsigned_encoding b q) ≡ unsigned_encoding (a + b) n
+unsigned_parts a b r q n low high fits e =
+    joined_is (unsigned_encoding a r) (unsigned_encoding b q) (little_endian a r) (little_endian b q) (number_fits a r low) (number_fits b q high)
+    ∙ ap Some (sym (little_split a b r q low) ∙ ap (little_endian (a + b)) e)
+    ∙ sym (number_fits (a + b) n fits)
 
 -- bytes, written one after another
 pub bytes_joined : (bytes : List ℕ) → ((i : ℕ) → get_or bytes i 0 < 256) → concat_encodings (unsigned_encoding 1) bytes ≡ Some bytes

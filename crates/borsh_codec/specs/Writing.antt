@@ -1,5 +1,5 @@
 -- What a call that writes a value gives to its writer, and why it is refused.
-use Rattle.std.specs.Prelude.{◌≡◌, ◌≢◌, ℕ, ◌<◌, ◌≤◌, Bool, true, ◌||◌, IsTrue, List, ◌++◌, length, Option, Some, None, Result, OnOk, IfOk, IfErr, Vec}
+use Rattle.std.specs.Prelude.{◌≡◌, ◌≢◌, ℕ, ◌<◌, ◌≤◌, Bool, true, ◌||◌, IsTrue, List, ◌++◌, length, Option, Some, None, IfSome, take, Result, OnOk, IfOk, IfErr, Vec}
 use Rattle.std.specs.Global.{Global}
 use Rattle.borsh_io.specs.declared.error.Error.{Error}
 use Rattle.borsh_io.specs.declared.error.ErrorKind.{ErrorKind}
@@ -48,6 +48,15 @@ pub record WritesEncoding {W : Type 0} (w : WriterModel W) (old new : W) (alloca
 -- the outcome of a call that is to write a value
 abbrev pub Writes : {A W : Type 0} → Codec A → A → WriterModel W → W → W → Result (Unit {0}) Error → Type 0
 Writes c v w old new result = WritesEncoding w old new c.encoding_allocates c.refuses (c.encoding v) result
+
+-- ---- a room
+
+-- the outcome of a call that may put an encoding over the front of a room
+pub record Puts (encoding : Option (List ℕ)) (old new : List ℕ) (result : Option ℕ) : Type 0 where
+  -- the room keeps its length
+  pub same : length new ≡ length old
+  -- `Some(n)`: the encoding is the first n bytes of the room
+  pub put : IfSome result (λ n. (n ≤ length new) × (encoding ≡ Some (take n new)))
 
 -- ---- a vector
 

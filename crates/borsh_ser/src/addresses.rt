@@ -1,5 +1,6 @@
 // Addresses: their octets, and a tag where there are two kinds.
 use super::parts::{write_tagged, write_two};
+use super::puts::{put_tagged, put_two};
 use super::serialize::BorshSerialize;
 use borsh_io::{Result, Write};
 use std::alloc::Global;
@@ -10,12 +11,22 @@ impl BorshSerialize for Ipv4Addr {
     fn serialize<W: Write>(&self, alloc: Global, writer: &mut W) -> Result<()> {
         self.octets().serialize(alloc, writer)
     }
+
+    #[inline]
+    fn put(&self, room: &mut [u8]) -> Option<usize> {
+        self.octets().put(room)
+    }
 }
 
 impl BorshSerialize for Ipv6Addr {
     #[inline]
     fn serialize<W: Write>(&self, alloc: Global, writer: &mut W) -> Result<()> {
         self.octets().serialize(alloc, writer)
+    }
+
+    #[inline]
+    fn put(&self, room: &mut [u8]) -> Option<usize> {
+        self.octets().put(room)
     }
 }
 
@@ -27,12 +38,25 @@ impl BorshSerialize for IpAddr {
             IpAddr::V6(address) => write_tagged(1, address, alloc, writer),
         }
     }
+
+    #[inline]
+    fn put(&self, room: &mut [u8]) -> Option<usize> {
+        match self {
+            IpAddr::V4(address) => put_tagged(0, address, room),
+            IpAddr::V6(address) => put_tagged(1, address, room),
+        }
+    }
 }
 
 impl BorshSerialize for SocketAddrV4 {
     #[inline]
     fn serialize<W: Write>(&self, alloc: Global, writer: &mut W) -> Result<()> {
         write_two(self.ip(), &self.port(), alloc, writer)
+    }
+
+    #[inline]
+    fn put(&self, room: &mut [u8]) -> Option<usize> {
+        put_two(self.ip(), &self.port(), room)
     }
 }
 
@@ -42,6 +66,11 @@ impl BorshSerialize for SocketAddrV6 {
     fn serialize<W: Write>(&self, alloc: Global, writer: &mut W) -> Result<()> {
         write_two(self.ip(), &self.port(), alloc, writer)
     }
+
+    #[inline]
+    fn put(&self, room: &mut [u8]) -> Option<usize> {
+        put_two(self.ip(), &self.port(), room)
+    }
 }
 
 impl BorshSerialize for SocketAddr {
@@ -50,6 +79,14 @@ impl BorshSerialize for SocketAddr {
         match self {
             SocketAddr::V4(address) => write_tagged(0, address, alloc, writer),
             SocketAddr::V6(address) => write_tagged(1, address, alloc, writer),
+        }
+    }
+
+    #[inline]
+    fn put(&self, room: &mut [u8]) -> Option<usize> {
+        match self {
+            SocketAddr::V4(address) => put_tagged(0, address, room),
+            SocketAddr::V6(address) => put_tagged(1, address, room),
         }
     }
 }

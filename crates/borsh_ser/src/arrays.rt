@@ -1,5 +1,6 @@
 // Arrays: their elements in order, with no count.
 use super::lists::write_elements;
+use super::puts::put_elements;
 use super::serialize::BorshSerialize;
 use borsh_io::{Result, Write};
 use std::alloc::Global;
@@ -8,5 +9,10 @@ impl<T: BorshSerialize, const N: usize> BorshSerialize for [T; N] {
     #[inline]
     fn serialize<W: Write>(&self, alloc: Global, writer: &mut W) -> Result<()> {
         write_elements(self, alloc, writer)
+    }
+
+    #[inline]
+    fn put(&self, room: &mut [u8]) -> Option<usize> {
+        put_elements(self, room)
     }
 }

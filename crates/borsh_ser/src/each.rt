@@ -1,17 +1,19 @@
 // Items of a collection, by its iterator.
 ghost use Rattle.std.specs.Iterator.{AlwaysYields, IsFinite};
-ghost use Rattle.std.specs.Prelude.{List, Option, false, ℕ};
+ghost use Rattle.std.specs.Prelude.{List, Option, Some, false, ℕ};
 ghost use Rattle.borsh_codec.specs.Shapes.{concat_encodings};
 ghost use Rattle.borsh_codec.specs.Writing.{WritesEncoding};
 
+use super::raw_bytes::write_bytes;
 use super::serialize::BorshSerialize;
 use borsh_io::{Result, Write};
 use std::alloc::Global;
 
-/// Writes the items that the iterator gives, one after another, with no count.
+/// Writes the items that the iterator gives, one after another, with no count. What their `put`
+/// puts into a room is written once the room is full.
 ///
-/// Fails as the item that could not be written does. Then the items before it and a beginning of
-/// its own encoding were written.
+/// Fails with the writer's error, or as the item that could not be written does. Then a beginning
+/// of the items' encodings was written.
 #[inline]
 pub(crate) fn write_each<I: Iterator, W: Write>(
     mut items: I,
@@ -28,8 +30,28 @@ where
         → WritesEncoding W.writing writer.old writer.new I.Item.codec.encoding_allocates false
         (concat_encodings (λ e. e) es) result }
 {
+    let mut room = [0u8; 256];
+    let mut filled = 0;
     while let Some(item) = items.next() {
-        item.serialize(alloc, writer)?;
+        match item.put(&mut room[filled..]) {
+            Some(n) => filled += n,
+            None => {
+                write_held(&room[..filled], writer)?;
+                filled = 0;
+                item.serialize(alloc, writer)?;
+            }
+        }
     }
-    Ok(())
+    write_held(&room[..filled], writer)
+}
+
+/// Writes the bytes, where there are any. Fails as `write_bytes` does.
+#[inline]
+pub(crate) fn write_held<W: Write>(bytes: &[u8], writer: &mut W) -> Result<()>
+    ensures { WritesEncoding W.writing writer.old writer.new false false (Some bytes.now) result }
+{
+    if bytes.is_empty() {
+        return Ok(());
+    }
+    write_bytes(bytes, writer)
 }

@@ -8,8 +8,10 @@ ghost use Rattle.std.specs.List.{IsDistinct};
 ghost use Rattle.std.specs.Map.Iter.{deref_pair};
 ghost use Rattle.std.specs.Prelude.{◌≡◌, ◌||◌, IfOk, map, false};
 
+use super::each::write_held;
 use super::lists::{write_count, write_counted};
 use super::parts::write_two;
+use super::puts::put_two;
 use super::serialize::BorshSerialize;
 use borsh_io::error::ERROR_ZST_FORBIDDEN;
 use borsh_io::{Error, ErrorKind, Result, Write};
@@ -84,10 +86,19 @@ fn write_entries<K: BorshSerialize, V: BorshSerialize, W: Write>(
         (K.codec.encoding_allocates || V.codec.encoding_allocates) false
         (concat_encodings (pair K.codec V.codec).encoding (map deref_pair entries.now)) result }
 {
+    let mut room = [0u8; 256];
+    let mut filled = 0;
     for e in entries {
-        write_two(e.0, e.1, alloc, writer)?;
+        match put_two(e.0, e.1, &mut room[filled..]) {
+            Some(n) => filled += n,
+            None => {
+                write_held(&room[..filled], writer)?;
+                filled = 0;
+                write_two(e.0, e.1, alloc, writer)?;
+            }
+        }
     }
-    Ok(())
+    write_held(&room[..filled], writer)
 }
 
 /// Writes the count and the entries.

@@ -25,4 +25,9 @@ impl BorshSerialize for Uuid {
     fn serialize<W: Write>(&self, alloc: Global, writer: &mut W) -> Result<()> {
         self.as_bytes().serialize(alloc, writer)
     }
+
+    #[inline]
+    fn put(&self, room: &mut [u8]) -> Option<usize> {
+        self.as_bytes().put(room)
+    }
 }

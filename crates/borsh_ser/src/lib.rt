@@ -13,6 +13,7 @@ pub mod non_zeros;
 pub mod numbers;
 pub mod parts;
 pub mod pointers;
+pub mod puts;
 pub mod ranges;
 pub mod raw_bytes;
 pub mod serialize;
@@ -24,6 +25,10 @@ pub mod units;
 pub use parts::{
     write_eight, write_eleven, write_five, write_four, write_nine, write_seven, write_six,
     write_tagged, write_ten, write_three, write_twelve, write_two,
+};
+pub use puts::{
+    put_bytes, put_eight, put_eleven, put_five, put_four, put_nine, put_seven, put_six, put_tagged,
+    put_ten, put_three, put_twelve, put_two,
 };
 pub use raw_bytes::write_bytes;
 pub use serialize::BorshSerialize;

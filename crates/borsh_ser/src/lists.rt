@@ -9,6 +9,7 @@ ghost use Rattle.borsh_codec.specs.Shapes.{
 ghost use Rattle.borsh_codec.specs.Writing.{Writes, WritesEncoding};
 
 use super::numbers::bytes_of_u32;
+use super::puts::put_front;
 use super::raw_bytes::write_bytes;
 use super::serialize::BorshSerialize;
 use borsh_io::error::ERROR_ZST_FORBIDDEN;
@@ -18,7 +19,8 @@ use std::borrow::CowSlice;
 use std::boxed::BoxedSlice;
 use std::rc::RcSlice;
 
-/// Writes the elements one after another, or at once if their encodings lie in memory so.
+/// Writes the elements one after another: at once if their encodings lie in memory so, and by a room if there are
+/// so many that clearing it pays.
 ///
 /// Fails as the element that could not be written does. Then a beginning of the encoding was
 /// written.
@@ -34,8 +36,54 @@ pub(crate) fn write_elements<T: BorshSerialize, W: Write>(
     if let Some(bytes) = T::u8_slice(items) {
         return write_bytes(bytes, writer);
     }
+    if items.len() < 32 {
+        return write_one_by_one(items, alloc, writer);
+    }
+    write_by_room(items, alloc, writer)
+}
+
+/// Writes the elements one after another. Fails as `write_elements` does.
+#[inline]
+fn write_one_by_one<T: BorshSerialize, W: Write>(
+    items: &[T],
+    alloc: Global,
+    writer: &mut W,
+) -> Result<()>
+    ensures { WritesEncoding W.writing writer.old writer.new T.codec.encoding_allocates false
+        (concat_encodings T.codec.encoding items.now) result }
+{
     for item in items {
         item.serialize(alloc, writer)?;
+    }
+    Ok(())
+}
+
+/// Writes the elements one after another: those that put themselves into a room by the room, and
+/// the others by `serialize`. Fails as `write_elements` does.
+///
+/// At most 32 elements share the room, so that LLVM knows that elements of up to 32 bytes fit, and
+/// tests no room for them.
+#[inline]
+fn write_by_room<T: BorshSerialize, W: Write>(
+    items: &[T],
+    alloc: Global,
+    writer: &mut W,
+) -> Result<()>
+    ensures { WritesEncoding W.writing writer.old writer.new T.codec.encoding_allocates false
+        (concat_encodings T.codec.encoding items.now) result }
+{
+    let mut room = [0u8; 1024];
+    let mut next = 0;
+    while next < items.len() {
+        let end = next + (items.len() - next).min(32);
+        let (count, filled) = put_front(&items[next..end], &mut room);
+        if count == 0 {
+            items[next].serialize(alloc, writer)?;
+            next += 1;
+        } else {
+            write_bytes(&room[..filled], writer)?;
+            next += count;
+        }
     }
     Ok(())
 }

@@ -1,8 +1,9 @@
 // Whole numbers that are not zero: their number.
 use super::numbers::{
     bytes_of_i8, bytes_of_i16, bytes_of_i32, bytes_of_i64, bytes_of_i128, bytes_of_u8,
-    bytes_of_u16, bytes_of_u32, bytes_of_u64, bytes_of_u128,
+    bytes_of_u16, bytes_of_u32, bytes_of_u64, bytes_of_u128, put_i128, put_u128,
 };
+use super::puts::put_bytes;
 use super::raw_bytes::write_bytes;
 use super::serialize::BorshSerialize;
 use borsh_io::{Result, Write};
@@ -17,12 +18,22 @@ impl BorshSerialize for NonZeroU8 {
     fn serialize<W: Write>(&self, _alloc: Global, writer: &mut W) -> Result<()> {
         write_bytes(&bytes_of_u8(self.get()), writer)
     }
+
+    #[inline]
+    fn put(&self, room: &mut [u8]) -> Option<usize> {
+        put_bytes(&bytes_of_u8(self.get()), room)
+    }
 }
 
 impl BorshSerialize for NonZeroU16 {
     #[inline]
     fn serialize<W: Write>(&self, _alloc: Global, writer: &mut W) -> Result<()> {
         write_bytes(&bytes_of_u16(self.get()), writer)
+    }
+
+    #[inline]
+    fn put(&self, room: &mut [u8]) -> Option<usize> {
+        put_bytes(&bytes_of_u16(self.get()), room)
     }
 }
 
@@ -31,12 +42,22 @@ impl BorshSerialize for NonZeroU32 {
     fn serialize<W: Write>(&self, _alloc: Global, writer: &mut W) -> Result<()> {
         write_bytes(&bytes_of_u32(self.get()), writer)
     }
+
+    #[inline]
+    fn put(&self, room: &mut [u8]) -> Option<usize> {
+        put_bytes(&bytes_of_u32(self.get()), room)
+    }
 }
 
 impl BorshSerialize for NonZeroU64 {
     #[inline]
     fn serialize<W: Write>(&self, _alloc: Global, writer: &mut W) -> Result<()> {
         write_bytes(&bytes_of_u64(self.get()), writer)
+    }
+
+    #[inline]
+    fn put(&self, room: &mut [u8]) -> Option<usize> {
+        put_bytes(&bytes_of_u64(self.get()), room)
     }
 }
 
@@ -45,12 +66,22 @@ impl BorshSerialize for NonZeroU128 {
     fn serialize<W: Write>(&self, _alloc: Global, writer: &mut W) -> Result<()> {
         write_bytes(&bytes_of_u128(self.get()), writer)
     }
+
+    #[inline]
+    fn put(&self, room: &mut [u8]) -> Option<usize> {
+        put_u128(self.get(), room)
+    }
 }
 
 impl BorshSerialize for NonZeroUsize {
     #[inline]
     fn serialize<W: Write>(&self, _alloc: Global, writer: &mut W) -> Result<()> {
         write_bytes(&bytes_of_u64(self.get() as u64), writer)
+    }
+
+    #[inline]
+    fn put(&self, room: &mut [u8]) -> Option<usize> {
+        put_bytes(&bytes_of_u64(self.get() as u64), room)
     }
 }
 
@@ -59,12 +90,22 @@ impl BorshSerialize for NonZeroI8 {
     fn serialize<W: Write>(&self, _alloc: Global, writer: &mut W) -> Result<()> {
         write_bytes(&bytes_of_i8(self.get()), writer)
     }
+
+    #[inline]
+    fn put(&self, room: &mut [u8]) -> Option<usize> {
+        put_bytes(&bytes_of_i8(self.get()), room)
+    }
 }
 
 impl BorshSerialize for NonZeroI16 {
     #[inline]
     fn serialize<W: Write>(&self, _alloc: Global, writer: &mut W) -> Result<()> {
         write_bytes(&bytes_of_i16(self.get()), writer)
+    }
+
+    #[inline]
+    fn put(&self, room: &mut [u8]) -> Option<usize> {
+        put_bytes(&bytes_of_i16(self.get()), room)
     }
 }
 
@@ -73,6 +114,11 @@ impl BorshSerialize for NonZeroI32 {
     fn serialize<W: Write>(&self, _alloc: Global, writer: &mut W) -> Result<()> {
         write_bytes(&bytes_of_i32(self.get()), writer)
     }
+
+    #[inline]
+    fn put(&self, room: &mut [u8]) -> Option<usize> {
+        put_bytes(&bytes_of_i32(self.get()), room)
+    }
 }
 
 impl BorshSerialize for NonZeroI64 {
@@ -80,11 +126,21 @@ impl BorshSerialize for NonZeroI64 {
     fn serialize<W: Write>(&self, _alloc: Global, writer: &mut W) -> Result<()> {
         write_bytes(&bytes_of_i64(self.get()), writer)
     }
+
+    #[inline]
+    fn put(&self, room: &mut [u8]) -> Option<usize> {
+        put_bytes(&bytes_of_i64(self.get()), room)
+    }
 }
 
 impl BorshSerialize for NonZeroI128 {
     #[inline]
     fn serialize<W: Write>(&self, _alloc: Global, writer: &mut W) -> Result<()> {
         write_bytes(&bytes_of_i128(self.get()), writer)
+    }
+
+    #[inline]
+    fn put(&self, room: &mut [u8]) -> Option<usize> {
+        put_i128(self.get(), room)
     }
 }

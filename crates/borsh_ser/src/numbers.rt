@@ -1,8 +1,15 @@
 // Whole numbers, the lowest byte first, and with a sign in two's complement. A `usize` is
 // written as a `u64`, and an `isize` as an `i64`.
 ghost use Rattle.std.specs.Prelude.{◌≡◌, Some, IsSomeAnd};
-ghost use Rattle.borsh_codec.specs.Shapes.{unsigned_encoding, signed_encoding, concat_encodings};
+ghost use Rattle.borsh_codec.specs.Shapes.{
+  append_encodings,
+  concat_encodings,
+  signed_encoding,
+  unsigned_encoding,
+};
+ghost use Rattle.borsh_codec.specs.Writing.{Puts};
 
+use super::puts::{put_bytes, put_two};
 use super::raw_bytes::write_bytes;
 use super::serialize::BorshSerialize;
 use borsh_io::{Result, Write};
@@ -78,10 +85,44 @@ pub(crate) fn bytes_of_i128(n: i128) -> [u8; 16]
     bytes_of_u128(n.cast_unsigned())
 }
 
+/// The low and the high half.
+#[inline]
+fn halves_of_u128(n: u128) -> (u64, u64)
+    ensures { append_encodings (unsigned_encoding 8 result.0) (unsigned_encoding 8 result.1)
+        ≡ unsigned_encoding 16 n }
+{
+    (
+        (n % 18446744073709551616) as u64,
+        (n / 18446744073709551616) as u64,
+    )
+}
+
+/// Puts the halves one after the other: LLVM makes one store of each, but not of sixteen bytes.
+#[inline]
+pub(crate) fn put_u128(n: u128, room: &mut [u8]) -> Option<usize>
+    ensures { Puts (unsigned_encoding 16 n) room.old room.new result }
+{
+    let (low, high) = halves_of_u128(n);
+    put_two(&low, &high, room)
+}
+
+/// Puts the number as `put_u128` does.
+#[inline]
+pub(crate) fn put_i128(n: i128, room: &mut [u8]) -> Option<usize>
+    ensures { Puts (signed_encoding 16 n) room.old room.new result }
+{
+    put_u128(n.cast_unsigned(), room)
+}
+
 impl BorshSerialize for u8 {
     #[inline]
     fn serialize<W: Write>(&self, _alloc: Global, writer: &mut W) -> Result<()> {
         write_bytes(&bytes_of_u8(*self), writer)
+    }
+
+    #[inline]
+    fn put(&self, room: &mut [u8]) -> Option<usize> {
+        put_bytes(&bytes_of_u8(*self), room)
     }
 
     /// The bytes themselves, always.
@@ -99,12 +140,22 @@ impl BorshSerialize for u16 {
     fn serialize<W: Write>(&self, _alloc: Global, writer: &mut W) -> Result<()> {
         write_bytes(&bytes_of_u16(*self), writer)
     }
+
+    #[inline]
+    fn put(&self, room: &mut [u8]) -> Option<usize> {
+        put_bytes(&bytes_of_u16(*self), room)
+    }
 }
 
 impl BorshSerialize for u32 {
     #[inline]
     fn serialize<W: Write>(&self, _alloc: Global, writer: &mut W) -> Result<()> {
         write_bytes(&bytes_of_u32(*self), writer)
+    }
+
+    #[inline]
+    fn put(&self, room: &mut [u8]) -> Option<usize> {
+        put_bytes(&bytes_of_u32(*self), room)
     }
 }
 
@@ -113,12 +164,22 @@ impl BorshSerialize for u64 {
     fn serialize<W: Write>(&self, _alloc: Global, writer: &mut W) -> Result<()> {
         write_bytes(&bytes_of_u64(*self), writer)
     }
+
+    #[inline]
+    fn put(&self, room: &mut [u8]) -> Option<usize> {
+        put_bytes(&bytes_of_u64(*self), room)
+    }
 }
 
 impl BorshSerialize for u128 {
     #[inline]
     fn serialize<W: Write>(&self, _alloc: Global, writer: &mut W) -> Result<()> {
         write_bytes(&bytes_of_u128(*self), writer)
+    }
+
+    #[inline]
+    fn put(&self, room: &mut [u8]) -> Option<usize> {
+        put_u128(*self, room)
     }
 }
 
@@ -127,12 +188,22 @@ impl BorshSerialize for usize {
     fn serialize<W: Write>(&self, _alloc: Global, writer: &mut W) -> Result<()> {
         write_bytes(&bytes_of_u64(*self as u64), writer)
     }
+
+    #[inline]
+    fn put(&self, room: &mut [u8]) -> Option<usize> {
+        put_bytes(&bytes_of_u64(*self as u64), room)
+    }
 }
 
 impl BorshSerialize for i8 {
     #[inline]
     fn serialize<W: Write>(&self, _alloc: Global, writer: &mut W) -> Result<()> {
         write_bytes(&bytes_of_i8(*self), writer)
+    }
+
+    #[inline]
+    fn put(&self, room: &mut [u8]) -> Option<usize> {
+        put_bytes(&bytes_of_i8(*self), room)
     }
 }
 
@@ -141,12 +212,22 @@ impl BorshSerialize for i16 {
     fn serialize<W: Write>(&self, _alloc: Global, writer: &mut W) -> Result<()> {
         write_bytes(&bytes_of_i16(*self), writer)
     }
+
+    #[inline]
+    fn put(&self, room: &mut [u8]) -> Option<usize> {
+        put_bytes(&bytes_of_i16(*self), room)
+    }
 }
 
 impl BorshSerialize for i32 {
     #[inline]
     fn serialize<W: Write>(&self, _alloc: Global, writer: &mut W) -> Result<()> {
         write_bytes(&bytes_of_i32(*self), writer)
+    }
+
+    #[inline]
+    fn put(&self, room: &mut [u8]) -> Option<usize> {
+        put_bytes(&bytes_of_i32(*self), room)
     }
 }
 
@@ -155,6 +236,11 @@ impl BorshSerialize for i64 {
     fn serialize<W: Write>(&self, _alloc: Global, writer: &mut W) -> Result<()> {
         write_bytes(&bytes_of_i64(*self), writer)
     }
+
+    #[inline]
+    fn put(&self, room: &mut [u8]) -> Option<usize> {
+        put_bytes(&bytes_of_i64(*self), room)
+    }
 }
 
 impl BorshSerialize for i128 {
@@ -162,11 +248,21 @@ impl BorshSerialize for i128 {
     fn serialize<W: Write>(&self, _alloc: Global, writer: &mut W) -> Result<()> {
         write_bytes(&bytes_of_i128(*self), writer)
     }
+
+    #[inline]
+    fn put(&self, room: &mut [u8]) -> Option<usize> {
+        put_i128(*self, room)
+    }
 }
 
 impl BorshSerialize for isize {
     #[inline]
     fn serialize<W: Write>(&self, _alloc: Global, writer: &mut W) -> Result<()> {
         write_bytes(&bytes_of_i64(*self as i64), writer)
+    }
+
+    #[inline]
+    fn put(&self, room: &mut [u8]) -> Option<usize> {
+        put_bytes(&bytes_of_i64(*self as i64), room)
     }
 }

@@ -9,6 +9,11 @@ impl<T: BorshSerialize> BorshSerialize for &T {
     fn serialize<W: Write>(&self, alloc: Global, writer: &mut W) -> Result<()> {
         T::serialize(*self, alloc, writer)
     }
+
+    #[inline]
+    fn put(&self, room: &mut [u8]) -> Option<usize> {
+        T::put(*self, room)
+    }
 }
 
 impl<T: BorshSerialize> BorshSerialize for Box<T> {
@@ -16,11 +21,21 @@ impl<T: BorshSerialize> BorshSerialize for Box<T> {
     fn serialize<W: Write>(&self, alloc: Global, writer: &mut W) -> Result<()> {
         self.as_ref().serialize(alloc, writer)
     }
+
+    #[inline]
+    fn put(&self, room: &mut [u8]) -> Option<usize> {
+        self.as_ref().put(room)
+    }
 }
 
 impl<T: BorshSerialize> BorshSerialize for Rc<T> {
     #[inline]
     fn serialize<W: Write>(&self, alloc: Global, writer: &mut W) -> Result<()> {
         self.as_ref().serialize(alloc, writer)
+    }
+
+    #[inline]
+    fn put(&self, room: &mut [u8]) -> Option<usize> {
+        self.as_ref().put(room)
     }
 }

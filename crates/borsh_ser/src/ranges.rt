@@ -1,5 +1,6 @@
 // Ranges: their start, where they have one, and then their end, where they have one.
 use super::parts::write_two;
+use super::puts::put_two;
 use super::serialize::BorshSerialize;
 use borsh_io::{Result, Write};
 use std::alloc::Global;
@@ -10,12 +11,22 @@ impl<T: BorshSerialize> BorshSerialize for Range<T> {
     fn serialize<W: Write>(&self, alloc: Global, writer: &mut W) -> Result<()> {
         write_two(&self.start, &self.end, alloc, writer)
     }
+
+    #[inline]
+    fn put(&self, room: &mut [u8]) -> Option<usize> {
+        put_two(&self.start, &self.end, room)
+    }
 }
 
 impl<T: BorshSerialize> BorshSerialize for RangeInclusive<T> {
     #[inline]
     fn serialize<W: Write>(&self, alloc: Global, writer: &mut W) -> Result<()> {
         write_two(self.start(), self.end(), alloc, writer)
+    }
+
+    #[inline]
+    fn put(&self, room: &mut [u8]) -> Option<usize> {
+        put_two(self.start(), self.end(), room)
     }
 }
 
@@ -24,6 +35,11 @@ impl<T: BorshSerialize> BorshSerialize for RangeFrom<T> {
     fn serialize<W: Write>(&self, alloc: Global, writer: &mut W) -> Result<()> {
         self.start.serialize(alloc, writer)
     }
+
+    #[inline]
+    fn put(&self, room: &mut [u8]) -> Option<usize> {
+        self.start.put(room)
+    }
 }
 
 impl<T: BorshSerialize> BorshSerialize for RangeTo<T> {
@@ -31,11 +47,21 @@ impl<T: BorshSerialize> BorshSerialize for RangeTo<T> {
     fn serialize<W: Write>(&self, alloc: Global, writer: &mut W) -> Result<()> {
         self.end.serialize(alloc, writer)
     }
+
+    #[inline]
+    fn put(&self, room: &mut [u8]) -> Option<usize> {
+        self.end.put(room)
+    }
 }
 
 impl<T: BorshSerialize> BorshSerialize for RangeToInclusive<T> {
     #[inline]
     fn serialize<W: Write>(&self, alloc: Global, writer: &mut W) -> Result<()> {
         self.end.serialize(alloc, writer)
+    }
+
+    #[inline]
+    fn put(&self, room: &mut [u8]) -> Option<usize> {
+        self.end.put(room)
     }
 }

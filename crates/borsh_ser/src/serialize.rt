@@ -1,7 +1,7 @@
 // What is written.
 ghost use Rattle.std.specs.Prelude.{◌≡◌, Some, IfSome};
 ghost use Rattle.borsh_codec.specs.Shapes.{concat_encodings};
-ghost use Rattle.borsh_codec.specs.Writing.{Writes};
+ghost use Rattle.borsh_codec.specs.Writing.{Puts, Writes};
 
 use borsh_io::{Result, Write};
 use borsh_types::BorshType;
@@ -29,6 +29,23 @@ pub trait BorshSerialize: BorshType + Sized {
     fn u8_slice(_slice: &[Self]) -> Option<&[u8]>
         ensures { IfSome result (λ bytes.
             concat_encodings Self.codec.encoding _slice.now ≡ Some bytes.now) }
+    {
+        None
+    }
+
+    /// Puts the encoding over the front of the room and answers how many bytes it has, or `None`:
+    /// then it doesn't fit, or the type doesn't do so, and the room has any bytes. Lists put their
+    /// elements into one room and write it at once, and an element that answers `None` by
+    /// `serialize`.
+    ///
+    /// ```
+    /// let mut room = [0u8; 4];
+    /// assert_eq!(7u16.put(&mut room), Some(2));
+    /// assert_eq!(room, [7, 0, 0, 0]);
+    /// assert_eq!(7u64.put(&mut room), None);
+    /// ```
+    fn put(&self, _room: &mut [u8]) -> Option<usize>
+        ensures { Puts (Self.codec.encoding self.now) _room.old _room.new result }
     {
         None
     }

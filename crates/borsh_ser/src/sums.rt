@@ -1,5 +1,6 @@
 // Values that are one of several kinds: a tag, one byte, and a part.
 use super::parts::write_tagged;
+use super::puts::{put_bytes, put_tagged};
 use super::raw_bytes::write_bytes;
 use super::serialize::BorshSerialize;
 use borsh_io::{Result, Write};
@@ -9,6 +10,11 @@ impl BorshSerialize for bool {
     #[inline]
     fn serialize<W: Write>(&self, _alloc: Global, writer: &mut W) -> Result<()> {
         write_bytes(&[u8::from(*self)], writer)
+    }
+
+    #[inline]
+    fn put(&self, room: &mut [u8]) -> Option<usize> {
+        put_bytes(&[u8::from(*self)], room)
     }
 }
 
@@ -23,6 +29,14 @@ impl<T: BorshSerialize> BorshSerialize for Option<T> {
             }
         }
     }
+
+    #[inline]
+    fn put(&self, room: &mut [u8]) -> Option<usize> {
+        match self {
+            None => put_bytes(&[0], room),
+            Some(value) => put_tagged(1, value, room),
+        }
+    }
 }
 
 impl<T: BorshSerialize, E: BorshSerialize> BorshSerialize for std::result::Result<T, E> {
@@ -31,6 +45,14 @@ impl<T: BorshSerialize, E: BorshSerialize> BorshSerialize for std::result::Resul
         match self {
             Err(error) => write_tagged(0, error, alloc, writer),
             Ok(value) => write_tagged(1, value, alloc, writer),
+        }
+    }
+
+    #[inline]
+    fn put(&self, room: &mut [u8]) -> Option<usize> {
+        match self {
+            Err(error) => put_tagged(0, error, room),
+            Ok(value) => put_tagged(1, value, room),
         }
     }
 }

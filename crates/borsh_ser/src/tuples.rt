@@ -3,6 +3,10 @@ use super::parts::{
     write_eight, write_eleven, write_five, write_four, write_nine, write_seven, write_six,
     write_ten, write_three, write_twelve, write_two,
 };
+use super::puts::{
+    put_eight, put_eleven, put_five, put_four, put_nine, put_seven, put_six, put_ten, put_three,
+    put_twelve, put_two,
+};
 use super::serialize::BorshSerialize;
 use borsh_io::{Result, Write};
 use std::alloc::Global;
@@ -12,12 +16,22 @@ impl<A: BorshSerialize> BorshSerialize for (A,) {
     fn serialize<W: Write>(&self, alloc: Global, writer: &mut W) -> Result<()> {
         self.0.serialize(alloc, writer)
     }
+
+    #[inline]
+    fn put(&self, room: &mut [u8]) -> Option<usize> {
+        self.0.put(room)
+    }
 }
 
 impl<A: BorshSerialize, B: BorshSerialize> BorshSerialize for (A, B) {
     #[inline]
     fn serialize<W: Write>(&self, alloc: Global, writer: &mut W) -> Result<()> {
         write_two(&self.0, &self.1, alloc, writer)
+    }
+
+    #[inline]
+    fn put(&self, room: &mut [u8]) -> Option<usize> {
+        put_two(&self.0, &self.1, room)
     }
 }
 
@@ -26,6 +40,11 @@ impl<A: BorshSerialize, B: BorshSerialize, C: BorshSerialize> BorshSerialize for
     fn serialize<W: Write>(&self, alloc: Global, writer: &mut W) -> Result<()> {
         write_three(&self.0, &self.1, &self.2, alloc, writer)
     }
+
+    #[inline]
+    fn put(&self, room: &mut [u8]) -> Option<usize> {
+        put_three(&self.0, &self.1, &self.2, room)
+    }
 }
 
 impl<A: BorshSerialize, B: BorshSerialize, C: BorshSerialize, D: BorshSerialize> BorshSerialize
@@ -33,6 +52,11 @@ impl<A: BorshSerialize, B: BorshSerialize, C: BorshSerialize, D: BorshSerialize>
     #[inline]
     fn serialize<W: Write>(&self, alloc: Global, writer: &mut W) -> Result<()> {
         write_four(&self.0, &self.1, &self.2, &self.3, alloc, writer)
+    }
+
+    #[inline]
+    fn put(&self, room: &mut [u8]) -> Option<usize> {
+        put_four(&self.0, &self.1, &self.2, &self.3, room)
     }
 }
 
@@ -46,6 +70,11 @@ impl<
     #[inline]
     fn serialize<W: Write>(&self, alloc: Global, writer: &mut W) -> Result<()> {
         write_five(&self.0, &self.1, &self.2, &self.3, &self.4, alloc, writer)
+    }
+
+    #[inline]
+    fn put(&self, room: &mut [u8]) -> Option<usize> {
+        put_five(&self.0, &self.1, &self.2, &self.3, &self.4, room)
     }
 }
 
@@ -62,6 +91,11 @@ impl<
         write_six(
             &self.0, &self.1, &self.2, &self.3, &self.4, &self.5, alloc, writer,
         )
+    }
+
+    #[inline]
+    fn put(&self, room: &mut [u8]) -> Option<usize> {
+        put_six(&self.0, &self.1, &self.2, &self.3, &self.4, &self.5, room)
     }
 }
 
@@ -80,6 +114,13 @@ impl<
             &self.0, &self.1, &self.2, &self.3, &self.4, &self.5, &self.6, alloc, writer,
         )
     }
+
+    #[inline]
+    fn put(&self, room: &mut [u8]) -> Option<usize> {
+        put_seven(
+            &self.0, &self.1, &self.2, &self.3, &self.4, &self.5, &self.6, room,
+        )
+    }
 }
 
 impl<
@@ -96,6 +137,13 @@ impl<
     fn serialize<W: Write>(&self, alloc: Global, writer: &mut W) -> Result<()> {
         write_eight(
             &self.0, &self.1, &self.2, &self.3, &self.4, &self.5, &self.6, &self.7, alloc, writer,
+        )
+    }
+
+    #[inline]
+    fn put(&self, room: &mut [u8]) -> Option<usize> {
+        put_eight(
+            &self.0, &self.1, &self.2, &self.3, &self.4, &self.5, &self.6, &self.7, room,
         )
     }
 }
@@ -118,6 +166,13 @@ impl<
             writer,
         )
     }
+
+    #[inline]
+    fn put(&self, room: &mut [u8]) -> Option<usize> {
+        put_nine(
+            &self.0, &self.1, &self.2, &self.3, &self.4, &self.5, &self.6, &self.7, &self.8, room,
+        )
+    }
 }
 
 impl<
@@ -137,6 +192,14 @@ impl<
         write_ten(
             &self.0, &self.1, &self.2, &self.3, &self.4, &self.5, &self.6, &self.7, &self.8,
             &self.9, alloc, writer,
+        )
+    }
+
+    #[inline]
+    fn put(&self, room: &mut [u8]) -> Option<usize> {
+        put_ten(
+            &self.0, &self.1, &self.2, &self.3, &self.4, &self.5, &self.6, &self.7, &self.8,
+            &self.9, room,
         )
     }
 }
@@ -161,6 +224,14 @@ impl<
             &self.9, &self.10, alloc, writer,
         )
     }
+
+    #[inline]
+    fn put(&self, room: &mut [u8]) -> Option<usize> {
+        put_eleven(
+            &self.0, &self.1, &self.2, &self.3, &self.4, &self.5, &self.6, &self.7, &self.8,
+            &self.9, &self.10, room,
+        )
+    }
 }
 
 impl<
@@ -182,6 +253,14 @@ impl<
         write_twelve(
             &self.0, &self.1, &self.2, &self.3, &self.4, &self.5, &self.6, &self.7, &self.8,
             &self.9, &self.10, &self.11, alloc, writer,
+        )
+    }
+
+    #[inline]
+    fn put(&self, room: &mut [u8]) -> Option<usize> {
+        put_twelve(
+            &self.0, &self.1, &self.2, &self.3, &self.4, &self.5, &self.6, &self.7, &self.8,
+            &self.9, &self.10, &self.11, room,
         )
     }
 }

@@ -10,6 +10,11 @@ impl BorshSerialize for () {
     fn serialize<W: Write>(&self, _alloc: Global, _writer: &mut W) -> Result<()> {
         Ok(())
     }
+
+    #[inline]
+    fn put(&self, _room: &mut [u8]) -> Option<usize> {
+        Some(0)
+    }
 }
 
 impl BorshSerialize for RangeFull {
@@ -17,11 +22,21 @@ impl BorshSerialize for RangeFull {
     fn serialize<W: Write>(&self, _alloc: Global, _writer: &mut W) -> Result<()> {
         Ok(())
     }
+
+    #[inline]
+    fn put(&self, _room: &mut [u8]) -> Option<usize> {
+        Some(0)
+    }
 }
 
 impl<T> BorshSerialize for PhantomData<T> {
     #[inline]
     fn serialize<W: Write>(&self, _alloc: Global, _writer: &mut W) -> Result<()> {
         Ok(())
+    }
+
+    #[inline]
+    fn put(&self, _room: &mut [u8]) -> Option<usize> {
+        Some(0)
     }
 }

@@ -2,7 +2,7 @@
 use Rattle.std.proofs.Common.{drop}
 use Rattle.borsh_codec.specs.Shapes.{concat_encodings}
 use Rattle.borsh_codec.proofs.WriteSteps.{WritesSoFar}
-use Rattle.borsh_ser.proofs.lists.write_elements.Given as goal
+use Rattle.borsh_ser.proofs.lists.write_one_by_one.Given as goal
 
 abbrev pub invariant-loop-item : goal.invariant-loop-item
 invariant-loop-item g l =

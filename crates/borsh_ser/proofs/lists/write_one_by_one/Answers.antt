@@ -2,7 +2,7 @@ use Rattle.std.proofs.Common.{arith}
 use Rattle.borsh_codec.proofs.WriteSteps.{so_far_none, so_far_more}
 use Rattle.borsh_codec.proofs.WriteOutcomes.{so_far_exit}
 use Rattle.borsh_codec.proofs.WriteRows.{all_joined-next}
-use Rattle.borsh_ser.proofs.lists.write_elements.Goals as goal
+use Rattle.borsh_ser.proofs.lists.write_one_by_one.Goals as goal
 
 pub loop-item-init : goal.loop-item-init
 loop-item-init g c = so_far_none g.met.W.Write.lawful _ _
