@@ -1,7 +1,7 @@
 // What reads.
-ghost use Rattle.std.specs.Prelude.{◌≡◌};
+ghost use Rattle.std.specs.Prelude.{◌≡◌, IfSome};
 ghost use Rattle.borsh_io.specs.Errors.{error_kind};
-ghost use Rattle.borsh_io.specs.Stream.{ReaderState, ReadsSome, ReadsSomeRetrying, ReadsExactly};
+ghost use Rattle.borsh_io.specs.Stream.{ReaderState, HasAtMost, ReadsSome, ReadsSomeRetrying, ReadsExactly};
 
 use super::error::{Error, ErrorKind, Result, pass_over};
 
@@ -24,6 +24,20 @@ pub trait Read {
     /// Whether the keys of maps and sets must be in ascending order. No read changes it.
     fn strict_order(&self) -> bool
         ensures { result ≡ (stream self.now).strict_order };
+
+    /// How many bytes are to come at most, where the reader can tell: a slice answers its length. So a
+    /// list that announces more bytes than there are is refused before memory is taken for it, and any
+    /// other list of bytes is read into memory of its own size. `None`: there may be any number.
+    ///
+    /// ```
+    /// let input = b"\x07\x00".as_slice();
+    /// assert_eq!(input.bytes_left(), Some(2));
+    /// ```
+    fn bytes_left(&self) -> Option<usize>
+        ensures { IfSome result (HasAtMost (stream self.now)) }
+    {
+        None
+    }
 
     /// Fills the buffer with the front of the bytes to come, trying again after interruptions.
     ///
