@@ -17,12 +17,22 @@ impl BorshDeserialize for Ipv4Addr {
     fn deserialize_reader<R: Read>(_alloc: Global, reader: &mut R) -> Result<Ipv4Addr> {
         Ok(Ipv4Addr::from_octets(read_octets(reader)?))
     }
+
+    #[inline]
+    fn width() -> usize {
+        4
+    }
 }
 
 impl BorshDeserialize for Ipv6Addr {
     #[inline]
     fn deserialize_reader<R: Read>(_alloc: Global, reader: &mut R) -> Result<Ipv6Addr> {
         Ok(Ipv6Addr::from_octets(read_octets(reader)?))
+    }
+
+    #[inline]
+    fn width() -> usize {
+        16
     }
 }
 

@@ -1,10 +1,12 @@
 // Arrays: their elements in order, with no count. Reading one takes no memory of its own.
-ghost use Rattle.std.specs.Prelude.{◌≡◌, ⊤};
+ghost use Rattle.std.specs.Prelude.{◌≡◌, ◌<◌, ⊤, length};
 ghost use Rattle.borsh_io.specs.Errors.{error_kind};
 ghost use Rattle.borsh_codec.specs.Shapes.{array};
 ghost use Rattle.borsh_codec.specs.Reading.{Decoded, NotDecoded, Decodes, DecodesAs, MayDecode};
+ghost use Rattle.borsh_de.specs.FixedWidth.{IsFixedWidth, GetsValue, TakesPiece};
 
 use super::deserialize::BorshDeserialize;
+use super::fixed::width_of_parts;
 use borsh_io::{Error, Read, Result};
 use places::{Held, Maker, TryMaker, array_from, release, try_array_from};
 use std::alloc::Global;
@@ -89,9 +91,60 @@ fn read_row<T: BorshDeserialize, const N: usize, R: Read>(
     read_each(&mut Elements { reader, alloc })
 }
 
+// Takes the elements of an array from its bytes, each from as many.
+#[derive(Drop)]
+struct Pieces<'a> {
+    alloc: Global,
+    rest: &'a [u8],
+    width: usize,
+}
+
+impl<'a, T: BorshDeserialize> Maker<T> for Pieces<'a> {
+    ghost makes = { λ s x t. TakesPiece T.codec s.width s.rest.now t.width t.rest.now x };
+
+    ghost gives_up = { λ s t. (IsFixedWidth T.codec s.width → length s.rest.now < s.width) };
+
+    #[inline]
+    fn make(&mut self) -> Option<T> {
+        if self.rest.len() < self.width {
+            return None;
+        }
+        let (piece, rest) = self.rest.split_at(self.width);
+        self.rest = rest;
+        T::get(self.alloc, piece)
+    }
+}
+
+// The array whose elements the bytes decode to, each from as many.
+#[inline]
+fn array_of<T: BorshDeserialize, const N: usize>(alloc: Global, bytes: &[u8]) -> Option<[T; N]>
+    ensures { GetsValue (array N T.codec) bytes.now result }
+{
+    let width = width_of_parts(bytes.len(), N)?;
+    array_from(&mut Pieces {
+        alloc,
+        rest: bytes,
+        width,
+    })
+    .ok()
+}
+
 impl<T: BorshDeserialize, const N: usize> BorshDeserialize for [T; N] {
     #[inline]
     fn deserialize_reader<R: Read>(alloc: Global, reader: &mut R) -> Result<[T; N]> {
         release(read_row(alloc, reader))
+    }
+
+    #[inline]
+    fn width() -> usize {
+        match T::width().checked_mul(N) {
+            Some(width) => width,
+            None => 0,
+        }
+    }
+
+    #[inline]
+    fn get(alloc: Global, bytes: &[u8]) -> Option<[T; N]> {
+        array_of(alloc, bytes)
     }
 }

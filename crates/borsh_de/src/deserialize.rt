@@ -1,8 +1,9 @@
 // Types whose values are decoded.
-ghost use Rattle.std.specs.Prelude.{true};
+ghost use Rattle.std.specs.Prelude.{◌<◌, true};
 ghost use Rattle.borsh_io.specs.Stream.{slice_state};
 ghost use Rattle.borsh_codec.specs.Reading.{Decodes, DecodesAfterTag, DecodesAtOnce, DecodesOver};
 ghost use Rattle.borsh_codec.specs.Reading.{DecodesReader, DecodesAll};
+ghost use Rattle.borsh_de.specs.FixedWidth.{IsFixedWidth, GetsValue};
 
 use super::refusals::not_all_bytes_read;
 use borsh_io::{ErrorKind, Read, Result};
@@ -56,6 +57,28 @@ pub trait BorshDeserialize: BorshType + Sized + Drop {
             _reader.old _reader.new _items.old _items.new result }
     {
         Ok(false)
+    }
+
+    /// How many bytes each encoding has, for a type of which every so many bytes are an encoding, as a
+    /// number; 0 for any other type. Lists of such a type are read many elements at a time.
+    fn width() -> usize
+        ensures { 0 < result → IsFixedWidth Self.codec result }
+    {
+        0
+    }
+
+    /// The value that all of the bytes decode to, for a type of fixed [`width`](BorshDeserialize::width).
+    fn get(alloc: Global, bytes: &[u8]) -> Option<Self>
+        ensures { GetsValue Self.codec bytes.now result }
+    {
+        let mut rest = bytes;
+        let Ok(value) = Self::deserialize_reader(alloc, &mut rest) else {
+            return None;
+        };
+        if !rest.is_empty() {
+            return None;
+        }
+        Some(value)
     }
 
     /// Decodes a value from the beginning of the slice, which becomes what is left.

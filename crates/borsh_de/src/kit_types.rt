@@ -26,4 +26,9 @@ impl BorshDeserialize for Uuid {
     fn deserialize_reader<R: Read>(_alloc: Global, reader: &mut R) -> Result<Uuid> {
         Ok(Uuid::from_bytes(read_octets(reader)?))
     }
+
+    #[inline]
+    fn width() -> usize {
+        16
+    }
 }

@@ -5,6 +5,7 @@ pub mod addresses;
 pub mod arrays;
 pub mod deserialize;
 mod entries;
+mod fixed;
 pub mod hint;
 pub mod kit_types;
 pub mod lists;

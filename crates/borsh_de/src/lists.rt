@@ -3,6 +3,7 @@ ghost use Rattle.borsh_codec.specs.Shapes.{allocated_array, length_prefixed, lis
 ghost use Rattle.borsh_codec.specs.Reading.{DecodesVec};
 
 use super::deserialize::BorshDeserialize;
+use super::fixed::{ROOM, read_rooms};
 use super::hint::cautious;
 use borsh_io::error::ERROR_ZST_FORBIDDEN;
 use borsh_io::{Error, ErrorKind, Read, Result};
@@ -27,6 +28,10 @@ pub(crate) fn read_elements<T: BorshDeserialize, R: Read>(
     }
     if let Some(read) = T::vec_from_reader(alloc, len, reader)? {
         return Ok(read);
+    }
+    let width = T::width();
+    if width > 0 && width <= ROOM {
+        return read_rooms(alloc, len, width, reader);
     }
     let mut items = Vec::with_capacity(alloc, cautious::<T>(len))?;
     for _i in 0..len {

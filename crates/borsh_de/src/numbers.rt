@@ -121,12 +121,22 @@ impl BorshDeserialize for u8 {
         fill(reader, items)?;
         Ok(true)
     }
+
+    #[inline]
+    fn width() -> usize {
+        1
+    }
 }
 
 impl BorshDeserialize for u16 {
     #[inline]
     fn deserialize_reader<R: Read>(_alloc: Global, reader: &mut R) -> Result<u16> {
         Ok(u16_of(number_bytes(reader)?))
+    }
+
+    #[inline]
+    fn width() -> usize {
+        2
     }
 }
 
@@ -135,12 +145,22 @@ impl BorshDeserialize for u32 {
     fn deserialize_reader<R: Read>(_alloc: Global, reader: &mut R) -> Result<u32> {
         Ok(u32_of(number_bytes(reader)?))
     }
+
+    #[inline]
+    fn width() -> usize {
+        4
+    }
 }
 
 impl BorshDeserialize for u64 {
     #[inline]
     fn deserialize_reader<R: Read>(_alloc: Global, reader: &mut R) -> Result<u64> {
         Ok(u64_of(number_bytes(reader)?))
+    }
+
+    #[inline]
+    fn width() -> usize {
+        8
     }
 }
 
@@ -149,12 +169,22 @@ impl BorshDeserialize for u128 {
     fn deserialize_reader<R: Read>(_alloc: Global, reader: &mut R) -> Result<u128> {
         Ok(u128_of(number_bytes(reader)?))
     }
+
+    #[inline]
+    fn width() -> usize {
+        16
+    }
 }
 
 impl BorshDeserialize for usize {
     #[inline]
     fn deserialize_reader<R: Read>(_alloc: Global, reader: &mut R) -> Result<usize> {
         Ok(u64_of(number_bytes(reader)?) as usize)
+    }
+
+    #[inline]
+    fn width() -> usize {
+        8
     }
 }
 
@@ -163,12 +193,22 @@ impl BorshDeserialize for i8 {
     fn deserialize_reader<R: Read>(_alloc: Global, reader: &mut R) -> Result<i8> {
         Ok(i8_of(number_bytes(reader)?))
     }
+
+    #[inline]
+    fn width() -> usize {
+        1
+    }
 }
 
 impl BorshDeserialize for i16 {
     #[inline]
     fn deserialize_reader<R: Read>(_alloc: Global, reader: &mut R) -> Result<i16> {
         Ok(i16_of(number_bytes(reader)?))
+    }
+
+    #[inline]
+    fn width() -> usize {
+        2
     }
 }
 
@@ -177,12 +217,22 @@ impl BorshDeserialize for i32 {
     fn deserialize_reader<R: Read>(_alloc: Global, reader: &mut R) -> Result<i32> {
         Ok(i32_of(number_bytes(reader)?))
     }
+
+    #[inline]
+    fn width() -> usize {
+        4
+    }
 }
 
 impl BorshDeserialize for i64 {
     #[inline]
     fn deserialize_reader<R: Read>(_alloc: Global, reader: &mut R) -> Result<i64> {
         Ok(i64_of(number_bytes(reader)?))
+    }
+
+    #[inline]
+    fn width() -> usize {
+        8
     }
 }
 
@@ -191,11 +241,21 @@ impl BorshDeserialize for i128 {
     fn deserialize_reader<R: Read>(_alloc: Global, reader: &mut R) -> Result<i128> {
         Ok(i128_of(number_bytes(reader)?))
     }
+
+    #[inline]
+    fn width() -> usize {
+        16
+    }
 }
 
 impl BorshDeserialize for isize {
     #[inline]
     fn deserialize_reader<R: Read>(_alloc: Global, reader: &mut R) -> Result<isize> {
         Ok(i64_of(number_bytes(reader)?) as isize)
+    }
+
+    #[inline]
+    fn width() -> usize {
+        8
     }
 }

@@ -1,4 +1,5 @@
 // The next bytes, as they are.
+ghost use Rattle.std.specs.Prelude.{◌<◌, ◌≤◌};
 ghost use Rattle.borsh_codec.specs.Shapes.{unsigned, allocated_array};
 ghost use Rattle.borsh_codec.specs.Types.Addresses.{octets};
 ghost use Rattle.borsh_codec.specs.RawBytes.{FillsBuffer, TakesBytes};
@@ -65,18 +66,36 @@ pub fn read_tag<R: Read>(reader: &mut R) -> Result<u8>
     Ok(bytes[0])
 }
 
-/// For how many announced bytes room is made before any of them came.
+/// For how many announced bytes room is made before any of them came, if the reader doesn't know how many are left.
 const FIRST_ROOM: usize = 1048576;
 
-/// The next `len` bytes. Room is made for 1 MiB at first and then for as many again as came, so bytes
-/// that are announced and don't come cost little memory. The errors are those of [`fill`], and
-/// `OutOfMemory` if an allocation fails.
+/// How many bytes room is made for at first.
+#[inline]
+fn first_room(len: usize, left: Option<usize>) -> usize
+    ensures few { result ≤ len }
+    ensures some { 0 < len → 0 < result }
+{
+    match left {
+        Some(_) => len,
+        None => len.min(FIRST_ROOM),
+    }
+}
+
+/// The next `len` bytes. If the reader has fewer left, nothing is read. If it has enough, room is made for
+/// `len` bytes at once. If it doesn't know, room is made for 1 MiB at first and then for as many again as
+/// came, so bytes that are announced and don't come cost little memory. The errors are those of [`fill`],
+/// and `OutOfMemory` if an allocation fails.
 pub(crate) fn read_vec<R: Read>(alloc: Global, len: usize, reader: &mut R) -> Result<Vec<u8>>
     ensures { DecodesVec (allocated_array len (unsigned 1)) R.stream reader.old reader.new result }
 {
-    let mut bytes = vec![in alloc; 0u8; len.min(FIRST_ROOM)]?;
+    if let Some(left) = reader.bytes_left() {
+        if left < len {
+            return Err(unexpected_length());
+        }
+    }
+    let mut bytes = vec![in alloc; 0u8; first_room(len, reader.bytes_left())]?;
     fill(reader, &mut bytes)?;
-    while bytes.len() < len {
+    'bytes: while bytes.len() < len {
         let filled = bytes.len();
         bytes.resize(filled.saturating_mul(2).min(len), 0)?;
         fill(reader, &mut bytes[filled..])?;

@@ -1,5 +1,6 @@
 // Tuples of one to twelve places: their parts in order.
 use super::deserialize::BorshDeserialize;
+use super::fixed::both_widths;
 use borsh_io::{Read, Result};
 use std::alloc::Global;
 
@@ -8,6 +9,11 @@ impl<A: BorshDeserialize> BorshDeserialize for (A,) {
     fn deserialize_reader<R: Read>(alloc: Global, reader: &mut R) -> Result<(A,)> {
         let a = A::deserialize_reader(alloc, reader)?;
         Ok((a,))
+    }
+
+    #[inline]
+    fn width() -> usize {
+        A::width()
     }
 }
 
@@ -18,6 +24,11 @@ impl<A: BorshDeserialize, B: BorshDeserialize> BorshDeserialize for (A, B) {
         let b = B::deserialize_reader(alloc, reader)?;
         Ok((a, b))
     }
+
+    #[inline]
+    fn width() -> usize {
+        both_widths(A::width(), B::width())
+    }
 }
 
 impl<A: BorshDeserialize, B: BorshDeserialize, C: BorshDeserialize> BorshDeserialize for (A, B, C) {
@@ -25,6 +36,11 @@ impl<A: BorshDeserialize, B: BorshDeserialize, C: BorshDeserialize> BorshDeseria
     fn deserialize_reader<R: Read>(alloc: Global, reader: &mut R) -> Result<(A, B, C)> {
         let (a, (b, c)) = <(A, (B, C))>::deserialize_reader(alloc, reader)?;
         Ok((a, b, c))
+    }
+
+    #[inline]
+    fn width() -> usize {
+        <(A, (B, C))>::width()
     }
 }
 
@@ -39,6 +55,11 @@ impl<
         let (a, (b, c, d)) = <(A, (B, C, D))>::deserialize_reader(alloc, reader)?;
         Ok((a, b, c, d))
     }
+
+    #[inline]
+    fn width() -> usize {
+        <(A, (B, C, D))>::width()
+    }
 }
 
 impl<
@@ -52,6 +73,11 @@ impl<
     fn deserialize_reader<R: Read>(alloc: Global, reader: &mut R) -> Result<(A, B, C, D, E)> {
         let (a, (b, c, d, e)) = <(A, (B, C, D, E))>::deserialize_reader(alloc, reader)?;
         Ok((a, b, c, d, e))
+    }
+
+    #[inline]
+    fn width() -> usize {
+        <(A, (B, C, D, E))>::width()
     }
 }
 
@@ -68,6 +94,11 @@ impl<
         let (a, (b, c, d, e, f)) = <(A, (B, C, D, E, F))>::deserialize_reader(alloc, reader)?;
         Ok((a, b, c, d, e, f))
     }
+
+    #[inline]
+    fn width() -> usize {
+        <(A, (B, C, D, E, F))>::width()
+    }
 }
 
 impl<
@@ -83,6 +114,11 @@ impl<
     fn deserialize_reader<R: Read>(alloc: Global, reader: &mut R) -> Result<(A, B, C, D, E, F, G)> {
         let (a, (b, c, d, e, f, g)) = <(A, (B, C, D, E, F, G))>::deserialize_reader(alloc, reader)?;
         Ok((a, b, c, d, e, f, g))
+    }
+
+    #[inline]
+    fn width() -> usize {
+        <(A, (B, C, D, E, F, G))>::width()
     }
 }
 
@@ -106,6 +142,11 @@ impl<
         )?;
         Ok((a, b, c, d, e, f, g, h))
     }
+
+    #[inline]
+    fn width() -> usize {
+        <(A, (B, C, D, E, F, G, H))>::width()
+    }
 }
 
 impl<
@@ -128,6 +169,11 @@ impl<
             alloc, reader,
         )?;
         Ok((a, b, c, d, e, f, g, h, i))
+    }
+
+    #[inline]
+    fn width() -> usize {
+        <(A, (B, C, D, E, F, G, H, I))>::width()
     }
 }
 
@@ -153,6 +199,11 @@ impl<
             (B, C, D, E, F, G, H, I, J),
         )>::deserialize_reader(alloc, reader)?;
         Ok((a, b, c, d, e, f, g, h, i, j))
+    }
+
+    #[inline]
+    fn width() -> usize {
+        <(A, (B, C, D, E, F, G, H, I, J))>::width()
     }
 }
 
@@ -180,6 +231,11 @@ impl<
         )>::deserialize_reader(alloc, reader)?;
         Ok((a, b, c, d, e, f, g, h, i, j, k))
     }
+
+    #[inline]
+    fn width() -> usize {
+        <(A, (B, C, D, E, F, G, H, I, J, K))>::width()
+    }
 }
 
 impl<
@@ -206,5 +262,10 @@ impl<
             (B, C, D, E, F, G, H, I, J, K, L),
         )>::deserialize_reader(alloc, reader)?;
         Ok((a, b, c, d, e, f, g, h, i, j, k, l))
+    }
+
+    #[inline]
+    fn width() -> usize {
+        <(A, (B, C, D, E, F, G, H, I, J, K, L))>::width()
     }
 }

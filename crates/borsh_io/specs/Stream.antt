@@ -67,6 +67,10 @@ pub record ConsumedSome (before after : ReaderState) : Type 0 where
 abbrev pub HasFewerThan : ReaderState → ℕ → Type 0
 HasFewerThan s n = IfSome s.bytes (λ xs. length xs < n)
 
+-- no more than n bytes are to come, where the reader knows them
+abbrev pub HasAtMost : ReaderState → ℕ → Type 0
+HasAtMost s n = IfSome s.bytes (λ xs. length xs ≤ n)
+
 -- why n bytes could not be had, by an error of this kind: fewer were to come, or the reader failed
 abbrev pub ReadExactFailure : ReaderState → ReaderState → ℕ → ErrorKind → Type 0
 ReadExactFailure before after n kind =

@@ -1,7 +1,7 @@
 // What reads.
-ghost use Rattle.std.specs.Prelude.{◌≡◌};
+ghost use Rattle.std.specs.Prelude.{◌≡◌, IfSome};
 ghost use Rattle.borsh_io.specs.Errors.{error_kind};
-ghost use Rattle.borsh_io.specs.Stream.{ReaderState, ReadsSome, ReadsSomeRetrying, ReadsExactly};
+ghost use Rattle.borsh_io.specs.Stream.{ReaderState, HasAtMost, ReadsSome, ReadsSomeRetrying, ReadsExactly};
 
 use super::error::{Error, ErrorKind, Result, pass_over};
 
@@ -36,6 +36,20 @@ pub trait Read {
     /// ```
     fn strict_order(&self) -> bool
         ensures { result ≡ (stream self.now).strict_order };
+
+    /// How many bytes are left at most, if the reader knows: a slice returns its length. So a list that
+    /// announces more bytes than there are is refused before memory is allocated for it, and any other
+    /// list of bytes is read into memory of its own size. `None`: there may be any number.
+    ///
+    /// ```
+    /// let input = b"\x07\x00".as_slice();
+    /// assert_eq!(rt; input.bytes_left(), Some(2));
+    /// ```
+    fn bytes_left(&self) -> Option<usize>
+        ensures { IfSome result (HasAtMost (stream self.now)) }
+    {
+        None
+    }
 
     /// Fills the buffer with the next bytes, trying again after interruptions.
     ///

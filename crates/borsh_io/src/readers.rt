@@ -1,6 +1,6 @@
 // The readers over slices and references.
-ghost use Rattle.std.specs.Prelude.{◌≡◌, Ok, min, length, OnErr};
-ghost use Rattle.borsh_io.specs.Stream.{ReadsSome, ReadsExactly, slice_state};
+ghost use Rattle.std.specs.Prelude.{◌≡◌, Some, Ok, IfSome, min, length, OnErr};
+ghost use Rattle.borsh_io.specs.Stream.{HasAtMost, ReadsSome, ReadsExactly, slice_state};
 
 use super::error::{ErrorKind, Result};
 use super::read::{Read, short_read};
@@ -16,6 +16,11 @@ impl<R: Read> Read for &mut R {
     #[inline]
     fn strict_order(&self) -> bool {
         Read::strict_order(&**self)
+    }
+
+    #[inline]
+    fn bytes_left(&self) -> Option<usize> {
+        Read::bytes_left(&**self)
     }
 
     #[inline]
@@ -44,6 +49,15 @@ impl Read for &[u8] {
     #[inline]
     fn strict_order(&self) -> bool {
         true
+    }
+
+    /// The slice's length.
+    #[inline]
+    fn bytes_left(&self) -> Option<usize>
+        ensures bound { IfSome result (HasAtMost (slice_state self.now.now)) }
+        ensures exact { result ≡ Some (length self.now.now) }
+    {
+        Some(self.len())
     }
 
     #[inline]

@@ -47,6 +47,11 @@ impl<R: Read> Read for Unordered<R> {
     }
 
     #[inline]
+    fn bytes_left(&self) -> Option<usize> {
+        self.inner.bytes_left()
+    }
+
+    #[inline]
     fn read_exact(&mut self, buf: &mut [u8]) -> Result<()> {
         self.inner.read_exact(buf)
     }

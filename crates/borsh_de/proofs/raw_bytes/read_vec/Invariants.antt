@@ -3,13 +3,13 @@ use Rattle.std.proofs.Common.{ℕ, get_or, ◌≡◌, ◌<◌, ◌≤◌, ◌-�
 use Rattle.borsh_codec.specs.Reading.{TakesPrefix}
 use Rattle.borsh_de.proofs.raw_bytes.read_vec.Given as goal
 
-abbrev pub invariant-loop-bytes : goal.invariant-loop-bytes
-invariant-loop-bytes g l = record {
+abbrev pub invariant-bytes : goal.invariant-bytes
+invariant-bytes g l = record {
   took : TakesPrefix (λ x. x ≡ l.bytes.items) (g.R.Read.stream l.fn.reader) (g.R.Read.stream l.reader);
   few : length l.bytes.items ≤ l.len;
   fit : (i : ℕ) → get_or l.bytes.items i 0 < 256;
   some : 0 < l.len → 0 < length l.bytes.items;
 }
 
-abbrev pub decreases-loop-bytes : goal.decreases-loop-bytes
-decreases-loop-bytes g l = l.len - length l.bytes.items
+abbrev pub decreases-bytes : goal.decreases-bytes
+decreases-bytes g l = l.len - length l.bytes.items

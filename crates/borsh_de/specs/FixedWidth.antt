@@ -1,0 +1,34 @@
+-- Types of which every so many bytes are an encoding: numbers, and what is made of them.
+use Rattle.std.specs.Prelude.{◌≡◌, ℕ, ◌<◌, Bool, true, false, List, ◌++◌, length, get_or, Option, MatchOption}
+use Rattle.borsh_codec.specs.Codec.{Codec, IsDecodable}
+use Rattle.borsh_codec.specs.Shapes.{DecodesEach}
+
+-- each of the numbers is a byte
+abbrev pub AreBytes : List ℕ → Type 0
+AreBytes x = (i : ℕ) → get_or x i 0 < 256
+
+-- every n bytes decode to a value, nothing else does, and no memory is needed
+pub record IsFixedWidth {A : Type 0} (c : Codec A) (n : ℕ) : Type 0 where
+  pub all : (x : List ℕ) → AreBytes x → length x ≡ n → IsDecodable c true x
+  pub only : (strict : Bool) (x : List ℕ) (v : A) → c.decodes strict x v → length x ≡ n
+  pub either_mode : (x : List ℕ) (v : A) → c.decodes true x v → c.decodes false x v
+  pub without_memory : c.decoding_allocates ≡ false
+
+-- the outcome of a call that is to decode a value of a type of fixed width from all of the bytes
+pub record GetsValue {A : Type 0} (c : Codec A) (bytes : List ℕ) (result : Option A) : Type 0 where
+  -- `Some`: the bytes decode to the value; `None`: the type isn't of this width
+  pub value : MatchOption result (IsFixedWidth c (length bytes) → ⊥) (λ v. c.decodes true bytes v)
+
+-- the list grew by the values that the bytes decode to, one after another
+pub record AppendsDecoded {A : Type 0} (c : Codec A) (bytes : List ℕ) (before after : List A) : Type 0 where
+  pub more : List A
+  pub items : after ≡ before ++ more
+  pub decodes : DecodesEach (c.decodes true) bytes more
+
+-- of a rest of bytes the first n were taken, which decode to the value; the width n is still the same
+pub record TakesPiece {A : Type 0} (c : Codec A) (n : ℕ) (old : List ℕ) (m : ℕ) (new : List ℕ) (v : A) : Type 0 where
+  pub piece : List ℕ
+  pub whole : old ≡ piece ++ new
+  pub long : length piece ≡ n
+  pub same_width : m ≡ n
+  pub decodes : c.decodes true piece v
