@@ -2,16 +2,15 @@
 use Rattle.std.proofs.Common.{◌≡◌, ℕ, ℤ, Bool, List, [], ◌∷◌, Option, Some, Result, refl, ◌∙◌, ap}
 use Rattle.std.specs.Prelude.{⊤, codes}
 use Rattle.std.specs.declared.cmp.Ordering.{Ordering}
-use Rattle.borsh_codec.specs.Codec.{Codec}
 use Rattle.borsh_codec.specs.Shapes.{contramap, unsigned, signed, unit, pair, array, length_prefixed, list, allocated}
 use Rattle.borsh_codec.specs.Maps.{unit_entries, btree_map, btree_set, hash_map, hash_set}
 use Rattle.borsh_codec.specs.Types.Sums.{bool, option_view, option, result_view, result_of}
 use Rattle.borsh_codec.specs.Types.Texts.{text}
-use Rattle.borsh_walks.specs.Container.{Shape, product, first_variant, later_variant}
+use Rattle.borsh_walks.specs.Container.{product, first_variant, later_variant}
 use Rattle.borsh_schema.specs.Described.{NamedDefinition, shape, list as list_definition, DefinitionTree, none, defined, both}
 use Rattle.borsh_schema.specs.Language.{DescribedCodec, DescribedFields}
 use Rattle.borsh_schema.specs.Names.{applied, applied_to_two, array_name}
-use Rattle.borsh_schema.specs.Types.{primitive_definitions, list_definitions, text_definitions, unit_definitions, option_of, range_of, result_of as result_definition, map_definitions, named_struct}
+use Rattle.borsh_schema.specs.Types.{primitive_definitions, list_definitions, text_definitions, unit_definitions, option_of, range_of, result_of as result_definition, map_definitions, named_struct, tuple_definitions}
 use Rattle.borsh_schema.specs.Laws.Members.{describes_contramap, describes_number, describes_signed, describes_unit, describes_bool, describes_text, describes_stored, describes_counted, describes_elements, describes_row, describes_refused_if, describes_ordered, describes_sorted, describes_parts, describes_choice, choice_more, choice_none, all_none, all_one, all_more, all_contramap}
 
 -- ---- one value
@@ -120,9 +119,12 @@ fields_described {n = n} {ps = ps} d rest = record {
   describes_behind = λ C e h. all_more e (rest.describes_behind C (d.describes C h.0) h.1);
 }
 
--- what a struct with these names of fields brings
+-- what a struct with these names of fields brings, and a tuple
 abbrev pub struct_parts : {A : Type 0} → List ℕ → List (List ℕ) → DescribedFields A → DefinitionTree
 struct_parts name fields d = named_struct name fields d.names d.parts
+
+abbrev pub tuple_of : {A : Type 0} → DescribedFields A → DefinitionTree
+tuple_of d = tuple_definitions d.names d.parts
 
 -- a struct, or a tuple: a name, a definition that lists the fields' types, and the fields seen through a view
 abbrev pub struct_described : {S A : Type 0} {name : List ℕ} {d : NamedDefinition} → (S → A) → (fields : DescribedFields A) → shape d ≡ product fields.names → DescribedCodec S name (defined name d fields.parts)
