@@ -9,7 +9,7 @@ mod codec;
 pub mod counted;
 pub mod definition;
 pub mod error;
-mod parts;
+pub mod parts;
 pub mod rules;
 pub mod sizes;
 mod way;

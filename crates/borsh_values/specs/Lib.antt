@@ -1,0 +1,5 @@
+pub mod Unambiguous
+pub mod Membership
+pub mod Numbers
+pub mod Tags
+pub mod Steps
