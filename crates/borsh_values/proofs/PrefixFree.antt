@@ -36,9 +36,9 @@ close (suc w) a b e low high =
 
 pub one_count : (w lo hi j k : ℕ) → hi < lo + 256 ^ w → lo ≤ j → j ≤ hi → lo ≤ k → k ≤ hi → tag w (pos j) ≡ tag w (pos k) → j ≡ k
 one_count w lo hi j k c lj hj lk hk e = elim (cases_lt j k) [
-    | inl h ↦ close w j k e (omega arith) (omega arith)
-    | inr h ↦ sym (close w k j (sym e) h (omega arith))
-  ]
+  | inl h ↦ close w j k e (omega arith) (omega arith)
+  | inr h ↦ sym (close w k j (sym e) h (omega arith))
+]
 
 -- ---- variants: those that are tag_byte alike are one
 pub one_variant : (w : ℕ) {j k : ℤ} {p q : List ℕ} {vs : List (ℤ × List ℕ)} → DistinctTags w vs → IsListedVariant j p vs → IsListedVariant k q vs → tag w j ≡ tag w k → (j ≡ k) × (p ≡ q)

@@ -117,11 +117,11 @@ module _ (C : List ℕ → Option Shape) where
     sequence_only_empty {x} z c a = (
       subst (λ l. Member C x l) (ap (λ i. tag i (pos k) ++ []) z ∙ ap (λ l. l ++ []) (no_tag (pos k))) (of_sequence k c low high (only_empty_members C a)),
       λ bs m. (
-        let b = member_as C (sequence w lo hi e) c m in
-        let t : tag w (pos k) ≡ tag w (pos b.0) = ap (λ i. tag i (pos k)) z ∙ no_tag (pos k) ∙ sym (ap (λ i. tag i (pos b.0)) z ∙ no_tag (pos b.0)) in
-        let o : k ≡ b.0 = one_count w lo hi k b.0 unambiguous low high b.2 b.3 t in
-        let n : b.1 ≡ [] = members_only_empty C a (subst (λ i. Members C (replicate i e) b.1) (sym o) b.4) in
-        b.5 ∙ ap (λ l. tag w (pos b.0) ++ l) n ∙ ap (λ i. tag i (pos b.0) ++ []) z ∙ ap (λ l. l ++ []) (no_tag (pos b.0))),
+          let b = member_as C (sequence w lo hi e) c m in
+          let t : tag w (pos k) ≡ tag w (pos b.0) = ap (λ i. tag i (pos k)) z ∙ no_tag (pos k) ∙ sym (ap (λ i. tag i (pos b.0)) z ∙ no_tag (pos b.0)) in
+          let o : k ≡ b.0 = one_count w lo hi k b.0 unambiguous low high b.2 b.3 t in
+          let n : b.1 ≡ [] = members_only_empty C a (subst (λ i. Members C (replicate i e) b.1) (sym o) b.4) in
+          b.5 ∙ ap (λ l. tag w (pos b.0) ++ l) n ∙ ap (λ i. tag i (pos b.0) ++ []) z ∙ ap (λ l. l ++ []) (no_tag (pos b.0))),
     )
 
   -- enums
@@ -144,11 +144,11 @@ module _ (C : List ℕ → Option Shape) where
     choice_only_empty {x} z c h = (
       subst (λ l. Member C x l) (ap (λ i. tag i k ++ []) z ∙ ap (λ l. l ++ []) (no_tag k)) (of_choice c listed h.0),
       λ bs m. (
-        let b = member_as C (choice w vs) c m in
-        let t : tag w b.0 ≡ tag w k = ap (λ i. tag i b.0) z ∙ no_tag b.0 ∙ sym (ap (λ i. tag i k) z ∙ no_tag k) in
-        let o = one b.0 b.1 b.3 t in
-        let n : b.2 ≡ [] = h.1 b.2 (subst (λ y. Member C y b.2) o b.4) in
-        b.5 ∙ ap (λ l. tag w b.0 ++ l) n ∙ ap (λ i. tag i b.0 ++ []) z ∙ ap (λ l. l ++ []) (no_tag b.0)),
+          let b = member_as C (choice w vs) c m in
+          let t : tag w b.0 ≡ tag w k = ap (λ i. tag i b.0) z ∙ no_tag b.0 ∙ sym (ap (λ i. tag i k) z ∙ no_tag k) in
+          let o = one b.0 b.1 b.3 t in
+          let n : b.2 ≡ [] = h.1 b.2 (subst (λ y. Member C y b.2) o b.4) in
+          b.5 ∙ ap (λ l. tag w b.0 ++ l) n ∙ ap (λ i. tag i b.0 ++ []) z ∙ ap (λ l. l ++ []) (no_tag b.0)),
     )
 
   pub short_sequence : {x : List ℕ} {w lo hi : ℕ} {e : List ℕ} {ps : List (List ℕ)} {bytes : List ℕ} → length bytes < w → C x ≡ Some (sequence w lo hi e) → Members C (x ∷ ps) bytes → ⊥

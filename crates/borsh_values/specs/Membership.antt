@@ -1,5 +1,5 @@
 -- What `is_member` answers.
-use Rattle.std.specs.Prelude.{◌≡◌, ℕ, List, Option, Some, Result, IfOk}
+use Rattle.std.specs.Prelude.{◌≡◌, ℕ, List, [], Option, Some, Result, IfOk}
 use Rattle.borsh_walks.specs.Container.{Shape, Member, Reached, IsValid}
 use Rattle.borsh_walks.specs.RulesAnswer.{KeepsWidths}
 use Rattle.borsh_values.specs.Unambiguous.{UnambiguousShape, IsUnambiguous}
@@ -9,6 +9,12 @@ use Rattle.borsh_values.specs.declared.members.Membership.TheVariants.{Member as
 -- a definition that is reached is ambiguous, or breaks a rule of widths
 abbrev pub HasAmbiguous : (List ℕ → Option Shape) → List ℕ → Type 0
 HasAmbiguous C root = (x : List ℕ) × (d : Shape) × Reached C root x × (C x ≡ Some d) × (UnambiguousShape d → KeepsWidths d → ⊥)
+
+-- where no name is left to read, the bytes that are left decide
+abbrev pub IsAnswerAtEnd : List ℕ → Membership → Type 0
+IsAnswerAtEnd left IsMember = left ≡ []
+IsAnswerAtEnd left NoMember = left ≡ [] → ⊥
+IsAnswerAtEnd left Ambiguous = ⊥
 
 module _ (C : List ℕ → Option Shape) (root bytes : List ℕ) where
   -- each answer is right

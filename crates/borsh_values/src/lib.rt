@@ -12,3 +12,6 @@ pub mod opening;
 pub mod tags;
 
 pub use members::{Membership, is_member};
+
+#[cfg(test)]
+mod tests;

@@ -1,5 +1,5 @@
 // Whether bytes are a member of a name.
-ghost use Rattle.borsh_values.specs.Membership.{AnswersMembership, IsAnswer};
+ghost use Rattle.borsh_values.specs.Membership.{AnswersMembership, IsAnswer, IsAnswerAtEnd};
 ghost use Rattle.borsh_values.specs.Steps.{KnownAs};
 ghost use Rattle.borsh_walks.specs.Tables.{mark_of};
 ghost use Rattle.borsh_walks.specs.Definitions.{definitions_in};
@@ -65,6 +65,17 @@ fn after(bytes: &[u8], taken: usize) -> &[u8]
     ensures { result.now ≡ drop taken bytes.now }
 {
     &bytes[taken..]
+}
+
+// The answer where all names are read.
+fn at_end(left: &[u8]) -> Membership
+    ensures { IsAnswerAtEnd left.now result }
+{
+    if left.is_empty() {
+        Membership::Member
+    } else {
+        Membership::NoMember
+    }
 }
 
 /// Whether all of `bytes` is a member of `root`, by the definitions of `map` alone.
@@ -141,12 +152,7 @@ fn decide<'a>(
                     }
                     frame = above;
                 }
-                None => {
-                    if left.is_empty() {
-                        return Ok(Membership::Member);
-                    }
-                    return Ok(Membership::NoMember);
-                }
+                None => return Ok(at_end(left)),
             },
         }
     }

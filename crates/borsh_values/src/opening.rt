@@ -22,13 +22,7 @@ fn fits_width(width: u8, end: u64) -> bool
     }
 }
 
-fn open_sequence<'a>(
-    width: u8,
-    start: u64,
-    end: u64,
-    element: &'a str,
-    bytes: &[u8],
-) -> Opened<'a>
+fn open_sequence<'a>(width: u8, start: u64, end: u64, element: &'a str, bytes: &[u8]) -> Opened<'a>
     ensures { OpensAs (sequence width start end element.now) bytes.now result }
 {
     if width == 0 {

@@ -27,11 +27,7 @@ fn is_below_zero(discriminant: i64) -> bool
 fn tag_byte(negative: bool, low: u8) -> u8
     ensures { result ≡ byte_as negative low }
 {
-    if negative {
-        255 - low
-    } else {
-        low
-    }
+    if negative { 255 - low } else { low }
 }
 
 // Whether the bytes are those of the number, or their complements.

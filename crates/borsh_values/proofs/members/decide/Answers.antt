@@ -1,8 +1,8 @@
 use Rattle.std.proofs.Common.{rules, ◌≡◌, ℕ, suc, ◌+◌, ◌<◌, ◌≤◌, List, [], ◌∷◌, ◌++◌, length, drop, length-drop, zero, reverse, Some, None, refl, sym, ◌∙◌, ap, subst, arith, add-one}
-use Rattle.std.specs.Prelude.{Option, true, false, ◌==◌}
+use Rattle.std.specs.Prelude.{Option}
 use Rattle.std.specs.BTreeMap.{btree_map_len}
 use Rattle.borsh_walks.specs.Definitions.{definitions_in, shape_of}
-use Rattle.borsh_walks.specs.Container.{references}
+use Rattle.borsh_walks.specs.Container.{Shape, references, Member}
 use Rattle.borsh_walks.specs.Tables.{mark_of}
 use Rattle.borsh_walks.proofs.Names.{names_within, found_shape, found_none}
 use Rattle.borsh_walks.proofs.Tables.{updated_by, marks_none}
@@ -11,6 +11,9 @@ use Rattle.borsh_values.specs.declared.frames.Frame.{Frame}
 use Rattle.borsh_values.specs.declared.frames.Rest.{Rest}
 use Rattle.borsh_values.specs.declared.frames.Rest.TheVariants.{Copies, Parts}
 use Rattle.borsh_values.specs.declared.members.Mark.TheVariants.{Empty, Open}
+use Rattle.borsh_values.specs.declared.members.Membership.{Membership}
+use Rattle.borsh_values.specs.declared.members.Membership.TheVariants.{Member as IsMember, NoMember, Ambiguous}
+use Rattle.borsh_values.specs.Membership.{IsAnswer, IsAnswerAtEnd}
 use Rattle.borsh_values.specs.Steps.{remaining, step_count}
 use Rattle.borsh_values.proofs.Walk.{Walk, walk_start, walk_skip, walk_still, walk_on, walk_up, walk_up_empty, walk_end, no_definition, refused, leads_back, with_rest, part_reached}
 use Rattle.borsh_values.proofs.Measure.{left, left_moved, left_up, left_still, left_on, work_found}
@@ -106,7 +109,6 @@ loop-step-preserved-then-taken-eq0 c =
       count = ap suc i.count ∙ sym (add-one c.loop-step.idle);
     }
 
-
 positive : (n : ℕ) → (n ≡ 0 → ⊥) → 0 < n
 positive zero f = absurd (f refl)
 positive (suc n) f = omega arith
@@ -185,28 +187,18 @@ no_items : {A : Type 0} (xs : List A) → length xs ≡ 0 → xs ≡ []
 no_items [] e = refl
 no_items (x ∷ xs) e = absurd (omega arith)
 
-is_empty : (xs : List ℕ) → true ≡ (length xs == 0) → xs ≡ []
-is_empty xs e = no_items xs (grind arith)
-
-not_empty : (xs : List ℕ) → false ≡ (length xs == 0) → xs ≡ [] → ⊥
-not_empty [] e h = cc
-not_empty (x ∷ xs) e h = cc
-
-pub returns-then-is_empty : goal.returns-then-is_empty
-returns-then-is_empty c =
-    let C = definitions_in c.args.map.now in
-    let i = c.loop-step.invariant in
-    let none = no_items c.loop-step.stack.items (omega (arith, c.in-None-pop.ensures.cases.0, c.loop-step.stack.ok.0)) in
-    let s = subst (λ l. Walk C c.args.root.now c.args.bytes.now (mark_of c.loop-step.table) (reverse l) c.loop-step.frame c.loop-step.left.now i.names) none i.state in
-    (walk_end C s c.in-None.ensures.parts).1 (is_empty c.loop-step.left.now c.if-is_empty.ensures)
+end_answer : (C : List ℕ → Option Shape) (root bytes rest : List ℕ) (a : Membership) → IsAnswerAtEnd rest a → (Member C root bytes → rest ≡ []) × (rest ≡ [] → Member C root bytes) → IsAnswer C root bytes a
+end_answer C root bytes rest IsMember h w = w.1 h
+end_answer C root bytes rest NoMember h w = λ m. h (w.0 m)
+end_answer C root bytes rest Ambiguous h w = absurd h
 
 pub returns-in-None-pop : goal.returns-in-None-pop
-returns-in-None-pop c = λ m.
+returns-in-None-pop c =
     let C = definitions_in c.args.map.now in
     let i = c.loop-step.invariant in
     let none = no_items c.loop-step.stack.items (omega (arith, c.in-None-pop.ensures.cases.0, c.loop-step.stack.ok.0)) in
     let s = subst (λ l. Walk C c.args.root.now c.args.bytes.now (mark_of c.loop-step.table) (reverse l) c.loop-step.frame c.loop-step.left.now i.names) none i.state in
-    not_empty c.loop-step.left.now c.if-is_empty.ensures ((walk_end C s c.in-None.ensures.parts).0 m)
+    end_answer C c.args.root.now c.args.bytes.now c.loop-step.left.now c.at_end.result c.at_end.ensures (walk_end C s c.in-None.ensures.parts)
 
 pub returns-in-Undecided : goal.returns-in-Undecided
 returns-in-Undecided c =

@@ -24,14 +24,14 @@ loop-discriminant-preserved c =
       within = omega (arith, lt);
       found = elim c.if-is_tag.branch as (λ _. Goal) [
         | then-is_tag w ↦
-          (let p = w.as_str.result in
-          let r = found_more (take n vs) bytes c.loop-discriminant.found f.0 p c.loop-discriminant.invariant.found (w.if-is_tag.ensures.0 refl) in
-          let t = take_next vs n (f.0, p.now) (e ∙ ap (λ s. Some (f.0, s)) (sym w.as_str.ensures.value)) in
-          subst (λ l. FoundAs l bytes c.if-is_tag.found) (sym t) (subst (λ o. FoundAs (take n vs ++ (f.0, p.now) ∷ []) bytes o) (sym (w.found-is ∙ w.add-found.ensures)) r))
+            (let p = w.as_str.result in
+            let r = found_more (take n vs) bytes c.loop-discriminant.found f.0 p c.loop-discriminant.invariant.found (w.if-is_tag.ensures.0 refl) in
+            let t = take_next vs n (f.0, p.now) (e ∙ ap (λ s. Some (f.0, s)) (sym w.as_str.ensures.value)) in
+            subst (λ l. FoundAs l bytes c.if-is_tag.found) (sym t) (subst (λ o. FoundAs (take n vs ++ (f.0, p.now) ∷ []) bytes o) (sym (w.found-is ∙ w.add-found.ensures)) r))
         | else-is_tag w ↦
-          (let r = found_same (take n vs) bytes c.loop-discriminant.found f.0 (string_bytes f.2) c.loop-discriminant.invariant.found (λ q. no_true (w.if-is_tag.ensures.1 q)) in
-          let t = take_next vs n (f.0, string_bytes f.2) e in
-          subst (λ l. FoundAs l bytes c.if-is_tag.found) (sym t) (subst (λ o. FoundAs (take n vs ++ (f.0, string_bytes f.2) ∷ []) bytes o) (sym w.found-is) r))
+            (let r = found_same (take n vs) bytes c.loop-discriminant.found f.0 (string_bytes f.2) c.loop-discriminant.invariant.found (λ q. no_true (w.if-is_tag.ensures.1 q)) in
+            let t = take_next vs n (f.0, string_bytes f.2) e in
+            subst (λ l. FoundAs l bytes c.if-is_tag.found) (sym t) (subst (λ o. FoundAs (take n vs ++ (f.0, string_bytes f.2) ∷ []) bytes o) (sym w.found-is) r))
       ];
     }
   where

@@ -21,13 +21,19 @@ loop-b-preserved c =
     }
 
 pub returns-then-tag_byte-b : goal.returns-then-tag_byte-b
-returns-then-tag_byte-b c = ((λ e. cc), λ e. (
-  let bs = c.args.bytes.now in
-  let r = tag_forth c.args.negative c.loop-b.b-index c.loop-b.left (get_or bs c.loop-b.b-index 0) bs c.loop-b-test.true refl (c.loop-b.invariant.forth e) in
-  absurd (c.if-tag_byte-b.true (c.tag_byte.ensures ∙ r.0))))
+returns-then-tag_byte-b c = (
+  (λ e. cc),
+  λ e. (
+      let bs = c.args.bytes.now in
+      let r = tag_forth c.args.negative c.loop-b.b-index c.loop-b.left (get_or bs c.loop-b.b-index 0) bs c.loop-b-test.true refl (c.loop-b.invariant.forth e) in
+      absurd (c.if-tag_byte-b.true (c.tag_byte.ensures ∙ r.0))),
+)
 
 pub returns : goal.returns
-returns c = ((λ e. c.loop-b.invariant.back (
-  let bs = c.args.bytes.now in
-  let z : length bs - c.loop-b.b-index ≡ 0 = (let h = c.loop-b-test.false in omega (arith, h)) in
-  ap (λ w. tag_from c.args.negative w c.loop-b.left) z ∙ sym (drop_all c.loop-b.b-index bs c.loop-b-test.false))), λ e. refl)
+returns c = (
+  (λ e. c.loop-b.invariant.back (
+      let bs = c.args.bytes.now in
+      let z : length bs - c.loop-b.b-index ≡ 0 = (let h = c.loop-b-test.false in omega (arith, h)) in
+      ap (λ w. tag_from c.args.negative w c.loop-b.left) z ∙ sym (drop_all c.loop-b.b-index bs c.loop-b-test.false))),
+  λ e. refl,
+)
