@@ -1,6 +1,6 @@
 -- Variants found one after another.
-use Rattle.std.proofs.Common.{◌≡◌, ℕ, suc, zero, ◌+◌, List, [], ◌∷◌, ◌++◌, map, length, take, Some, None, refl, sym, ◌∙◌, ap, subst, arith, add-one, ◌⊎◌, inl, inr}
-use Rattle.std.specs.Prelude.{Option, ℤ, pos, negsuc, slice_get}
+use Rattle.std.proofs.Common.{◌≡◌, ℕ, suc, zero, ◌+◌, List, [], ◌∷◌, ◌++◌, length, take, Some, refl, sym, ◌∙◌, ap, add-one, ◌⊎◌, inl, inr}
+use Rattle.std.specs.Prelude.{ℤ, pos, negsuc, slice_get}
 use Rattle.std.specs.Borrow.{Bor}
 use Rattle.borsh_walks.specs.Container.{IsListedVariant, first_variant, later_variant, tag}
 use Rattle.borsh_values.specs.Unambiguous.{DistinctTags, no_tags, more_tags}
@@ -8,18 +8,18 @@ use Rattle.borsh_values.specs.Steps.{FoundAs, more_found}
 use Rattle.borsh_values.specs.declared.tags.Found.{Found}
 use Rattle.borsh_values.specs.declared.tags.Found.TheVariants.{Nothing, One, Several}
 
-listed_append : {k : ℤ} {p : List ℕ} (xs ys : List (ℤ × List ℕ)) → IsListedVariant k p (xs ++ ys) → IsListedVariant k p xs ⊎ IsListedVariant k p ys
+pub listed_append : {k : ℤ} {p : List ℕ} (xs ys : List (ℤ × List ℕ)) → IsListedVariant k p (xs ++ ys) → IsListedVariant k p xs ⊎ IsListedVariant k p ys
 listed_append [] ys a = inr a
 listed_append (x ∷ xs) ys first_variant = inl first_variant
 listed_append {k} {p} (x ∷ xs) ys (later_variant a) =
     let go : IsListedVariant k p xs ⊎ IsListedVariant k p ys → IsListedVariant k p (x ∷ xs) ⊎ IsListedVariant k p ys = elim [ inl b ↦ inl (later_variant b) | inr b ↦ inr b ] in go (listed_append xs ys a)
 
-listed_left : {k : ℤ} {p : List ℕ} (xs ys : List (ℤ × List ℕ)) → IsListedVariant k p xs → IsListedVariant k p (xs ++ ys)
+pub listed_left : {k : ℤ} {p : List ℕ} (xs ys : List (ℤ × List ℕ)) → IsListedVariant k p xs → IsListedVariant k p (xs ++ ys)
 listed_left (x ∷ xs) ys first_variant = first_variant
 listed_left (x ∷ xs) ys (later_variant a) = later_variant (listed_left xs ys a)
 listed_left [] ys a = elim a [ ]
 
-listed_last : {k : ℤ} {p : List ℕ} (xs : List (ℤ × List ℕ)) → IsListedVariant k p (xs ++ (k, p) ∷ [])
+pub listed_last : {k : ℤ} {p : List ℕ} (xs : List (ℤ × List ℕ)) → IsListedVariant k p (xs ++ (k, p) ∷ [])
 listed_last [] = first_variant
 listed_last (x ∷ xs) = later_variant (listed_last xs)
 
@@ -30,16 +30,16 @@ no_tag t k e = ap (λ l. tag (length l) k) e ∙ none k ∙ sym e
     none (pos n) = refl
     none (negsuc n) = refl
 
-only_last : {j : ℤ} {q : List ℕ} {k : ℤ} {p : List ℕ} → IsListedVariant j q ((k, p) ∷ []) → q ≡ p
+pub only_last : {j : ℤ} {q : List ℕ} {k : ℤ} {p : List ℕ} → IsListedVariant j q ((k, p) ∷ []) → q ≡ p
 only_last first_variant = refl
 only_last (later_variant a) = elim a [ ]
 
-twice : (w : ℕ) {k : ℤ} (j : ℤ) {p : List ℕ} (q : List ℕ) (xs : List (ℤ × List ℕ)) (t : List ℕ) → IsListedVariant k p xs → tag w k ≡ t → tag w j ≡ t → DistinctTags w (xs ++ (j, q) ∷ []) → ⊥
+pub twice : (w : ℕ) {k : ℤ} (j : ℤ) {p : List ℕ} (q : List ℕ) (xs : List (ℤ × List ℕ)) (t : List ℕ) → IsListedVariant k p xs → tag w k ≡ t → tag w j ≡ t → DistinctTags w (xs ++ (j, q) ∷ []) → ⊥
 twice w j q [] t a e f b = elim a [ ]
 twice w j q (x ∷ xs) t first_variant e f (more_tags g b) = g j q (listed_last xs) (e ∙ sym f)
 twice w j q (x ∷ xs) t (later_variant a) e f (more_tags g b) = twice w j q xs t a e f b
 
-distinct_left : (w : ℕ) (xs ys : List (ℤ × List ℕ)) → DistinctTags w (xs ++ ys) → DistinctTags w xs
+pub distinct_left : (w : ℕ) (xs ys : List (ℤ × List ℕ)) → DistinctTags w (xs ++ ys) → DistinctTags w xs
 distinct_left w [] ys b = no_tags
 distinct_left w (x ∷ xs) ys (more_tags g b) = more_tags (λ k p a. g k p (listed_left xs ys a)) (distinct_left w xs ys b)
 

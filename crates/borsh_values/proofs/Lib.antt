@@ -8,3 +8,6 @@ pub mod NumberLaws
 pub mod TagLaws
 pub mod FoundLaws
 pub mod Valid
+pub mod KeyLaws
+pub mod DistinctLaws
+pub mod Reach

@@ -12,6 +12,8 @@ use Rattle.borsh_walks.specs.Container.{references}
 use Rattle.borsh_walks.proofs.Measure.{work}
 use Rattle.borsh_values.specs.Steps.{step_count}
 use Rattle.borsh_values.specs.declared.frames.Frame.{Frame}
+use Rattle.borsh_values.specs.declared.frames.Rest.{Rest}
+use Rattle.borsh_values.specs.declared.frames.Rest.TheVariants.{Copies, Parts}
 
 unfoldable pub steps_of : List Frame → ℕ
 steps_of [] = 0
@@ -61,3 +63,9 @@ left_still m len idle f h g fs room low small = less (3 + work references m.entr
 pub left_on : {A : Type 0} (m : BTreeMap (String A) Definition) (a b idle : ℕ) (f h g : Frame) (fs : List Frame) → a < b → step_count h.rest ≤ step_count f.rest → step_count g.rest ≤ 2 + work references m.entries → left m a 0 (g ∷ h ∷ fs) < left m b idle (f ∷ fs)
 unfolding steps_of
 left_on m a b idle f h g fs room low small = less (3 + work references m.entries) _ _ _ _ (opens_on (btree_map_len m) a b idle room) (omega (arith, low, small))
+
+-- a frame has a step left
+pub some_step : (r : Rest) → 0 < step_count r
+some_step (Copies e zero) = omega arith
+some_step (Copies e (suc k)) = omega arith
+some_step (Parts d n) = omega arith

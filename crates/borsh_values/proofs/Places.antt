@@ -1,6 +1,6 @@
 -- The parts from a place on.
-use Rattle.std.proofs.Common.{◌++◌, replicate, subst, ◌≡◌, ℕ, suc, zero, ◌+◌, ◌-◌, ◌≤◌, ◌<◌, List, [], ◌∷◌, length, drop, Some, None, refl, sym, ◌∙◌, ap, arith, add-one}
-use Rattle.std.specs.Prelude.{Option, slice_get}
+use Rattle.std.proofs.Common.{◌++◌, replicate, subst, ◌≡◌, ℕ, suc, zero, ◌+◌, ◌<◌, List, [], ◌∷◌, drop, Some, None, refl, sym, ◌∙◌, ap, arith, add-one}
+use Rattle.std.specs.Prelude.{slice_get}
 use Rattle.std.specs.Borrow.{Bor}
 use Rattle.borsh_walks.specs.declared.definition.Definition.{Definition}
 use Rattle.borsh_values.specs.declared.frames.Rest.{Rest}

@@ -1,11 +1,10 @@
 -- A container whose reached definitions are unambiguous is prefix-free.
-use Rattle.std.proofs.Common.{◌≡◌, ℕ, suc, zero, ◌+◌, ◌-◌, ◌*◌, ◌/◌, ◌%◌, ◌^◌, ◌<◌, ◌≤◌, List, [], ◌∷◌, ◌++◌, map, length, replicate, Some, refl, sym, ◌∙◌, ap, subst, arith, append_assoc, ◌⊎◌, inl, inr, pow-suc}
-use Rattle.std.specs.Prelude.{Option, All, ℤ, pos, negsuc}
-use Rattle.std.proofs.Math.Nat.{div-add-mod}
+use Rattle.std.proofs.Common.{◌≡◌, ℕ, suc, zero, ◌+◌, ◌/◌, ◌%◌, ◌^◌, ◌<◌, ◌≤◌, List, [], ◌∷◌, ◌++◌, length, replicate, Some, refl, sym, ◌∙◌, ap, subst, arith, append_assoc, inl, inr, pow-suc}
+use Rattle.std.specs.Prelude.{Option, All, ℤ, pos}
 use Rattle.std.proofs.lemmas.List.{append_cancel_left}
 use Rattle.std.proofs.lemmas.Bool.{cases_lt}
-use Rattle.borsh_walks.specs.Container.{Shape, primitive, sequence, product, choice, IsIn, first, later, IsListedVariant, first_variant, later_variant, variant_names, references, low_bytes, tag, Member, of_primitive, of_sequence, of_parts, of_choice, Members, no_members, more_members, Reaches, stays, onward, Reached}
-use Rattle.borsh_values.specs.Unambiguous.{DistinctTags, no_tags, more_tags, UnambiguousShape, IsUnambiguous}
+use Rattle.borsh_walks.specs.Container.{Shape, primitive, sequence, product, choice, IsIn, first, later, IsListedVariant, first_variant, later_variant, low_bytes, tag, Member, of_primitive, of_sequence, of_parts, of_choice, Members, no_members, more_members, onward, Reached}
+use Rattle.borsh_values.specs.Unambiguous.{DistinctTags, no_tags, more_tags, IsUnambiguous}
 use Rattle.borsh_walks.proofs.Laws.{length-tag, one_definition, variant-listed, among-replicate}
 
 -- ---- lists

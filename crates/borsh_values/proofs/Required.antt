@@ -1,10 +1,10 @@
 -- A name that requires itself has no member.
-use Rattle.std.proofs.Common.{◌≡◌, ℕ, suc, zero, ◌≤◌, List, [], ◌∷◌, ◌++◌, replicate, Some, None, refl, sym, ◌∙◌, ap, subst, arith, ◌⊎◌, inl, inr}
+use Rattle.std.proofs.Common.{◌≡◌, ℕ, suc, zero, ◌≤◌, List, [], ◌∷◌, ◌++◌, replicate, Some, refl, sym, ◌∙◌, ap, subst, arith, ◌⊎◌, inl, inr}
 use Rattle.std.specs.Prelude.{Option}
-use Rattle.borsh_walks.specs.Container.{Shape, primitive, sequence, product, choice, IsIn, first, later, IsListedVariant, first_variant, later_variant, Member, of_primitive, of_sequence, of_parts, of_choice, Members, no_members, more_members, Reaches, stays, onward, IsOnCycle}
+use Rattle.borsh_walks.specs.Container.{Shape, sequence, product, IsIn, first, later, first_variant, later_variant, Member, of_primitive, of_sequence, of_parts, of_choice, Members, no_members, more_members, Reaches, onward, IsOnCycle}
 use Rattle.borsh_values.specs.Steps.{required_by, OnlyEmpty, AllOnlyEmpty}
 use Rattle.borsh_walks.proofs.Names.{among_one}
-use Rattle.borsh_walks.proofs.Laws.{one_definition, lead_out, lead_in}
+use Rattle.borsh_walks.proofs.Laws.{one_definition, lead_out}
 
 module _ (C : List ℕ → Option Shape) where
   first_step : {x : List ℕ} (c : Shape) → C x ≡ Some c → IsOnCycle C required_by x → (v : List ℕ) × IsIn v (required_by c) × IsOnCycle C required_by v

@@ -1,11 +1,10 @@
 -- What an opened definition takes.
-use Rattle.std.proofs.Common.{◌≡◌, ℕ, suc, zero, ◌+◌, ◌-◌, ◌<◌, ◌≤◌, ◌^◌, ◌*◌, List, [], ◌∷◌, ◌++◌, length, take, drop, replicate, Some, refl, sym, ◌∙◌, ap, subst, arith, append_assoc, length-append, ◌⊎◌, inl, inr}
+use Rattle.std.proofs.Common.{◌≡◌, ℕ, suc, zero, ◌+◌, ◌-◌, ◌<◌, ◌≤◌, ◌^◌, List, [], ◌∷◌, ◌++◌, length, take, drop, replicate, Some, refl, sym, ◌∙◌, ap, subst, arith, append_assoc, length-append, ◌⊎◌, inl, inr}
 use Rattle.std.specs.Prelude.{Option, All, ℤ, pos, negsuc}
-use Rattle.borsh_walks.specs.Container.{Shape, primitive, sequence, product, choice, IsIn, first, later, IsListedVariant, first_variant, later_variant, low_bytes, tag, variant_names, Member, of_primitive, of_sequence, of_parts, of_choice, Members, no_members, more_members}
+use Rattle.borsh_walks.specs.Container.{Shape, primitive, sequence, product, choice, IsIn, first, later, IsListedVariant, low_bytes, tag, variant_names, Member, of_primitive, of_sequence, of_parts, of_choice, Members, no_members, more_members}
 use Rattle.borsh_walks.proofs.Laws.{length-tag, among-replicate, variant-listed}
 use Rattle.borsh_values.specs.Unambiguous.{DistinctTags}
 use Rattle.std.specs.Borrow.{Bor}
-use Rattle.borsh_values.specs.declared.tags.Found.{Found}
 use Rattle.borsh_values.specs.declared.tags.Found.TheVariants.{Nothing, One}
 use Rattle.borsh_values.specs.Steps.{required_by, OnlyEmpty, AllOnlyEmpty, Takes, FoundAs}
 use Rattle.borsh_values.proofs.PrefixFree.{same_front, one_count, member_as}

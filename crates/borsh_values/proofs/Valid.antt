@@ -1,8 +1,8 @@
 -- A valid and unambiguous container gets yes or no.
-use Rattle.std.proofs.Common.{◌≡◌, ℕ, suc, zero, ◌^◌, ◌<◌, ◌≤◌, List, Some, Ok, Err, refl, arith, ◌⊎◌, inl, inr}
+use Rattle.std.proofs.Common.{◌≡◌, ℕ, suc, zero, ◌^◌, ◌<◌, List, Some, Ok, Err, refl, arith, ◌⊎◌, inl, inr}
 use Rattle.std.specs.Prelude.{Option, Result, IfOk}
 use Rattle.std.proofs.lemmas.Bool.{cases_lt}
-use Rattle.borsh_walks.specs.Container.{Shape, primitive, sequence, product, choice, Rule, tag_too_wide, tag_too_narrow, tag_not_power_of_two, empty_length_range, Breaks, is_empty, is_not_power, is_too_wide, is_too_narrow, is_wide_choice, Reached, IsValid}
+use Rattle.borsh_walks.specs.Container.{Shape, primitive, sequence, product, choice, Rule, tag_too_wide, tag_too_narrow, tag_not_power_of_two, empty_length_range, Breaks, is_empty, is_not_power, is_too_wide, is_too_narrow, is_wide_choice, IsValid}
 use Rattle.borsh_walks.specs.RulesAnswer.{KeepsWidths, IsWidth}
 use Rattle.borsh_values.specs.Unambiguous.{IsUnambiguous}
 use Rattle.borsh_values.specs.Membership.{HasAmbiguous, IsAnswer, AnswersMembership}

@@ -2,4 +2,5 @@ pub mod Unambiguous
 pub mod Membership
 pub mod Numbers
 pub mod Tags
+pub mod Keys
 pub mod Steps

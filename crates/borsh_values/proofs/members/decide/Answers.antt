@@ -1,22 +1,20 @@
-use Rattle.std.proofs.Common.{rules, ◌≡◌, ℕ, suc, ◌+◌, ◌<◌, ◌≤◌, List, [], ◌∷◌, ◌++◌, length, drop, length-drop, zero, reverse, Some, None, refl, sym, ◌∙◌, ap, subst, arith, add-one}
+use Rattle.std.proofs.Common.{◌≡◌, ℕ, suc, ◌+◌, ◌<◌, ◌≤◌, List, [], ◌∷◌, length, drop, length-drop, zero, reverse, refl, sym, ◌∙◌, ap, subst, arith, add-one}
 use Rattle.std.specs.Prelude.{Option}
 use Rattle.std.specs.BTreeMap.{btree_map_len}
 use Rattle.borsh_walks.specs.Definitions.{definitions_in, shape_of}
-use Rattle.borsh_walks.specs.Container.{Shape, references, Member}
+use Rattle.borsh_walks.specs.Container.{Shape, Member}
 use Rattle.borsh_walks.specs.Tables.{mark_of}
 use Rattle.borsh_walks.proofs.Names.{names_within, found_shape, found_none}
-use Rattle.borsh_walks.proofs.Tables.{updated_by, marks_none}
+use Rattle.borsh_walks.proofs.Tables.{updated_by, marks_none, no_items}
 use Rattle.borsh_walks.proofs.Spots.{last_first}
 use Rattle.borsh_values.specs.declared.frames.Frame.{Frame}
-use Rattle.borsh_values.specs.declared.frames.Rest.{Rest}
-use Rattle.borsh_values.specs.declared.frames.Rest.TheVariants.{Copies, Parts}
+use Rattle.borsh_values.specs.declared.frames.Rest.TheVariants.{Copies}
 use Rattle.borsh_values.specs.declared.members.Mark.TheVariants.{Empty, Open}
 use Rattle.borsh_values.specs.declared.members.Membership.{Membership}
 use Rattle.borsh_values.specs.declared.members.Membership.TheVariants.{Member as IsMember, NoMember, Ambiguous}
 use Rattle.borsh_values.specs.Membership.{IsAnswer, IsAnswerAtEnd}
-use Rattle.borsh_values.specs.Steps.{remaining, step_count}
 use Rattle.borsh_values.proofs.Walk.{Walk, walk_start, walk_skip, walk_still, walk_on, walk_up, walk_up_empty, walk_end, no_definition, refused, leads_back, with_rest, part_reached}
-use Rattle.borsh_values.proofs.Measure.{left, left_moved, left_up, left_still, left_on, work_found}
+use Rattle.borsh_values.proofs.Measure.{left, left_moved, left_up, left_still, left_on, work_found, some_step}
 use Rattle.borsh_values.proofs.members.decide.Goals as goal
 
 pub loop-step-init : goal.loop-step-init
@@ -145,11 +143,6 @@ loop-step-preserved-else-taken-eq0 c =
       count = refl;
     }
 
-some_step : (r : Rest) → 0 < step_count r
-some_step (Copies e zero) = omega arith
-some_step (Copies e (suc k)) = omega arith
-some_step (Parts d n) = omega arith
-
 pub loop-step-smaller-in_ok-insert-in-Some-pop : goal.loop-step-smaller-in_ok-insert-in-Some-pop
 loop-step-smaller-in_ok-insert-in-Some-pop c =
     let m = c.args.map.now in
@@ -182,10 +175,6 @@ loop-step-preserved c =
     let items = last_first c.pop.new.self.items c.loop-step.stack.items c.in-Some-pop.above c.in-Some-pop.ensures.items in
     let s = subst (λ l. Walk C c.args.root.now c.args.bytes.now (mark_of c.loop-step.table) l c.loop-step.frame c.loop-step.left.now i.names) items i.state in
     record { names = i.names; state = walk_up C s c.in-None.ensures.parts c.if-frame-left.false; count = i.count }
-
-no_items : {A : Type 0} (xs : List A) → length xs ≡ 0 → xs ≡ []
-no_items [] e = refl
-no_items (x ∷ xs) e = absurd (omega arith)
 
 end_answer : (C : List ℕ → Option Shape) (root bytes rest : List ℕ) (a : Membership) → IsAnswerAtEnd rest a → (Member C root bytes → rest ≡ []) × (rest ≡ [] → Member C root bytes) → IsAnswer C root bytes a
 end_answer C root bytes rest IsMember h w = w.1 h

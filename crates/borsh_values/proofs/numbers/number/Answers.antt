@@ -1,4 +1,4 @@
-use Rattle.std.proofs.Common.{◌≡◌, ℕ, suc, zero, ◌+◌, ◌*◌, ◌^◌, ◌<◌, ◌≤◌, length, drop, get_or, List, refl, sym, ◌∙◌, ap, subst, arith, length-drop}
+use Rattle.std.proofs.Common.{◌≡◌, ℕ, suc, zero, ◌^◌, ◌<◌, ◌≤◌, length, drop, List, refl, sym, ◌∙◌, ap, subst, arith, length-drop}
 use Rattle.borsh_walks.specs.Container.{low_bytes}
 use Rattle.borsh_values.specs.Numbers.{value_of}
 use Rattle.borsh_values.proofs.NumberLaws.{value_written, value_small, value_under, drop_bytes}

@@ -1,4 +1,4 @@
-use Rattle.std.proofs.Common.{◌<◌, ◌≡◌, arith, subst, sym, ap, ◌∙◌, inl, inr, refl, take, length, List, [], ◌∷◌, ℕ, zero, suc, get_or}
+use Rattle.std.proofs.Common.{◌<◌, ◌≡◌, arith, subst, inl, inr, refl, length, List, [], ◌∷◌, ℕ, zero, suc, get_or}
 use Rattle.std.specs.Prelude.{All}
 use Rattle.std.proofs.lemmas.List.Elements.{All-take}
 use Rattle.borsh_walks.specs.Container.{primitive}

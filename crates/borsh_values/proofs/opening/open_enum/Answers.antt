@@ -1,4 +1,4 @@
-use Rattle.std.proofs.Common.{arith, length, ap, sym}
+use Rattle.std.proofs.Common.{arith}
 use Rattle.borsh_values.proofs.TakesLaws.{found_choice, found_none_choice, short_choice, several_ambiguous}
 use Rattle.borsh_values.proofs.opening.open_enum.Goals as goal
 

@@ -1,4 +1,4 @@
-use Rattle.std.proofs.Common.{◌≡◌, ℕ, ◌-◌, ◌≤◌, length, take, map}
+use Rattle.std.proofs.Common.{◌-◌, ◌≤◌, length, take, map}
 use Rattle.std.specs.Prelude.{string_bytes}
 use Rattle.borsh_values.specs.Steps.{FoundAs}
 use Rattle.borsh_values.proofs.tags.find_variant.Given as goal

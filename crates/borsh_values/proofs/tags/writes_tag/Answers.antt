@@ -1,5 +1,5 @@
-use Rattle.std.proofs.Common.{◌≡◌, ℕ, suc, zero, ◌+◌, ◌-◌, ◌/◌, ◌%◌, length, drop, get_or, List, refl, sym, ◌∙◌, ap, subst, arith, add-one, Bool, true, false}
-use Rattle.borsh_values.specs.Tags.{tag_from, byte_as}
+use Rattle.std.proofs.Common.{◌≡◌, suc, ◌+◌, ◌-◌, ◌/◌, length, drop, get_or, refl, sym, ◌∙◌, ap, arith, add-one}
+use Rattle.borsh_values.specs.Tags.{tag_from}
 use Rattle.borsh_values.proofs.TagLaws.{tag_forth, tag_back, drop_all}
 use Rattle.borsh_values.proofs.tags.writes_tag.Goals as goal
 

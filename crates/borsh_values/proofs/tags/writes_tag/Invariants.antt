@@ -1,4 +1,4 @@
-use Rattle.std.proofs.Common.{◌≡◌, ℕ, ◌-◌, length, drop}
+use Rattle.std.proofs.Common.{◌≡◌, ◌-◌, length, drop}
 use Rattle.borsh_values.specs.Tags.{tag_from}
 use Rattle.borsh_values.proofs.tags.writes_tag.Given as goal
 
