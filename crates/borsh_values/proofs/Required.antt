@@ -4,7 +4,7 @@ use Rattle.std.specs.Prelude.{Option}
 use Rattle.borsh_walks.specs.Container.{Shape, sequence, product, IsIn, first, later, first_variant, later_variant, Member, of_primitive, of_sequence, of_parts, of_choice, Members, no_members, more_members, Reaches, onward, IsOnCycle}
 use Rattle.borsh_values.specs.Steps.{required_by, OnlyEmpty, AllOnlyEmpty}
 use Rattle.borsh_walks.proofs.Names.{among_one}
-use Rattle.borsh_walks.proofs.Laws.{one_definition, lead_out}
+use Rattle.borsh_walks.proofs.Laws.{one_definition, lead_out, zero_member}
 
 module _ (C : List ℕ → Option Shape) where
   first_step : {x : List ℕ} (c : Shape) → C x ≡ Some c → IsOnCycle C required_by x → (v : List ℕ) × IsIn v (required_by c) × IsOnCycle C required_by v
@@ -47,7 +47,7 @@ module _ (C : List ℕ → Option Shape) where
   pub pass_one : {p : List ℕ} {ps : List (List ℕ)} {bs : List ℕ} → OnlyEmpty C p → Members C (p ∷ ps) bs → Members C ps bs
   pass_one {ps = ps} {bs = bs} h ms =
       let s = members_head ms in
-      let e : s.0 ≡ [] = h.1 s.0 s.2 in
+      let e : s.0 ≡ [] = zero_member C s.2 h.1 in
       subst (λ l. Members C ps l) (sym (s.4 ∙ ap (λ l. l ++ s.1) e)) s.3
 
   pub pass : {p : List ℕ} {ps : List (List ℕ)} {bs : List ℕ} (k : ℕ) → OnlyEmpty C p → Members C (replicate k p ++ ps) bs → Members C ps bs
@@ -68,7 +68,7 @@ module _ (C : List ℕ → Option Shape) where
 
   pub members_only_empty : {ps : List (List ℕ)} {bs : List ℕ} → AllOnlyEmpty C ps → Members C ps bs → bs ≡ []
   members_only_empty h no_members = refl
-  members_only_empty h (more_members {bs = xs} {cs = ys} m ms) = ap (λ l. l ++ ys) (h.0.1 xs m) ∙ members_only_empty h.1 ms
+  members_only_empty h (more_members {bs = xs} {cs = ys} m ms) = ap (λ l. l ++ ys) (zero_member C m h.0.1) ∙ members_only_empty h.1 ms
 
   pub whole : {x bs : List ℕ} → Member C x bs → Members C (x ∷ []) bs
   whole {x} {bs} m = subst (λ l. Members C (x ∷ []) l) (end bs) (more_members m no_members)

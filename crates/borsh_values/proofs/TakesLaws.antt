@@ -1,7 +1,8 @@
 -- What an opened definition takes.
 use Rattle.std.proofs.Common.{◌≡◌, ℕ, suc, zero, ◌+◌, ◌-◌, ◌<◌, ◌≤◌, ◌^◌, List, [], ◌∷◌, ◌++◌, length, take, drop, replicate, Some, refl, sym, ◌∙◌, ap, subst, arith, append_assoc, length-append, ◌⊎◌, inl, inr}
 use Rattle.std.specs.Prelude.{Option, All, ℤ, pos, negsuc}
-use Rattle.borsh_walks.specs.Container.{Shape, primitive, sequence, product, choice, IsIn, first, later, IsListedVariant, low_bytes, tag, variant_names, Member, of_primitive, of_sequence, of_parts, of_choice, Members, no_members, more_members}
+use Rattle.borsh_walks.specs.Container.{Shape, primitive, sequence, product, choice, IsIn, first, later, IsListedVariant, low_bytes, tag, variant_names, Member, of_primitive, of_sequence, of_parts, of_choice, Members, no_members, more_members, IsZeroSize, zeroed}
+use Rattle.borsh_walks.proofs.Names.{among_one}
 use Rattle.borsh_walks.proofs.Laws.{length-tag, among-replicate, variant-listed}
 use Rattle.borsh_values.specs.Unambiguous.{DistinctTags}
 use Rattle.std.specs.Borrow.{Bor}
@@ -40,6 +41,23 @@ module _ (C : List ℕ → Option Shape) where
   parted [] {bs = bs} ms = ([], bs, no_members, ms, refl)
   parted (p ∷ ps) (more_members {bs = us} {cs = vs} m ms) = let r = parted ps ms in (us ++ r.0, r.1, more_members m r.2, r.3, ap (λ l. us ++ l) r.4 ∙ sym (append_assoc us r.0 r.1))
 
+  -- zero sizes
+  all_zero : (ps : List (List ℕ)) → AllOnlyEmpty C ps → (p : List ℕ) → IsIn p ps → IsZeroSize C p
+  all_zero [] h p a = elim a [ ]
+  all_zero (q ∷ qs) h p first = h.0.1
+  all_zero (q ∷ qs) h p (later a) = all_zero qs h.1 p a
+
+  sequence_zero : {x : List ℕ} (w lo hi k : ℕ) (e : List ℕ) → w ≡ 0 → hi < lo + 256 ^ w → lo ≤ k → k ≤ hi → C x ≡ Some (sequence w lo hi e) → AllOnlyEmpty C (replicate k e) → IsZeroSize C x
+  sequence_zero zero zero zero k e z u low high c h = zeroed (sequence zero zero zero e) [] c refl (λ p a. elim a [ ])
+  sequence_zero zero zero (suc hi) k e z u low high c h = absurd (omega arith)
+  sequence_zero zero (suc lo) hi zero e z u low high c h = absurd (omega arith)
+  sequence_zero zero (suc lo) hi (suc k) e z u low high c h = zeroed (sequence zero (suc lo) hi e) (e ∷ []) c refl (λ p a. all_zero (e ∷ []) (h.0, tt) p a)
+  sequence_zero (suc w) lo hi k e z u low high c h = absurd (omega arith)
+
+  choice_zero : {x : List ℕ} (w : ℕ) (k : ℤ) (p : List ℕ) (vs : List (ℤ × List ℕ)) → w ≡ 0 → vs ≡ (k, p) ∷ [] → C x ≡ Some (choice w vs) → IsZeroSize C p → IsZeroSize C x
+  choice_zero zero k p vs z e c h = zeroed (choice zero ((k, p) ∷ [])) (p ∷ []) (c ∙ ap (λ l. Some (choice zero l)) e) refl (λ q a. subst (λ y. IsZeroSize C y) (sym (among_one a)) h)
+  choice_zero (suc w) k p vs z e c h = absurd (omega arith)
+
   -- parts
   parts_forth : {x : List ℕ} {qs ps : List (List ℕ)} {bytes : List ℕ} → C x ≡ Some (product qs) → Members C (x ∷ ps) bytes → Members C (qs ++ ps) bytes
   parts_forth {qs = qs} {ps = ps} c m =
@@ -50,7 +68,7 @@ module _ (C : List ℕ → Option Shape) where
   parts_back {x} {qs = qs} {ps = ps} c m = let s = parted qs m in subst (λ l. Members C (x ∷ ps) l) (sym s.4) (more_members (of_parts c s.2) s.3)
 
   parts_only_empty : {x : List ℕ} {qs : List (List ℕ)} → C x ≡ Some (product qs) → AllOnlyEmpty C qs → OnlyEmpty C x
-  parts_only_empty {qs = qs} c a = (of_parts c (only_empty_members C a), λ bs m. members_only_empty C a (member_as C (product qs) c m))
+  parts_only_empty {qs = qs} c a = (of_parts c (only_empty_members C a), zeroed (product qs) qs c refl (all_zero qs a))
 
   -- primitives
   primitive_forth : {x : List ℕ} {n : ℕ} {ps : List (List ℕ)} {bytes : List ℕ} → C x ≡ Some (primitive n) → Members C (x ∷ ps) bytes → Members C ps (drop n bytes)
@@ -65,7 +83,7 @@ module _ (C : List ℕ → Option Shape) where
       subst (λ l. Members C (x ∷ ps) l) (take_drop n bytes) (more_members one m)
 
   primitive_only_empty : {x : List ℕ} {n : ℕ} → n ≡ 0 → All (λ b. b < 256) [] → C x ≡ Some (primitive n) → OnlyEmpty C x
-  primitive_only_empty {n = n} z small c = (of_primitive (c ∙ ap (λ k. Some (primitive k)) z) small, λ bs m. no_bytes bs ((member_as C (primitive n) c m).0 ∙ z))
+  primitive_only_empty {n = n} z small c = (of_primitive (c ∙ ap (λ k. Some (primitive k)) z) small, zeroed (primitive 0) [] (c ∙ ap (λ k. Some (primitive k)) z) refl (λ p a. elim a [ ]))
 
 pub takes_parts : (qs : List (List ℕ)) (bytes : List ℕ) → Takes (product qs) bytes 0 qs
 takes_parts qs bytes = record {
@@ -73,6 +91,7 @@ takes_parts qs bytes = record {
   forth = λ C x ps c m. parts_forth C c m;
   back = λ C x ps c m. parts_back C c m;
   only_empty = λ _ C x c a. parts_only_empty C c a;
+  opens = (refl, refl);
   mentioned = λ p a. a;
   needs = λ _ p a. a;
 }
@@ -83,6 +102,7 @@ takes_primitive n bytes low small none = record {
   forth = λ C x ps c m. primitive_forth C c m;
   back = λ C x ps c m. primitive_back C low small c m;
   only_empty = λ z C x c a. primitive_only_empty C z none c;
+  opens = (length_take n bytes low, small, refl);
   mentioned = λ p a. elim a [ ];
   needs = λ _ p a. elim a [ ];
 }
@@ -115,12 +135,7 @@ module _ (C : List ℕ → Option Shape) where
     sequence_only_empty : {x : List ℕ} → w ≡ 0 → C x ≡ Some (sequence w lo hi e) → AllOnlyEmpty C (replicate k e) → OnlyEmpty C x
     sequence_only_empty {x} z c a = (
       subst (λ l. Member C x l) (ap (λ i. tag i (pos k) ++ []) z ∙ ap (λ l. l ++ []) (no_tag (pos k))) (of_sequence k c low high (only_empty_members C a)),
-      λ bs m. (
-          let b = member_as C (sequence w lo hi e) c m in
-          let t : tag w (pos k) ≡ tag w (pos b.0) = ap (λ i. tag i (pos k)) z ∙ no_tag (pos k) ∙ sym (ap (λ i. tag i (pos b.0)) z ∙ no_tag (pos b.0)) in
-          let o : k ≡ b.0 = one_count w lo hi k b.0 unambiguous low high b.2 b.3 t in
-          let n : b.1 ≡ [] = members_only_empty C a (subst (λ i. Members C (replicate i e) b.1) (sym o) b.4) in
-          b.5 ∙ ap (λ l. tag w (pos b.0) ++ l) n ∙ ap (λ i. tag i (pos b.0) ++ []) z ∙ ap (λ l. l ++ []) (no_tag (pos b.0))),
+      sequence_zero C w lo hi k e z unambiguous low high c a,
     )
 
   -- enums
@@ -139,15 +154,10 @@ module _ (C : List ℕ → Option Shape) where
         let z : (tag w k ++ s.0) ++ s.1 ≡ bytes = append_assoc (tag w k) s.0 s.1 ∙ ap (λ l. tag w k ++ l) (sym s.4) ∙ ap (λ l. l ++ drop w bytes) t ∙ take_drop w bytes in
         subst (λ l. Members C (x ∷ ps) l) z (more_members (of_choice c listed s.2) s.3)
 
-    choice_only_empty : {x : List ℕ} → w ≡ 0 → C x ≡ Some (choice w vs) → OnlyEmpty C p → OnlyEmpty C x
-    choice_only_empty {x} z c h = (
+    choice_only_empty : {x : List ℕ} → (w ≡ 0 → vs ≡ (k, p) ∷ []) → w ≡ 0 → C x ≡ Some (choice w vs) → OnlyEmpty C p → OnlyEmpty C x
+    choice_only_empty {x} single z c h = (
       subst (λ l. Member C x l) (ap (λ i. tag i k ++ []) z ∙ ap (λ l. l ++ []) (no_tag k)) (of_choice c listed h.0),
-      λ bs m. (
-          let b = member_as C (choice w vs) c m in
-          let t : tag w b.0 ≡ tag w k = ap (λ i. tag i b.0) z ∙ no_tag b.0 ∙ sym (ap (λ i. tag i k) z ∙ no_tag k) in
-          let o = one b.0 b.1 b.3 t in
-          let n : b.2 ≡ [] = h.1 b.2 (subst (λ y. Member C y b.2) o b.4) in
-          b.5 ∙ ap (λ l. tag w b.0 ++ l) n ∙ ap (λ i. tag i b.0 ++ []) z ∙ ap (λ l. l ++ []) (no_tag b.0)),
+      choice_zero C w k p vs z (single z) c h.1,
     )
 
   pub short_sequence : {x : List ℕ} {w lo hi : ℕ} {e : List ℕ} {ps : List (List ℕ)} {bytes : List ℕ} → length bytes < w → C x ≡ Some (sequence w lo hi e) → Members C (x ∷ ps) bytes → ⊥
@@ -195,6 +205,7 @@ takes_sequence w lo hi k e bytes unambiguous low high within t = record {
   forth = λ C x ps c m. sequence_forth C w lo hi k e unambiguous low high t c m;
   back = λ C x ps c m. sequence_back C w lo hi k e unambiguous low high t c m;
   only_empty = λ z C x c a. sequence_only_empty C w lo hi k e unambiguous low high z c a;
+  opens = (k, low, high, sym t, refl);
   mentioned = λ p a. subst (λ y. IsIn p (y ∷ [])) (sym (among-replicate k a)) first;
   needs = sequence_needs w lo hi k e unambiguous low high;
 }
@@ -203,12 +214,13 @@ in_variants : {k : ℤ} {p q : List ℕ} {vs : List (ℤ × List ℕ)} → IsLis
 in_variants listed first = variant-listed listed
 in_variants listed (later a) = elim a [ ]
 
-pub takes_choice : (w : ℕ) (k : ℤ) (p bytes : List ℕ) (vs : List (ℤ × List ℕ)) → IsListedVariant k p vs → ((j : ℤ) (q : List ℕ) → IsListedVariant j q vs → tag w j ≡ tag w k → q ≡ p) → (w ≡ 0 → (q : List ℕ) → IsIn q (p ∷ []) → IsIn q (required_by (choice w vs))) → w ≤ length bytes → tag w k ≡ take w bytes → Takes (choice w vs) bytes w (p ∷ [])
-takes_choice w k p bytes vs listed one needs within t = record {
+pub takes_choice : (w : ℕ) (k : ℤ) (p bytes : List ℕ) (vs : List (ℤ × List ℕ)) → IsListedVariant k p vs → ((j : ℤ) (q : List ℕ) → IsListedVariant j q vs → tag w j ≡ tag w k → q ≡ p) → (w ≡ 0 → (q : List ℕ) → IsIn q (p ∷ []) → IsIn q (required_by (choice w vs))) → (w ≡ 0 → vs ≡ (k, p) ∷ []) → w ≤ length bytes → tag w k ≡ take w bytes → Takes (choice w vs) bytes w (p ∷ [])
+takes_choice w k p bytes vs listed one needs single within t = record {
   within = within;
   forth = λ C x ps c m. choice_forth C w k p vs listed one t c m;
   back = λ C x ps c m. choice_back C w k p vs listed one t c m;
-  only_empty = λ z C x c a. choice_only_empty C w k p vs listed one z c a.0;
+  only_empty = λ z C x c a. choice_only_empty C w k p vs listed one single z c a.0;
+  opens = (k, p, listed, sym t, refl);
   mentioned = λ q a. in_variants listed a;
   needs = needs;
 }
@@ -247,6 +259,7 @@ found_choice w size p bytes vs z within f =
     subst (λ i. Takes (choice w vs) bytes i (p.now ∷ [])) (sym z) (takes_choice w f.0 p.now bytes vs f.1
     (λ j q a b. f.3 j q a (ap (λ i. tag i j) l ∙ b ∙ k ∙ sym t))
     (λ zero_is q a. single_needs w f.0 p.now vs (f.4 (t ∙ no_front w bytes zero_is)) zero_is q a)
+    (λ zero_is. f.4 (t ∙ no_front w bytes zero_is))
     (omega arith) k)
 
 pub found_none_choice : (w size : ℕ) (bytes : List ℕ) (vs : List (ℤ × List ℕ)) → size ≡ w → size ≤ length bytes → FoundAs vs (take size bytes) Nothing → (C : List ℕ → Option Shape) (x : List ℕ) (ps : List (List ℕ)) → C x ≡ Some (choice w vs) → Members C (x ∷ ps) bytes → ⊥

@@ -3,4 +3,5 @@ pub mod Membership
 pub mod Numbers
 pub mod Tags
 pub mod Keys
+pub mod Nodes
 pub mod Steps

@@ -1,10 +1,11 @@
 -- What the loop over the bytes of a value works on.
-use Rattle.std.specs.Prelude.{◌≡◌, ℕ, Bool, true, false, suc, zero, ◌+◌, ◌≤◌, ◌<◌, ◌^◌, List, [], ◌∷◌, ◌++◌, length, drop, replicate, ℤ, Option, Some, ⊤}
+use Rattle.std.specs.Prelude.{◌≡◌, ℕ, Bool, true, false, suc, zero, ◌+◌, ◌≤◌, ◌<◌, ◌^◌, List, [], ◌∷◌, ◌++◌, length, take, drop, replicate, ℤ, Option, Some, ⊤}
 use Rattle.std.specs.Borrow.{Bor}
-use Rattle.borsh_walks.specs.Container.{Shape, primitive, sequence, product, choice, IsIn, IsListedVariant, tag, Member, Members, references}
+use Rattle.borsh_walks.specs.Container.{Shape, primitive, sequence, product, choice, IsIn, IsListedVariant, tag, Member, Members, references, IsZeroSize}
 use Rattle.borsh_walks.specs.Definitions.{shape_of}
 use Rattle.borsh_walks.specs.RulesAnswer.{KeepsWidths, IsWidth}
 use Rattle.borsh_values.specs.Unambiguous.{DistinctTags, UnambiguousShape}
+use Rattle.borsh_values.specs.Nodes.{Opens}
 use Rattle.borsh_values.specs.declared.frames.Rest.{Rest}
 use Rattle.borsh_values.specs.declared.frames.Rest.TheVariants.{Copies, Parts}
 use Rattle.borsh_values.specs.declared.frames.Frame.{Frame}
@@ -50,9 +51,9 @@ required_by (choice zero []) = []
 required_by (choice zero (v ∷ u ∷ vs)) = []
 required_by (choice (suc w) vs) = []
 
--- the empty list is a member of the name, and none else is
+-- the empty list is a member of the name, and none else is, since the name is of zero size
 abbrev pub OnlyEmpty : (List ℕ → Option Shape) → List ℕ → Type 0
-OnlyEmpty C x = Member C x [] × ((bs : List ℕ) → Member C x bs → bs ≡ [])
+OnlyEmpty C x = Member C x [] × IsZeroSize C x
 
 abbrev pub AllOnlyEmpty : (List ℕ → Option Shape) → List (List ℕ) → Type 0
 AllOnlyEmpty C [] = ⊤
@@ -68,6 +69,8 @@ pub record Takes (d : Shape) (bytes : List ℕ) (n : ℕ) (ns : List (List ℕ))
   pub back : (C : List ℕ → Option Shape) (x : List ℕ) (ps : List (List ℕ)) → C x ≡ Some d → Members C (ns ++ ps) (drop n bytes) → Members C (x ∷ ps) bytes
   -- where no byte is taken and none is in ns, the name has the empty member alone
   pub only_empty : n ≡ 0 → (C : List ℕ → Option Shape) (x : List ℕ) → C x ≡ Some d → AllOnlyEmpty C ns → OnlyEmpty C x
+  -- the n bytes are those that the definition encodes before its parts ns
+  pub opens : Opens d (take n bytes) ns
   -- the names are written in the definition
   pub mentioned : (p : List ℕ) → IsIn p ns → IsIn p (references d)
   -- where no byte is taken, they are required
