@@ -11,3 +11,5 @@ pub mod Valid
 pub mod KeyLaws
 pub mod DistinctLaws
 pub mod Reach
+pub mod NodesLaws
+pub mod Listing

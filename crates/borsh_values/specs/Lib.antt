@@ -4,4 +4,5 @@ pub mod Numbers
 pub mod Tags
 pub mod Keys
 pub mod Nodes
+pub mod Decoding
 pub mod Steps

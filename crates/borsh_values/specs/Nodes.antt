@@ -1,5 +1,7 @@
 -- The nodes of a value: its parts in preorder, each with the bytes that it encodes before its own parts.
-use Rattle.std.specs.Prelude.{◌≡◌, ℕ, ◌<◌, ◌≤◌, ℤ, pos, List, [], ◌∷◌, ◌++◌, length, replicate, Option, Some, All}
+use Rattle.std.specs.Prelude.{◌≡◌, ◌⊎◌, ℕ, ◌<◌, ◌≤◌, ℤ, pos, List, [], ◌∷◌, ◌++◌, length, replicate, Option, Some, All}
+use Rattle.borsh_walks.specs.Definitions.{shape_of}
+use Rattle.borsh_values.specs.declared.nodes.Node.{Node}
 use Rattle.borsh_walks.specs.Container.{Shape, primitive, sequence, product, choice, IsListedVariant, tag, Member, IsZeroSize}
 
 -- a value of the definition is these bytes, and then the parts: a primitive all its bytes, a sequence its count, a struct or tuple none, an enum its tag
@@ -12,6 +14,23 @@ Opens (choice w vs) own ns = (k : ℤ) × (p : List ℕ) × IsListedVariant k p 
 -- a node: its name, the definition of the name, and its own bytes
 abbrev pub NodeView : Type 0
 NodeView = List ℕ × Shape × List ℕ
+
+-- what the node of the code is
+abbrev pub view_of : Node → NodeView
+view_of n = (n.name.now, shape_of n.definition.now, n.bytes.now)
+
+abbrev pub views : List Node → List NodeView
+views [] = []
+views (n ∷ ns) = view_of n ∷ views ns
+
+-- all own bytes, one after another
+abbrev pub joined_bytes : List NodeView → List ℕ
+joined_bytes [] = []
+joined_bytes (e ∷ es) = e.2 ++ joined_bytes es
+
+-- a node of a name of zero size is left out, and any other is added
+abbrev pub ListsNode : (List ℕ → Option Shape) → Node → List Node → List Node → Type 0
+ListsNode C n old new = ((n.bytes.now ≡ []) × IsZeroSize C n.name.now × (new ≡ old)) ⊎ ((n.bytes.now ≡ [] → IsZeroSize C n.name.now → ⊥) × (new ≡ old ++ n ∷ []))
 
 module _ (C : List ℕ → Option Shape) where
   -- bytes are members of the names, one after another, and these are the nodes; a value of a name of zero size has no node

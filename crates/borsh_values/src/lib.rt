@@ -8,12 +8,14 @@
 
 pub mod frames;
 pub mod members;
+pub mod nodes;
 pub mod numbers;
 pub mod opening;
 pub mod tags;
 pub mod unambiguous;
 
-pub use members::{Membership, is_member};
+pub use members::{Decoded, Membership, decode, is_member};
+pub use nodes::Node;
 pub use unambiguous::find_ambiguous;
 
 #[cfg(test)]

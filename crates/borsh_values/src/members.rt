@@ -3,9 +3,14 @@ ghost use Rattle.borsh_values.specs.Membership.{AnswersMembership, IsAnswer, IsA
 ghost use Rattle.borsh_values.specs.Steps.{KnownAs};
 ghost use Rattle.borsh_walks.specs.Tables.{mark_of};
 ghost use Rattle.borsh_walks.specs.Definitions.{definitions_in};
-ghost use Rattle.std.specs.Prelude.{IfOk, ◌≤◌, ◌≡◌, length, drop};
+ghost use Rattle.borsh_values.specs.Nodes.{Nodes, views};
+ghost use Rattle.borsh_values.specs.Decoding.{DecodesValue};
+ghost use Rattle.borsh_values.specs.declared.members.Membership.TheVariants.{Member as IsMember};
+ghost use Rattle.borsh_walks.specs.ZeroAnswer.{ZeroTable};
+ghost use Rattle.std.specs.Prelude.{IfOk, ◌≤◌, ◌≡◌, ◌∷◌, [], length, drop, take, true};
 
 use crate::frames::{Frame, Opened, Rest, after_copies, next_part};
+use crate::nodes::{Node, list_node};
 use crate::opening::open_definition;
 use borsh_walks::Definition;
 use std::alloc::{AllocError, Global};
@@ -59,6 +64,14 @@ fn look_up<'a>(table: &BTreeMap<&'a str, Mark>, name: &str, left: usize) -> Know
     }
 }
 
+// The first bytes.
+fn front(bytes: &[u8], taken: usize) -> &[u8]
+    requires { taken ≤ length bytes.now }
+    ensures { result.now ≡ take taken bytes.now }
+{
+    &bytes[..taken]
+}
+
 // The bytes behind the first ones.
 fn after(bytes: &[u8], taken: usize) -> &[u8]
     requires { taken ≤ length bytes.now }
@@ -87,22 +100,64 @@ pub fn is_member<'a>(
     alloc: Global,
     root: &'a str,
     map: &'a BTreeMap<String, Definition>,
-    bytes: &[u8],
+    bytes: &'a [u8],
 ) -> Result<Membership, AllocError>
     ensures { AnswersMembership (definitions_in map.now) root.now bytes.now result }
 {
-    decide(alloc, root, map, bytes)
+    let mut zeros: BTreeMap<&'a str, bool> = BTreeMap::new(alloc);
+    let mut nodes: Vec<Node<'a>> = Vec::new(alloc);
+    decide(alloc, root, map, bytes, false, &mut zeros, &mut nodes)
 }
 
-// The loop over the bytes. Each frame of `stack` waits until the one after it was read; `idle` counts the names
+/// The nodes of a value, where bytes are a member.
+#[derive(Drop)]
+pub enum Decoded<'a> {
+    /// The bytes are a member, and these are its nodes in preorder. A value of a name of zero size has none.
+    Nodes(Vec<Node<'a>>),
+    /// The bytes are no member.
+    NoMember,
+    /// As [`Membership::Ambiguous`].
+    Ambiguous,
+}
+
+/// The nodes of the value of `root` that all of `bytes` is, by the definitions of `map` alone.
+///
+/// The definitions may be any, as for [`is_member`], and the answer is of the same kind. Where they are
+/// unambiguous, as [`crate::find_ambiguous`] says, the bytes have these nodes and no others. The own bytes of all
+/// nodes, one after another, are `bytes`. An error is a refused allocation.
+pub fn decode<'a>(
+    alloc: Global,
+    root: &'a str,
+    map: &'a BTreeMap<String, Definition>,
+    bytes: &'a [u8],
+) -> Result<Decoded<'a>, AllocError>
+    ensures { DecodesValue (definitions_in map.now) root.now bytes.now result }
+{
+    let mut zeros: BTreeMap<&'a str, bool> = BTreeMap::new(alloc);
+    let mut nodes: Vec<Node<'a>> = Vec::new(alloc);
+    match decide(alloc, root, map, bytes, true, &mut zeros, &mut nodes)? {
+        Membership::Member => Ok(Decoded::Nodes(nodes)),
+        Membership::NoMember => Ok(Decoded::NoMember),
+        Membership::Ambiguous => Ok(Decoded::Ambiguous),
+    }
+}
+
+// The loop over the bytes, which lists the nodes if they are wanted. Each frame of `stack` waits until the one after it was read; `idle` counts the names
 // that were begun since the last byte was taken.
 fn decide<'a>(
     alloc: Global,
     root: &'a str,
     map: &'a BTreeMap<String, Definition>,
-    bytes: &[u8],
+    bytes: &'a [u8],
+    wanted: bool,
+    zeros: &mut BTreeMap<&'a str, bool>,
+    nodes: &mut Vec<Node<'a>>,
 ) -> Result<Membership, AllocError>
-    ensures { IfOk result (λ a. IsAnswer (definitions_in map.now) root.now bytes.now a) }
+    requires table { ZeroTable (definitions_in map.now) zeros.old }
+    requires empty { nodes.old.items ≡ [] }
+    ensures answer { IfOk result (λ a. IsAnswer (definitions_in map.now) root.now bytes.now a) }
+    ensures listed { wanted ≡ true → IfOk result (λ a. a ≡ IsMember →
+        Nodes (definitions_in map.now) (root.now ∷ []) bytes.now (views nodes.new.items)) }
 {
     let mut table: BTreeMap<&'a str, Mark> = BTreeMap::new(alloc);
     let mut stack: Vec<Frame<'a>> = Vec::new(alloc);
@@ -127,6 +182,12 @@ fn decide<'a>(
                         Opened::Undecided => return Ok(Membership::Ambiguous),
                         Opened::Refused => return Ok(Membership::NoMember),
                         Opened::Taken(taken, rest) => {
+                            let node = Node {
+                                name: step.part,
+                                definition,
+                                bytes: front(left, taken),
+                            };
+                            list_node(alloc, wanted, map, zeros, nodes, node)?;
                             frame.rest = step.others;
                             stack.push(frame)?;
                             frame = Frame {

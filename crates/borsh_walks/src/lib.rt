@@ -13,7 +13,7 @@ pub mod parts;
 pub mod rules;
 pub mod sizes;
 mod way;
-mod zero;
+pub mod zero;
 
 pub use counted::{Counted, Expansions, Question};
 pub use definition::{

@@ -1,4 +1,4 @@
-use Rattle.std.proofs.Common.{◌≡◌, ℕ, suc, ◌+◌, ◌<◌, ◌≤◌, List, [], ◌∷◌, length, drop, length-drop, zero, reverse, refl, sym, ◌∙◌, ap, subst, arith, add-one}
+use Rattle.std.proofs.Common.{◌≡◌, ℕ, suc, ◌+◌, ◌<◌, ◌≤◌, List, [], ◌∷◌, ◌++◌, length, drop, length-drop, zero, reverse, replicate, append_assoc, refl, sym, ◌∙◌, ap, subst, arith, add-one}
 use Rattle.std.specs.Prelude.{Option}
 use Rattle.std.specs.BTreeMap.{btree_map_len}
 use Rattle.borsh_walks.specs.Definitions.{definitions_in, shape_of}
@@ -13,6 +13,11 @@ use Rattle.borsh_values.specs.declared.members.Mark.TheVariants.{Empty, Open}
 use Rattle.borsh_values.specs.declared.members.Membership.{Membership}
 use Rattle.borsh_values.specs.declared.members.Membership.TheVariants.{Member as IsMember, NoMember, Ambiguous}
 use Rattle.borsh_values.specs.Membership.{IsAnswer, IsAnswerAtEnd}
+use Rattle.borsh_values.specs.declared.nodes.Node.{Node}
+use Rattle.borsh_values.specs.Nodes.{NodeView, Nodes, nodes_none, views}
+use Rattle.borsh_values.proofs.NodesLaws.{nodes_skip}
+use Rattle.borsh_values.proofs.Listing.{list_more, all_views}
+use Rattle.borsh_values.specs.Steps.{pending, remaining}
 use Rattle.borsh_values.proofs.Walk.{Walk, walk_start, walk_skip, walk_still, walk_on, walk_up, walk_up_empty, walk_end, no_definition, refused, leads_back, with_rest, part_reached}
 use Rattle.borsh_values.proofs.Measure.{left, left_moved, left_up, left_still, left_on, work_found, some_step}
 use Rattle.borsh_values.proofs.members.decide.Goals as goal
@@ -25,6 +30,8 @@ loop-step-init c =
       names = [];
       state = subst (λ l. Walk C c.args.root.now c.args.bytes.now (mark_of c.new-table.result) (reverse l) f c.args.bytes.now []) (sym c.new-stack.ensures.items) (walk_start C f (marks_none c.new-table.result c.new-table.ensures.empty) (omega arith) refl);
       count = refl;
+      table = c.requires.table;
+      listed = λ w es n. subst (λ l. Nodes C (c.args.root.now ∷ []) c.args.bytes.now (views l ++ es)) (sym c.requires.empty) (subst (λ l. Nodes C (c.args.root.now ∷ pending (reverse l)) c.args.bytes.now es) c.new-stack.ensures.items n);
     }
 
 pub loop-step-smaller-in-Empty : goal.loop-step-smaller-in-Empty
@@ -35,22 +42,31 @@ loop-step-preserved-in-Empty c =
     let C = definitions_in c.args.map.now in
     let i = c.loop-step.invariant in
     let s = c.after_copies-frame.ensures in
-    record { names = i.names; state = walk_skip C s.0 c.after_copies-frame.result i.state c.in-Empty.ensures s.1; count = i.count }
+    let p = c.in-Some.step.part.now in
+    let fs = reverse c.loop-step.stack.items in
+    let same : pending (c.loop-step.frame ∷ fs) ≡ replicate (suc s.0) p ++ (remaining c.after_copies-frame.result ++ pending fs) = ap (λ l. l ++ pending fs) s.1 ∙ append_assoc (replicate (suc s.0) p) (remaining c.after_copies-frame.result) (pending fs) in
+    record {
+      names = i.names;
+      state = walk_skip C s.0 c.after_copies-frame.result i.state c.in-Empty.ensures s.1;
+      count = i.count;
+      table = i.table;
+      listed = λ w es n. i.listed w es (subst (λ l. Nodes C l c.loop-step.left.now es) (sym same) (nodes_skip C (suc s.0) (i.state.empty p c.in-Empty.ensures) n));
+    }
 
-pub returns-in-Recursive : goal.returns-in-Recursive
-returns-in-Recursive c =
+pub returns-in-Recursive-clause-answer : goal.returns-in-Recursive-clause-answer
+returns-in-Recursive-clause-answer c =
     let C = definitions_in c.args.map.now in
     let i = c.loop-step.invariant in
     leads_back C i.state c.in-Some.step.others c.in-Some.ensures.parts c.in-Recursive.ensures
 
-pub returns-in_default : goal.returns-in_default
-returns-in_default c =
+pub returns-in_default-clause-answer : goal.returns-in_default-clause-answer
+returns-in_default-clause-answer c =
     let C = definitions_in c.args.map.now in
     let i = c.loop-step.invariant in
     no_definition C i.state c.in-Some.step.others c.in-Some.ensures.parts (found_none c.args.map c.args.map c.in-Some.step.part.now refl c.in_default.ensures.value)
 
-pub returns-in-Refused : goal.returns-in-Refused
-returns-in-Refused c =
+pub returns-in-Refused-clause-answer : goal.returns-in-Refused-clause-answer
+returns-in-Refused-clause-answer c =
     let C = definitions_in c.args.map.now in
     let i = c.loop-step.invariant in
     let e = found_shape c.args.map c.args.map c.in-Some.step.part.now c.in-Some-get.definition.now refl c.in-Some-get.ensures.value in
@@ -105,6 +121,14 @@ loop-step-preserved-then-taken-eq0 c =
       names = p ∷ i.names;
       state = subst (λ l. Walk C c.args.root.now c.args.bytes.now (mark_of c.insert.new.self) l g c.loop-step.left.now (p ∷ i.names)) (sym back) s;
       count = ap suc i.count ∙ sym (add-one c.loop-step.idle);
+      table = c.in_ok-list_node-in-Taken.ensures.table;
+      listed = λ w es n.
+        let fs = reverse c.loop-step.stack.items in
+        let same : pending (c.loop-step.frame ∷ fs) ≡ p ∷ (remaining c.in-Some.step.others ++ pending fs) = ap (λ l. l ++ pending fs) c.in-Some.ensures.parts in
+        let node : Node = record { name = c.in-Some.step.part; definition = c.in-Some-get.definition; bytes = c.front.result } in
+        list_more C (λ l. Nodes C (c.args.root.now ∷ []) c.args.bytes.now l) node c.loop-step.nodes.items c.list_node.new.nodes.items c.in-Taken.taken c.loop-step.left.now (remaining c.in-Taken.rest) (remaining c.in-Some.step.others ++ pending fs) e c.front.ensures c.in-Taken.ensures.0.opens (c.in_ok-list_node-in-Taken.ensures.listed w)
+        (λ fs2 m. i.listed w fs2 (subst (λ l. Nodes C l c.loop-step.left.now fs2) (sym same) m)) es
+        (subst (λ b. Nodes C (remaining c.in-Taken.rest ++ (remaining c.in-Some.step.others ++ pending fs)) b es) (sym (ap (λ k. drop k c.loop-step.left.now) c.if-taken-eq0.true)) (subst (λ l. Nodes C (remaining c.in-Taken.rest ++ pending l) c.loop-step.left.now es) back n));
     }
 
 positive : (n : ℕ) → (n ≡ 0 → ⊥) → 0 < n
@@ -141,6 +165,14 @@ loop-step-preserved-else-taken-eq0 c =
       names = [];
       state = subst (λ l. Walk C c.args.root.now c.args.bytes.now (mark_of c.loop-step.table) l g c.after-left.result.now []) (sym back) (subst (λ b. Walk C c.args.root.now c.args.bytes.now (mark_of c.loop-step.table) (h ∷ reverse c.loop-step.stack.items) g b []) (sym c.after-left.ensures) s);
       count = refl;
+      table = c.in_ok-list_node-in-Taken.ensures.table;
+      listed = λ w es n.
+        let fs = reverse c.loop-step.stack.items in
+        let same : pending (c.loop-step.frame ∷ fs) ≡ p ∷ (remaining c.in-Some.step.others ++ pending fs) = ap (λ l. l ++ pending fs) c.in-Some.ensures.parts in
+        let node : Node = record { name = c.in-Some.step.part; definition = c.in-Some-get.definition; bytes = c.front.result } in
+        list_more C (λ l. Nodes C (c.args.root.now ∷ []) c.args.bytes.now l) node c.loop-step.nodes.items c.list_node.new.nodes.items c.in-Taken.taken c.loop-step.left.now (remaining c.in-Taken.rest) (remaining c.in-Some.step.others ++ pending fs) e c.front.ensures c.in-Taken.ensures.0.opens (c.in_ok-list_node-in-Taken.ensures.listed w)
+        (λ fs2 m. i.listed w fs2 (subst (λ l. Nodes C l c.loop-step.left.now fs2) (sym same) m)) es
+        (subst (λ b. Nodes C (remaining c.in-Taken.rest ++ (remaining c.in-Some.step.others ++ pending fs)) b es) c.after-left.ensures (subst (λ l. Nodes C (remaining c.in-Taken.rest ++ pending l) c.after-left.result.now es) back n));
     }
 
 pub loop-step-smaller-in_ok-insert-in-Some-pop : goal.loop-step-smaller-in_ok-insert-in-Some-pop
@@ -158,7 +190,7 @@ loop-step-preserved-in_ok-insert-in-Some-pop c =
     let items = last_first c.pop.new.self.items c.loop-step.stack.items c.in-Some-pop.above c.in-Some-pop.ensures.items in
     let s = subst (λ l. Walk C c.args.root.now c.args.bytes.now (mark_of c.loop-step.table) l c.loop-step.frame c.loop-step.left.now i.names) items i.state in
     let u = updated_by c.loop-step.frame.name.now c.loop-step.table c.insert-then-frame-left.new.self Empty c.in_ok-insert-in-Some-pop.ensures.updates in
-    record { names = i.names; state = walk_up_empty C s c.in-None.ensures.parts c.if-frame-left.true u; count = i.count }
+    record { names = i.names; state = walk_up_empty C s c.in-None.ensures.parts c.if-frame-left.true u; count = i.count; table = i.table; listed = λ w es n. i.listed w es (subst (λ l. Nodes C l c.loop-step.left.now es) (sym (ap (λ l. l ++ pending (reverse c.loop-step.stack.items)) c.in-None.ensures.parts ∙ ap (λ l. pending l) items)) n) }
 
 pub loop-step-smaller : goal.loop-step-smaller
 loop-step-smaller c =
@@ -174,24 +206,39 @@ loop-step-preserved c =
     let i = c.loop-step.invariant in
     let items = last_first c.pop.new.self.items c.loop-step.stack.items c.in-Some-pop.above c.in-Some-pop.ensures.items in
     let s = subst (λ l. Walk C c.args.root.now c.args.bytes.now (mark_of c.loop-step.table) l c.loop-step.frame c.loop-step.left.now i.names) items i.state in
-    record { names = i.names; state = walk_up C s c.in-None.ensures.parts c.if-frame-left.false; count = i.count }
+    record { names = i.names; state = walk_up C s c.in-None.ensures.parts c.if-frame-left.false; count = i.count; table = i.table; listed = λ w es n. i.listed w es (subst (λ l. Nodes C l c.loop-step.left.now es) (sym (ap (λ l. l ++ pending (reverse c.loop-step.stack.items)) c.in-None.ensures.parts ∙ ap (λ l. pending l) items)) n) }
 
 end_answer : (C : List ℕ → Option Shape) (root bytes rest : List ℕ) (a : Membership) → IsAnswerAtEnd rest a → (Member C root bytes → rest ≡ []) × (rest ≡ [] → Member C root bytes) → IsAnswer C root bytes a
 end_answer C root bytes rest IsMember h w = w.1 h
 end_answer C root bytes rest NoMember h w = λ m. h (w.0 m)
 end_answer C root bytes rest Ambiguous h w = absurd h
 
-pub returns-in-None-pop : goal.returns-in-None-pop
-returns-in-None-pop c =
+pub returns-in-None-pop-clause-answer : goal.returns-in-None-pop-clause-answer
+returns-in-None-pop-clause-answer c =
     let C = definitions_in c.args.map.now in
     let i = c.loop-step.invariant in
     let none = no_items c.loop-step.stack.items (omega (arith, c.in-None-pop.ensures.cases.0, c.loop-step.stack.ok.0)) in
     let s = subst (λ l. Walk C c.args.root.now c.args.bytes.now (mark_of c.loop-step.table) (reverse l) c.loop-step.frame c.loop-step.left.now i.names) none i.state in
     end_answer C c.args.root.now c.args.bytes.now c.loop-step.left.now c.at_end.result c.at_end.ensures (walk_end C s c.in-None.ensures.parts)
 
-pub returns-in-Undecided : goal.returns-in-Undecided
-returns-in-Undecided c =
+pub returns-in-Undecided-clause-answer : goal.returns-in-Undecided-clause-answer
+returns-in-Undecided-clause-answer c =
     let C = definitions_in c.args.map.now in
     let i = c.loop-step.invariant in
     let e = found_shape c.args.map c.args.map c.in-Some.step.part.now c.in-Some-get.definition.now refl c.in-Some-get.ensures.value in
     (c.in-Some.step.part.now, shape_of c.in-Some-get.definition.now, part_reached C i.state c.in-Some.step.others c.in-Some.ensures.parts, e, c.in-Undecided.ensures)
+
+at_end_empty : (rest : List ℕ) (a : Membership) → IsAnswerAtEnd rest a → a ≡ IsMember → rest ≡ []
+at_end_empty rest IsMember h e = h
+at_end_empty rest NoMember h e = cc
+at_end_empty rest Ambiguous h e = cc
+
+pub returns-in-None-pop-clause-listed : goal.returns-in-None-pop-clause-listed
+returns-in-None-pop-clause-listed c = λ w e.
+    let C = definitions_in c.args.map.now in
+    let i = c.loop-step.invariant in
+    let none = no_items c.loop-step.stack.items (omega (arith, c.in-None-pop.ensures.cases.0, c.loop-step.stack.ok.0)) in
+    let left = at_end_empty c.loop-step.left.now c.at_end.result c.at_end.ensures e in
+    let same : pending (c.loop-step.frame ∷ reverse c.loop-step.stack.items) ≡ [] = ap (λ l. l ++ pending (reverse c.loop-step.stack.items)) c.in-None.ensures.parts ∙ ap (λ l. pending (reverse l)) none in
+    let n = i.listed w [] (subst (λ l. Nodes C l c.loop-step.left.now []) (sym same) (subst (λ b. Nodes C [] b []) (sym left) nodes_none)) in
+    subst (λ l. Nodes C (c.args.root.now ∷ []) c.args.bytes.now l) (all_views (views c.loop-step.nodes.items)) n
