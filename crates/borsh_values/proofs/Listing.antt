@@ -28,12 +28,12 @@ list_more C G n old new k left ns qs c b o lists f es h =
     let own = take k left in
     elim lists [
       | inl z ↦ (
-        let m = subst (λ l. Nodes C (x ∷ qs) l es) (take_drop k left) (nodes_opened_zero C d own ns c o z.1 h) in
-        subst (λ l. G (views l ++ es)) (sym z.2) (f es m))
+          let m = subst (λ l. Nodes C (x ∷ qs) l es) (take_drop k left) (nodes_opened_zero C d own ns c o z.1 h) in
+          subst (λ l. G (views l ++ es)) (sym z.2) (f es m))
       | inr z ↦ (
-        let off : IsZeroSize C x → ⊥ = λ i. z.0 (b ∙ (opened_zero C d own ns c i o).0) i in
-        let m = subst (λ l. Nodes C (x ∷ qs) l ((x, d, own) ∷ es)) (take_drop k left) (nodes_more d ns off c o h) in
-        let g = subst (λ l. G (views old ++ (x, d, l) ∷ es)) (sym b) (f ((x, d, own) ∷ es) m) in
-        let a : views new ++ es ≡ views old ++ view_of n ∷ es = ap (λ l. views l ++ es) z.1 ∙ ap (λ l. l ++ es) (views_append old n) ∙ append_assoc (views old) (view_of n ∷ []) es in
-        subst G (sym a) g)
+          let off : IsZeroSize C x → ⊥ = λ i. z.0 (b ∙ (opened_zero C d own ns c i o).0) i in
+          let m = subst (λ l. Nodes C (x ∷ qs) l ((x, d, own) ∷ es)) (take_drop k left) (nodes_more d ns off c o h) in
+          let g = subst (λ l. G (views old ++ (x, d, l) ∷ es)) (sym b) (f ((x, d, own) ∷ es) m) in
+          let a : views new ++ es ≡ views old ++ view_of n ∷ es = ap (λ l. views l ++ es) z.1 ∙ ap (λ l. l ++ es) (views_append old n) ∙ append_assoc (views old) (view_of n ∷ []) es in
+          subst G (sym a) g)
     ]

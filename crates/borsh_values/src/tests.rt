@@ -319,6 +319,151 @@ fn definitions_that_no_type_has(rt: HostRuntime) -> Result<(), Fail> {
     Ok(())
 }
 
+#[test]
+fn ambiguous_definitions(rt: HostRuntime) -> Result<(), Fail> {
+    let alloc = rt.alloc();
+    let mut map = definitions(alloc)?;
+    let m = &mut map;
+    put(
+        alloc,
+        m,
+        "alike",
+        choice(alloc, 1, &[(-1, "u8"), (255, "u8")])?,
+    )?;
+    put(
+        alloc,
+        m,
+        "apart",
+        choice(alloc, 2, &[(-1, "u8"), (255, "u8")])?,
+    )?;
+    put(
+        alloc,
+        m,
+        "nine",
+        choice(alloc, 9, &[(-1, "u8"), (i64::MAX, "u8"), (i64::MIN, "u8")])?,
+    )?;
+    put(alloc, m, "far", sequence(alloc, 1, (1000, 1255), "u8")?)?;
+    put(alloc, m, "too far", sequence(alloc, 1, (1000, 1256), "u8")?)?;
+    put(
+        alloc,
+        m,
+        "list of twice",
+        sequence(alloc, 1, (0, 0), "twice")?,
+    )?;
+    let table: &[(&str, &str)] = &[
+        ("u8", ""),
+        ("Pair", ""),
+        ("Option<u8>", ""),
+        ("signed", ""),
+        ("wide", ""),
+        ("only", ""),
+        ("never", ""),
+        ("List", ""),
+        ("left", ""),
+        ("most units", ""),
+        ("many u32", ""),
+        ("nowhere", ""),
+        ("misses", ""),
+        ("no array", ""),
+        ("three", ""),
+        ("twice", "twice"),
+        ("behind", "twice"),
+        ("list of twice", "twice"),
+        ("two of 0", "two of 0"),
+        ("any array", "any array"),
+        ("narrow", "narrow"),
+        ("alike", "alike"),
+        ("apart", ""),
+        ("nine", ""),
+        ("far", ""),
+        ("too far", "too far"),
+    ];
+    for (root, expected) in table {
+        let found = find_ambiguous(alloc, root, &map)?;
+        assert_eq!(rt; found.unwrap_or(""), *expected);
+    }
+    Ok(())
+}
+
+// An enum of 20000 variants: each tag is looked up once.
+#[test]
+fn many_variants(rt: HostRuntime) -> Result<(), Fail> {
+    let alloc = rt.alloc();
+    let mut map: Definitions = BTreeMap::new(alloc);
+    let mut variants = Vec::new(alloc);
+    for discriminant in 0..20000i64 {
+        variants.push((discriminant, text(alloc, "v")?, text(alloc, "u8")?))?;
+    }
+    put(
+        alloc,
+        &mut map,
+        "wide",
+        Definition::Enum {
+            tag_width: 4,
+            variants,
+        },
+    )?;
+    assert_eq!(rt; find_ambiguous(alloc, "wide", &map)?, None);
+    Ok(())
+}
+
+#[test]
+fn nodes_in_preorder(rt: HostRuntime) -> Result<(), Fail> {
+    let alloc = rt.alloc();
+    let map = definitions(alloc)?;
+    let table: &[(&str, &[u8], &[(&str, &[u8])])] = &[
+        ("u32", &[1, 2, 3, 4], &[("u32", &[1, 2, 3, 4])]),
+        ("Unit", &[], &[]),
+        ("most units", &[], &[]),
+        (
+            "counted units",
+            &[9, 0, 0, 0],
+            &[("counted units", &[9, 0, 0, 0])],
+        ),
+        (
+            "[u8; 3]",
+            &[1, 2, 3],
+            &[("[u8; 3]", &[]), ("u8", &[1]), ("u8", &[2]), ("u8", &[3])],
+        ),
+        (
+            "Pair",
+            &[7, 1, 0, 0, 0, 8],
+            &[
+                ("Pair", &[]),
+                ("u8", &[7]),
+                ("Vec<u8>", &[1, 0, 0, 0]),
+                ("u8", &[8]),
+            ],
+        ),
+        ("Option<u8>", &[0], &[("Option<u8>", &[0])]),
+        ("Option<u8>", &[1, 5], &[("Option<u8>", &[1]), ("u8", &[5])]),
+        (
+            "signed",
+            &[255, 255, 7],
+            &[("signed", &[255, 255]), ("u8", &[7])],
+        ),
+        (
+            "List",
+            &[1, 5, 0],
+            &[("List", &[1]), ("Link", &[]), ("u8", &[5]), ("List", &[0])],
+        ),
+    ];
+    for (root, bytes, expected) in table {
+        let Decoded::Nodes(nodes) = decode(alloc, root, &map, bytes)? else {
+            return Err(Fail::from("no nodes"));
+        };
+        assert_eq!(rt; nodes.len(), expected.len());
+        for (node, (name, own)) in nodes.iter().zip(expected.iter()) {
+            assert_eq!(rt; node.name, *name);
+            assert_eq!(rt; node.bytes, *own);
+        }
+    }
+    assert!(rt; matches!(decode(alloc, "u8", &map, &[])?, Decoded::NoMember));
+    assert!(rt; matches!(decode(alloc, "left", &map, &[])?, Decoded::NoMember));
+    assert!(rt; matches!(decode(alloc, "behind", &map, &[5, 0])?, Decoded::Ambiguous));
+    Ok(())
+}
+
 // Tuples of the one before, twice, 60 deep: 2^60 values without bytes.
 #[test]
 fn tuples_of_tuples_without_bytes(rt: HostRuntime) -> Result<(), Fail> {
@@ -340,15 +485,15 @@ fn tuples_of_tuples_without_bytes(rt: HostRuntime) -> Result<(), Fail> {
 fn many_bytes(rt: HostRuntime) -> Result<(), Fail> {
     let alloc = rt.alloc();
     let map = definitions(alloc)?;
-    let mut bytes = Vec::from_slice(alloc, &[0, 0, 16, 0])?;
-    for _ in 0..1048576u64 {
+    let mut bytes = Vec::from_slice(alloc, &[0, 0, 1, 0])?;
+    for _ in 0..65536u64 {
         bytes.push(7)?;
     }
     assert_eq!(rt; is_member(alloc, "Vec<u8>", &map, &bytes)?, Member);
     bytes.push(7)?;
     assert_eq!(rt; is_member(alloc, "Vec<u8>", &map, &bytes)?, NoMember);
     let mut links: Vec<u8> = Vec::new(alloc);
-    for _ in 0..200000u64 {
+    for _ in 0..20000u64 {
         links.push(1)?;
         links.push(9)?;
     }

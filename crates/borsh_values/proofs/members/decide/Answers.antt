@@ -123,12 +123,12 @@ loop-step-preserved-then-taken-eq0 c =
       count = ap suc i.count ∙ sym (add-one c.loop-step.idle);
       table = c.in_ok-list_node-in-Taken.ensures.table;
       listed = λ w es n.
-        let fs = reverse c.loop-step.stack.items in
-        let same : pending (c.loop-step.frame ∷ fs) ≡ p ∷ (remaining c.in-Some.step.others ++ pending fs) = ap (λ l. l ++ pending fs) c.in-Some.ensures.parts in
-        let node : Node = record { name = c.in-Some.step.part; definition = c.in-Some-get.definition; bytes = c.front.result } in
-        list_more C (λ l. Nodes C (c.args.root.now ∷ []) c.args.bytes.now l) node c.loop-step.nodes.items c.list_node.new.nodes.items c.in-Taken.taken c.loop-step.left.now (remaining c.in-Taken.rest) (remaining c.in-Some.step.others ++ pending fs) e c.front.ensures c.in-Taken.ensures.0.opens (c.in_ok-list_node-in-Taken.ensures.listed w)
-        (λ fs2 m. i.listed w fs2 (subst (λ l. Nodes C l c.loop-step.left.now fs2) (sym same) m)) es
-        (subst (λ b. Nodes C (remaining c.in-Taken.rest ++ (remaining c.in-Some.step.others ++ pending fs)) b es) (sym (ap (λ k. drop k c.loop-step.left.now) c.if-taken-eq0.true)) (subst (λ l. Nodes C (remaining c.in-Taken.rest ++ pending l) c.loop-step.left.now es) back n));
+          let fs = reverse c.loop-step.stack.items in
+          let same : pending (c.loop-step.frame ∷ fs) ≡ p ∷ (remaining c.in-Some.step.others ++ pending fs) = ap (λ l. l ++ pending fs) c.in-Some.ensures.parts in
+          let node : Node = record { name = c.in-Some.step.part; definition = c.in-Some-get.definition; bytes = c.front.result } in
+          list_more C (λ l. Nodes C (c.args.root.now ∷ []) c.args.bytes.now l) node c.loop-step.nodes.items c.list_node.new.nodes.items c.in-Taken.taken c.loop-step.left.now (remaining c.in-Taken.rest) (remaining c.in-Some.step.others ++ pending fs) e c.front.ensures c.in-Taken.ensures.0.opens (c.in_ok-list_node-in-Taken.ensures.listed w)
+          (λ fs2 m. i.listed w fs2 (subst (λ l. Nodes C l c.loop-step.left.now fs2) (sym same) m)) es
+          (subst (λ b. Nodes C (remaining c.in-Taken.rest ++ (remaining c.in-Some.step.others ++ pending fs)) b es) (sym (ap (λ k. drop k c.loop-step.left.now) c.if-taken-eq0.true)) (subst (λ l. Nodes C (remaining c.in-Taken.rest ++ pending l) c.loop-step.left.now es) back n));
     }
 
 positive : (n : ℕ) → (n ≡ 0 → ⊥) → 0 < n
@@ -167,12 +167,12 @@ loop-step-preserved-else-taken-eq0 c =
       count = refl;
       table = c.in_ok-list_node-in-Taken.ensures.table;
       listed = λ w es n.
-        let fs = reverse c.loop-step.stack.items in
-        let same : pending (c.loop-step.frame ∷ fs) ≡ p ∷ (remaining c.in-Some.step.others ++ pending fs) = ap (λ l. l ++ pending fs) c.in-Some.ensures.parts in
-        let node : Node = record { name = c.in-Some.step.part; definition = c.in-Some-get.definition; bytes = c.front.result } in
-        list_more C (λ l. Nodes C (c.args.root.now ∷ []) c.args.bytes.now l) node c.loop-step.nodes.items c.list_node.new.nodes.items c.in-Taken.taken c.loop-step.left.now (remaining c.in-Taken.rest) (remaining c.in-Some.step.others ++ pending fs) e c.front.ensures c.in-Taken.ensures.0.opens (c.in_ok-list_node-in-Taken.ensures.listed w)
-        (λ fs2 m. i.listed w fs2 (subst (λ l. Nodes C l c.loop-step.left.now fs2) (sym same) m)) es
-        (subst (λ b. Nodes C (remaining c.in-Taken.rest ++ (remaining c.in-Some.step.others ++ pending fs)) b es) c.after-left.ensures (subst (λ l. Nodes C (remaining c.in-Taken.rest ++ pending l) c.after-left.result.now es) back n));
+          let fs = reverse c.loop-step.stack.items in
+          let same : pending (c.loop-step.frame ∷ fs) ≡ p ∷ (remaining c.in-Some.step.others ++ pending fs) = ap (λ l. l ++ pending fs) c.in-Some.ensures.parts in
+          let node : Node = record { name = c.in-Some.step.part; definition = c.in-Some-get.definition; bytes = c.front.result } in
+          list_more C (λ l. Nodes C (c.args.root.now ∷ []) c.args.bytes.now l) node c.loop-step.nodes.items c.list_node.new.nodes.items c.in-Taken.taken c.loop-step.left.now (remaining c.in-Taken.rest) (remaining c.in-Some.step.others ++ pending fs) e c.front.ensures c.in-Taken.ensures.0.opens (c.in_ok-list_node-in-Taken.ensures.listed w)
+          (λ fs2 m. i.listed w fs2 (subst (λ l. Nodes C l c.loop-step.left.now fs2) (sym same) m)) es
+          (subst (λ b. Nodes C (remaining c.in-Taken.rest ++ (remaining c.in-Some.step.others ++ pending fs)) b es) c.after-left.ensures (subst (λ l. Nodes C (remaining c.in-Taken.rest ++ pending l) c.after-left.result.now es) back n));
     }
 
 pub loop-step-smaller-in_ok-insert-in-Some-pop : goal.loop-step-smaller-in_ok-insert-in-Some-pop
