@@ -9,11 +9,11 @@ mod codec;
 pub mod counted;
 pub mod definition;
 pub mod error;
-mod parts;
+pub mod parts;
 pub mod rules;
 pub mod sizes;
 mod way;
-mod zero;
+pub mod zero;
 
 pub use counted::{Counted, Expansions, Question};
 pub use definition::{

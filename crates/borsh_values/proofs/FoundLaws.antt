@@ -1,0 +1,83 @@
+-- Variants found one after another.
+use Rattle.std.proofs.Common.{◌≡◌, ℕ, suc, zero, ◌+◌, List, [], ◌∷◌, ◌++◌, length, take, Some, refl, sym, ◌∙◌, ap, add-one, ◌⊎◌, inl, inr}
+use Rattle.std.specs.Prelude.{ℤ, pos, negsuc, slice_get}
+use Rattle.std.specs.Borrow.{Bor}
+use Rattle.borsh_walks.specs.Container.{IsListedVariant, first_variant, later_variant, tag}
+use Rattle.borsh_values.specs.Unambiguous.{DistinctTags, no_tags, more_tags}
+use Rattle.borsh_values.specs.Steps.{FoundAs, more_found}
+use Rattle.borsh_values.specs.declared.tags.Found.{Found}
+use Rattle.borsh_values.specs.declared.tags.Found.TheVariants.{Nothing, One, Several}
+
+pub listed_append : {k : ℤ} {p : List ℕ} (xs ys : List (ℤ × List ℕ)) → IsListedVariant k p (xs ++ ys) → IsListedVariant k p xs ⊎ IsListedVariant k p ys
+listed_append [] ys a = inr a
+listed_append (x ∷ xs) ys first_variant = inl first_variant
+listed_append {k} {p} (x ∷ xs) ys (later_variant a) =
+    let go : IsListedVariant k p xs ⊎ IsListedVariant k p ys → IsListedVariant k p (x ∷ xs) ⊎ IsListedVariant k p ys = elim [ inl b ↦ inl (later_variant b) | inr b ↦ inr b ] in go (listed_append xs ys a)
+
+pub listed_left : {k : ℤ} {p : List ℕ} (xs ys : List (ℤ × List ℕ)) → IsListedVariant k p xs → IsListedVariant k p (xs ++ ys)
+listed_left (x ∷ xs) ys first_variant = first_variant
+listed_left (x ∷ xs) ys (later_variant a) = later_variant (listed_left xs ys a)
+listed_left [] ys a = elim a [ ]
+
+pub listed_last : {k : ℤ} {p : List ℕ} (xs : List (ℤ × List ℕ)) → IsListedVariant k p (xs ++ (k, p) ∷ [])
+listed_last [] = first_variant
+listed_last (x ∷ xs) = later_variant (listed_last xs)
+
+no_tag : (t : List ℕ) (k : ℤ) → t ≡ [] → tag (length t) k ≡ t
+no_tag t k e = ap (λ l. tag (length l) k) e ∙ none k ∙ sym e
+  where
+    none : (k : ℤ) → tag zero k ≡ []
+    none (pos n) = refl
+    none (negsuc n) = refl
+
+pub only_last : {j : ℤ} {q : List ℕ} {k : ℤ} {p : List ℕ} → IsListedVariant j q ((k, p) ∷ []) → q ≡ p
+only_last first_variant = refl
+only_last (later_variant a) = elim a [ ]
+
+pub twice : (w : ℕ) {k : ℤ} (j : ℤ) {p : List ℕ} (q : List ℕ) (xs : List (ℤ × List ℕ)) (t : List ℕ) → IsListedVariant k p xs → tag w k ≡ t → tag w j ≡ t → DistinctTags w (xs ++ (j, q) ∷ []) → ⊥
+twice w j q [] t a e f b = elim a [ ]
+twice w j q (x ∷ xs) t first_variant e f (more_tags g b) = g j q (listed_last xs) (e ∙ sym f)
+twice w j q (x ∷ xs) t (later_variant a) e f (more_tags g b) = twice w j q xs t a e f b
+
+pub distinct_left : (w : ℕ) (xs ys : List (ℤ × List ℕ)) → DistinctTags w (xs ++ ys) → DistinctTags w xs
+distinct_left w [] ys b = no_tags
+distinct_left w (x ∷ xs) ys (more_tags g b) = more_tags (λ k p a. g k p (listed_left xs ys a)) (distinct_left w xs ys b)
+
+-- a variant with the tag
+pub found_more : (vs : List (ℤ × List ℕ)) (t : List ℕ) (f : Found) (k : ℤ) (p : Bor (List ℕ)) → FoundAs vs t f → tag (length t) k ≡ t → FoundAs (vs ++ (k, p.now) ∷ []) t (more_found f p)
+found_more vs t Nothing k p h e = (
+  k,
+  listed_last vs,
+  e,
+  (λ j q a b. elim (listed_append vs ((k, p.now) ∷ []) a) [ inl c ↦ absurd (h.0 j q c b) | inr c ↦ only_last c ]),
+  λ z. ap (λ l. l ++ (k, p.now) ∷ []) (h.1 z),
+)
+found_more vs t (One q) k p h e = λ a. twice (length t) k p.now vs t h.1 h.2 e a
+found_more vs t Several k p h e = λ a. h (distinct_left (length t) vs ((k, p.now) ∷ []) a)
+
+other_tag : {j : ℤ} {q : List ℕ} {k : ℤ} {p t : List ℕ} → IsListedVariant j q ((k, p) ∷ []) → tag (length t) j ≡ t → tag (length t) k ≡ t
+other_tag first_variant e = e
+other_tag (later_variant a) e = elim a [ ]
+
+-- one without it
+pub found_same : (vs : List (ℤ × List ℕ)) (t : List ℕ) (f : Found) (k : ℤ) (p : List ℕ) → FoundAs vs t f → (tag (length t) k ≡ t → ⊥) → FoundAs (vs ++ (k, p) ∷ []) t f
+found_same vs t Nothing k p h off = (
+  (λ j q a b. elim (listed_append vs ((k, p) ∷ []) a) [ inl c ↦ h.0 j q c b | inr c ↦ off (other_tag {q = q} {p = p} c b) ]),
+  λ z. absurd (off (no_tag t k z)),
+)
+found_same vs t (One r) k p h off = (
+  h.0,
+  listed_left vs ((k, p) ∷ []) h.1,
+  h.2,
+  (λ j q a b. elim (listed_append vs ((k, p) ∷ []) a) [ inl c ↦ h.3 j q c b | inr c ↦ absurd (off (other_tag {q = q} {p = p} c b)) ]),
+  λ z. absurd (off (no_tag t k z)),
+)
+found_same vs t Several k p h off = λ a. h (distinct_left (length t) vs ((k, p) ∷ []) a)
+
+take_suc : (xs : List (ℤ × List ℕ)) (i : ℕ) (v : ℤ × List ℕ) → slice_get xs i ≡ Some v → take (suc i) xs ≡ take i xs ++ v ∷ []
+take_suc [] i v e = cc
+take_suc (x ∷ xs) zero v e = let q : x ≡ v = cc in ap (λ y. y ∷ []) q
+take_suc (x ∷ xs) (suc i) v e = ap (λ l. x ∷ l) (take_suc xs i v e)
+
+pub take_next : (xs : List (ℤ × List ℕ)) (i : ℕ) (v : ℤ × List ℕ) → slice_get xs i ≡ Some v → take (i + 1) xs ≡ take i xs ++ v ∷ []
+take_next xs i v e = ap (λ k. take k xs) (add-one i) ∙ take_suc xs i v e

@@ -1,0 +1,15 @@
+pub mod Places
+pub mod PrefixFree
+pub mod Required
+pub mod Walk
+pub mod Measure
+pub mod TakesLaws
+pub mod NumberLaws
+pub mod TagLaws
+pub mod FoundLaws
+pub mod Valid
+pub mod KeyLaws
+pub mod DistinctLaws
+pub mod Reach
+pub mod NodesLaws
+pub mod Listing

@@ -1,0 +1,272 @@
+-- What an opened definition takes.
+use Rattle.std.proofs.Common.{◌≡◌, ℕ, suc, zero, ◌+◌, ◌-◌, ◌<◌, ◌≤◌, ◌^◌, List, [], ◌∷◌, ◌++◌, length, take, drop, replicate, Some, refl, sym, ◌∙◌, ap, subst, arith, append_assoc, length-append, ◌⊎◌, inl, inr}
+use Rattle.std.specs.Prelude.{Option, All, ℤ, pos, negsuc}
+use Rattle.borsh_walks.specs.Container.{Shape, primitive, sequence, product, choice, IsIn, first, later, IsListedVariant, low_bytes, tag, variant_names, Member, of_primitive, of_sequence, of_parts, of_choice, Members, no_members, more_members, IsZeroSize, zeroed}
+use Rattle.borsh_walks.proofs.Names.{among_one}
+use Rattle.borsh_walks.proofs.Laws.{length-tag, among-replicate, variant-listed}
+use Rattle.borsh_values.specs.Unambiguous.{DistinctTags}
+use Rattle.std.specs.Borrow.{Bor}
+use Rattle.borsh_values.specs.declared.tags.Found.TheVariants.{Nothing, One}
+use Rattle.borsh_values.specs.Steps.{required_by, OnlyEmpty, AllOnlyEmpty, Takes, FoundAs}
+use Rattle.borsh_values.proofs.PrefixFree.{same_front, one_count, member_as}
+use Rattle.borsh_values.proofs.Required.{members_head, only_empty_members, members_only_empty}
+
+take_drop : (n : ℕ) (xs : List ℕ) → take n xs ++ drop n xs ≡ xs
+take_drop zero xs = refl
+take_drop (suc n) [] = refl
+take_drop (suc n) (x ∷ xs) = ap (λ l. x ∷ l) (take_drop n xs)
+
+length_take : (n : ℕ) (xs : List ℕ) → n ≤ length xs → length (take n xs) ≡ n
+length_take zero xs h = refl
+length_take (suc n) [] h = absurd (omega arith)
+length_take (suc n) (x ∷ xs) h = ap suc (length_take n xs (omega arith))
+
+drop_front : (xs ys : List ℕ) → drop (length xs) (xs ++ ys) ≡ ys
+drop_front [] ys = refl
+drop_front (x ∷ xs) ys = drop_front xs ys
+
+drop_at : (n : ℕ) (xs ys : List ℕ) → length xs ≡ n → drop n (xs ++ ys) ≡ ys
+drop_at n xs ys e = ap (λ k. drop k (xs ++ ys)) (sym e) ∙ drop_front xs ys
+
+no_bytes : (bs : List ℕ) → length bs ≡ 0 → bs ≡ []
+no_bytes [] e = refl
+no_bytes (b ∷ bs) e = absurd (omega arith)
+
+module _ (C : List ℕ → Option Shape) where
+  pub joined : {ps qs : List (List ℕ)} {xs ys : List ℕ} → Members C ps xs → Members C qs ys → Members C (ps ++ qs) (xs ++ ys)
+  joined no_members ns = ns
+  joined {qs = qs} {ys = ys} (more_members {p = p} {bs = us} {cs = vs} {ps = ps} m ms) ns = subst (λ l. Members C (p ∷ (ps ++ qs)) l) (sym (append_assoc us vs ys)) (more_members m (joined ms ns))
+
+  pub parted : (ps : List (List ℕ)) {qs : List (List ℕ)} {bs : List ℕ} → Members C (ps ++ qs) bs → (xs : List ℕ) × (ys : List ℕ) × Members C ps xs × Members C qs ys × (bs ≡ xs ++ ys)
+  parted [] {bs = bs} ms = ([], bs, no_members, ms, refl)
+  parted (p ∷ ps) (more_members {bs = us} {cs = vs} m ms) = let r = parted ps ms in (us ++ r.0, r.1, more_members m r.2, r.3, ap (λ l. us ++ l) r.4 ∙ sym (append_assoc us r.0 r.1))
+
+  -- zero sizes
+  all_zero : (ps : List (List ℕ)) → AllOnlyEmpty C ps → (p : List ℕ) → IsIn p ps → IsZeroSize C p
+  all_zero [] h p a = elim a [ ]
+  all_zero (q ∷ qs) h p first = h.0.1
+  all_zero (q ∷ qs) h p (later a) = all_zero qs h.1 p a
+
+  sequence_zero : {x : List ℕ} (w lo hi k : ℕ) (e : List ℕ) → w ≡ 0 → hi < lo + 256 ^ w → lo ≤ k → k ≤ hi → C x ≡ Some (sequence w lo hi e) → AllOnlyEmpty C (replicate k e) → IsZeroSize C x
+  sequence_zero zero zero zero k e z u low high c h = zeroed (sequence zero zero zero e) [] c refl (λ p a. elim a [ ])
+  sequence_zero zero zero (suc hi) k e z u low high c h = absurd (omega arith)
+  sequence_zero zero (suc lo) hi zero e z u low high c h = absurd (omega arith)
+  sequence_zero zero (suc lo) hi (suc k) e z u low high c h = zeroed (sequence zero (suc lo) hi e) (e ∷ []) c refl (λ p a. all_zero (e ∷ []) (h.0, tt) p a)
+  sequence_zero (suc w) lo hi k e z u low high c h = absurd (omega arith)
+
+  choice_zero : {x : List ℕ} (w : ℕ) (k : ℤ) (p : List ℕ) (vs : List (ℤ × List ℕ)) → w ≡ 0 → vs ≡ (k, p) ∷ [] → C x ≡ Some (choice w vs) → IsZeroSize C p → IsZeroSize C x
+  choice_zero zero k p vs z e c h = zeroed (choice zero ((k, p) ∷ [])) (p ∷ []) (c ∙ ap (λ l. Some (choice zero l)) e) refl (λ q a. subst (λ y. IsZeroSize C y) (sym (among_one a)) h)
+  choice_zero (suc w) k p vs z e c h = absurd (omega arith)
+
+  -- parts
+  parts_forth : {x : List ℕ} {qs ps : List (List ℕ)} {bytes : List ℕ} → C x ≡ Some (product qs) → Members C (x ∷ ps) bytes → Members C (qs ++ ps) bytes
+  parts_forth {qs = qs} {ps = ps} c m =
+      let s = members_head C m in
+      subst (λ l. Members C (qs ++ ps) l) (sym s.4) (joined (member_as C (product qs) c s.2) s.3)
+
+  parts_back : {x : List ℕ} {qs ps : List (List ℕ)} {bytes : List ℕ} → C x ≡ Some (product qs) → Members C (qs ++ ps) bytes → Members C (x ∷ ps) bytes
+  parts_back {x} {qs = qs} {ps = ps} c m = let s = parted qs m in subst (λ l. Members C (x ∷ ps) l) (sym s.4) (more_members (of_parts c s.2) s.3)
+
+  parts_only_empty : {x : List ℕ} {qs : List (List ℕ)} → C x ≡ Some (product qs) → AllOnlyEmpty C qs → OnlyEmpty C x
+  parts_only_empty {qs = qs} c a = (of_parts c (only_empty_members C a), zeroed (product qs) qs c refl (all_zero qs a))
+
+  -- primitives
+  primitive_forth : {x : List ℕ} {n : ℕ} {ps : List (List ℕ)} {bytes : List ℕ} → C x ≡ Some (primitive n) → Members C (x ∷ ps) bytes → Members C ps (drop n bytes)
+  primitive_forth {n = n} {ps = ps} c m =
+      let s = members_head C m in
+      let b = member_as C (primitive n) c s.2 in
+      subst (λ l. Members C ps l) (sym (ap (λ l. drop n l) s.4 ∙ drop_at n s.0 s.1 b.0)) s.3
+
+  primitive_back : {x : List ℕ} {n : ℕ} {ps : List (List ℕ)} {bytes : List ℕ} → n ≤ length bytes → All (λ b. b < 256) (take n bytes) → C x ≡ Some (primitive n) → Members C ps (drop n bytes) → Members C (x ∷ ps) bytes
+  primitive_back {x} {n = n} {ps = ps} {bytes = bytes} low small c m =
+      let one : Member C x (take n bytes) = of_primitive (c ∙ ap (λ k. Some (primitive k)) (sym (length_take n bytes low))) small in
+      subst (λ l. Members C (x ∷ ps) l) (take_drop n bytes) (more_members one m)
+
+  primitive_only_empty : {x : List ℕ} {n : ℕ} → n ≡ 0 → All (λ b. b < 256) [] → C x ≡ Some (primitive n) → OnlyEmpty C x
+  primitive_only_empty {n = n} z small c = (of_primitive (c ∙ ap (λ k. Some (primitive k)) z) small, zeroed (primitive 0) [] (c ∙ ap (λ k. Some (primitive k)) z) refl (λ p a. elim a [ ]))
+
+pub takes_parts : (qs : List (List ℕ)) (bytes : List ℕ) → Takes (product qs) bytes 0 qs
+takes_parts qs bytes = record {
+  within = omega arith;
+  forth = λ C x ps c m. parts_forth C c m;
+  back = λ C x ps c m. parts_back C c m;
+  only_empty = λ _ C x c a. parts_only_empty C c a;
+  opens = (refl, refl);
+  mentioned = λ p a. a;
+  needs = λ _ p a. a;
+}
+
+pub takes_primitive : (n : ℕ) (bytes : List ℕ) → n ≤ length bytes → All (λ b. b < 256) (take n bytes) → All (λ b. b < 256) [] → Takes (primitive n) bytes n []
+takes_primitive n bytes low small none = record {
+  within = low;
+  forth = λ C x ps c m. primitive_forth C c m;
+  back = λ C x ps c m. primitive_back C low small c m;
+  only_empty = λ z C x c a. primitive_only_empty C z none c;
+  opens = (length_take n bytes low, small, refl);
+  mentioned = λ p a. elim a [ ];
+  needs = λ _ p a. elim a [ ];
+}
+
+no_tag : (k : ℤ) → tag zero k ≡ []
+no_tag (pos n) = refl
+no_tag (negsuc n) = refl
+
+-- bytes whose front is the tag k are the tag j and more: the tags are the same, and what follows
+same_tag : (w : ℕ) (k j : ℤ) (bytes cs ys : List ℕ) → tag w k ≡ take w bytes → bytes ≡ (tag w j ++ cs) ++ ys → (tag w k ≡ tag w j) × (drop w bytes ≡ cs ++ ys)
+same_tag w k j bytes cs ys t e = same_front (tag w k) (tag w j) (drop w bytes) (cs ++ ys) (ap (λ l. l ++ drop w bytes) t ∙ take_drop w bytes ∙ e ∙ append_assoc (tag w j) cs ys) (length-tag w k ∙ sym (length-tag w j))
+
+module _ (C : List ℕ → Option Shape) where
+  -- sequences
+  module _ (w lo hi k : ℕ) (e : List ℕ) (unambiguous : hi < lo + 256 ^ w) (low : lo ≤ k) (high : k ≤ hi) where
+    sequence_forth : {x : List ℕ} {ps : List (List ℕ)} {bytes : List ℕ} → tag w (pos k) ≡ take w bytes → C x ≡ Some (sequence w lo hi e) → Members C (x ∷ ps) bytes → Members C (replicate k e ++ ps) (drop w bytes)
+    sequence_forth {ps = ps} {bytes = bytes} t c m =
+        let s = members_head C m in
+        let b = member_as C (sequence w lo hi e) c s.2 in
+        let q = same_tag w (pos k) (pos b.0) bytes b.1 s.1 t (s.4 ∙ ap (λ l. l ++ s.1) b.5) in
+        let o : k ≡ b.0 = one_count w lo hi k b.0 unambiguous low high b.2 b.3 q.0 in
+        subst (λ l. Members C (replicate k e ++ ps) l) (sym q.1) (joined C (subst (λ i. Members C (replicate i e) b.1) (sym o) b.4) s.3)
+
+    sequence_back : {x : List ℕ} {ps : List (List ℕ)} {bytes : List ℕ} → tag w (pos k) ≡ take w bytes → C x ≡ Some (sequence w lo hi e) → Members C (replicate k e ++ ps) (drop w bytes) → Members C (x ∷ ps) bytes
+    sequence_back {x} {ps} {bytes} t c m =
+        let s = parted C (replicate k e) m in
+        let z : (tag w (pos k) ++ s.0) ++ s.1 ≡ bytes = append_assoc (tag w (pos k)) s.0 s.1 ∙ ap (λ l. tag w (pos k) ++ l) (sym s.4) ∙ ap (λ l. l ++ drop w bytes) t ∙ take_drop w bytes in
+        subst (λ l. Members C (x ∷ ps) l) z (more_members (of_sequence k c low high s.2) s.3)
+
+    sequence_only_empty : {x : List ℕ} → w ≡ 0 → C x ≡ Some (sequence w lo hi e) → AllOnlyEmpty C (replicate k e) → OnlyEmpty C x
+    sequence_only_empty {x} z c a = (
+      subst (λ l. Member C x l) (ap (λ i. tag i (pos k) ++ []) z ∙ ap (λ l. l ++ []) (no_tag (pos k))) (of_sequence k c low high (only_empty_members C a)),
+      sequence_zero C w lo hi k e z unambiguous low high c a,
+    )
+
+  -- enums
+  module _ (w : ℕ) (k : ℤ) (p : List ℕ) (vs : List (ℤ × List ℕ)) (listed : IsListedVariant k p vs) (one : (j : ℤ) (q : List ℕ) → IsListedVariant j q vs → tag w j ≡ tag w k → q ≡ p) where
+    choice_forth : {x : List ℕ} {ps : List (List ℕ)} {bytes : List ℕ} → tag w k ≡ take w bytes → C x ≡ Some (choice w vs) → Members C (x ∷ ps) bytes → Members C (p ∷ ps) (drop w bytes)
+    choice_forth {ps = ps} {bytes = bytes} t c m =
+        let s = members_head C m in
+        let b = member_as C (choice w vs) c s.2 in
+        let q = same_tag w k b.0 bytes b.2 s.1 t (s.4 ∙ ap (λ l. l ++ s.1) b.5) in
+        let o = one b.0 b.1 b.3 (sym q.0) in
+        subst (λ l. Members C (p ∷ ps) l) (sym q.1) (more_members (subst (λ z. Member C z b.2) o b.4) s.3)
+
+    choice_back : {x : List ℕ} {ps : List (List ℕ)} {bytes : List ℕ} → tag w k ≡ take w bytes → C x ≡ Some (choice w vs) → Members C (p ∷ ps) (drop w bytes) → Members C (x ∷ ps) bytes
+    choice_back {x} {ps} {bytes} t c m =
+        let s = members_head C m in
+        let z : (tag w k ++ s.0) ++ s.1 ≡ bytes = append_assoc (tag w k) s.0 s.1 ∙ ap (λ l. tag w k ++ l) (sym s.4) ∙ ap (λ l. l ++ drop w bytes) t ∙ take_drop w bytes in
+        subst (λ l. Members C (x ∷ ps) l) z (more_members (of_choice c listed s.2) s.3)
+
+    choice_only_empty : {x : List ℕ} → (w ≡ 0 → vs ≡ (k, p) ∷ []) → w ≡ 0 → C x ≡ Some (choice w vs) → OnlyEmpty C p → OnlyEmpty C x
+    choice_only_empty {x} single z c h = (
+      subst (λ l. Member C x l) (ap (λ i. tag i k ++ []) z ∙ ap (λ l. l ++ []) (no_tag k)) (of_choice c listed h.0),
+      choice_zero C w k p vs z (single z) c h.1,
+    )
+
+  pub short_sequence : {x : List ℕ} {w lo hi : ℕ} {e : List ℕ} {ps : List (List ℕ)} {bytes : List ℕ} → length bytes < w → C x ≡ Some (sequence w lo hi e) → Members C (x ∷ ps) bytes → ⊥
+  short_sequence {w = w} {lo = lo} {hi = hi} {e = e} h c m =
+      let s = members_head C m in
+      let b = member_as C (sequence w lo hi e) c s.2 in
+      let l = ap (λ l. length l) (s.4 ∙ ap (λ l. l ++ s.1) b.5) in
+      let t = length-tag w (pos b.0) in
+      let n : length ((tag w (pos b.0) ++ b.1) ++ s.1) ≡ w + length b.1 + length s.1 = simp (length-append, length-tag) in
+      absurd (omega (arith, l, n))
+
+  pub short_choice : {x : List ℕ} {w : ℕ} {vs : List (ℤ × List ℕ)} {ps : List (List ℕ)} {bytes : List ℕ} → length bytes < w → C x ≡ Some (choice w vs) → Members C (x ∷ ps) bytes → ⊥
+  short_choice {w = w} {vs = vs} h c m =
+      let s = members_head C m in
+      let b = member_as C (choice w vs) c s.2 in
+      let l = ap (λ l. length l) (s.4 ∙ ap (λ l. l ++ s.1) b.5) in
+      let n : length ((tag w b.0 ++ b.2) ++ s.1) ≡ w + length b.2 + length s.1 = simp (length-append, length-tag) in
+      absurd (omega (arith, l, n))
+
+  -- the number that is tag_byte is not a count
+  pub no_count : {x : List ℕ} {w lo hi : ℕ} {e : List ℕ} {ps : List (List ℕ)} {bytes : List ℕ} (n : ℕ) → hi < 256 ^ w → n < 256 ^ w → tag w (pos n) ≡ take w bytes → (n < lo) ⊎ (hi < n) → C x ≡ Some (sequence w lo hi e) → Members C (x ∷ ps) bytes → ⊥
+  no_count {w = w} {lo = lo} {hi = hi} {e = e} {bytes = bytes} n high small t off c m =
+      let s = members_head C m in
+      let b = member_as C (sequence w lo hi e) c s.2 in
+      let q = same_tag w (pos n) (pos b.0) bytes b.1 s.1 t (s.4 ∙ ap (λ l. l ++ s.1) b.5) in
+      let o : n ≡ b.0 = one_count w 0 (256 ^ w - 1) n b.0 (omega arith) (omega arith) (omega arith) (omega arith) (omega (arith, b.3)) q.0 in
+      elim off [ inl h ↦ omega (arith, o, h, b.2) | inr h ↦ omega (arith, o, h, b.3) ]
+
+  pub no_variant : {x : List ℕ} {w : ℕ} {vs : List (ℤ × List ℕ)} {ps : List (List ℕ)} {bytes : List ℕ} → w ≤ length bytes → ((j : ℤ) (q : List ℕ) → IsListedVariant j q vs → tag w j ≡ take w bytes → ⊥) → C x ≡ Some (choice w vs) → Members C (x ∷ ps) bytes → ⊥
+  no_variant {w = w} {vs = vs} {bytes = bytes} low off c m =
+      let s = members_head C m in
+      let b = member_as C (choice w vs) c s.2 in
+      let e : take w bytes ++ drop w bytes ≡ tag w b.0 ++ (b.2 ++ s.1) = take_drop w bytes ∙ s.4 ∙ ap (λ l. l ++ s.1) b.5 ∙ append_assoc (tag w b.0) b.2 s.1 in
+      let q = same_front (take w bytes) (tag w b.0) (drop w bytes) (b.2 ++ s.1) e (length_take w bytes low ∙ sym (length-tag w b.0)) in
+      off b.0 b.1 b.3 (sym q.0)
+
+sequence_needs : (w lo hi k : ℕ) (e : List ℕ) → hi < lo + 256 ^ w → lo ≤ k → k ≤ hi → w ≡ 0 → (p : List ℕ) → IsIn p (replicate k e) → IsIn p (required_by (sequence w lo hi e))
+sequence_needs zero zero hi k e unambiguous low high z p a = let n : k ≡ 0 = omega arith in elim (subst (λ i. IsIn p (replicate i e)) n a) [ ]
+sequence_needs zero (suc lo) hi k e unambiguous low high z p a = subst (λ y. IsIn p (y ∷ [])) (sym (among-replicate k a)) first
+sequence_needs (suc w) lo hi k e unambiguous low high z p a = absurd (omega arith)
+
+pub takes_sequence : (w lo hi k : ℕ) (e bytes : List ℕ) → hi < lo + 256 ^ w → lo ≤ k → k ≤ hi → w ≤ length bytes → tag w (pos k) ≡ take w bytes → Takes (sequence w lo hi e) bytes w (replicate k e)
+takes_sequence w lo hi k e bytes unambiguous low high within t = record {
+  within = within;
+  forth = λ C x ps c m. sequence_forth C w lo hi k e unambiguous low high t c m;
+  back = λ C x ps c m. sequence_back C w lo hi k e unambiguous low high t c m;
+  only_empty = λ z C x c a. sequence_only_empty C w lo hi k e unambiguous low high z c a;
+  opens = (k, low, high, sym t, refl);
+  mentioned = λ p a. subst (λ y. IsIn p (y ∷ [])) (sym (among-replicate k a)) first;
+  needs = sequence_needs w lo hi k e unambiguous low high;
+}
+
+in_variants : {k : ℤ} {p q : List ℕ} {vs : List (ℤ × List ℕ)} → IsListedVariant k p vs → IsIn q (p ∷ []) → IsIn q (variant_names vs)
+in_variants listed first = variant-listed listed
+in_variants listed (later a) = elim a [ ]
+
+pub takes_choice : (w : ℕ) (k : ℤ) (p bytes : List ℕ) (vs : List (ℤ × List ℕ)) → IsListedVariant k p vs → ((j : ℤ) (q : List ℕ) → IsListedVariant j q vs → tag w j ≡ tag w k → q ≡ p) → (w ≡ 0 → (q : List ℕ) → IsIn q (p ∷ []) → IsIn q (required_by (choice w vs))) → (w ≡ 0 → vs ≡ (k, p) ∷ []) → w ≤ length bytes → tag w k ≡ take w bytes → Takes (choice w vs) bytes w (p ∷ [])
+takes_choice w k p bytes vs listed one needs single within t = record {
+  within = within;
+  forth = λ C x ps c m. choice_forth C w k p vs listed one t c m;
+  back = λ C x ps c m. choice_back C w k p vs listed one t c m;
+  only_empty = λ z C x c a. choice_only_empty C w k p vs listed one single z c a.0;
+  opens = (k, p, listed, sym t, refl);
+  mentioned = λ q a. in_variants listed a;
+  needs = needs;
+}
+
+pub zero_sequence : (w lo hi : ℕ) (e bytes : List ℕ) → w ≡ 0 → lo ≡ hi → Takes (sequence w lo hi e) bytes 0 (replicate lo e)
+zero_sequence zero lo hi e bytes z h = takes_sequence zero lo hi lo e bytes (omega arith) (omega arith) (omega arith) (omega arith) refl
+zero_sequence (suc w) lo hi e bytes z h = absurd (omega arith)
+
+written_at : (w size k : ℕ) (bytes : List ℕ) → size ≡ w → size ≤ length bytes → low_bytes (length (take size bytes)) k ≡ take size bytes → tag w (pos k) ≡ take w bytes
+written_at w size k bytes z within t = ap (λ i. low_bytes i k) (sym z) ∙ ap (λ i. low_bytes i k) (sym (length_take size bytes within)) ∙ t ∙ ap (λ i. take i bytes) z
+
+pub plain_sequence : (w lo hi k size : ℕ) (e bytes : List ℕ) → hi < 256 ^ w → size ≡ w → lo ≤ k → k ≤ hi → size ≤ length bytes → low_bytes (length (take size bytes)) k ≡ take size bytes → Takes (sequence w lo hi e) bytes size (replicate k e)
+plain_sequence w lo hi k size e bytes fits z low high within t =
+    subst (λ i. Takes (sequence w lo hi e) bytes i (replicate k e)) (sym z) (takes_sequence w lo hi k e bytes (omega arith) low high (omega arith) (written_at w size k bytes z within t))
+
+pub small_at : (w size k : ℕ) (bytes : List ℕ) → size ≡ w → size ≤ length bytes → k < 256 ^ length (take size bytes) → k < 256 ^ w
+small_at w size k bytes z within h = subst (λ i. k < 256 ^ i) (length_take size bytes within ∙ z) h
+
+pub count_off : (w lo hi k size : ℕ) (e bytes : List ℕ) → hi < 256 ^ w → size ≡ w → size ≤ length bytes → low_bytes (length (take size bytes)) k ≡ take size bytes → k < 256 ^ length (take size bytes) → (k < lo) ⊎ (hi < k) → (C : List ℕ → Option Shape) (x : List ℕ) (ps : List (List ℕ)) → C x ≡ Some (sequence w lo hi e) → Members C (x ∷ ps) bytes → ⊥
+count_off w lo hi k size e bytes fits z within t small off C x ps c m = no_count C k fits (small_at w size k bytes z within small) (written_at w size k bytes z within t) off c m
+
+single_needs : (w : ℕ) (k : ℤ) (p : List ℕ) (vs : List (ℤ × List ℕ)) → vs ≡ (k, p) ∷ [] → w ≡ 0 → (q : List ℕ) → IsIn q (p ∷ []) → IsIn q (required_by (choice w vs))
+single_needs zero k p vs e z q a = subst (λ l. IsIn q (required_by (choice zero l))) (sym e) a
+single_needs (suc w) k p vs e z q a = absurd (omega arith)
+
+no_front : (w : ℕ) (bytes : List ℕ) → w ≡ 0 → take w bytes ≡ []
+no_front zero bytes z = refl
+no_front (suc w) bytes z = absurd (omega arith)
+
+-- what was found by the front of the bytes
+pub found_choice : (w size : ℕ) (p : Bor (List ℕ)) (bytes : List ℕ) (vs : List (ℤ × List ℕ)) → size ≡ w → size ≤ length bytes → FoundAs vs (take size bytes) (One p) → Takes (choice w vs) bytes size (p.now ∷ [])
+found_choice w size p bytes vs z within f =
+    let l : length (take size bytes) ≡ w = length_take size bytes within ∙ z in
+    let t : take size bytes ≡ take w bytes = ap (λ i. take i bytes) z in
+    let k : tag w f.0 ≡ take w bytes = ap (λ i. tag i f.0) (sym l) ∙ f.2 ∙ t in
+    subst (λ i. Takes (choice w vs) bytes i (p.now ∷ [])) (sym z) (takes_choice w f.0 p.now bytes vs f.1
+    (λ j q a b. f.3 j q a (ap (λ i. tag i j) l ∙ b ∙ k ∙ sym t))
+    (λ zero_is q a. single_needs w f.0 p.now vs (f.4 (t ∙ no_front w bytes zero_is)) zero_is q a)
+    (λ zero_is. f.4 (t ∙ no_front w bytes zero_is))
+    (omega arith) k)
+
+pub found_none_choice : (w size : ℕ) (bytes : List ℕ) (vs : List (ℤ × List ℕ)) → size ≡ w → size ≤ length bytes → FoundAs vs (take size bytes) Nothing → (C : List ℕ → Option Shape) (x : List ℕ) (ps : List (List ℕ)) → C x ≡ Some (choice w vs) → Members C (x ∷ ps) bytes → ⊥
+found_none_choice w size bytes vs z within f C x ps c m =
+    let l : length (take size bytes) ≡ w = length_take size bytes within ∙ z in
+    let t : take size bytes ≡ take w bytes = ap (λ i. take i bytes) z in
+    no_variant C (omega arith) (λ j q a b. f.0 j q a (ap (λ i. tag i j) l ∙ b ∙ sym t)) c m
+
+pub several_ambiguous : (w size : ℕ) (bytes : List ℕ) (vs : List (ℤ × List ℕ)) → size ≡ w → size ≤ length bytes → (DistinctTags (length (take size bytes)) vs → ⊥) → DistinctTags w vs → ⊥
+several_ambiguous w size bytes vs z within f t = f (subst (λ i. DistinctTags i vs) (sym (length_take size bytes within ∙ z)) t)

@@ -1,0 +1,292 @@
+-- What the loop keeps, and each of its steps.
+use Rattle.std.proofs.Common.{◌≡◌, ℕ, suc, ◌≤◌, ◌<◌, List, [], ◌∷◌, ◌++◌, length, drop, replicate, Some, None, refl, sym, ◌∙◌, ap, subst, arith, append_assoc, length-drop, ◌⊎◌, inl, inr}
+use Rattle.std.specs.Prelude.{Option, ⊤}
+use Rattle.borsh_walks.specs.Container.{Shape, IsIn, first, later, Member, of_primitive, of_sequence, of_parts, of_choice, Members, no_members, references, Reached, Reaches, stays, onward}
+use Rattle.borsh_walks.specs.SizeAnswer.{Distinct, distinct_none, distinct_more}
+use Rattle.borsh_walks.specs.Tables.{IsDefined}
+use Rattle.borsh_values.specs.Steps.{remaining, pending, required_by, OnlyEmpty, AllOnlyEmpty, Takes}
+use Rattle.borsh_values.specs.declared.frames.Frame.{Frame}
+use Rattle.borsh_values.specs.declared.frames.Rest.{Rest}
+use Rattle.borsh_values.specs.declared.members.Mark.{Mark}
+use Rattle.borsh_values.specs.declared.members.Mark.TheVariants.{Empty, Open}
+use Rattle.borsh_walks.proofs.Names.{name_cases, also_defined, among_one, among_append}
+use Rattle.borsh_walks.proofs.Tables.{Updated}
+use Rattle.borsh_values.proofs.Required.{not_required, members_head, pass, unpass, only_empty_copies, whole, unwhole}
+
+abbrev pub with_rest : Frame → Rest → Frame
+with_rest f r = record { name = f.name; start = f.start; rest = r }
+
+-- the name is open since o bytes were left
+abbrev pub On : List ℕ → ℕ → List Frame → Type 0
+On x o [] = ⊥
+On x o (f ∷ fs) = ((f.name.now ≡ x) × (f.start ≡ o)) ⊎ On x o fs
+
+module _ (C : List ℕ → Option Shape) where
+  -- of a frame that has taken no byte
+  pub record Top (o : ℕ) (f : Frame) : Type 0 where
+    pub low : o ≤ f.start
+    pub only_empty : f.start ≡ o → AllOnlyEmpty C (remaining f.rest) → OnlyEmpty C f.name.now
+    pub needs : f.start ≡ o → (d : Shape) × (C f.name.now ≡ Some d) × ((p : List ℕ) → IsIn p (remaining f.rest) → IsIn p (required_by d))
+
+  -- the same, above the open name y, that was opened with s bytes left
+  pub record Link (o : ℕ) (f : Frame) (y : List ℕ) (s : ℕ) : Type 0 where
+    pub low : o ≤ f.start
+    pub same : f.start ≡ o → s ≡ o
+    pub only_empty : f.start ≡ o → OnlyEmpty C y → AllOnlyEmpty C (remaining f.rest) → OnlyEmpty C f.name.now
+    pub needs : f.start ≡ o → (d : Shape) × (C f.name.now ≡ Some d) × IsIn y (required_by d) × ((p : List ℕ) → IsIn p (remaining f.rest) → IsIn p (required_by d))
+
+  abbrev pub Chain : ℕ → List Frame → List ℕ → ℕ → Type 0
+  Chain o [] y s = ⊤
+  Chain o (f ∷ fs) y s = Link o f y s × Chain o fs f.name.now f.start
+
+  pub record Walk (root bytes : List ℕ) (T : List ℕ → Option Mark) (fs : List Frame) (f : Frame) (rest : List ℕ) (L : List (List ℕ)) : Type 0 where
+    pub forth : Member C root bytes → Members C (pending (f ∷ fs)) rest
+    pub back : Members C (pending (f ∷ fs)) rest → Member C root bytes
+    pub reached : (x : List ℕ) → IsIn x (pending (f ∷ fs)) → Reached C root x
+    pub empty : (x : List ℕ) → T x ≡ Some Empty → OnlyEmpty C x
+    pub here : (x : List ℕ) → T x ≡ Some (Open (length rest)) → On x (length rest) (f ∷ fs)
+    pub past : (x : List ℕ) (n : ℕ) → T x ≡ Some (Open n) → length rest ≤ n
+    pub top : Top (length rest) f
+    pub chain : Chain (length rest) fs f.name.now f.start
+    pub distinct : Distinct L
+    pub defined : (x : List ℕ) → IsIn x L → IsDefined C x
+    pub marked : (x : List ℕ) → IsIn x L → (T x ≡ Some Empty) ⊎ (T x ≡ Some (Open (length rest)))
+
+  start_top : (o : ℕ) (f : Frame) → o < f.start → Top o f
+  start_top o f h = record { low = omega arith; only_empty = λ e. absurd (omega arith); needs = λ e. absurd (omega arith) }
+
+  all_of : {root bytes : List ℕ} (ps : List (List ℕ)) → ps ≡ root ∷ [] → Member C root bytes → Members C (ps ++ []) bytes
+  all_of {root} {bytes} ps e m = subst (λ l. Members C (l ++ []) bytes) (sym e) (whole C m)
+
+  of_all : {root bytes : List ℕ} (ps : List (List ℕ)) → ps ≡ root ∷ [] → Members C (ps ++ []) bytes → Member C root bytes
+  of_all {root} {bytes} ps e m = unwhole C (subst (λ l. Members C (l ++ []) bytes) e m)
+
+  from_root : {root x : List ℕ} (ps : List (List ℕ)) → ps ≡ root ∷ [] → IsIn x (ps ++ []) → Reached C root x
+  from_root {root} {x} ps e a = subst (λ y. Reached C root y) (sym (among_one (subst (λ l. IsIn x (l ++ [])) e a))) stays
+
+  pub walk_start : {root bytes : List ℕ} {T : List ℕ → Option Mark} (f : Frame) → ((x : List ℕ) → T x ≡ None) → length bytes < f.start → remaining f.rest ≡ root ∷ [] → Walk root bytes T [] f bytes []
+  walk_start {root} {bytes} f none low e = record {
+    forth = all_of (remaining f.rest) e;
+    back = of_all (remaining f.rest) e;
+    reached = λ x a. from_root (remaining f.rest) e a;
+    empty = λ x h. let n = none x in cc;
+    here = λ x h. let n = none x in cc;
+    past = λ x k h. let n = none x in cc;
+    top = start_top (length bytes) f low;
+    chain = tt;
+    distinct = distinct_none;
+    defined = λ x a. elim a [ ];
+    marked = λ x a. elim a [ ];
+  }
+
+  -- copies of a name that is known to be empty are passed over
+  pub walk_skip : {root bytes rest p : List ℕ} {T : List ℕ → Option Mark} {fs : List Frame} {f : Frame} {L : List (List ℕ)} (k : ℕ) (r : Rest) → Walk root bytes T fs f rest L → T p ≡ Some Empty → remaining f.rest ≡ replicate (suc k) p ++ remaining r → Walk root bytes T fs (with_rest f r) rest L
+  walk_skip {root} {bytes} {rest} {p} {T} {fs} {f} {L} k r w t e =
+      let h = w.empty p t in
+      let same : pending (f ∷ fs) ≡ replicate (suc k) p ++ (remaining r ++ pending fs) = ap (λ l. l ++ pending fs) e ∙ append_assoc (replicate (suc k) p) (remaining r) (pending fs) in
+      record {
+        forth = λ m. pass C (suc k) h (subst (λ l. Members C l rest) same (w.forth m));
+        back = λ m. w.back (subst (λ l. Members C l rest) (sym same) (unpass C (suc k) h m));
+        reached = λ x a. w.reached x (subst (λ l. IsIn x l) (sym same) (among_right (replicate (suc k) p) a));
+        empty = w.empty;
+        here = λ x q. on_with f r fs (w.here x q);
+        past = w.past;
+        top = record {
+          low = w.top.low;
+          only_empty = λ s a. w.top.only_empty s (subst (λ l. AllOnlyEmpty C l) (sym e) (only_empty_copies C (remaining r) (suc k) h a));
+          needs = λ s. let n = w.top.needs s in (n.0, n.1, λ q a. n.2 q (subst (λ l. IsIn q l) (sym e) (among_right (replicate (suc k) p) a)));
+        };
+        chain = w.chain;
+        distinct = w.distinct;
+        defined = w.defined;
+        marked = w.marked;
+      }
+    where
+      on_with : {x : List ℕ} {o : ℕ} (f : Frame) (r : Rest) (fs : List Frame) → On x o (f ∷ fs) → On x o (with_rest f r ∷ fs)
+      on_with f r fs (inl h) = inl h
+      on_with f r fs (inr h) = inr h
+
+      among_right : {x : List ℕ} (xs : List (List ℕ)) {ys : List (List ℕ)} → IsIn x ys → IsIn x (xs ++ ys)
+      among_right [] a = a
+      among_right (y ∷ xs) a = later (among_right xs a)
+
+  undefined_none : {x bs : List ℕ} → C x ≡ None → Member C x bs → ⊥
+  undefined_none e (of_primitive p small) = cc
+  undefined_none e (of_sequence k p low high ms) = cc
+  undefined_none e (of_parts p ms) = cc
+  undefined_none e (of_choice p listed m) = cc
+
+  -- the last name is passed: a frame above follows
+  pub walk_up : {root bytes rest : List ℕ} {T : List ℕ → Option Mark} {fs : List Frame} {f h : Frame} {L : List (List ℕ)} → Walk root bytes T (h ∷ fs) f rest L → remaining f.rest ≡ [] → (f.start ≡ length rest → ⊥) → Walk root bytes T fs h rest L
+  walk_up {root} {bytes} {rest} {T} {fs} {f} {h} {L} w e far =
+      let same : pending (f ∷ h ∷ fs) ≡ pending (h ∷ fs) = ap (λ l. l ++ pending (h ∷ fs)) e in
+      record {
+        forth = λ m. subst (λ l. Members C l rest) same (w.forth m);
+        back = λ m. w.back (subst (λ l. Members C l rest) (sym same) m);
+        reached = λ x a. w.reached x (subst (λ l. IsIn x l) (sym same) a);
+        empty = w.empty;
+        here = λ x q. elim (w.here x q) [ inl k ↦ absurd (far k.1) | inr k ↦ k ];
+        past = w.past;
+        top = record { low = w.chain.0.low; only_empty = λ s. absurd (far (w.chain.0.same s)); needs = λ s. absurd (far (w.chain.0.same s)) };
+        chain = w.chain.1;
+        distinct = w.distinct;
+        defined = w.defined;
+        marked = w.marked;
+      }
+
+  -- and has turned out to be empty
+  pub walk_up_empty : {root bytes rest : List ℕ} {T U : List ℕ → Option Mark} {fs : List Frame} {f h : Frame} {L : List (List ℕ)} → Walk root bytes T (h ∷ fs) f rest L → remaining f.rest ≡ [] → f.start ≡ length rest → Updated T U f.name.now Empty → Walk root bytes U fs h rest L
+  walk_up_empty {root} {bytes} {rest} {T} {U} {fs} {f} {h} {L} w e at u =
+      let same : pending (f ∷ h ∷ fs) ≡ pending (h ∷ fs) = ap (λ l. l ++ pending (h ∷ fs)) e in
+      let is : OnlyEmpty C f.name.now = w.top.only_empty at (subst (λ l. AllOnlyEmpty C l) (sym e) tt) in
+      record {
+        forth = λ m. subst (λ l. Members C l rest) same (w.forth m);
+        back = λ m. w.back (subst (λ l. Members C l rest) (sym same) m);
+        reached = λ x a. w.reached x (subst (λ l. IsIn x l) (sym same) a);
+        empty = λ x q. elim (name_cases x f.name.now) [ inl k ↦ subst (λ y. OnlyEmpty C y) (sym k) is | inr k ↦ w.empty x (sym (u.others x k) ∙ q) ];
+        here = λ x q. elim (name_cases x f.name.now) [
+          | inl k ↦ (let a = u.here in let b = ap U k in cc)
+          | inr k ↦ elim (w.here x (sym (u.others x k) ∙ q)) [ inl j ↦ absurd (k (sym j.0)) | inr j ↦ j ]
+        ];
+        past = λ x n q. elim (name_cases x f.name.now) [ inl k ↦ (let a = u.here in let b = ap U k in cc) | inr k ↦ w.past x n (sym (u.others x k) ∙ q) ];
+        top = record {
+          low = w.chain.0.low;
+          only_empty = λ s a. w.chain.0.only_empty s is a;
+          needs = λ s. let n = w.chain.0.needs s in (n.0, n.1, n.3);
+        };
+        chain = w.chain.1;
+        distinct = w.distinct;
+        defined = w.defined;
+        marked = λ x a. still_marked u (w.marked x a);
+      }
+    where
+      still_marked : {T U : List ℕ → Option Mark} {p x : List ℕ} {o : ℕ} → Updated T U p Empty → (T x ≡ Some Empty) ⊎ (T x ≡ Some (Open o)) → (U x ≡ Some Empty) ⊎ (U x ≡ Some (Open o))
+      still_marked {T} {U} {p} {x} {o} u h =
+          let Goal : Type 0 = (U x ≡ Some Empty) ⊎ (U x ≡ Some (Open o)) in
+          let go : (x ≡ p) ⊎ (x ≡ p → ⊥) → Goal = elim [
+            | inl q ↦ inl (ap U q ∙ u.here)
+            | inr q ↦ elim h [ inl b ↦ inl (u.others x q ∙ b) | inr b ↦ inr (u.others x q ∙ b) ]
+          ] in
+          go (name_cases x p)
+
+  -- all names are passed
+  pub walk_end : {root bytes rest : List ℕ} {T : List ℕ → Option Mark} {f : Frame} {L : List (List ℕ)} → Walk root bytes T [] f rest L → remaining f.rest ≡ [] → (Member C root bytes → rest ≡ []) × (rest ≡ [] → Member C root bytes)
+  walk_end {rest = rest} {f = f} w e =
+      let same : pending (f ∷ []) ≡ [] = ap (λ l. l ++ []) e in
+      ((λ m. nothing (subst (λ l. Members C l rest) same (w.forth m))), λ h. w.back (subst (λ l. Members C l rest) (sym same) (subst (λ b. Members C [] b) (sym h) no_members)))
+    where
+      nothing : {bs : List ℕ} → Members C [] bs → bs ≡ []
+      nothing no_members = refl
+
+  -- the next name is opened: what is kept of the members
+  module _ {root bytes rest p : List ℕ} {T : List ℕ → Option Mark} {fs : List Frame} {f : Frame} {L : List (List ℕ)} (w : Walk root bytes T fs f rest L) (r : Rest) (e : remaining f.rest ≡ p ∷ remaining r) where
+    next_is : pending (f ∷ fs) ≡ p ∷ (remaining r ++ pending fs)
+    next_is = ap (λ l. l ++ pending fs) e
+
+    above : {o s : ℕ} → (f.start ≡ o → s ≡ o) → Top o f → Link o (with_rest f r) p s
+    above same t = record {
+      low = t.low;
+      same = same;
+      only_empty = λ q h a. t.only_empty q (subst (λ l. AllOnlyEmpty C l) (sym e) (h, a));
+      needs = λ q. let n = t.needs q in (n.0, n.1, n.2 p (subst (λ l. IsIn p l) (sym e) first), λ z a. n.2 z (subst (λ l. IsIn z l) (sym e) (later a)));
+    }
+
+    next_reached : Reached C root p
+    next_reached = w.reached p (subst (λ l. IsIn p l) (sym next_is) first)
+
+    reached_more : {d : Shape} (g : Frame) → C p ≡ Some d → ((q : List ℕ) → IsIn q (remaining g.rest) → IsIn q (references d)) → (x : List ℕ) → IsIn x (pending (g ∷ with_rest f r ∷ fs)) → Reached C root x
+    reached_more {d} g c mentioned x a =
+        let go : IsIn x (remaining g.rest) ⊎ IsIn x (remaining r ++ pending fs) → Reached C root x = elim [
+          | inl b ↦ onward d next_reached c (mentioned x b)
+          | inr b ↦ w.reached x (subst (λ l. IsIn x l) (sym next_is) (later b))
+        ] in
+        go (among_append (remaining g.rest) (remaining r ++ pending fs) a)
+
+    pub part_reached : Reached C root p
+    part_reached = next_reached
+
+    -- without a byte
+    pub walk_still : {U : List ℕ → Option Mark} {d : Shape} {n : ℕ} (g : Frame) → n ≡ 0 → C p ≡ Some d → Takes d rest n (remaining g.rest) → (T p ≡ Some Empty → ⊥) → (T p ≡ Some (Open (length rest)) → ⊥) → Updated T U p (Open (length rest)) → g.name.now ≡ p → g.start ≡ length rest → Walk root bytes U (with_rest f r ∷ fs) g rest (p ∷ L)
+    walk_still {U} {d} {n} g zero_is c t not_empty not_open u name start =
+        let at : drop n rest ≡ rest = ap (λ i. drop i rest) zero_is in
+        record {
+          forth = λ m. subst (λ b. Members C (remaining g.rest ++ (remaining r ++ pending fs)) b) at (t.forth C p (remaining r ++ pending fs) c (subst (λ l. Members C l rest) next_is (w.forth m)));
+          back = λ m. w.back (subst (λ l. Members C l rest) (sym next_is) (t.back C p (remaining r ++ pending fs) c (subst (λ b. Members C (remaining g.rest ++ (remaining r ++ pending fs)) b) (sym at) m)));
+          reached = reached_more g c t.mentioned;
+          empty = λ x h. elim (name_cases x p) [ inl q ↦ (let a = u.here in let b = ap U q in cc) | inr q ↦ w.empty x (sym (u.others x q) ∙ h) ];
+          here = λ x h. elim (name_cases x p) [ inl q ↦ inl (name ∙ sym q, start) | inr q ↦ inr (on_with f r fs (w.here x (sym (u.others x q) ∙ h))) ];
+          past = λ x k h. elim (name_cases x p) [ inl q ↦ (let a = u.here in let b = ap U q in let z : k ≡ length rest = cc in omega (arith, z)) | inr q ↦ w.past x k (sym (u.others x q) ∙ h) ];
+          top = record {
+            low = omega (arith, start);
+            only_empty = λ _ a. subst (λ y. OnlyEmpty C y) (sym name) (t.only_empty zero_is C p c a);
+            needs = λ _. (d, ap C name ∙ c, t.needs zero_is);
+          };
+          chain = (subst (λ y. Link (length rest) (with_rest f r) y g.start) (sym name) (above (λ _. start) w.top), w.chain);
+          distinct = distinct_more (λ a. elim (w.marked p a) [ inl h ↦ not_empty h | inr h ↦ not_open h ]) w.distinct;
+          defined = λ x a. also_defined C d c w.defined x a;
+          marked = λ x a. also_marked u w.marked x a;
+        }
+      where
+        on_with : {x : List ℕ} {o : ℕ} (f : Frame) (r : Rest) (fs : List Frame) → On x o (f ∷ fs) → On x o (with_rest f r ∷ fs)
+        on_with f r fs (inl h) = inl h
+        on_with f r fs (inr h) = inr h
+
+        also_marked : {T U : List ℕ → Option Mark} {p : List ℕ} {o : ℕ} {L : List (List ℕ)} → Updated T U p (Open o) → ((x : List ℕ) → IsIn x L → (T x ≡ Some Empty) ⊎ (T x ≡ Some (Open o))) → (x : List ℕ) → IsIn x (p ∷ L) → (U x ≡ Some Empty) ⊎ (U x ≡ Some (Open o))
+        also_marked u f x first = inr u.here
+        also_marked {T} {U} {p} {o} u f x (later a) =
+            let Goal : Type 0 = (U x ≡ Some Empty) ⊎ (U x ≡ Some (Open o)) in
+            let go : (T x ≡ Some Empty) ⊎ (T x ≡ Some (Open o)) → (x ≡ p) ⊎ (x ≡ p → ⊥) → Goal = λ h k. elim k [
+              | inl q ↦ inr (ap U q ∙ u.here)
+              | inr q ↦ elim h [ inl b ↦ inl (u.others x q ∙ b) | inr b ↦ inr (u.others x q ∙ b) ]
+            ] in
+            go (f x a) (name_cases x p)
+
+    -- with some bytes: no frame has taken none since
+    pub walk_on : {d : Shape} {n : ℕ} (g : Frame) → 0 < n → C p ≡ Some d → Takes d rest n (remaining g.rest) → g.name.now ≡ p → g.start ≡ length rest → Walk root bytes T (with_rest f r ∷ fs) g (drop n rest) []
+    walk_on {d} {n} g more c t name start =
+        let less : length (drop n rest) < length rest = (let i = t.within in let k = length-drop n rest in omega (arith, i, k)) in
+        record {
+          forth = λ m. t.forth C p (remaining r ++ pending fs) c (subst (λ l. Members C l rest) next_is (w.forth m));
+          back = λ m. w.back (subst (λ l. Members C l rest) (sym next_is) (t.back C p (remaining r ++ pending fs) c m));
+          reached = reached_more g c t.mentioned;
+          empty = w.empty;
+          here = λ x h. let k = w.past x (length (drop n rest)) h in absurd (omega (arith, k, less));
+          past = λ x k h. let i = w.past x k h in omega (arith, i, less);
+          top = start_top (length (drop n rest)) g (omega (arith, start, less));
+          chain = (far_link (with_rest f r) _ _ (let k = w.top.low in omega (arith, k, less)), far_chain fs f.name.now f.start less w.chain);
+          distinct = distinct_none;
+          defined = λ x a. elim a [ ];
+          marked = λ x a. elim a [ ];
+        }
+      where
+        far_link : {o : ℕ} (f : Frame) (y : List ℕ) (s : ℕ) → o < f.start → Link o f y s
+        far_link f y s h = record { low = omega arith; same = λ e. absurd (omega arith); only_empty = λ e. absurd (omega arith); needs = λ e. absurd (omega arith) }
+
+        far_chain : {o u : ℕ} (fs : List Frame) (y : List ℕ) (s : ℕ) → u < o → Chain o fs y s → Chain u fs y s
+        far_chain [] y s h c = tt
+        far_chain (f ∷ fs) y s h c = (far_link f y s (let k = c.0.low in omega (arith, k)), far_chain fs f.name.now f.start h c.1)
+
+    -- ---- answers
+    pub no_definition : C p ≡ None → Member C root bytes → ⊥
+    no_definition c m = none_of (members_head C (subst (λ l. Members C l rest) next_is (w.forth m))).2
+      where
+        none_of : {bs : List ℕ} → Member C p bs → ⊥
+        none_of m = undefined_none c m
+
+    pub refused : {d : Shape} → C p ≡ Some d → ((D : List ℕ → Option Shape) (x : List ℕ) (ps : List (List ℕ)) → D x ≡ Some d → Members D (x ∷ ps) rest → ⊥) → Member C root bytes → ⊥
+    refused c deny m = deny C p (remaining r ++ pending fs) c (subst (λ l. Members C l rest) next_is (w.forth m))
+
+    pub leads_back : T p ≡ Some (Open (length rest)) → Member C root bytes → ⊥
+    leads_back h m =
+        let s = members_head C (subst (λ l. Members C l rest) next_is (w.forth m)) in
+        let l = on_leads (length rest) fs f w.chain (w.here p h) in
+        let n = w.top.needs l.0 in
+        not_required C s.2 (f.name.now, n.0, l.1, n.1, n.2 p (subst (λ l. IsIn p l) (sym e) first))
+      where
+        on_leads : {x : List ℕ} (o : ℕ) (fs : List Frame) (f : Frame) → Chain o fs f.name.now f.start → On x o (f ∷ fs) → (f.start ≡ o) × Reaches C required_by x f.name.now
+        on_leads o fs f c (inl h) = (h.1, subst (λ y. Reaches C required_by y f.name.now) h.0 stays)
+        on_leads o [] f c (inr h) = absurd h
+        on_leads o (g ∷ fs) f c (inr h) =
+            let l = on_leads o fs g c.1 h in
+            let n = c.0.needs l.0 in
+            (c.0.same l.0, onward n.0 l.1 n.1 n.2)

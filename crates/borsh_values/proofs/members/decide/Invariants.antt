@@ -1,0 +1,21 @@
+use Rattle.std.proofs.Common.{◌≡◌, ℕ, List, [], ◌∷◌, ◌++◌, length, reverse, true}
+use Rattle.borsh_walks.specs.Definitions.{definitions_in}
+use Rattle.borsh_walks.specs.Tables.{mark_of}
+use Rattle.borsh_walks.specs.ZeroAnswer.{ZeroTable}
+use Rattle.borsh_values.specs.Nodes.{NodeView, Nodes, views}
+use Rattle.borsh_values.specs.Steps.{pending}
+use Rattle.borsh_values.proofs.Walk.{Walk}
+use Rattle.borsh_values.proofs.Measure.{left}
+use Rattle.borsh_values.proofs.members.decide.Given as goal
+
+abbrev pub invariant-loop-step : goal.invariant-loop-step
+invariant-loop-step l = record {
+  names : List (List ℕ);
+  state : Walk (definitions_in l.fn.map) l.fn.root l.fn.bytes (mark_of l.table) (reverse l.stack.items) l.frame l.left names;
+  count : length names ≡ l.idle;
+  table : ZeroTable (definitions_in l.fn.map) l.zeros;
+  listed : l.wanted ≡ true → (es : List NodeView) → Nodes (definitions_in l.fn.map) (pending (l.frame ∷ reverse l.stack.items)) l.left es → Nodes (definitions_in l.fn.map) (l.fn.root ∷ []) l.fn.bytes (views l.nodes.items ++ es);
+}
+
+abbrev pub decreases-loop-step : goal.decreases-loop-step
+decreases-loop-step l = left l.map (length l.left) l.idle (l.frame ∷ reverse l.stack.items)

@@ -1,0 +1,34 @@
+use Rattle.std.proofs.Common.{◌≡◌, ℕ, List, [], ◌∷◌, refl, sym, subst}
+use Rattle.borsh_walks.specs.Container.{stays, Reached, IsIn}
+use Rattle.borsh_walks.specs.Definitions.{definitions_in}
+use Rattle.borsh_walks.proofs.Names.{among_one}
+use Rattle.borsh_walks.proofs.RulesGlue.{empty_table}
+use Rattle.borsh_values.specs.Membership.{IsAnswer}
+use Rattle.borsh_values.proofs.NodesLaws.{nodes_bytes, one_reading}
+use Rattle.borsh_values.proofs.Valid.{none_ambiguous}
+use Rattle.borsh_values.proofs.members.decode.Goals as goal
+
+pub decide-requires-clause-table : goal.decide-requires-clause-table
+decide-requires-clause-table c = empty_table (definitions_in c.args.map.now) c.new-zeros.result c.new-zeros.ensures.empty
+
+pub returns-in-Member : goal.returns-in-Member
+returns-in-Member c =
+    let C = definitions_in c.args.map.now in
+    let root = c.args.root.now in
+    let member = subst (λ a. IsAnswer C root c.args.bytes.now a) c.in-Member.is c.in_ok-decide.ensures.answer in
+    let nodes = c.in_ok-decide.ensures.listed refl c.in-Member.is in
+    record {
+      answer = (nodes, member);
+      determined = λ one. (
+        nodes_bytes C nodes,
+        λ es h. one_reading C root one [] [] (λ y a. subst (λ z. Reached C root z) (sym (among_one a)) stays) h nodes refl,
+      );
+      decided = λ v u e. cc;
+    }
+
+pub returns : goal.returns
+returns c =
+    let C = definitions_in c.args.map.now in
+    let root = c.args.root.now in
+    let fault = subst (λ a. IsAnswer C root c.args.bytes.now a) c.in-Ambiguous.is c.in_ok-decide.ensures.answer in
+    record { answer = fault; determined = λ _. tt; decided = λ v u _. none_ambiguous C v u fault }

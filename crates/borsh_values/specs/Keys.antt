@@ -1,0 +1,14 @@
+-- A number for the tag of a discriminant.
+use Rattle.std.specs.Prelude.{◌≡◌, ℕ, ◌-◌, ◌%◌, ◌^◌, ◌<◌, ◌≤◌, ℤ, pos, negsuc}
+use Rattle.borsh_values.specs.Tags.{magnitude_of}
+
+-- a number of 64 bits, in two's complement
+abbrev pub bits_of : ℤ → ℕ
+bits_of (pos n) = n
+bits_of (negsuc n) = 18446744073709551615 - n
+
+-- n is the low bytes of the discriminant k, all eight where the width has more
+pub record IsTagKey (width : ℕ) (k : ℤ) (n : ℕ) : Type 0 where
+  pub narrow : width < 8 → n ≡ bits_of k % 256 ^ width
+  pub wide : 8 ≤ width → n ≡ bits_of k
+  pub fits : magnitude_of k < 9223372036854775808

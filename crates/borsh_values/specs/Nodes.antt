@@ -1,0 +1,40 @@
+-- The nodes of a value: its parts in preorder, each with the bytes that it encodes before its own parts.
+use Rattle.std.specs.Prelude.{◌≡◌, ◌⊎◌, ℕ, ◌<◌, ◌≤◌, ℤ, pos, List, [], ◌∷◌, ◌++◌, length, replicate, Option, Some, All}
+use Rattle.borsh_walks.specs.Definitions.{shape_of}
+use Rattle.borsh_values.specs.declared.nodes.Node.{Node}
+use Rattle.borsh_walks.specs.Container.{Shape, primitive, sequence, product, choice, IsListedVariant, tag, Member, IsZeroSize}
+
+-- a value of the definition is these bytes, and then the parts: a primitive all its bytes, a sequence its count, a struct or tuple none, an enum its tag
+abbrev pub Opens : Shape → List ℕ → List (List ℕ) → Type 0
+Opens (primitive n) own ns = (length own ≡ n) × All (λ b. b < 256) own × (ns ≡ [])
+Opens (sequence w lo hi e) own ns = (k : ℕ) × (lo ≤ k) × (k ≤ hi) × (own ≡ tag w (pos k)) × (ns ≡ replicate k e)
+Opens (product ps) own ns = (own ≡ []) × (ns ≡ ps)
+Opens (choice w vs) own ns = (k : ℤ) × (p : List ℕ) × IsListedVariant k p vs × (own ≡ tag w k) × (ns ≡ p ∷ [])
+
+-- a node: its name, the definition of the name, and its own bytes
+abbrev pub NodeView : Type 0
+NodeView = List ℕ × Shape × List ℕ
+
+-- what the node of the code is
+abbrev pub view_of : Node → NodeView
+view_of n = (n.name.now, shape_of n.definition.now, n.bytes.now)
+
+abbrev pub views : List Node → List NodeView
+views [] = []
+views (n ∷ ns) = view_of n ∷ views ns
+
+-- all own bytes, one after another
+abbrev pub joined_bytes : List NodeView → List ℕ
+joined_bytes [] = []
+joined_bytes (e ∷ es) = e.2 ++ joined_bytes es
+
+-- a node of a name of zero size is left out, and any other is added
+abbrev pub ListsNode : (List ℕ → Option Shape) → Node → List Node → List Node → Type 0
+ListsNode C n old new = ((n.bytes.now ≡ []) × IsZeroSize C n.name.now × (new ≡ old)) ⊎ ((n.bytes.now ≡ [] → IsZeroSize C n.name.now → ⊥) × (new ≡ old ++ n ∷ []))
+
+module _ (C : List ℕ → Option Shape) where
+  -- bytes are members of the names, one after another, and these are the nodes; a value of a name of zero size has no node
+  pub data Nodes : List (List ℕ) → List ℕ → List NodeView → Type 0 where
+    nodes_none : Nodes [] [] []
+    nodes_zero : {x bs : List ℕ} {ps : List (List ℕ)} {es : List NodeView} → IsZeroSize C x → Member C x [] → Nodes ps bs es → Nodes (x ∷ ps) bs es
+    nodes_more : {x own bs : List ℕ} {ps : List (List ℕ)} {es : List NodeView} (d : Shape) (ns : List (List ℕ)) → (IsZeroSize C x → ⊥) → C x ≡ Some d → Opens d own ns → Nodes (ns ++ ps) bs es → Nodes (x ∷ ps) (own ++ bs) ((x, d, own) ∷ es)

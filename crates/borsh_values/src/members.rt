@@ -1,0 +1,220 @@
+// Whether bytes are a member of a name.
+ghost use Rattle.borsh_values.specs.Membership.{AnswersMembership, IsAnswer, IsAnswerAtEnd};
+ghost use Rattle.borsh_values.specs.Steps.{KnownAs};
+ghost use Rattle.borsh_walks.specs.Tables.{mark_of};
+ghost use Rattle.borsh_walks.specs.Definitions.{definitions_in};
+ghost use Rattle.borsh_values.specs.Nodes.{Nodes, views};
+ghost use Rattle.borsh_values.specs.Decoding.{DecodesValue};
+ghost use Rattle.borsh_values.specs.declared.members.Membership.TheVariants.{Member as IsMember};
+ghost use Rattle.borsh_walks.specs.ZeroAnswer.{ZeroTable};
+ghost use Rattle.std.specs.Prelude.{IfOk, ◌≤◌, ◌≡◌, ◌∷◌, [], length, drop, take, true};
+
+use crate::frames::{Frame, Opened, Rest, after_copies, next_part};
+use crate::nodes::{Node, list_node};
+use crate::opening::open_definition;
+use borsh_walks::Definition;
+use std::alloc::{AllocError, Global};
+use std::collections::BTreeMap;
+
+/// Whether bytes are a member of a name.
+#[derive(Clone, Copy, Debug, PartialEq, Eq)]
+pub enum Membership {
+    /// They are a member.
+    Member,
+    /// They aren't.
+    NoMember,
+    /// A definition that was reached encodes two counts or two variants alike, or has counts of a width
+    /// that no valid container has.
+    Ambiguous,
+}
+
+/// What is known of a name.
+#[derive(Clone, Copy)]
+pub enum Mark {
+    /// Its only member is the empty one.
+    Empty,
+    /// It is being read since so many bytes were left, or no member of it begins there any more.
+    Open(usize),
+}
+
+/// What a table says of a name that is next.
+#[derive(Clone, Copy)]
+pub enum Known {
+    /// Its only member is the empty one.
+    Empty,
+    /// It is being read, and no byte was taken since it was begun.
+    Recursive,
+    /// It has to be read.
+    New,
+}
+
+fn look_up<'a>(table: &BTreeMap<&'a str, Mark>, name: &str, left: usize) -> Known
+    ensures { KnownAs (mark_of table.now name.now) left result }
+{
+    match table.get(name) {
+        Some(Mark::Empty) => Known::Empty,
+        Some(Mark::Open(at)) => {
+            if *at == left {
+                Known::Recursive
+            } else {
+                Known::New
+            }
+        }
+        None => Known::New,
+    }
+}
+
+// The first bytes.
+fn front(bytes: &[u8], taken: usize) -> &[u8]
+    requires { taken ≤ length bytes.now }
+    ensures { result.now ≡ take taken bytes.now }
+{
+    &bytes[..taken]
+}
+
+// The bytes behind the first ones.
+fn after(bytes: &[u8], taken: usize) -> &[u8]
+    requires { taken ≤ length bytes.now }
+    ensures { result.now ≡ drop taken bytes.now }
+{
+    &bytes[taken..]
+}
+
+// The answer where all names are read.
+fn at_end(left: &[u8]) -> Membership
+    ensures { IsAnswerAtEnd left.now result }
+{
+    if left.is_empty() {
+        Membership::Member
+    } else {
+        Membership::NoMember
+    }
+}
+
+/// Whether all of `bytes` is a member of `root`, by the definitions of `map` alone.
+///
+/// The definitions may be any: a name without a definition has no member, and neither has one that leads back
+/// to itself before any byte. The answer is never [`Membership::Ambiguous`] where the definitions that are
+/// reached are valid, as [`borsh_walks::check_rules`] says, and unambiguous. An error is a refused allocation.
+pub fn is_member<'a>(
+    alloc: Global,
+    root: &'a str,
+    map: &'a BTreeMap<String, Definition>,
+    bytes: &'a [u8],
+) -> Result<Membership, AllocError>
+    ensures { AnswersMembership (definitions_in map.now) root.now bytes.now result }
+{
+    let mut zeros: BTreeMap<&'a str, bool> = BTreeMap::new(alloc);
+    let mut nodes: Vec<Node<'a>> = Vec::new(alloc);
+    decide(alloc, root, map, bytes, false, &mut zeros, &mut nodes)
+}
+
+/// The nodes of a value, where bytes are a member.
+#[derive(Drop)]
+pub enum Decoded<'a> {
+    /// The bytes are a member, and these are its nodes in preorder. A value of a name of zero size has none.
+    Nodes(Vec<Node<'a>>),
+    /// The bytes are no member.
+    NoMember,
+    /// As [`Membership::Ambiguous`].
+    Ambiguous,
+}
+
+/// The nodes of the value of `root` that all of `bytes` is, by the definitions of `map` alone.
+///
+/// The definitions may be any, as for [`is_member`], and the answer is of the same kind. Where they are
+/// unambiguous, as [`crate::find_ambiguous`] says, the bytes have these nodes and no others. The own bytes of all
+/// nodes, one after another, are `bytes`. An error is a refused allocation.
+pub fn decode<'a>(
+    alloc: Global,
+    root: &'a str,
+    map: &'a BTreeMap<String, Definition>,
+    bytes: &'a [u8],
+) -> Result<Decoded<'a>, AllocError>
+    ensures { DecodesValue (definitions_in map.now) root.now bytes.now result }
+{
+    let mut zeros: BTreeMap<&'a str, bool> = BTreeMap::new(alloc);
+    let mut nodes: Vec<Node<'a>> = Vec::new(alloc);
+    match decide(alloc, root, map, bytes, true, &mut zeros, &mut nodes)? {
+        Membership::Member => Ok(Decoded::Nodes(nodes)),
+        Membership::NoMember => Ok(Decoded::NoMember),
+        Membership::Ambiguous => Ok(Decoded::Ambiguous),
+    }
+}
+
+// The loop over the bytes, which lists the nodes if they are wanted. Each frame of `stack` waits until the one after it was read; `idle` counts the names
+// that were begun since the last byte was taken.
+fn decide<'a>(
+    alloc: Global,
+    root: &'a str,
+    map: &'a BTreeMap<String, Definition>,
+    bytes: &'a [u8],
+    wanted: bool,
+    zeros: &mut BTreeMap<&'a str, bool>,
+    nodes: &mut Vec<Node<'a>>,
+) -> Result<Membership, AllocError>
+    requires table { ZeroTable (definitions_in map.now) zeros.old }
+    requires empty { nodes.old.items ≡ [] }
+    ensures answer { IfOk result (λ a. IsAnswer (definitions_in map.now) root.now bytes.now a) }
+    ensures listed { wanted ≡ true → IfOk result (λ a. a ≡ IsMember →
+        Nodes (definitions_in map.now) (root.now ∷ []) bytes.now (views nodes.new.items)) }
+{
+    let mut table: BTreeMap<&'a str, Mark> = BTreeMap::new(alloc);
+    let mut stack: Vec<Frame<'a>> = Vec::new(alloc);
+    let _definitions = map.len();
+    let mut left = bytes;
+    let mut idle: usize = 0;
+    let mut frame = Frame {
+        name: root,
+        start: bytes.len() + 1,
+        rest: Rest::Copies(root, 1),
+    };
+    loop {
+        match next_part(frame.rest) {
+            Some(step) => match look_up(&table, step.part, left.len()) {
+                Known::Empty => frame.rest = after_copies(frame.rest, step),
+                Known::Recursive => return Ok(Membership::NoMember),
+                Known::New => {
+                    let Some(definition) = map.get(step.part) else {
+                        return Ok(Membership::NoMember);
+                    };
+                    match open_definition(definition, left) {
+                        Opened::Undecided => return Ok(Membership::Ambiguous),
+                        Opened::Refused => return Ok(Membership::NoMember),
+                        Opened::Taken(taken, rest) => {
+                            let node = Node {
+                                name: step.part,
+                                definition,
+                                bytes: front(left, taken),
+                            };
+                            list_node(alloc, wanted, map, zeros, nodes, node)?;
+                            frame.rest = step.others;
+                            stack.push(frame)?;
+                            frame = Frame {
+                                name: step.part,
+                                start: left.len(),
+                                rest,
+                            };
+                            if taken == 0 {
+                                table.insert(step.part, Mark::Open(left.len()))?;
+                                idle += 1;
+                            } else {
+                                idle = 0;
+                                left = after(left, taken);
+                            }
+                        }
+                    }
+                }
+            },
+            None => match stack.pop() {
+                Some(above) => {
+                    if frame.start == left.len() {
+                        table.insert(frame.name, Mark::Empty)?;
+                    }
+                    frame = above;
+                }
+                None => return Ok(at_end(left)),
+            },
+        }
+    }
+}

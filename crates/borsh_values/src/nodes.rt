@@ -1,0 +1,51 @@
+// The nodes of a value.
+ghost use Rattle.borsh_values.specs.Nodes.{ListsNode};
+ghost use Rattle.borsh_walks.specs.Definitions.{definitions_in};
+ghost use Rattle.borsh_walks.specs.ZeroAnswer.{ZeroTable};
+ghost use Rattle.std.specs.Prelude.{OnOk, ◌≡◌, true};
+
+use borsh_walks::zero::is_zero;
+use borsh_walks::{Counted, Definition, Expansions};
+use std::alloc::{AllocError, Global};
+use std::collections::BTreeMap;
+
+/// A part of a value, or the value itself, with the bytes that it encodes before its own parts: a primitive all
+/// its bytes, a sequence its count, an enum its tag, a struct and a tuple none.
+#[derive(Clone, Copy)]
+pub struct Node<'a> {
+    pub name: &'a str,
+    pub definition: &'a Definition,
+    pub bytes: &'a [u8],
+}
+
+/// Lists the node, if nodes are wanted and its name isn't of zero size.
+pub fn list_node<'a>(
+    alloc: Global,
+    wanted: bool,
+    map: &'a BTreeMap<String, Definition>,
+    zeros: &mut BTreeMap<&'a str, bool>,
+    nodes: &mut Vec<Node<'a>>,
+    node: Node<'a>,
+) -> Result<(), AllocError>
+    requires { ZeroTable (definitions_in map.now) zeros.old }
+    ensures table { OnOk result (ZeroTable (definitions_in map.now) zeros.new) }
+    ensures listed { OnOk result
+        (wanted ≡ true → ListsNode (definitions_in map.now) node.entry nodes.old.items nodes.new.items) }
+{
+    if !wanted {
+        return Ok(());
+    }
+    if node.bytes.is_empty() {
+        let mut counts = Expansions {
+            size: 0,
+            zero: 0,
+            rules: 0,
+        };
+        let mut counted = Counted::new(map, &mut counts);
+        if is_zero(alloc, node.name, zeros, &mut counted)? {
+            return Ok(());
+        }
+    }
+    nodes.push(node)?;
+    Ok(())
+}

@@ -1,0 +1,163 @@
+// Whether bytes say which value was encoded, by the definitions alone.
+ghost use Rattle.borsh_values.specs.Keys.{IsTagKey, bits_of};
+ghost use Rattle.borsh_values.specs.Unambiguous.{DistinctTags, IsUnambiguous, UnambiguousShape};
+ghost use Rattle.borsh_values.specs.Membership.{IsAmbiguousName, IsUnseen};
+ghost use Rattle.borsh_walks.specs.Definitions.{definitions_in, shape_of};
+ghost use Rattle.borsh_walks.specs.Tables.{mark_of};
+ghost use Rattle.std.specs.Prelude.{Decides, IfOk, MatchOption, ◌+◌, ◌^◌, ◌<◌, ◌≤◌, ◌≡◌, map, string_bytes};
+
+use crate::frames::{Frame, Rest, after_copies, next_part};
+use borsh_walks::{Declaration, Definition, DiscriminantValue, VariantName};
+use std::alloc::{AllocError, Global};
+use std::collections::{BTreeMap, BTreeSet};
+
+// How many numbers have that many bytes, where that is below 2^64.
+fn numbers_in(width: u8) -> Option<u64>
+    ensures { MatchOption result (8 ≤ width) (λ n. (n ≡ 256 ^ width) × (width < 8) × (0 < n)) }
+{
+    match width {
+        0 => Some(1),
+        1 => Some(256),
+        2 => Some(65536),
+        3 => Some(16777216),
+        4 => Some(4294967296),
+        5 => Some(1099511627776),
+        6 => Some(281474976710656),
+        7 => Some(72057594037927936),
+        _ => None,
+    }
+}
+
+// Whether no two counts of the range are encoded alike.
+fn has_distinct_counts(width: u8, start: u64, end: u64) -> bool
+    ensures { Decides result (end < start + 256 ^ width) }
+{
+    match numbers_in(width) {
+        Some(numbers) => end < start || end - start < numbers,
+        None => true,
+    }
+}
+
+// The number of 64 bits, in two's complement.
+fn bits(discriminant: i64) -> u64
+    ensures { result ≡ bits_of discriminant }
+{
+    if discriminant < 0 {
+        18446744073709551615 - (-(discriminant + 1)) as u64
+    } else {
+        discriminant as u64
+    }
+}
+
+// A number that two discriminants share exactly if their tags in that width are the same.
+fn tag_key(width: u8, discriminant: &i64) -> u64
+    ensures { IsTagKey width discriminant.now result }
+{
+    let value = *discriminant;
+    let bits = bits(value);
+    match numbers_in(width) {
+        Some(numbers) => bits % numbers,
+        None => bits,
+    }
+}
+
+// Whether no two variants have the same tag.
+fn has_distinct_tags(
+    alloc: Global,
+    width: u8,
+    variants: &Vec<(DiscriminantValue, VariantName, Declaration)>,
+) -> Result<bool, AllocError>
+    ensures { IfOk result
+        (λ b. Decides b (DistinctTags width (map (λ v. (v.0, string_bytes v.2)) variants.now.items))) }
+{
+    let mut keys: BTreeSet<u64> = BTreeSet::new(alloc);
+    let mut index: usize = 0;
+    while let Some((discriminant, _, _)) = variants.get(index) {
+        let key = tag_key(width, discriminant);
+        if !keys.insert(key)? {
+            return Ok(false);
+        }
+        index += 1;
+    }
+    Ok(true)
+}
+
+// Whether the bytes of a value by this definition say which count or variant was encoded.
+fn is_unambiguous_definition(alloc: Global, definition: &Definition) -> Result<bool, AllocError>
+    ensures { IfOk result (λ b. Decides b (UnambiguousShape (shape_of definition.now))) }
+{
+    match definition {
+        Definition::Sequence {
+            length_width,
+            length_range,
+            ..
+        } => Ok(has_distinct_counts(*length_width, length_range.start, length_range.end)),
+        Definition::Enum {
+            tag_width,
+            variants,
+        } => has_distinct_tags(alloc, *tag_width, variants),
+        _ => Ok(true),
+    }
+}
+
+// The definition of a name, if it has one and wasn't seen.
+fn unseen<'a>(
+    seen: &BTreeMap<&'a str, bool>,
+    map: &'a BTreeMap<String, Definition>,
+    name: &str,
+) -> Option<&'a Definition>
+    ensures { IsUnseen map.now (mark_of seen.now) name.now result }
+{
+    if seen.contains_key(name) {
+        None
+    } else {
+        map.get(name)
+    }
+}
+
+/// A name that `root` leads to whose definition encodes two counts or two variants alike, the first that a
+/// depth-first walk finds; none if there is no such name, so that bytes are a value in at most one way.
+///
+/// A sequence is at fault where its range has more counts than its width can encode, an enum where two variants
+/// have the same tag in its width. Each definition is looked at once. An error is a refused allocation.
+pub fn find_ambiguous<'a>(
+    alloc: Global,
+    root: &'a str,
+    map: &'a BTreeMap<String, Definition>,
+) -> Result<Option<&'a str>, AllocError>
+    ensures { IfOk result (λ found. MatchOption found (IsUnambiguous (definitions_in map.now) root.now)
+        (λ name. IsAmbiguousName (definitions_in map.now) root.now name.now)) }
+{
+    let mut seen: BTreeMap<&'a str, bool> = BTreeMap::new(alloc);
+    let mut stack: Vec<Frame<'a>> = Vec::new(alloc);
+    let _definitions = map.len();
+    let mut frame = Frame {
+        name: root,
+        start: 0,
+        rest: Rest::Copies(root, 1),
+    };
+    loop {
+        match next_part(frame.rest) {
+            Some(step) => match unseen(&seen, map, step.part) {
+                Some(definition) => {
+                    if !is_unambiguous_definition(alloc, definition)? {
+                        return Ok(Some(step.part));
+                    }
+                    frame.rest = step.others;
+                    stack.push(frame)?;
+                    frame = Frame {
+                        name: step.part,
+                        start: 0,
+                        rest: Rest::Parts(definition, 0),
+                    };
+                    seen.insert(step.part, true)?;
+                }
+                None => frame.rest = after_copies(frame.rest, step),
+            },
+            None => match stack.pop() {
+                Some(above) => frame = above,
+                None => return Ok(None),
+            },
+        }
+    }
+}
