@@ -1,0 +1,120 @@
+// A run of the tool.
+use super::answers::{Answer, answer_to, container_from};
+use super::command::{Request, command, request_from};
+use super::failure::{Failure, failure_line, usage_line};
+use borsh::io::ErrorKind;
+use clap::ArgMatches;
+use hex::FromHexError;
+use std::alloc::{AllocError, Global};
+use std::io::Read;
+use std::rt::Files;
+use std::{fs, io};
+
+/// Runs the command that the words name, the first of which is the program's own name, and returns the
+/// exit status: 0 for yes, 1 for no or for bytes that are no container, 2 for anything else that failed.
+pub fn run<R: Files + Input + Print + Eprint + AllocGlobal>(rt: &R, words: &[String]) -> u8 {
+    match matches_of(rt.alloc(), words) {
+        Ok(matches) => match perform(rt, &matches) {
+            Ok(true) => 0,
+            Ok(false) => 1,
+            Err(failure) => {
+                tell(rt, &failure);
+                failure.status()
+            }
+        },
+        Err(error) => refuse(rt, &error),
+    }
+}
+
+fn matches_of<'a>(alloc: Global, words: &'a [String]) -> Result<ArgMatches<'a>, clap::Error> {
+    command(alloc)?.try_get_matches_from(words)
+}
+
+/// Prints the help that was asked for, or what is wrong with the words. That it can't be printed is
+/// passed over.
+fn refuse<R: Print + Eprint + AllocGlobal>(rt: &R, error: &clap::Error) -> u8 {
+    if !error.use_stderr() {
+        return match rt.print(error) {
+            Ok(()) => 0,
+            Err(_) => 2,
+        };
+    }
+    let _told = tell_usage(rt, error);
+    2
+}
+
+fn tell_usage<R: Eprint + AllocGlobal>(rt: &R, error: &clap::Error) -> io::Result<()> {
+    let text = format!(in rt.alloc(); "{error}")?;
+    let line = usage_line(rt.alloc(), text.as_str())?;
+    rt.eprint(&line)
+}
+
+/// Prints why there is no answer. That it can't be printed is passed over.
+fn tell<R: Eprint + AllocGlobal>(rt: &R, failure: &Failure<'_>) {
+    let _told = tell_failure(rt, failure);
+}
+
+fn tell_failure<R: Eprint + AllocGlobal>(rt: &R, failure: &Failure<'_>) -> io::Result<()> {
+    let text = format!(in rt.alloc(); "{failure}")?;
+    let line = failure_line(rt.alloc(), text.as_str())?;
+    rt.eprint(&line)
+}
+
+/// Prints the answer, and returns whether it is yes.
+fn perform<'a, R: Files + Input + Print + AllocGlobal>(
+    rt: &R,
+    matches: &ArgMatches<'a>,
+) -> Result<bool, Failure<'a>> {
+    let Some(request) = request_from(matches) else {
+        return Err(Failure::NoCommand);
+    };
+    let bytes = input(rt, &request)?;
+    let Answer { is_yes, text } = answer_about(rt.alloc(), &request, bytes.as_slice())?;
+    match rt.write_all(text.as_bytes()) {
+        Ok(()) => Ok(is_yes),
+        Err(error) => Err(Failure::Unwritable(error)),
+    }
+}
+
+/// The answer to a request about the container whose encoding the bytes are.
+pub fn answer_about<'a>(
+    alloc: Global,
+    request: &Request<'a>,
+    bytes: &[u8],
+) -> Result<Answer, Failure<'a>> {
+    match container_from(alloc, bytes) {
+        Ok(container) => Ok(answer_to(alloc, request.question, &container)?),
+        Err(error) if error.kind() == ErrorKind::OutOfMemory => Err(Failure::OutOfMemory),
+        Err(error) => Err(Failure::NotContainer(request.path, error)),
+    }
+}
+
+/// The bytes of the file that is asked about.
+fn input<'a, R: Files + Input + AllocGlobal>(
+    rt: &R,
+    request: &Request<'a>,
+) -> Result<Vec<u8>, Failure<'a>> {
+    let mut bytes = match file(rt, request.path) {
+        Ok(bytes) => bytes,
+        Err(error) => return Err(Failure::Unreadable(request.path, error)),
+    };
+    if !request.is_hex {
+        return Ok(bytes);
+    }
+    bytes.retain(|byte| !byte.is_ascii_whitespace());
+    match hex::decode(rt.alloc(), bytes.as_slice()) {
+        Ok(decoded) => Ok(decoded),
+        Err(FromHexError::OutOfMemory) => Err(Failure::OutOfMemory),
+        Err(error) => Err(Failure::NotHexadecimal(request.path, error)),
+    }
+}
+
+/// All bytes of a file, or of standard input for `-`.
+fn file<R: Files + Input + AllocGlobal>(rt: &R, path: &str) -> io::Result<Vec<u8>> {
+    if path != "-" {
+        return fs::read(rt, path);
+    }
+    let mut bytes = Vec::new(rt.alloc());
+    rt.reader().read_to_end(&mut bytes)?;
+    Ok(bytes)
+}
