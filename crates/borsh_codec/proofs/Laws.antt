@@ -8,4 +8,7 @@ pub mod Rows
 pub mod Maps
 pub mod Keys
 pub mod AddressKeys
+pub mod Conditional
+pub mod OrderedKeys
+pub mod OfParts
 pub mod Types

@@ -1,6 +1,7 @@
 // Addresses: their octets, and a tag where there are two kinds.
 ghost use Rattle.borsh_codec.specs.Types.Addresses.{ipv4, ipv6, ip, socket_v4, socket_v6, socket};
 ghost use Rattle.borsh_codec.proofs.Laws.Types.{ipv4-lawful, ipv6-lawful, ip-lawful, socket_v4-lawful, socket_v6-lawful, socket-lawful};
+ghost use Rattle.borsh_codec.proofs.Laws.Conditional.{always};
 
 use super::types::BorshType;
 use std::net::{IpAddr, Ipv4Addr, Ipv6Addr, SocketAddr, SocketAddrV4, SocketAddrV6};
@@ -8,7 +9,9 @@ use std::net::{IpAddr, Ipv4Addr, Ipv6Addr, SocketAddr, SocketAddrV4, SocketAddrV
 impl BorshType for Ipv4Addr {
     ghost codec = { ipv4 };
 
-    ghost lawful = { ipv4-lawful };
+    ghost lawful_if = { always ipv4-lawful };
+
+    ghost premises = { tt };
 
     fn encodes_empty() -> bool {
         false
@@ -22,7 +25,9 @@ impl BorshType for Ipv4Addr {
 impl BorshType for Ipv6Addr {
     ghost codec = { ipv6 };
 
-    ghost lawful = { ipv6-lawful };
+    ghost lawful_if = { always ipv6-lawful };
+
+    ghost premises = { tt };
 
     fn encodes_empty() -> bool {
         false
@@ -36,7 +41,9 @@ impl BorshType for Ipv6Addr {
 impl BorshType for IpAddr {
     ghost codec = { ip };
 
-    ghost lawful = { ip-lawful };
+    ghost lawful_if = { always ip-lawful };
+
+    ghost premises = { tt };
 
     fn encodes_empty() -> bool {
         false
@@ -50,7 +57,9 @@ impl BorshType for IpAddr {
 impl BorshType for SocketAddrV4 {
     ghost codec = { socket_v4 };
 
-    ghost lawful = { socket_v4-lawful };
+    ghost lawful_if = { always socket_v4-lawful };
+
+    ghost premises = { tt };
 
     fn encodes_empty() -> bool {
         false
@@ -64,7 +73,9 @@ impl BorshType for SocketAddrV4 {
 impl BorshType for SocketAddrV6 {
     ghost codec = { socket_v6 };
 
-    ghost lawful = { socket_v6-lawful };
+    ghost lawful_if = { always socket_v6-lawful };
+
+    ghost premises = { tt };
 
     fn encodes_empty() -> bool {
         false
@@ -78,7 +89,9 @@ impl BorshType for SocketAddrV6 {
 impl BorshType for SocketAddr {
     ghost codec = { socket };
 
-    ghost lawful = { socket-lawful };
+    ghost lawful_if = { always socket-lawful };
+
+    ghost premises = { tt };
 
     fn encodes_empty() -> bool {
         false

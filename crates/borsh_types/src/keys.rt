@@ -1,14 +1,16 @@
 // Keys of maps and elements of sets: types whose `==` says whether two values are the same.
-ghost use Rattle.borsh_codec.proofs.Laws.Keys.{all_key, and_key, bare_key, bool_key, key_as, number_key, option_key, pair_key, result_key, signed_key, text_key, unit_key};
-ghost use Rattle.borsh_codec.proofs.Laws.AddressKeys.{ip_key, octets_key, segments_key};
+ghost use Rattle.borsh_codec.proofs.Laws.AddressKeys.{ip_key};
+ghost use Rattle.borsh_codec.proofs.Laws.Keys.{all_key, and_key, bare_key, first_key, last_key, next_key, option_key, pair_key, result_key};
+ghost use Rattle.borsh_codec.proofs.Laws.OrderedKeys.{OrderedCodec, number_ordered, signed_ordered, bool_ordered, unit_ordered, text_ordered, ipv6_ordered, contramap_ordered, allocated_ordered, option_ordered, result_ordered, length_prefixed_ordered, list_ordered, array_ordered, pair_ordered, first_part, next_part, last_part, btree_map_ordered, btree_set_ordered};
 ghost use Rattle.borsh_codec.specs.Maps.{KeyLaw};
 ghost use Rattle.borsh_codec.specs.Shapes.{pair};
+ghost use Rattle.borsh_codec.specs.Types.Addresses.{ip, socket_v4_view};
+ghost use Rattle.std.specs.contracts.net.ip_addr.IpAddrOrd.TheImpl.Laws.{total-law as ip-total, matches_eq-law as ip-matches};
 ghost use Rattle.std.proofs.Common.{refl};
 ghost use Rattle.std.specs.Box.{boxed_slice_items, boxed_str_bytes};
 ghost use Rattle.std.specs.Cow.{cow_slice_items, cow_str_bytes};
 ghost use Rattle.std.specs.Int.NonZero.{non_zero_u8_get, non_zero_u16_get, non_zero_u32_get, non_zero_u64_get, non_zero_u128_get, non_zero_usize_get, non_zero_i8_get, non_zero_i16_get, non_zero_i32_get, non_zero_i64_get, non_zero_i128_get};
-ghost use Rattle.std.specs.Net.Addr.{ipv4_octets, ipv6_segments};
-ghost use Rattle.std.specs.Net.Socket.{v4_ip, v4_port};
+ghost use Rattle.std.specs.Net.Addr.{ipv4_octets};
 ghost use Rattle.std.specs.Rc.{rc_slice_items, rc_str_bytes};
 ghost use Rattle.std.specs.String.{string_bytes};
 
@@ -32,216 +34,293 @@ use uuid::Uuid;
 /// Two keys are equal exactly if they are one value as far as the meaning as bytes goes. So a map has no two entries
 /// whose keys are written alike, and equal keys are written alike.
 pub trait BorshKey: BorshType + Eq {
+    ghost ordered: { OrderedCodec Self };
+
     ghost key: { KeyLaw Self.eq Self.codec };
 }
 
 impl BorshKey for u8 {
-    ghost key = { number_key 1 };
+    ghost ordered = { number_ordered 1 };
+
+    ghost key = { Self.ordered.key };
 }
 
 impl BorshKey for u16 {
-    ghost key = { number_key 2 };
+    ghost ordered = { number_ordered 2 };
+
+    ghost key = { Self.ordered.key };
 }
 
 impl BorshKey for u32 {
-    ghost key = { number_key 4 };
+    ghost ordered = { number_ordered 4 };
+
+    ghost key = { Self.ordered.key };
 }
 
 impl BorshKey for u64 {
-    ghost key = { number_key 8 };
+    ghost ordered = { number_ordered 8 };
+
+    ghost key = { Self.ordered.key };
 }
 
 impl BorshKey for u128 {
-    ghost key = { number_key 16 };
+    ghost ordered = { number_ordered 16 };
+
+    ghost key = { Self.ordered.key };
 }
 
 impl BorshKey for usize {
-    ghost key = { number_key 8 };
+    ghost ordered = { number_ordered 8 };
+
+    ghost key = { Self.ordered.key };
 }
 
 impl BorshKey for i8 {
-    ghost key = { signed_key 1 };
+    ghost ordered = { signed_ordered 1 };
+
+    ghost key = { Self.ordered.key };
 }
 
 impl BorshKey for i16 {
-    ghost key = { signed_key 2 };
+    ghost ordered = { signed_ordered 2 };
+
+    ghost key = { Self.ordered.key };
 }
 
 impl BorshKey for i32 {
-    ghost key = { signed_key 4 };
+    ghost ordered = { signed_ordered 4 };
+
+    ghost key = { Self.ordered.key };
 }
 
 impl BorshKey for i64 {
-    ghost key = { signed_key 8 };
+    ghost ordered = { signed_ordered 8 };
+
+    ghost key = { Self.ordered.key };
 }
 
 impl BorshKey for i128 {
-    ghost key = { signed_key 16 };
+    ghost ordered = { signed_ordered 16 };
+
+    ghost key = { Self.ordered.key };
 }
 
 impl BorshKey for isize {
-    ghost key = { signed_key 8 };
+    ghost ordered = { signed_ordered 8 };
+
+    ghost key = { Self.ordered.key };
 }
 
 impl BorshKey for NonZeroU8 {
-    ghost key = { λ a b. number_key 1 (non_zero_u8_get a) (non_zero_u8_get b) };
+    ghost ordered = { contramap_ordered non_zero_u8_get (number_ordered 1) };
+
+    ghost key = { Self.ordered.key };
 }
 
 impl BorshKey for NonZeroU16 {
-    ghost key = { λ a b. number_key 2 (non_zero_u16_get a) (non_zero_u16_get b) };
+    ghost ordered = { contramap_ordered non_zero_u16_get (number_ordered 2) };
+
+    ghost key = { Self.ordered.key };
 }
 
 impl BorshKey for NonZeroU32 {
-    ghost key = { λ a b. number_key 4 (non_zero_u32_get a) (non_zero_u32_get b) };
+    ghost ordered = { contramap_ordered non_zero_u32_get (number_ordered 4) };
+
+    ghost key = { Self.ordered.key };
 }
 
 impl BorshKey for NonZeroU64 {
-    ghost key = { λ a b. number_key 8 (non_zero_u64_get a) (non_zero_u64_get b) };
+    ghost ordered = { contramap_ordered non_zero_u64_get (number_ordered 8) };
+
+    ghost key = { Self.ordered.key };
 }
 
 impl BorshKey for NonZeroU128 {
-    ghost key = { λ a b. number_key 16 (non_zero_u128_get a) (non_zero_u128_get b) };
+    ghost ordered = { contramap_ordered non_zero_u128_get (number_ordered 16) };
+
+    ghost key = { Self.ordered.key };
 }
 
 impl BorshKey for NonZeroUsize {
-    ghost key = { λ a b. number_key 8 (non_zero_usize_get a) (non_zero_usize_get b) };
+    ghost ordered = { contramap_ordered non_zero_usize_get (number_ordered 8) };
+
+    ghost key = { Self.ordered.key };
 }
 
 impl BorshKey for NonZeroI8 {
-    ghost key = { λ a b. signed_key 1 (non_zero_i8_get a) (non_zero_i8_get b) };
+    ghost ordered = { contramap_ordered non_zero_i8_get (signed_ordered 1) };
+
+    ghost key = { Self.ordered.key };
 }
 
 impl BorshKey for NonZeroI16 {
-    ghost key = { λ a b. signed_key 2 (non_zero_i16_get a) (non_zero_i16_get b) };
+    ghost ordered = { contramap_ordered non_zero_i16_get (signed_ordered 2) };
+
+    ghost key = { Self.ordered.key };
 }
 
 impl BorshKey for NonZeroI32 {
-    ghost key = { λ a b. signed_key 4 (non_zero_i32_get a) (non_zero_i32_get b) };
+    ghost ordered = { contramap_ordered non_zero_i32_get (signed_ordered 4) };
+
+    ghost key = { Self.ordered.key };
 }
 
 impl BorshKey for NonZeroI64 {
-    ghost key = { λ a b. signed_key 8 (non_zero_i64_get a) (non_zero_i64_get b) };
+    ghost ordered = { contramap_ordered non_zero_i64_get (signed_ordered 8) };
+
+    ghost key = { Self.ordered.key };
 }
 
 impl BorshKey for NonZeroI128 {
-    ghost key = { λ a b. signed_key 16 (non_zero_i128_get a) (non_zero_i128_get b) };
+    ghost ordered = { contramap_ordered non_zero_i128_get (signed_ordered 16) };
+
+    ghost key = { Self.ordered.key };
 }
 
 impl BorshKey for bool {
-    ghost key = { bool_key };
+    ghost ordered = { bool_ordered };
+
+    ghost key = { Self.ordered.key };
 }
 
 impl BorshKey for () {
-    ghost key = { unit_key };
+    ghost ordered = { unit_ordered };
+
+    ghost key = { Self.ordered.key };
 }
 
 impl<T> BorshKey for PhantomData<T> {
-    ghost key = { λ a b. unit_key tt tt };
+    ghost ordered = { contramap_ordered (λ _. tt) unit_ordered };
+
+    ghost key = { Self.ordered.key };
 }
 
 impl<T: BorshKey> BorshKey for Option<T> {
+    ghost ordered = { option_ordered T.ordered };
+
     ghost key = { option_key T.codec T.key };
 }
 
 impl<T: BorshKey, E: BorshKey> BorshKey for Result<T, E> {
+    ghost ordered = { result_ordered T.ordered E.ordered };
+
     ghost key = { result_key T.codec E.codec T.key E.key };
 }
 
 impl BorshKey for String {
-    ghost key = { λ a b. text_key (string_bytes a) (string_bytes b) };
+    ghost ordered = { contramap_ordered string_bytes text_ordered };
+
+    ghost key = { Self.ordered.key };
 }
 
 impl BorshKey for &str {
-    ghost key = { λ a b. text_key a.now b.now };
+    ghost ordered = { contramap_ordered (λ r. r.now) text_ordered };
+
+    ghost key = { Self.ordered.key };
 }
 
 impl BorshKey for BoxedStr {
-    ghost key = { λ a b. text_key (boxed_str_bytes a) (boxed_str_bytes b) };
+    ghost ordered = { contramap_ordered boxed_str_bytes text_ordered };
+
+    ghost key = { Self.ordered.key };
 }
 
 impl BorshKey for RcStr {
-    ghost key = { λ a b. text_key (rc_str_bytes a) (rc_str_bytes b) };
+    ghost ordered = { contramap_ordered rc_str_bytes text_ordered };
+
+    ghost key = { Self.ordered.key };
 }
 
 impl BorshKey for CowStr<'_> {
-    ghost key = { λ a b. text_key (cow_str_bytes a) (cow_str_bytes b) };
+    ghost ordered = { contramap_ordered cow_str_bytes text_ordered };
+
+    ghost key = { Self.ordered.key };
 }
 
 impl<T: BorshKey> BorshKey for &T {
+    ghost ordered = { contramap_ordered (λ r. r.now) T.ordered };
+
     ghost key = { λ a b. T.key a.now b.now };
 }
 
 impl<T: BorshKey> BorshKey for Box<T> {
+    ghost ordered = { contramap_ordered (λ b. b.value) (allocated_ordered T.ordered) };
+
     ghost key = { λ a b. T.key a.value b.value };
 }
 
 impl<T: BorshKey> BorshKey for Rc<T> {
+    ghost ordered = { contramap_ordered (λ b. b.value) (allocated_ordered T.ordered) };
+
     ghost key = { λ a b. T.key a.value b.value };
 }
 
 impl<T: BorshKey> BorshKey for Range<T> {
+    ghost ordered = { contramap_ordered (λ r. (r.start, r.end)) (pair_ordered T.ordered T.ordered) };
+
     ghost key = { λ a b. and_key (T.key a.start b.start) (T.key a.end b.end) };
 }
 
 impl<T: BorshKey> BorshKey for RangeFrom<T> {
+    ghost ordered = { contramap_ordered (λ r. r.start) T.ordered };
+
     ghost key = { λ a b. T.key a.start b.start };
 }
 
 impl<T: BorshKey> BorshKey for RangeTo<T> {
+    ghost ordered = { contramap_ordered (λ r. r.end) T.ordered };
+
     ghost key = { λ a b. T.key a.end b.end };
 }
 
 impl<T: BorshKey> BorshKey for RangeToInclusive<T> {
+    ghost ordered = { contramap_ordered (λ r. r.end) T.ordered };
+
     ghost key = { λ a b. T.key a.end b.end };
 }
 
 impl<A: BorshKey> BorshKey for (A,) {
+    ghost ordered = { contramap_ordered (λ t. t.0) A.ordered };
+
     ghost key = { λ x y. A.key x.0 y.0 };
 }
 
 impl<A: BorshKey, B: BorshKey> BorshKey for (A, B) {
+    ghost ordered = { pair_ordered A.ordered B.ordered };
+
     ghost key = { λ x y. and_key (A.key x.0 y.0) (B.key x.1 y.1) };
 }
 
 impl<A: BorshKey, B: BorshKey, C: BorshKey> BorshKey for (A, B, C) {
-    ghost key = { λ x y. key_as
-        (and_key (and_key (A.key x.0 y.0) (B.key x.1 y.1)) (C.key x.2 y.2))
-        (λ h. (h.0.0, (h.0.1, h.1)))
-        (λ h. ((h.0, h.1.0), h.1.1)) };
+    ghost ordered = { last_part (next_part (first_part (λ t. t.0) A.ordered) (λ t. t.1) B.ordered) (λ t. t.2) C.ordered };
+
+    ghost key = { λ x y. last_key
+        (next_key (first_key (A.key x.0 y.0)) (B.key x.1 y.1)) (C.key x.2 y.2) };
 }
 
 impl<A: BorshKey, B: BorshKey, C: BorshKey, D: BorshKey> BorshKey for (A, B, C, D) {
-    ghost key = { λ x y. key_as
-        (and_key
-        (and_key (and_key (A.key x.0 y.0) (B.key x.1 y.1)) (C.key x.2 y.2))
-        (D.key x.3 y.3))
-        (λ h. (h.0.0.0, (h.0.0.1, (h.0.1, h.1))))
-        (λ h. (((h.0, h.1.0), h.1.1.0), h.1.1.1)) };
+    ghost ordered = { last_part (next_part (next_part (first_part (λ t. t.0) A.ordered) (λ t. t.1) B.ordered) (λ t. t.2) C.ordered) (λ t. t.3) D.ordered };
+
+    ghost key = { λ x y. last_key
+        (next_key (next_key (first_key (A.key x.0 y.0)) (B.key x.1 y.1)) (C.key x.2 y.2))
+        (D.key x.3 y.3) };
 }
 
 impl<A: BorshKey, B: BorshKey, C: BorshKey, D: BorshKey, E: BorshKey> BorshKey for (A, B, C, D, E) {
-    ghost key = { λ x y. key_as
-        (and_key
-        (and_key
-        (and_key (and_key (A.key x.0 y.0) (B.key x.1 y.1)) (C.key x.2 y.2))
-        (D.key x.3 y.3))
-        (E.key x.4 y.4))
-        (λ h. (h.0.0.0.0, (h.0.0.0.1, (h.0.0.1, (h.0.1, h.1)))))
-        (λ h. ((((h.0, h.1.0), h.1.1.0), h.1.1.1.0), h.1.1.1.1)) };
+    ghost ordered = { last_part (next_part (next_part (next_part (first_part (λ t. t.0) A.ordered) (λ t. t.1) B.ordered) (λ t. t.2) C.ordered) (λ t. t.3) D.ordered) (λ t. t.4) E.ordered };
+
+    ghost key = { λ x y. last_key
+        (next_key (next_key (next_key (first_key (A.key x.0 y.0)) (B.key x.1 y.1)) (C.key x.2 y.2))
+        (D.key x.3 y.3)) (E.key x.4 y.4) };
 }
 
 impl<A: BorshKey, B: BorshKey, C: BorshKey, D: BorshKey, E: BorshKey, F: BorshKey> BorshKey
     for (A, B, C, D, E, F) {
-    ghost key = { λ x y. key_as
-        (and_key
-        (and_key
-        (and_key
-        (and_key (and_key (A.key x.0 y.0) (B.key x.1 y.1)) (C.key x.2 y.2))
-        (D.key x.3 y.3))
-        (E.key x.4 y.4))
-        (F.key x.5 y.5))
-        (λ h. (h.0.0.0.0.0, (h.0.0.0.0.1, (h.0.0.0.1, (h.0.0.1, (h.0.1, h.1))))))
-        (λ h. (((((h.0, h.1.0), h.1.1.0), h.1.1.1.0), h.1.1.1.1.0), h.1.1.1.1.1)) };
+    ghost ordered = { last_part (next_part (next_part (next_part (next_part (first_part (λ t. t.0) A.ordered) (λ t. t.1) B.ordered) (λ t. t.2) C.ordered) (λ t. t.3) D.ordered) (λ t. t.4) E.ordered) (λ t. t.5) F.ordered };
+
+    ghost key = { λ x y. last_key
+        (next_key (next_key (next_key (next_key (first_key (A.key x.0 y.0)) (B.key x.1 y.1))
+        (C.key x.2 y.2)) (D.key x.3 y.3)) (E.key x.4 y.4)) (F.key x.5 y.5) };
 }
 
 impl<
@@ -253,24 +332,12 @@ impl<
     F: BorshKey,
     G: BorshKey,
 > BorshKey for (A, B, C, D, E, F, G) {
-    ghost key = { λ x y. key_as
-        (and_key
-        (and_key
-        (and_key
-        (and_key
-        (and_key (and_key (A.key x.0 y.0) (B.key x.1 y.1)) (C.key x.2 y.2))
-        (D.key x.3 y.3))
-        (E.key x.4 y.4))
-        (F.key x.5 y.5))
-        (G.key x.6 y.6))
-        (λ h. (
-          h.0.0.0.0.0.0,
-          (h.0.0.0.0.0.1, (h.0.0.0.0.1, (h.0.0.0.1, (h.0.0.1, (h.0.1, h.1))))),
-        ))
-        (λ h. (
-          (((((h.0, h.1.0), h.1.1.0), h.1.1.1.0), h.1.1.1.1.0), h.1.1.1.1.1.0),
-          h.1.1.1.1.1.1,
-        )) };
+    ghost ordered = { last_part (next_part (next_part (next_part (next_part (next_part (first_part (λ t. t.0) A.ordered) (λ t. t.1) B.ordered) (λ t. t.2) C.ordered) (λ t. t.3) D.ordered) (λ t. t.4) E.ordered) (λ t. t.5) F.ordered) (λ t. t.6) G.ordered };
+
+    ghost key = { λ x y. last_key
+        (next_key (next_key (next_key (next_key (next_key (first_key (A.key x.0 y.0))
+        (B.key x.1 y.1)) (C.key x.2 y.2)) (D.key x.3 y.3)) (E.key x.4 y.4)) (F.key x.5 y.5))
+        (G.key x.6 y.6) };
 }
 
 impl<
@@ -283,32 +350,12 @@ impl<
     G: BorshKey,
     H: BorshKey,
 > BorshKey for (A, B, C, D, E, F, G, H) {
-    ghost key = { λ x y. key_as
-        (and_key
-        (and_key
-        (and_key
-        (and_key
-        (and_key
-        (and_key (and_key (A.key x.0 y.0) (B.key x.1 y.1)) (C.key x.2 y.2))
-        (D.key x.3 y.3))
-        (E.key x.4 y.4))
-        (F.key x.5 y.5))
-        (G.key x.6 y.6))
-        (H.key x.7 y.7))
-        (λ h. (
-          h.0.0.0.0.0.0.0,
-          (
-            h.0.0.0.0.0.0.1,
-            (h.0.0.0.0.0.1, (h.0.0.0.0.1, (h.0.0.0.1, (h.0.0.1, (h.0.1, h.1))))),
-          ),
-        ))
-        (λ h. (
-          (
-            (((((h.0, h.1.0), h.1.1.0), h.1.1.1.0), h.1.1.1.1.0), h.1.1.1.1.1.0),
-            h.1.1.1.1.1.1.0,
-          ),
-          h.1.1.1.1.1.1.1,
-        )) };
+    ghost ordered = { last_part (next_part (next_part (next_part (next_part (next_part (next_part (first_part (λ t. t.0) A.ordered) (λ t. t.1) B.ordered) (λ t. t.2) C.ordered) (λ t. t.3) D.ordered) (λ t. t.4) E.ordered) (λ t. t.5) F.ordered) (λ t. t.6) G.ordered) (λ t. t.7) H.ordered };
+
+    ghost key = { λ x y. last_key
+        (next_key (next_key (next_key (next_key (next_key (next_key (first_key (A.key x.0 y.0))
+        (B.key x.1 y.1)) (C.key x.2 y.2)) (D.key x.3 y.3)) (E.key x.4 y.4)) (F.key x.5 y.5))
+        (G.key x.6 y.6)) (H.key x.7 y.7) };
 }
 
 impl<
@@ -322,42 +369,12 @@ impl<
     H: BorshKey,
     I: BorshKey,
 > BorshKey for (A, B, C, D, E, F, G, H, I) {
-    ghost key = { λ x y. key_as
-        (and_key
-        (and_key
-        (and_key
-        (and_key
-        (and_key
-        (and_key
-        (and_key
-        (and_key (A.key x.0 y.0) (B.key x.1 y.1))
-        (C.key x.2 y.2))
-        (D.key x.3 y.3))
-        (E.key x.4 y.4))
-        (F.key x.5 y.5))
-        (G.key x.6 y.6))
-        (H.key x.7 y.7))
-        (I.key x.8 y.8))
-        (λ h. (
-          h.0.0.0.0.0.0.0.0,
-          (
-            h.0.0.0.0.0.0.0.1,
-            (
-              h.0.0.0.0.0.0.1,
-              (h.0.0.0.0.0.1, (h.0.0.0.0.1, (h.0.0.0.1, (h.0.0.1, (h.0.1, h.1))))),
-            ),
-          ),
-        ))
-        (λ h. (
-          (
-            (
-              (((((h.0, h.1.0), h.1.1.0), h.1.1.1.0), h.1.1.1.1.0), h.1.1.1.1.1.0),
-              h.1.1.1.1.1.1.0,
-            ),
-            h.1.1.1.1.1.1.1.0,
-          ),
-          h.1.1.1.1.1.1.1.1,
-        )) };
+    ghost ordered = { last_part (next_part (next_part (next_part (next_part (next_part (next_part (next_part (first_part (λ t. t.0) A.ordered) (λ t. t.1) B.ordered) (λ t. t.2) C.ordered) (λ t. t.3) D.ordered) (λ t. t.4) E.ordered) (λ t. t.5) F.ordered) (λ t. t.6) G.ordered) (λ t. t.7) H.ordered) (λ t. t.8) I.ordered };
+
+    ghost key = { λ x y. last_key
+        (next_key (next_key (next_key (next_key (next_key (next_key (next_key (first_key (A.key x.0 y.0))
+        (B.key x.1 y.1)) (C.key x.2 y.2)) (D.key x.3 y.3)) (E.key x.4 y.4)) (F.key x.5 y.5))
+        (G.key x.6 y.6)) (H.key x.7 y.7)) (I.key x.8 y.8) };
 }
 
 impl<
@@ -372,53 +389,12 @@ impl<
     I: BorshKey,
     J: BorshKey,
 > BorshKey for (A, B, C, D, E, F, G, H, I, J) {
-    ghost key = { λ x y. key_as
-        (and_key
-        (and_key
-        (and_key
-        (and_key
-        (and_key
-        (and_key
-        (and_key
-        (and_key
-        (and_key (A.key x.0 y.0) (B.key x.1 y.1))
-        (C.key x.2 y.2))
-        (D.key x.3 y.3))
-        (E.key x.4 y.4))
-        (F.key x.5 y.5))
-        (G.key x.6 y.6))
-        (H.key x.7 y.7))
-        (I.key x.8 y.8))
-        (J.key x.9 y.9))
-        (λ h. (
-          h.0.0.0.0.0.0.0.0.0,
-          (
-            h.0.0.0.0.0.0.0.0.1,
-            (
-              h.0.0.0.0.0.0.0.1,
-              (
-                h.0.0.0.0.0.0.1,
-                (
-                  h.0.0.0.0.0.1,
-                  (h.0.0.0.0.1, (h.0.0.0.1, (h.0.0.1, (h.0.1, h.1)))),
-                ),
-              ),
-            ),
-          ),
-        ))
-        (λ h. (
-          (
-            (
-              (
-                (((((h.0, h.1.0), h.1.1.0), h.1.1.1.0), h.1.1.1.1.0), h.1.1.1.1.1.0),
-                h.1.1.1.1.1.1.0,
-              ),
-              h.1.1.1.1.1.1.1.0,
-            ),
-            h.1.1.1.1.1.1.1.1.0,
-          ),
-          h.1.1.1.1.1.1.1.1.1,
-        )) };
+    ghost ordered = { last_part (next_part (next_part (next_part (next_part (next_part (next_part (next_part (next_part (first_part (λ t. t.0) A.ordered) (λ t. t.1) B.ordered) (λ t. t.2) C.ordered) (λ t. t.3) D.ordered) (λ t. t.4) E.ordered) (λ t. t.5) F.ordered) (λ t. t.6) G.ordered) (λ t. t.7) H.ordered) (λ t. t.8) I.ordered) (λ t. t.9) J.ordered };
+
+    ghost key = { λ x y. last_key
+        (next_key (next_key (next_key (next_key (next_key (next_key (next_key (next_key (first_key (A.key x.0 y.0))
+        (B.key x.1 y.1)) (C.key x.2 y.2)) (D.key x.3 y.3)) (E.key x.4 y.4)) (F.key x.5 y.5))
+        (G.key x.6 y.6)) (H.key x.7 y.7)) (I.key x.8 y.8)) (J.key x.9 y.9) };
 }
 
 impl<
@@ -434,64 +410,12 @@ impl<
     J: BorshKey,
     K: BorshKey,
 > BorshKey for (A, B, C, D, E, F, G, H, I, J, K) {
-    ghost key = { λ x y. key_as
-        (and_key
-        (and_key
-        (and_key
-        (and_key
-        (and_key
-        (and_key
-        (and_key
-        (and_key
-        (and_key
-        (and_key (A.key x.0 y.0) (B.key x.1 y.1))
-        (C.key x.2 y.2))
-        (D.key x.3 y.3))
-        (E.key x.4 y.4))
-        (F.key x.5 y.5))
-        (G.key x.6 y.6))
-        (H.key x.7 y.7))
-        (I.key x.8 y.8))
-        (J.key x.9 y.9))
-        (K.key x.10 y.10))
-        (λ h. (
-          h.0.0.0.0.0.0.0.0.0.0,
-          (
-            h.0.0.0.0.0.0.0.0.0.1,
-            (
-              h.0.0.0.0.0.0.0.0.1,
-              (
-                h.0.0.0.0.0.0.0.1,
-                (
-                  h.0.0.0.0.0.0.1,
-                  (
-                    h.0.0.0.0.0.1,
-                    (h.0.0.0.0.1, (h.0.0.0.1, (h.0.0.1, (h.0.1, h.1)))),
-                  ),
-                ),
-              ),
-            ),
-          ),
-        ))
-        (λ h. (
-          (
-            (
-              (
-                (
-                  (
-                    ((((h.0, h.1.0), h.1.1.0), h.1.1.1.0), h.1.1.1.1.0),
-                    h.1.1.1.1.1.0,
-                  ),
-                  h.1.1.1.1.1.1.0,
-                ),
-                h.1.1.1.1.1.1.1.0,
-              ),
-              h.1.1.1.1.1.1.1.1.0,
-            ),
-            h.1.1.1.1.1.1.1.1.1.0,
-          ),
-          h.1.1.1.1.1.1.1.1.1.1,
-        )) };
+    ghost ordered = { last_part (next_part (next_part (next_part (next_part (next_part (next_part (next_part (next_part (next_part (first_part (λ t. t.0) A.ordered) (λ t. t.1) B.ordered) (λ t. t.2) C.ordered) (λ t. t.3) D.ordered) (λ t. t.4) E.ordered) (λ t. t.5) F.ordered) (λ t. t.6) G.ordered) (λ t. t.7) H.ordered) (λ t. t.8) I.ordered) (λ t. t.9) J.ordered) (λ t. t.10) K.ordered };
+
+    ghost key = { λ x y. last_key
+        (next_key (next_key (next_key (next_key (next_key (next_key (next_key (next_key (next_key (first_key (A.key x.0 y.0))
+        (B.key x.1 y.1)) (C.key x.2 y.2)) (D.key x.3 y.3)) (E.key x.4 y.4)) (F.key x.5 y.5))
+        (G.key x.6 y.6)) (H.key x.7 y.7)) (I.key x.8 y.8)) (J.key x.9 y.9)) (K.key x.10 y.10) };
 }
 
 impl<
@@ -508,107 +432,66 @@ impl<
     K: BorshKey,
     L: BorshKey,
 > BorshKey for (A, B, C, D, E, F, G, H, I, J, K, L) {
-    ghost key = { λ x y. key_as
-        (and_key
-        (and_key
-        (and_key
-        (and_key
-        (and_key
-        (and_key
-        (and_key
-        (and_key
-        (and_key
-        (and_key
-        (and_key (A.key x.0 y.0) (B.key x.1 y.1))
-        (C.key x.2 y.2))
-        (D.key x.3 y.3))
-        (E.key x.4 y.4))
-        (F.key x.5 y.5))
-        (G.key x.6 y.6))
-        (H.key x.7 y.7))
-        (I.key x.8 y.8))
-        (J.key x.9 y.9))
-        (K.key x.10 y.10))
-        (L.key x.11 y.11))
-        (λ h. (
-          h.0.0.0.0.0.0.0.0.0.0.0,
-          (
-            h.0.0.0.0.0.0.0.0.0.0.1,
-            (
-              h.0.0.0.0.0.0.0.0.0.1,
-              (
-                h.0.0.0.0.0.0.0.0.1,
-                (
-                  h.0.0.0.0.0.0.0.1,
-                  (
-                    h.0.0.0.0.0.0.1,
-                    (
-                      h.0.0.0.0.0.1,
-                      (h.0.0.0.0.1, (h.0.0.0.1, (h.0.0.1, (h.0.1, h.1)))),
-                    ),
-                  ),
-                ),
-              ),
-            ),
-          ),
-        ))
-        (λ h. (
-          (
-            (
-              (
-                (
-                  (
-                    (
-                      ((((h.0, h.1.0), h.1.1.0), h.1.1.1.0), h.1.1.1.1.0),
-                      h.1.1.1.1.1.0,
-                    ),
-                    h.1.1.1.1.1.1.0,
-                  ),
-                  h.1.1.1.1.1.1.1.0,
-                ),
-                h.1.1.1.1.1.1.1.1.0,
-              ),
-              h.1.1.1.1.1.1.1.1.1.0,
-            ),
-            h.1.1.1.1.1.1.1.1.1.1.0,
-          ),
-          h.1.1.1.1.1.1.1.1.1.1.1,
-        )) };
+    ghost ordered = { last_part (next_part (next_part (next_part (next_part (next_part (next_part (next_part (next_part (next_part (next_part (first_part (λ t. t.0) A.ordered) (λ t. t.1) B.ordered) (λ t. t.2) C.ordered) (λ t. t.3) D.ordered) (λ t. t.4) E.ordered) (λ t. t.5) F.ordered) (λ t. t.6) G.ordered) (λ t. t.7) H.ordered) (λ t. t.8) I.ordered) (λ t. t.9) J.ordered) (λ t. t.10) K.ordered) (λ t. t.11) L.ordered };
+
+    ghost key = { λ x y. last_key
+        (next_key (next_key (next_key (next_key (next_key (next_key (next_key (next_key (next_key (next_key (first_key (A.key x.0 y.0))
+        (B.key x.1 y.1)) (C.key x.2 y.2)) (D.key x.3 y.3)) (E.key x.4 y.4)) (F.key x.5 y.5))
+        (G.key x.6 y.6)) (H.key x.7 y.7)) (I.key x.8 y.8)) (J.key x.9 y.9)) (K.key x.10 y.10))
+        (L.key x.11 y.11) };
 }
 
 impl<T: BorshKey, const N: usize> BorshKey for [T; N] {
+    ghost ordered = { array_ordered N T.ordered };
+
     ghost key = { all_key T.codec T.key };
 }
 
 impl<T: BorshKey> BorshKey for &[T] {
+    ghost ordered = { contramap_ordered (λ r. r.now) (length_prefixed_ordered T.ordered) };
+
     ghost key = { λ a b. all_key T.codec T.key a.now b.now };
 }
 
 impl<T: BorshKey> BorshKey for Vec<T> {
+    ghost ordered = { contramap_ordered (λ v. v.items) (list_ordered T.ordered) };
+
     ghost key = { λ a b. all_key T.codec T.key a.items b.items };
 }
 
 impl<T: BorshKey> BorshKey for VecDeque<T> {
+    ghost ordered = { contramap_ordered (λ v. v.items) (list_ordered T.ordered) };
+
     ghost key = { λ a b. all_key T.codec T.key a.items b.items };
 }
 
 impl<T: BorshKey> BorshKey for LinkedList<T> {
+    ghost ordered = { list_ordered T.ordered };
+
     ghost key = { all_key T.codec T.key };
 }
 
 impl<T: BorshKey> BorshKey for BoxedSlice<T> {
+    ghost ordered = { contramap_ordered boxed_slice_items (list_ordered T.ordered) };
+
     ghost key = { λ a b. all_key T.codec T.key (boxed_slice_items a) (boxed_slice_items b) };
 }
 
 impl<T: BorshKey> BorshKey for RcSlice<T> {
+    ghost ordered = { contramap_ordered rc_slice_items (list_ordered T.ordered) };
+
     ghost key = { λ a b. all_key T.codec T.key (rc_slice_items a) (rc_slice_items b) };
 }
 
 impl<T: BorshKey> BorshKey for CowSlice<'_, T> {
+    ghost ordered = { contramap_ordered cow_slice_items (list_ordered T.ordered) };
+
     ghost key = { λ a b. all_key T.codec T.key (cow_slice_items a) (cow_slice_items b) };
 }
 
 impl<K: BorshKey + Ord, V: BorshKey> BorshKey for BTreeMap<K, V> {
+    ghost ordered = { contramap_ordered (λ m. m.entries) (btree_map_ordered K.cmp K.ordered V.ordered) };
+
     ghost key = { λ m n. all_key (pair K.codec V.codec)
         (pair_key K.codec V.codec K.key V.key)
         m.entries
@@ -616,39 +499,55 @@ impl<K: BorshKey + Ord, V: BorshKey> BorshKey for BTreeMap<K, V> {
 }
 
 impl<K: BorshKey + Ord> BorshKey for BTreeSet<K> {
+    ghost ordered = { contramap_ordered (λ s. s.keys) (btree_set_ordered K.cmp K.ordered) };
+
     ghost key = { λ s t. bare_key K.codec K.key s.keys t.keys };
 }
 
 impl BorshKey for RangeFull {
-    ghost key = { λ a b. (λ e. refl, λ h. refl) };
+    ghost ordered = { contramap_ordered (λ _. tt) unit_ordered };
+
+    ghost key = { Self.ordered.key };
 }
 
 impl BorshKey for Ipv4Addr {
-    ghost key = { λ a b. octets_key (ipv4_octets a) (ipv4_octets b) };
+    ghost ordered = { contramap_ordered ipv4_octets (array_ordered 4 (number_ordered 1)) };
+
+    ghost key = { Self.ordered.key };
 }
 
 impl BorshKey for Ipv6Addr {
-    ghost key = { λ a b. segments_key (ipv6_segments a) (ipv6_segments b) };
+    ghost ordered = { ipv6_ordered };
+
+    ghost key = { Self.ordered.key };
 }
 
 impl BorshKey for Bytes {
-    ghost key = { octets_key };
+    ghost ordered = { list_ordered (number_ordered 1) };
+
+    ghost key = { Self.ordered.key };
 }
 
 impl BorshKey for BytesMut {
-    ghost key = { λ a b. octets_key a.items b.items };
+    ghost ordered = { contramap_ordered (λ b. b.items) (list_ordered (number_ordered 1)) };
+
+    ghost key = { Self.ordered.key };
 }
 
 impl BorshKey for Uuid {
-    ghost key = { octets_key };
+    ghost ordered = { array_ordered 16 (number_ordered 1) };
+
+    ghost key = { Self.ordered.key };
 }
 
 impl BorshKey for IpAddr {
-    ghost key = { ip_key ⟦<IpAddr as PartialEq>⟧.eq (λ a b. refl) (λ a b. refl) (λ a b. (refl, refl)) };
+    ghost ordered = { record { codec = ip; eq = ⟦<IpAddr as PartialEq>⟧.eq; cmp = ⟦<IpAddr as Ord>⟧.cmp; key = ip_key ⟦<IpAddr as PartialEq>⟧.eq (λ a b. refl) (λ a b. refl) (λ a b. (refl, refl)); total = ip-total; matches = ip-matches } };
+
+    ghost key = { Self.ordered.key };
 }
 
 impl BorshKey for SocketAddrV4 {
-    ghost key = { λ a b. and_key
-        (octets_key (ipv4_octets (v4_ip a)) (ipv4_octets (v4_ip b)))
-        (number_key 2 (v4_port a) (v4_port b)) };
+    ghost ordered = { contramap_ordered socket_v4_view (pair_ordered (contramap_ordered ipv4_octets (array_ordered 4 (number_ordered 1))) (number_ordered 2)) };
+
+    ghost key = { Self.ordered.key };
 }

@@ -5,6 +5,7 @@ ghost use Rattle.borsh_codec.proofs.Laws.Numbers.{unsigned-lawful};
 ghost use Rattle.borsh_codec.proofs.Laws.Rows.{list-lawful};
 ghost use Rattle.borsh_codec.specs.Types.Addresses.{octets};
 ghost use Rattle.borsh_codec.proofs.Laws.Types.{octets-lawful};
+ghost use Rattle.borsh_codec.proofs.Laws.Conditional.{always};
 
 use super::types::BorshType;
 use bytes::{Bytes, BytesMut};
@@ -13,7 +14,9 @@ use uuid::Uuid;
 impl BorshType for Bytes {
     ghost codec = { list (unsigned 1) };
 
-    ghost lawful = { list-lawful (unsigned-lawful 1) };
+    ghost lawful_if = { always (list-lawful (unsigned-lawful 1)) };
+
+    ghost premises = { tt };
 
     fn encodes_empty() -> bool {
         false
@@ -27,7 +30,9 @@ impl BorshType for Bytes {
 impl BorshType for BytesMut {
     ghost codec = { contramap (λ b. b.items) (list (unsigned 1)) };
 
-    ghost lawful = { contramap-lawful (λ b. b.items) (list-lawful (unsigned-lawful 1)) };
+    ghost lawful_if = { always (contramap-lawful (λ b. b.items) (list-lawful (unsigned-lawful 1))) };
+
+    ghost premises = { tt };
 
     fn encodes_empty() -> bool {
         false
@@ -41,7 +46,9 @@ impl BorshType for BytesMut {
 impl BorshType for Uuid {
     ghost codec = { octets 16 };
 
-    ghost lawful = { octets-lawful 16 };
+    ghost lawful_if = { always (octets-lawful 16) };
+
+    ghost premises = { tt };
 
     fn encodes_empty() -> bool {
         false

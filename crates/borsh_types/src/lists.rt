@@ -5,6 +5,7 @@ ghost use Rattle.std.specs.Cow.{cow_slice_items};
 ghost use Rattle.borsh_codec.specs.Shapes.{contramap, length_prefixed, list};
 ghost use Rattle.borsh_codec.proofs.Laws.Exact.{contramap-lawful};
 ghost use Rattle.borsh_codec.proofs.Laws.Rows.{length_prefixed-lawful, list-lawful};
+ghost use Rattle.borsh_codec.proofs.Laws.Conditional.{from};
 
 use super::types::BorshType;
 use std::borrow::CowSlice;
@@ -15,7 +16,9 @@ use std::rc::RcSlice;
 impl<T: BorshType> BorshType for Vec<T> {
     ghost codec = { contramap (λ v. v.items) (list T.codec) };
 
-    ghost lawful = { contramap-lawful (λ v. v.items) (list-lawful T.lawful) };
+    ghost lawful_if = { from (λ l. contramap-lawful (λ v. v.items) (list-lawful l)) T.lawful_if };
+
+    ghost premises = { T.premises };
 
     fn encodes_empty() -> bool {
         false
@@ -29,7 +32,9 @@ impl<T: BorshType> BorshType for Vec<T> {
 impl<T: BorshType> BorshType for VecDeque<T> {
     ghost codec = { contramap (λ v. v.items) (list T.codec) };
 
-    ghost lawful = { contramap-lawful (λ v. v.items) (list-lawful T.lawful) };
+    ghost lawful_if = { from (λ l. contramap-lawful (λ v. v.items) (list-lawful l)) T.lawful_if };
+
+    ghost premises = { T.premises };
 
     fn encodes_empty() -> bool {
         false
@@ -43,7 +48,9 @@ impl<T: BorshType> BorshType for VecDeque<T> {
 impl<T: BorshType> BorshType for LinkedList<T> {
     ghost codec = { list T.codec };
 
-    ghost lawful = { list-lawful T.lawful };
+    ghost lawful_if = { from list-lawful T.lawful_if };
+
+    ghost premises = { T.premises };
 
     fn encodes_empty() -> bool {
         false
@@ -57,7 +64,9 @@ impl<T: BorshType> BorshType for LinkedList<T> {
 impl<T: BorshType> BorshType for BoxedSlice<T> {
     ghost codec = { contramap boxed_slice_items (list T.codec) };
 
-    ghost lawful = { contramap-lawful boxed_slice_items (list-lawful T.lawful) };
+    ghost lawful_if = { from (λ l. contramap-lawful boxed_slice_items (list-lawful l)) T.lawful_if };
+
+    ghost premises = { T.premises };
 
     fn encodes_empty() -> bool {
         false
@@ -71,7 +80,9 @@ impl<T: BorshType> BorshType for BoxedSlice<T> {
 impl<T: BorshType> BorshType for RcSlice<T> {
     ghost codec = { contramap rc_slice_items (list T.codec) };
 
-    ghost lawful = { contramap-lawful rc_slice_items (list-lawful T.lawful) };
+    ghost lawful_if = { from (λ l. contramap-lawful rc_slice_items (list-lawful l)) T.lawful_if };
+
+    ghost premises = { T.premises };
 
     fn encodes_empty() -> bool {
         false
@@ -85,7 +96,9 @@ impl<T: BorshType> BorshType for RcSlice<T> {
 impl<T: BorshType> BorshType for CowSlice<'_, T> {
     ghost codec = { contramap cow_slice_items (list T.codec) };
 
-    ghost lawful = { contramap-lawful cow_slice_items (list-lawful T.lawful) };
+    ghost lawful_if = { from (λ l. contramap-lawful cow_slice_items (list-lawful l)) T.lawful_if };
+
+    ghost premises = { T.premises };
 
     fn encodes_empty() -> bool {
         false
@@ -100,7 +113,9 @@ impl<T: BorshType> BorshType for CowSlice<'_, T> {
 impl<T: BorshType> BorshType for &[T] {
     ghost codec = { contramap (λ r. r.now) (length_prefixed T.codec) };
 
-    ghost lawful = { contramap-lawful (λ r. r.now) (length_prefixed-lawful T.lawful) };
+    ghost lawful_if = { from (λ l. contramap-lawful (λ r. r.now) (length_prefixed-lawful l)) T.lawful_if };
+
+    ghost premises = { T.premises };
 
     fn encodes_empty() -> bool {
         false

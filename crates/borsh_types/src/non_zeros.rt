@@ -3,6 +3,7 @@ ghost use Rattle.std.specs.Int.NonZero.{non_zero_u8_get, non_zero_u16_get, non_z
 ghost use Rattle.borsh_codec.specs.Shapes.{contramap, unsigned, signed};
 ghost use Rattle.borsh_codec.proofs.Laws.Exact.{contramap-lawful};
 ghost use Rattle.borsh_codec.proofs.Laws.Numbers.{unsigned-lawful, signed-lawful};
+ghost use Rattle.borsh_codec.proofs.Laws.Conditional.{always};
 
 use super::types::BorshType;
 use std::num::{
@@ -13,7 +14,9 @@ use std::num::{
 impl BorshType for NonZeroU8 {
     ghost codec = { contramap non_zero_u8_get (unsigned 1) };
 
-    ghost lawful = { contramap-lawful non_zero_u8_get (unsigned-lawful 1) };
+    ghost lawful_if = { always (contramap-lawful non_zero_u8_get (unsigned-lawful 1)) };
+
+    ghost premises = { tt };
 
     fn encodes_empty() -> bool {
         false
@@ -27,7 +30,9 @@ impl BorshType for NonZeroU8 {
 impl BorshType for NonZeroU16 {
     ghost codec = { contramap non_zero_u16_get (unsigned 2) };
 
-    ghost lawful = { contramap-lawful non_zero_u16_get (unsigned-lawful 2) };
+    ghost lawful_if = { always (contramap-lawful non_zero_u16_get (unsigned-lawful 2)) };
+
+    ghost premises = { tt };
 
     fn encodes_empty() -> bool {
         false
@@ -41,7 +46,9 @@ impl BorshType for NonZeroU16 {
 impl BorshType for NonZeroU32 {
     ghost codec = { contramap non_zero_u32_get (unsigned 4) };
 
-    ghost lawful = { contramap-lawful non_zero_u32_get (unsigned-lawful 4) };
+    ghost lawful_if = { always (contramap-lawful non_zero_u32_get (unsigned-lawful 4)) };
+
+    ghost premises = { tt };
 
     fn encodes_empty() -> bool {
         false
@@ -55,7 +62,9 @@ impl BorshType for NonZeroU32 {
 impl BorshType for NonZeroU64 {
     ghost codec = { contramap non_zero_u64_get (unsigned 8) };
 
-    ghost lawful = { contramap-lawful non_zero_u64_get (unsigned-lawful 8) };
+    ghost lawful_if = { always (contramap-lawful non_zero_u64_get (unsigned-lawful 8)) };
+
+    ghost premises = { tt };
 
     fn encodes_empty() -> bool {
         false
@@ -69,7 +78,9 @@ impl BorshType for NonZeroU64 {
 impl BorshType for NonZeroU128 {
     ghost codec = { contramap non_zero_u128_get (unsigned 16) };
 
-    ghost lawful = { contramap-lawful non_zero_u128_get (unsigned-lawful 16) };
+    ghost lawful_if = { always (contramap-lawful non_zero_u128_get (unsigned-lawful 16)) };
+
+    ghost premises = { tt };
 
     fn encodes_empty() -> bool {
         false
@@ -83,7 +94,9 @@ impl BorshType for NonZeroU128 {
 impl BorshType for NonZeroUsize {
     ghost codec = { contramap non_zero_usize_get (unsigned 8) };
 
-    ghost lawful = { contramap-lawful non_zero_usize_get (unsigned-lawful 8) };
+    ghost lawful_if = { always (contramap-lawful non_zero_usize_get (unsigned-lawful 8)) };
+
+    ghost premises = { tt };
 
     fn encodes_empty() -> bool {
         false
@@ -97,7 +110,9 @@ impl BorshType for NonZeroUsize {
 impl BorshType for NonZeroI8 {
     ghost codec = { contramap non_zero_i8_get (signed 1) };
 
-    ghost lawful = { contramap-lawful non_zero_i8_get (signed-lawful 1) };
+    ghost lawful_if = { always (contramap-lawful non_zero_i8_get (signed-lawful 1)) };
+
+    ghost premises = { tt };
 
     fn encodes_empty() -> bool {
         false
@@ -111,7 +126,9 @@ impl BorshType for NonZeroI8 {
 impl BorshType for NonZeroI16 {
     ghost codec = { contramap non_zero_i16_get (signed 2) };
 
-    ghost lawful = { contramap-lawful non_zero_i16_get (signed-lawful 2) };
+    ghost lawful_if = { always (contramap-lawful non_zero_i16_get (signed-lawful 2)) };
+
+    ghost premises = { tt };
 
     fn encodes_empty() -> bool {
         false
@@ -125,7 +142,9 @@ impl BorshType for NonZeroI16 {
 impl BorshType for NonZeroI32 {
     ghost codec = { contramap non_zero_i32_get (signed 4) };
 
-    ghost lawful = { contramap-lawful non_zero_i32_get (signed-lawful 4) };
+    ghost lawful_if = { always (contramap-lawful non_zero_i32_get (signed-lawful 4)) };
+
+    ghost premises = { tt };
 
     fn encodes_empty() -> bool {
         false
@@ -139,7 +158,9 @@ impl BorshType for NonZeroI32 {
 impl BorshType for NonZeroI64 {
     ghost codec = { contramap non_zero_i64_get (signed 8) };
 
-    ghost lawful = { contramap-lawful non_zero_i64_get (signed-lawful 8) };
+    ghost lawful_if = { always (contramap-lawful non_zero_i64_get (signed-lawful 8)) };
+
+    ghost premises = { tt };
 
     fn encodes_empty() -> bool {
         false
@@ -153,7 +174,9 @@ impl BorshType for NonZeroI64 {
 impl BorshType for NonZeroI128 {
     ghost codec = { contramap non_zero_i128_get (signed 16) };
 
-    ghost lawful = { contramap-lawful non_zero_i128_get (signed-lawful 16) };
+    ghost lawful_if = { always (contramap-lawful non_zero_i128_get (signed-lawful 16)) };
+
+    ghost premises = { tt };
 
     fn encodes_empty() -> bool {
         false

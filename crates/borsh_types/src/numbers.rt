@@ -2,13 +2,16 @@
 // `u64`, and an `isize` as an `i64`.
 ghost use Rattle.borsh_codec.specs.Shapes.{unsigned, signed};
 ghost use Rattle.borsh_codec.proofs.Laws.Numbers.{unsigned-lawful, signed-lawful};
+ghost use Rattle.borsh_codec.proofs.Laws.Conditional.{always};
 
 use super::types::BorshType;
 
 impl BorshType for u8 {
     ghost codec = { unsigned 1 };
 
-    ghost lawful = { unsigned-lawful 1 };
+    ghost lawful_if = { always (unsigned-lawful 1) };
+
+    ghost premises = { tt };
 
     fn encodes_empty() -> bool {
         false
@@ -22,7 +25,9 @@ impl BorshType for u8 {
 impl BorshType for u16 {
     ghost codec = { unsigned 2 };
 
-    ghost lawful = { unsigned-lawful 2 };
+    ghost lawful_if = { always (unsigned-lawful 2) };
+
+    ghost premises = { tt };
 
     fn encodes_empty() -> bool {
         false
@@ -36,7 +41,9 @@ impl BorshType for u16 {
 impl BorshType for u32 {
     ghost codec = { unsigned 4 };
 
-    ghost lawful = { unsigned-lawful 4 };
+    ghost lawful_if = { always (unsigned-lawful 4) };
+
+    ghost premises = { tt };
 
     fn encodes_empty() -> bool {
         false
@@ -50,7 +57,9 @@ impl BorshType for u32 {
 impl BorshType for u64 {
     ghost codec = { unsigned 8 };
 
-    ghost lawful = { unsigned-lawful 8 };
+    ghost lawful_if = { always (unsigned-lawful 8) };
+
+    ghost premises = { tt };
 
     fn encodes_empty() -> bool {
         false
@@ -64,7 +73,9 @@ impl BorshType for u64 {
 impl BorshType for u128 {
     ghost codec = { unsigned 16 };
 
-    ghost lawful = { unsigned-lawful 16 };
+    ghost lawful_if = { always (unsigned-lawful 16) };
+
+    ghost premises = { tt };
 
     fn encodes_empty() -> bool {
         false
@@ -78,7 +89,9 @@ impl BorshType for u128 {
 impl BorshType for usize {
     ghost codec = { unsigned 8 };
 
-    ghost lawful = { unsigned-lawful 8 };
+    ghost lawful_if = { always (unsigned-lawful 8) };
+
+    ghost premises = { tt };
 
     fn encodes_empty() -> bool {
         false
@@ -92,7 +105,9 @@ impl BorshType for usize {
 impl BorshType for i8 {
     ghost codec = { signed 1 };
 
-    ghost lawful = { signed-lawful 1 };
+    ghost lawful_if = { always (signed-lawful 1) };
+
+    ghost premises = { tt };
 
     fn encodes_empty() -> bool {
         false
@@ -106,7 +121,9 @@ impl BorshType for i8 {
 impl BorshType for i16 {
     ghost codec = { signed 2 };
 
-    ghost lawful = { signed-lawful 2 };
+    ghost lawful_if = { always (signed-lawful 2) };
+
+    ghost premises = { tt };
 
     fn encodes_empty() -> bool {
         false
@@ -120,7 +137,9 @@ impl BorshType for i16 {
 impl BorshType for i32 {
     ghost codec = { signed 4 };
 
-    ghost lawful = { signed-lawful 4 };
+    ghost lawful_if = { always (signed-lawful 4) };
+
+    ghost premises = { tt };
 
     fn encodes_empty() -> bool {
         false
@@ -134,7 +153,9 @@ impl BorshType for i32 {
 impl BorshType for i64 {
     ghost codec = { signed 8 };
 
-    ghost lawful = { signed-lawful 8 };
+    ghost lawful_if = { always (signed-lawful 8) };
+
+    ghost premises = { tt };
 
     fn encodes_empty() -> bool {
         false
@@ -148,7 +169,9 @@ impl BorshType for i64 {
 impl BorshType for i128 {
     ghost codec = { signed 16 };
 
-    ghost lawful = { signed-lawful 16 };
+    ghost lawful_if = { always (signed-lawful 16) };
+
+    ghost premises = { tt };
 
     fn encodes_empty() -> bool {
         false
@@ -162,7 +185,9 @@ impl BorshType for i128 {
 impl BorshType for isize {
     ghost codec = { signed 8 };
 
-    ghost lawful = { signed-lawful 8 };
+    ghost lawful_if = { always (signed-lawful 8) };
+
+    ghost premises = { tt };
 
     fn encodes_empty() -> bool {
         false

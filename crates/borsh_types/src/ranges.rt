@@ -3,6 +3,7 @@ ghost use Rattle.std.specs.Range.{range_inclusive_start, range_inclusive_end};
 ghost use Rattle.borsh_codec.specs.Shapes.{contramap, pair};
 ghost use Rattle.borsh_codec.proofs.Laws.Exact.{contramap-lawful};
 ghost use Rattle.borsh_codec.proofs.Laws.Pairs.{pair-lawful};
+ghost use Rattle.borsh_codec.proofs.Laws.Conditional.{from};
 
 use super::types::BorshType;
 use std::ops::{Range, RangeFrom, RangeInclusive, RangeTo, RangeToInclusive};
@@ -10,7 +11,9 @@ use std::ops::{Range, RangeFrom, RangeInclusive, RangeTo, RangeToInclusive};
 impl<T: BorshType> BorshType for Range<T> {
     ghost codec = { contramap (λ r. (r.start, r.end)) (pair T.codec T.codec) };
 
-    ghost lawful = { contramap-lawful (λ r. (r.start, r.end)) (pair-lawful T.lawful T.lawful) };
+    ghost lawful_if = { from (λ l. contramap-lawful (λ r. (r.start, r.end)) (pair-lawful l l)) T.lawful_if };
+
+    ghost premises = { T.premises };
 
     fn encodes_empty() -> bool {
         <(T, T)>::encodes_empty()
@@ -24,9 +27,9 @@ impl<T: BorshType> BorshType for Range<T> {
 impl<T: BorshType> BorshType for RangeInclusive<T> {
     ghost codec = { contramap (λ r. (range_inclusive_start r, range_inclusive_end r)) (pair T.codec T.codec) };
 
-    ghost lawful = { contramap-lawful
-        (λ r. (range_inclusive_start r, range_inclusive_end r))
-        (pair-lawful T.lawful T.lawful) };
+    ghost lawful_if = { from (λ l. contramap-lawful (λ r. (range_inclusive_start r, range_inclusive_end r)) (pair-lawful l l)) T.lawful_if };
+
+    ghost premises = { T.premises };
 
     fn encodes_empty() -> bool {
         <(T, T)>::encodes_empty()
@@ -40,7 +43,9 @@ impl<T: BorshType> BorshType for RangeInclusive<T> {
 impl<T: BorshType> BorshType for RangeFrom<T> {
     ghost codec = { contramap (λ r. r.start) T.codec };
 
-    ghost lawful = { contramap-lawful (λ r. r.start) T.lawful };
+    ghost lawful_if = { from (contramap-lawful (λ r. r.start)) T.lawful_if };
+
+    ghost premises = { T.premises };
 
     fn encodes_empty() -> bool {
         T::encodes_empty()
@@ -54,7 +59,9 @@ impl<T: BorshType> BorshType for RangeFrom<T> {
 impl<T: BorshType> BorshType for RangeTo<T> {
     ghost codec = { contramap (λ r. r.end) T.codec };
 
-    ghost lawful = { contramap-lawful (λ r. r.end) T.lawful };
+    ghost lawful_if = { from (contramap-lawful (λ r. r.end)) T.lawful_if };
+
+    ghost premises = { T.premises };
 
     fn encodes_empty() -> bool {
         T::encodes_empty()
@@ -68,7 +75,9 @@ impl<T: BorshType> BorshType for RangeTo<T> {
 impl<T: BorshType> BorshType for RangeToInclusive<T> {
     ghost codec = { contramap (λ r. r.end) T.codec };
 
-    ghost lawful = { contramap-lawful (λ r. r.end) T.lawful };
+    ghost lawful_if = { from (contramap-lawful (λ r. r.end)) T.lawful_if };
+
+    ghost premises = { T.premises };
 
     fn encodes_empty() -> bool {
         T::encodes_empty()

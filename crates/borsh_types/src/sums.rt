@@ -1,13 +1,16 @@
 // Values that are one of several kinds.
 ghost use Rattle.borsh_codec.specs.Types.Sums.{bool, option, result_of};
 ghost use Rattle.borsh_codec.proofs.Laws.Types.{bool-lawful, option-lawful, result_of-lawful};
+ghost use Rattle.borsh_codec.proofs.Laws.Conditional.{always, from, from_two};
 
 use super::types::BorshType;
 
 impl BorshType for bool {
     ghost codec = { bool };
 
-    ghost lawful = { bool-lawful };
+    ghost lawful_if = { always bool-lawful };
+
+    ghost premises = { tt };
 
     fn encodes_empty() -> bool {
         false
@@ -21,7 +24,9 @@ impl BorshType for bool {
 impl<T: BorshType> BorshType for Option<T> {
     ghost codec = { option T.codec };
 
-    ghost lawful = { option-lawful T.lawful };
+    ghost lawful_if = { from option-lawful T.lawful_if };
+
+    ghost premises = { T.premises };
 
     fn encodes_empty() -> bool {
         false
@@ -35,7 +40,9 @@ impl<T: BorshType> BorshType for Option<T> {
 impl<T: BorshType, E: BorshType> BorshType for Result<T, E> {
     ghost codec = { result_of T.codec E.codec };
 
-    ghost lawful = { result_of-lawful T.lawful E.lawful };
+    ghost lawful_if = { from_two result_of-lawful T.lawful_if E.lawful_if };
+
+    ghost premises = { (T.premises, E.premises) };
 
     fn encodes_empty() -> bool {
         false

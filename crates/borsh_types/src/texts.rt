@@ -8,6 +8,7 @@ ghost use Rattle.borsh_codec.specs.Shapes.{contramap};
 ghost use Rattle.borsh_codec.proofs.Laws.Exact.{contramap-lawful};
 ghost use Rattle.borsh_codec.specs.Types.Texts.{text};
 ghost use Rattle.borsh_codec.proofs.Laws.Types.{text-lawful};
+ghost use Rattle.borsh_codec.proofs.Laws.Conditional.{always};
 
 use super::types::BorshType;
 use std::borrow::CowStr;
@@ -17,7 +18,9 @@ use std::rc::RcStr;
 impl BorshType for String {
     ghost codec = { contramap string_bytes text };
 
-    ghost lawful = { contramap-lawful string_bytes text-lawful };
+    ghost lawful_if = { always (contramap-lawful string_bytes text-lawful) };
+
+    ghost premises = { tt };
 
     fn encodes_empty() -> bool {
         false
@@ -31,7 +34,9 @@ impl BorshType for String {
 impl BorshType for &str {
     ghost codec = { contramap (λ r. r.now) text };
 
-    ghost lawful = { contramap-lawful (λ r. r.now) text-lawful };
+    ghost lawful_if = { always (contramap-lawful (λ r. r.now) text-lawful) };
+
+    ghost premises = { tt };
 
     fn encodes_empty() -> bool
         ensures { result ≡ text.is_zero_width }
@@ -47,7 +52,9 @@ impl BorshType for &str {
 impl BorshType for BoxedStr {
     ghost codec = { contramap boxed_str_bytes text };
 
-    ghost lawful = { contramap-lawful boxed_str_bytes text-lawful };
+    ghost lawful_if = { always (contramap-lawful boxed_str_bytes text-lawful) };
+
+    ghost premises = { tt };
 
     fn encodes_empty() -> bool {
         false
@@ -61,7 +68,9 @@ impl BorshType for BoxedStr {
 impl BorshType for RcStr {
     ghost codec = { contramap rc_str_bytes text };
 
-    ghost lawful = { contramap-lawful rc_str_bytes text-lawful };
+    ghost lawful_if = { always (contramap-lawful rc_str_bytes text-lawful) };
+
+    ghost premises = { tt };
 
     fn encodes_empty() -> bool {
         false
@@ -75,7 +84,9 @@ impl BorshType for RcStr {
 impl BorshType for CowStr<'_> {
     ghost codec = { contramap cow_str_bytes text };
 
-    ghost lawful = { contramap-lawful cow_str_bytes text-lawful };
+    ghost lawful_if = { always (contramap-lawful cow_str_bytes text-lawful) };
+
+    ghost premises = { tt };
 
     fn encodes_empty() -> bool
         ensures { result ≡ text.is_zero_width }

@@ -2,13 +2,16 @@
 ghost use Rattle.borsh_codec.specs.Shapes.{contramap, pair};
 ghost use Rattle.borsh_codec.proofs.Laws.Exact.{contramap-lawful};
 ghost use Rattle.borsh_codec.proofs.Laws.Pairs.{pair-lawful};
+ghost use Rattle.borsh_codec.proofs.Laws.Conditional.{from, from_two};
 
 use super::types::BorshType;
 
 impl<A: BorshType> BorshType for (A,) {
     ghost codec = { contramap (λ t. t.0) A.codec };
 
-    ghost lawful = { contramap-lawful (λ t. t.0) A.lawful };
+    ghost lawful_if = { from (contramap-lawful (λ t. t.0)) A.lawful_if };
+
+    ghost premises = { A.premises };
 
     fn encodes_empty() -> bool {
         A::encodes_empty()
@@ -22,7 +25,9 @@ impl<A: BorshType> BorshType for (A,) {
 impl<A: BorshType, B: BorshType> BorshType for (A, B) {
     ghost codec = { pair A.codec B.codec };
 
-    ghost lawful = { pair-lawful A.lawful B.lawful };
+    ghost lawful_if = { from_two pair-lawful A.lawful_if B.lawful_if };
+
+    ghost premises = { (A.premises, B.premises) };
 
     fn encodes_empty() -> bool {
         A::encodes_empty() && B::encodes_empty()
@@ -34,10 +39,15 @@ impl<A: BorshType, B: BorshType> BorshType for (A, B) {
 }
 
 impl<A: BorshType, B: BorshType, C: BorshType> BorshType for (A, B, C) {
-    ghost codec = { contramap (λ t. (t.0, (t.1, t.2))) (pair A.codec (pair B.codec C.codec)) };
+    ghost codec = { contramap
+        (λ t. (t.0, (t.1, t.2)))
+        ⟦<(A, (B, C)) as BorshType>⟧.codec };
 
-    ghost lawful = { contramap-lawful (λ t. (t.0, (t.1, t.2)))
-        (pair-lawful A.lawful (pair-lawful B.lawful C.lawful)) };
+    ghost lawful_if = { from
+        (contramap-lawful (λ t. (t.0, (t.1, t.2))))
+        ⟦<(A, (B, C)) as BorshType>⟧.lawful_if };
+
+    ghost premises = { (A.premises, (B.premises, C.premises)) };
 
     fn encodes_empty() -> bool {
         <(A, (B, C))>::encodes_empty()
@@ -51,11 +61,13 @@ impl<A: BorshType, B: BorshType, C: BorshType> BorshType for (A, B, C) {
 impl<A: BorshType, B: BorshType, C: BorshType, D: BorshType> BorshType for (A, B, C, D) {
     ghost codec = { contramap
         (λ t. (t.0, (t.1, (t.2, t.3))))
-        (pair A.codec (pair B.codec (pair C.codec D.codec))) };
+        ⟦<(A, (B, (C, D))) as BorshType>⟧.codec };
 
-    ghost lawful = { contramap-lawful
-        (λ t. (t.0, (t.1, (t.2, t.3))))
-        (pair-lawful A.lawful (pair-lawful B.lawful (pair-lawful C.lawful D.lawful))) };
+    ghost lawful_if = { from
+        (contramap-lawful (λ t. (t.0, (t.1, (t.2, t.3)))))
+        ⟦<(A, (B, (C, D))) as BorshType>⟧.lawful_if };
+
+    ghost premises = { (A.premises, (B.premises, (C.premises, D.premises))) };
 
     fn encodes_empty() -> bool {
         <(A, (B, C, D))>::encodes_empty()
@@ -70,12 +82,13 @@ impl<A: BorshType, B: BorshType, C: BorshType, D: BorshType, E: BorshType> Borsh
     for (A, B, C, D, E) {
     ghost codec = { contramap
         (λ t. (t.0, (t.1, (t.2, (t.3, t.4)))))
-        (pair A.codec (pair B.codec (pair C.codec (pair D.codec E.codec)))) };
+        ⟦<(A, (B, (C, (D, E)))) as BorshType>⟧.codec };
 
-    ghost lawful = { contramap-lawful
-        (λ t. (t.0, (t.1, (t.2, (t.3, t.4)))))
-        (pair-lawful A.lawful
-        (pair-lawful B.lawful (pair-lawful C.lawful (pair-lawful D.lawful E.lawful)))) };
+    ghost lawful_if = { from
+        (contramap-lawful (λ t. (t.0, (t.1, (t.2, (t.3, t.4))))))
+        ⟦<(A, (B, (C, (D, E)))) as BorshType>⟧.lawful_if };
+
+    ghost premises = { (A.premises, (B.premises, (C.premises, (D.premises, E.premises)))) };
 
     fn encodes_empty() -> bool {
         <(A, (B, C, D, E))>::encodes_empty()
@@ -90,13 +103,13 @@ impl<A: BorshType, B: BorshType, C: BorshType, D: BorshType, E: BorshType, F: Bo
     for (A, B, C, D, E, F) {
     ghost codec = { contramap
         (λ t. (t.0, (t.1, (t.2, (t.3, (t.4, t.5))))))
-        (pair A.codec (pair B.codec (pair C.codec (pair D.codec (pair E.codec F.codec))))) };
+        ⟦<(A, (B, (C, (D, (E, F))))) as BorshType>⟧.codec };
 
-    ghost lawful = { contramap-lawful
-        (λ t. (t.0, (t.1, (t.2, (t.3, (t.4, t.5))))))
-        (pair-lawful A.lawful
-        (pair-lawful B.lawful
-        (pair-lawful C.lawful (pair-lawful D.lawful (pair-lawful E.lawful F.lawful))))) };
+    ghost lawful_if = { from
+        (contramap-lawful (λ t. (t.0, (t.1, (t.2, (t.3, (t.4, t.5)))))))
+        ⟦<(A, (B, (C, (D, (E, F))))) as BorshType>⟧.lawful_if };
+
+    ghost premises = { (A.premises, (B.premises, (C.premises, (D.premises, (E.premises, F.premises))))) };
 
     fn encodes_empty() -> bool {
         <(A, (B, C, D, E, F))>::encodes_empty()
@@ -118,16 +131,13 @@ impl<
 > BorshType for (A, B, C, D, E, F, G) {
     ghost codec = { contramap
         (λ t. (t.0, (t.1, (t.2, (t.3, (t.4, (t.5, t.6)))))))
-        (pair A.codec
-        (pair B.codec (pair C.codec (pair D.codec (pair E.codec (pair F.codec G.codec)))))) };
+        ⟦<(A, (B, (C, (D, (E, (F, G)))))) as BorshType>⟧.codec };
 
-    ghost lawful = { contramap-lawful
-        (λ t. (t.0, (t.1, (t.2, (t.3, (t.4, (t.5, t.6)))))))
-        (pair-lawful A.lawful
-        (pair-lawful B.lawful
-        (pair-lawful C.lawful
-        (pair-lawful D.lawful
-        (pair-lawful E.lawful (pair-lawful F.lawful G.lawful)))))) };
+    ghost lawful_if = { from
+        (contramap-lawful (λ t. (t.0, (t.1, (t.2, (t.3, (t.4, (t.5, t.6))))))))
+        ⟦<(A, (B, (C, (D, (E, (F, G)))))) as BorshType>⟧.lawful_if };
+
+    ghost premises = { (A.premises, (B.premises, (C.premises, (D.premises, (E.premises, (F.premises, G.premises)))))) };
 
     fn encodes_empty() -> bool {
         <(A, (B, C, D, E, F, G))>::encodes_empty()
@@ -150,19 +160,13 @@ impl<
 > BorshType for (A, B, C, D, E, F, G, H) {
     ghost codec = { contramap
         (λ t. (t.0, (t.1, (t.2, (t.3, (t.4, (t.5, (t.6, t.7))))))))
-        (pair A.codec
-        (pair B.codec
-        (pair C.codec
-        (pair D.codec (pair E.codec (pair F.codec (pair G.codec H.codec))))))) };
+        ⟦<(A, (B, (C, (D, (E, (F, (G, H))))))) as BorshType>⟧.codec };
 
-    ghost lawful = { contramap-lawful
-        (λ t. (t.0, (t.1, (t.2, (t.3, (t.4, (t.5, (t.6, t.7))))))))
-        (pair-lawful A.lawful
-        (pair-lawful B.lawful
-        (pair-lawful C.lawful
-        (pair-lawful D.lawful
-        (pair-lawful E.lawful
-        (pair-lawful F.lawful (pair-lawful G.lawful H.lawful))))))) };
+    ghost lawful_if = { from
+        (contramap-lawful (λ t. (t.0, (t.1, (t.2, (t.3, (t.4, (t.5, (t.6, t.7)))))))))
+        ⟦<(A, (B, (C, (D, (E, (F, (G, H))))))) as BorshType>⟧.lawful_if };
+
+    ghost premises = { (A.premises, (B.premises, (C.premises, (D.premises, (E.premises, (F.premises, (G.premises, H.premises))))))) };
 
     fn encodes_empty() -> bool {
         <(A, (B, C, D, E, F, G, H))>::encodes_empty()
@@ -186,21 +190,13 @@ impl<
 > BorshType for (A, B, C, D, E, F, G, H, I) {
     ghost codec = { contramap
         (λ t. (t.0, (t.1, (t.2, (t.3, (t.4, (t.5, (t.6, (t.7, t.8)))))))))
-        (pair A.codec
-        (pair B.codec
-        (pair C.codec
-        (pair D.codec
-        (pair E.codec (pair F.codec (pair G.codec (pair H.codec I.codec)))))))) };
+        ⟦<(A, (B, (C, (D, (E, (F, (G, (H, I)))))))) as BorshType>⟧.codec };
 
-    ghost lawful = { contramap-lawful
-        (λ t. (t.0, (t.1, (t.2, (t.3, (t.4, (t.5, (t.6, (t.7, t.8)))))))))
-        (pair-lawful A.lawful
-        (pair-lawful B.lawful
-        (pair-lawful C.lawful
-        (pair-lawful D.lawful
-        (pair-lawful E.lawful
-        (pair-lawful F.lawful
-        (pair-lawful G.lawful (pair-lawful H.lawful I.lawful)))))))) };
+    ghost lawful_if = { from
+        (contramap-lawful (λ t. (t.0, (t.1, (t.2, (t.3, (t.4, (t.5, (t.6, (t.7, t.8))))))))))
+        ⟦<(A, (B, (C, (D, (E, (F, (G, (H, I)))))))) as BorshType>⟧.lawful_if };
+
+    ghost premises = { (A.premises, (B.premises, (C.premises, (D.premises, (E.premises, (F.premises, (G.premises, (H.premises, I.premises)))))))) };
 
     fn encodes_empty() -> bool {
         <(A, (B, C, D, E, F, G, H, I))>::encodes_empty()
@@ -225,24 +221,13 @@ impl<
 > BorshType for (A, B, C, D, E, F, G, H, I, J) {
     ghost codec = { contramap
         (λ t. (t.0, (t.1, (t.2, (t.3, (t.4, (t.5, (t.6, (t.7, (t.8, t.9))))))))))
-        (pair A.codec
-        (pair B.codec
-        (pair C.codec
-        (pair D.codec
-        (pair E.codec
-        (pair F.codec
-        (pair G.codec (pair H.codec (pair I.codec J.codec))))))))) };
+        ⟦<(A, (B, (C, (D, (E, (F, (G, (H, (I, J))))))))) as BorshType>⟧.codec };
 
-    ghost lawful = { contramap-lawful
-        (λ t. (t.0, (t.1, (t.2, (t.3, (t.4, (t.5, (t.6, (t.7, (t.8, t.9))))))))))
-        (pair-lawful A.lawful
-        (pair-lawful B.lawful
-        (pair-lawful C.lawful
-        (pair-lawful D.lawful
-        (pair-lawful E.lawful
-        (pair-lawful F.lawful
-        (pair-lawful G.lawful
-        (pair-lawful H.lawful (pair-lawful I.lawful J.lawful))))))))) };
+    ghost lawful_if = { from
+        (contramap-lawful (λ t. (t.0, (t.1, (t.2, (t.3, (t.4, (t.5, (t.6, (t.7, (t.8, t.9)))))))))))
+        ⟦<(A, (B, (C, (D, (E, (F, (G, (H, (I, J))))))))) as BorshType>⟧.lawful_if };
+
+    ghost premises = { (A.premises, (B.premises, (C.premises, (D.premises, (E.premises, (F.premises, (G.premises, (H.premises, (I.premises, J.premises))))))))) };
 
     fn encodes_empty() -> bool {
         <(A, (B, C, D, E, F, G, H, I, J))>::encodes_empty()
@@ -268,27 +253,13 @@ impl<
 > BorshType for (A, B, C, D, E, F, G, H, I, J, K) {
     ghost codec = { contramap
         (λ t. (t.0, (t.1, (t.2, (t.3, (t.4, (t.5, (t.6, (t.7, (t.8, (t.9, t.10)))))))))))
-        (pair A.codec
-        (pair B.codec
-        (pair C.codec
-        (pair D.codec
-        (pair E.codec
-        (pair F.codec
-        (pair G.codec
-        (pair H.codec (pair I.codec (pair J.codec K.codec)))))))))) };
+        ⟦<(A, (B, (C, (D, (E, (F, (G, (H, (I, (J, K)))))))))) as BorshType>⟧.codec };
 
-    ghost lawful = { contramap-lawful
-        (λ t. (t.0, (t.1, (t.2, (t.3, (t.4, (t.5, (t.6, (t.7, (t.8, (t.9, t.10)))))))))))
-        (pair-lawful A.lawful
-        (pair-lawful B.lawful
-        (pair-lawful C.lawful
-        (pair-lawful D.lawful
-        (pair-lawful E.lawful
-        (pair-lawful F.lawful
-        (pair-lawful G.lawful
-        (pair-lawful H.lawful
-        (pair-lawful I.lawful
-        (pair-lawful J.lawful K.lawful)))))))))) };
+    ghost lawful_if = { from
+        (contramap-lawful (λ t. (t.0, (t.1, (t.2, (t.3, (t.4, (t.5, (t.6, (t.7, (t.8, (t.9, t.10))))))))))))
+        ⟦<(A, (B, (C, (D, (E, (F, (G, (H, (I, (J, K)))))))))) as BorshType>⟧.lawful_if };
+
+    ghost premises = { (A.premises, (B.premises, (C.premises, (D.premises, (E.premises, (F.premises, (G.premises, (H.premises, (I.premises, (J.premises, K.premises)))))))))) };
 
     fn encodes_empty() -> bool {
         <(A, (B, C, D, E, F, G, H, I, J, K))>::encodes_empty()
@@ -315,30 +286,13 @@ impl<
 > BorshType for (A, B, C, D, E, F, G, H, I, J, K, L) {
     ghost codec = { contramap
         (λ t. (t.0, (t.1, (t.2, (t.3, (t.4, (t.5, (t.6, (t.7, (t.8, (t.9, (t.10, t.11))))))))))))
-        (pair A.codec
-        (pair B.codec
-        (pair C.codec
-        (pair D.codec
-        (pair E.codec
-        (pair F.codec
-        (pair G.codec
-        (pair H.codec
-        (pair I.codec
-        (pair J.codec (pair K.codec L.codec))))))))))) };
+        ⟦<(A, (B, (C, (D, (E, (F, (G, (H, (I, (J, (K, L))))))))))) as BorshType>⟧.codec };
 
-    ghost lawful = { contramap-lawful
-        (λ t. (t.0, (t.1, (t.2, (t.3, (t.4, (t.5, (t.6, (t.7, (t.8, (t.9, (t.10, t.11))))))))))))
-        (pair-lawful A.lawful
-        (pair-lawful B.lawful
-        (pair-lawful C.lawful
-        (pair-lawful D.lawful
-        (pair-lawful E.lawful
-        (pair-lawful F.lawful
-        (pair-lawful G.lawful
-        (pair-lawful H.lawful
-        (pair-lawful I.lawful
-        (pair-lawful J.lawful
-        (pair-lawful K.lawful L.lawful))))))))))) };
+    ghost lawful_if = { from
+        (contramap-lawful (λ t. (t.0, (t.1, (t.2, (t.3, (t.4, (t.5, (t.6, (t.7, (t.8, (t.9, (t.10, t.11)))))))))))))
+        ⟦<(A, (B, (C, (D, (E, (F, (G, (H, (I, (J, (K, L))))))))))) as BorshType>⟧.lawful_if };
+
+    ghost premises = { (A.premises, (B.premises, (C.premises, (D.premises, (E.premises, (F.premises, (G.premises, (H.premises, (I.premises, (J.premises, (K.premises, L.premises))))))))))) };
 
     fn encodes_empty() -> bool {
         <(A, (B, C, D, E, F, G, H, I, J, K, L))>::encodes_empty()

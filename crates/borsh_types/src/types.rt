@@ -1,6 +1,7 @@
 // What a type means.
 ghost use Rattle.std.specs.Prelude.{◌≡◌};
 ghost use Rattle.borsh_codec.specs.Codec.{Codec, Lawful};
+ghost use Rattle.borsh_codec.proofs.Laws.Conditional.{Conditional};
 
 /// A type whose values have a meaning as bytes.
 ///
@@ -11,6 +12,8 @@ ghost use Rattle.borsh_codec.specs.Codec.{Codec, Lawful};
 pub trait BorshType {
     ghost codec: { Codec Self };
 
+    ghost lawful_if: { Conditional (Lawful Self codec) };
+
     /// Whether the encodings of the type are empty. Such a type can't be the element of a list, since
     /// a short input could announce any number of elements.
     fn encodes_empty() -> bool
@@ -19,5 +22,7 @@ pub trait BorshType {
     /// About how many bytes of memory a value takes, for the first reservation of a list.
     fn element_size() -> usize;
 
-    ghost lawful: { Lawful Self codec };
+    ghost premises: { lawful_if.premises };
+
+    ghost lawful: { Lawful Self codec } = { lawful_if.fact premises };
 }

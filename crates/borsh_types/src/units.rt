@@ -1,6 +1,7 @@
 // Values of types with one value: no bytes.
 ghost use Rattle.borsh_codec.specs.Shapes.{contramap, unit};
 ghost use Rattle.borsh_codec.proofs.Laws.Exact.{contramap-lawful, unit-lawful};
+ghost use Rattle.borsh_codec.proofs.Laws.Conditional.{always};
 
 use super::types::BorshType;
 use std::marker::PhantomData;
@@ -9,7 +10,9 @@ use std::ops::RangeFull;
 impl BorshType for () {
     ghost codec = { unit };
 
-    ghost lawful = { unit-lawful };
+    ghost lawful_if = { always unit-lawful };
+
+    ghost premises = { tt };
 
     fn encodes_empty() -> bool {
         true
@@ -23,7 +26,9 @@ impl BorshType for () {
 impl BorshType for RangeFull {
     ghost codec = { contramap (λ _. tt) unit };
 
-    ghost lawful = { contramap-lawful (λ _. tt) unit-lawful };
+    ghost lawful_if = { always (contramap-lawful (λ _. tt) unit-lawful) };
+
+    ghost premises = { tt };
 
     fn encodes_empty() -> bool {
         true
@@ -37,7 +42,9 @@ impl BorshType for RangeFull {
 impl<T> BorshType for PhantomData<T> {
     ghost codec = { contramap (λ _. tt) unit };
 
-    ghost lawful = { contramap-lawful (λ _. tt) unit-lawful };
+    ghost lawful_if = { always (contramap-lawful (λ _. tt) unit-lawful) };
+
+    ghost premises = { tt };
 
     fn encodes_empty() -> bool {
         true

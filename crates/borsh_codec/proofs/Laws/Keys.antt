@@ -1,5 +1,5 @@
 -- The laws of keys: `==` of two keys holds exactly if the two are one value.
-use Rattle.std.proofs.Common.{ℕ, Bool, true, false, ◌&&◌, List, [], ◌∷◌, Some, None, nat_eq, refl, sym, ◌∙◌, ap, true≢false}
+use Rattle.std.proofs.Common.{◌≡◌, ℕ, Bool, true, false, ◌&&◌, List, [], ◌∷◌, Some, None, nat_eq, refl, sym, ◌∙◌, ap, subst, true≢false}
 use Rattle.std.specs.Bool.{Decides, beq}
 use Rattle.std.specs.Cmp.Lexicographic.{pointwise}
 use Rattle.std.specs.List.{AllZip}
@@ -58,6 +58,25 @@ pair_key {eq = eq} {eql = eql} c d k l x y = (
 
 pub and_key : {a b : Bool} {P Q : Type 0} → Decides a P → Decides b Q → Decides (a && b) (P × Q)
 and_key {a = a} {b = b} p q = (λ e. (let h = and_true a b e in (p.0 h.0, q.0 h.1)), λ h. ap (λ t. t && b) (p.1 h.0) ∙ q.1 h.1)
+
+-- the tests of the first parts of several, before the test of those that are still to come
+pub record DecidesBefore (b : Bool) (F : Type 0 → Type 0) : Type 1 where
+  pub before : {c : Bool} {Q : Type 0} → Decides c Q → Decides (b && c) (F Q)
+
+pub first_key : {b : Bool} {P : Type 0} → Decides b P → DecidesBefore b (λ Q. P × Q)
+first_key p = record { before = λ q. and_key p q }
+
+pub and_assoc : (a b c : Bool) → ((a && b) && c) ≡ (a && (b && c))
+and_assoc true b c = refl
+and_assoc false b c = refl
+
+pub next_key : {b c : Bool} {F : Type 0 → Type 0} {P : Type 0} → DecidesBefore b F → Decides c P → DecidesBefore (b && c) (λ Q. F (P × Q))
+next_key {b = b} {c = c} {F = F} {P = P} p q = record {
+  before = λ {c = d} {Q = Q} r. subst (λ t. Decides t (F (P × Q))) (sym (and_assoc b c d)) (p.before (and_key q r));
+}
+
+pub last_key : {b c : Bool} {F : Type 0 → Type 0} {P : Type 0} → DecidesBefore b F → Decides c P → Decides (b && c) (F P)
+last_key p q = p.before q
 
 -- a test of one fact is a test of another that holds exactly if it does
 pub key_as : {b : Bool} {P Q : Type 0} → Decides b P → (P → Q) → (Q → P) → Decides b Q

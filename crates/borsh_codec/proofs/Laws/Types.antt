@@ -10,7 +10,7 @@ use Rattle.std.specs.declared.net.socket_addr.SocketAddrV6.{SocketAddrV6}
 use Rattle.std.specs.declared.net.socket_addr.SocketAddr.{SocketAddr}
 use Rattle.std.specs.Net.Addr.{ipv4_octets, ipv6_octets}
 use Rattle.borsh_codec.specs.Codec.{Codec, Lawful}
-use Rattle.borsh_codec.specs.Shapes.{contramap, unsigned, never, length_prefixed}
+use Rattle.borsh_codec.specs.Shapes.{unsigned, never, length_prefixed}
 use Rattle.borsh_codec.specs.Types.Sums.{two_variants, bool_view, bool, option_view, option, result_view, result_of}
 use Rattle.borsh_codec.specs.Types.Texts.{text}
 use Rattle.borsh_codec.specs.Types.Addresses.{octets, ipv4, ipv6, ip_view, ip, socket_v4_view, socket_v4, socket_v6_view, socket_v6, socket_view, socket}
