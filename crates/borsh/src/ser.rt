@@ -3,10 +3,13 @@ ghost use Rattle.borsh_codec.specs.Writing.{Encodes, Writes};
 ghost use Rattle.borsh.specs.Length.{AnswersLength};
 
 use super::length::LengthWriter;
+pub use borsh_enums::Tag;
 use borsh_io::{Error, ErrorKind, Result, Write};
 pub use borsh_ser::{
-    BorshSerialize, write_bytes, write_eight, write_eleven, write_five, write_four, write_nine,
-    write_seven, write_six, write_tagged, write_ten, write_three, write_twelve, write_two,
+    BorshSerialize, write_bytes, write_eight, write_eighteen, write_eleven, write_fifteen,
+    write_five, write_four, write_fourteen, write_nine, write_nineteen, write_seven,
+    write_seventeen, write_six, write_sixteen, write_tagged, write_ten, write_thirteen,
+    write_three, write_twelve, write_twenty, write_two,
 };
 use std::alloc::Global;
 

@@ -4,26 +4,13 @@ use Rattle.std.specs.Cmp.{unsigned_Decides}
 use Rattle.borsh_codec.specs.Codec.{Codec, Lawful}
 use Rattle.borsh_codec.specs.Shapes.{contramap}
 use Rattle.borsh_codec.specs.Reading.{any_byte}
+use Rattle.borsh_codec.proofs.Laws.Conditional.{Conditional, from, from_two}
 use Rattle.borsh_codec.proofs.Laws.Exact.{contramap-lawful, by_encoding-lawful, never-lawful}
 use Rattle.borsh_codec.proofs.Laws.Lists.{and_true}
 use Rattle.borsh_codec.proofs.Laws.Variants.{Avoids, variant-lawful, nothing_avoids}
 use Rattle.borsh_enums.specs.Cases.{case_codec, fork, Tags, tag_of, both, has, apart, distinct}
 use Rattle.borsh_enums.specs.declared.cases.Fork.{Fork}
 use Rattle.borsh_enums.specs.declared.cases.Fork.TheVariants.{Left, Right}
-
--- for the moment: what the laws of codecs offer by this name
-pub record Conditional (T : Type 0) : Type 1 where
-  pub premises : Type 0
-  pub fact : premises → T
-
-abbrev pub assumed : (P : Type 0) → Conditional P
-assumed P = record { premises = P; fact = λ p. p }
-
-abbrev pub from : {S T : Type 0} → (S → T) → Conditional S → Conditional T
-from f s = record { premises = s.premises; fact = λ p. f (s.fact p) }
-
-abbrev pub from_two : {R S T : Type 0} → (R → S → T) → Conditional R → Conditional S → Conditional T
-from_two f r s = record { premises = r.premises × s.premises; fact = λ p. f (r.fact p.0) (s.fact p.1) }
 
 -- ---- tags that are written
 

@@ -3,6 +3,7 @@ use Rattle.std.specs.Prelude.{ℕ, Bool, true, false, not, ◌&&◌, ◌||◌, L
 use mathlib.Core.Logic.{inl}
 use Rattle.borsh_codec.specs.Codec.{Codec}
 use Rattle.borsh_codec.specs.Shapes.{contramap, variant, never}
+use Rattle.borsh_enums.specs.declared.cases.Case.{Case}
 use Rattle.borsh_enums.specs.declared.cases.Fork.{Fork}
 use Rattle.borsh_enums.specs.declared.cases.Fork.TheVariants.{Left, Right}
 
@@ -37,6 +38,17 @@ fork a b = record {
   refuses = false;
   texts_allocate = true;
 }
+
+-- ---- values of a tree: on its left, on its right, and the fields of a variant
+
+abbrev pub left : {A B : Type 0} → A → Fork A B
+left v = Left v
+
+abbrev pub right : {A B : Type 0} → B → Fork A B
+right v = Right v
+
+abbrev pub fields : {n : ℕ} {A : Type 0} → A → Case n A
+fields v = record { 0 = v }
 
 -- ---- tags
 

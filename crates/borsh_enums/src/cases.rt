@@ -1,8 +1,8 @@
 // The variants of an enum as one type.
 ghost use Rattle.std.specs.Prelude.{◌≡◌, true};
-ghost use Rattle.borsh_codec.specs.Codec.{Codec, Lawful};
+ghost use Rattle.borsh_codec.specs.Codec.{Codec};
 ghost use Rattle.borsh_enums.specs.Cases.{case_codec, distinct, fork, has};
-ghost use Rattle.borsh_enums.specs.CaseLaws.{Variants, assumed, case_variants, fork_variants};
+ghost use Rattle.borsh_enums.specs.CaseLaws.{Variants, case_variants, fork_variants};
 
 use borsh_types::BorshType;
 
@@ -30,7 +30,7 @@ pub struct Case<const TAG: u8, A>(pub A);
 impl<const TAG: u8, A: BorshType> Cases for Case<TAG, A> {
     ghost codec = { case_codec (λ v. v.0) TAG A.codec };
 
-    ghost variants = { case_variants (λ v. v.0) TAG (assumed (Lawful A A.codec)) };
+    ghost variants = { case_variants (λ v. v.0) TAG A.lawful_if };
 
     fn has_tag(tag: u8) -> bool {
         tag == TAG

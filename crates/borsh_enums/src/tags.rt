@@ -1,4 +1,5 @@
 // The tags of variants that are written.
+ghost use Rattle.borsh_codec.proofs.Laws.Conditional.{always};
 ghost use Rattle.borsh_codec.proofs.Laws.Exact.{contramap-lawful};
 ghost use Rattle.borsh_codec.specs.Reading.{any_byte};
 ghost use Rattle.borsh_codec.specs.Shapes.{contramap};
@@ -20,6 +21,10 @@ pub struct Tag(pub u8);
 impl BorshType for Tag {
     ghost codec = { contramap (λ t. t.0) any_byte };
 
+    ghost lawful_if = { always (contramap-lawful (λ t. t.0) any_byte-lawful) };
+
+    ghost premises = { tt };
+
     fn encodes_empty() -> bool {
         false
     }
@@ -27,8 +32,6 @@ impl BorshType for Tag {
     fn element_size() -> usize {
         1
     }
-
-    ghost lawful = { contramap-lawful (λ t. t.0) any_byte-lawful };
 }
 
 impl BorshSerialize for Tag {

@@ -1,0 +1,29 @@
+// Types with parameters.
+use std::collections::BTreeMap;
+
+/// Two values.
+// derive: borsh
+#[derive(Drop)]
+pub struct Pair<A, B> {
+    pub first: A,
+    pub second: B,
+}
+
+/// Parameters within the types of the library.
+// derive: borsh
+#[derive(Drop)]
+pub struct Table<T>
+where
+    T: Clone,
+{
+    pub rows: Vec<T>,
+    pub by_number: BTreeMap<u32, Option<T>>,
+}
+
+/// A parameter that is a length.
+// derive: borsh
+#[derive(Drop)]
+pub struct Grid<const N: usize> {
+    pub cells: [u8; N],
+    pub turned: bool,
+}
