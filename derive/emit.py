@@ -3,7 +3,8 @@
 import re
 
 from layout import (Group, Term, arm, binding, call, function_head, ghost_cases, ghost_member, ghost_term, ghost_tuple,
-                    impl_head, import_lines, laid_out, pattern, statement, struct_of, tuple_of, type_layout)
+                    impl_head, import_lines, laid_out, pattern, statement, struct_of, tuple_of, type_layout, type_text)
+from rust_types import Array
 
 NUMBERS = ('zero', 'one', 'two', 'three', 'four', 'five', 'six', 'seven', 'eight', 'nine', 'ten', 'eleven', 'twelve',
            'thirteen', 'fourteen', 'fifteen', 'sixteen', 'seventeen', 'eighteen', 'nineteen', 'twenty')
@@ -279,9 +280,25 @@ def struct_meaning(writer):
         view = struct_view(writer).within('(', ')')
     else:
         view = quote(writer, writer.own(), 'FromParts', '.view')
-    return meaning(writer, view, 'BorshType', [
-        ghost_member('lawful_if', 'from', [view.within('(contramap-lawful ', ')'), quote(writer, writer.alias_use(), 'BorshType', '.lawful_if')], 4),
-    ], '<%s>::encodes_empty()' % writer.alias_use())
+    laws = ghost_member('lawful_if', 'from', [view.within('(contramap-lawful ', ')'), quote(writer, writer.alias_use(), 'BorshType', '.lawful_if')], 4)
+    return meaning(writer, view, 'BorshType', laws, of_parts(writer, 'encodes_empty', and_then), of_parts(writer, 'element_size', added))
+
+
+def of_parts(writer, name, joined):
+    """A call of `BorshType` for all fields. With a length as a parameter each field is asked by itself: that a tuple
+    with an array of such a length fits in memory doesn't follow."""
+    types = [type_text(field.type) for field in writer.marked.fields.encoded()]
+    if not any(parameter.constant for parameter in writer.marked.parameters) or not types:
+        return '<%s>::%s()' % (writer.alias_use(), name)
+    return joined(['%s::%s()' % (text if re.fullmatch(r'\w+', text) else '<%s>' % text, name) for text in types])
+
+
+def and_then(calls):
+    return calls[0] if len(calls) == 1 else '%s && %s' % (calls[0], calls[1] if len(calls) == 2 else '(%s)' % and_then(calls[1:]))
+
+
+def added(calls):
+    return calls[0] + ''.join('.saturating_add(%s)' % call for call in calls[1:])
 
 
 def quote(writer, name, trait, member):
@@ -289,12 +306,12 @@ def quote(writer, name, trait, member):
     return Term('', ['⟦<%s as %s>⟧%s' % (name, writer.lib(trait), member)])
 
 
-def meaning(writer, view, trait, laws, encodes_empty):
+def meaning(writer, view, trait, laws, encodes_empty, element_size):
     """`impl BorshType`: the codec of the parts, seen through the view, and the laws that follow from those of the parts."""
     codec = quote(writer, writer.alias_use(), trait, '.codec')
-    rows = [ghost_member('codec', 'contramap', [view, codec], 4), ''] + laws + ['', writer.premises(), '',
-            '    fn encodes_empty() -> bool {', '        %s' % encodes_empty, '    }', '',
-            '    fn element_size() -> usize {', '        <%s>::element_size()' % writer.alias_use(), '    }']
+    rows = [ghost_member('codec', 'contramap', [view, codec], 4), '', laws, '', writer.premises(), '',
+            '    fn encodes_empty() -> bool {', '        ' + encodes_empty, '    }', '',
+            '    fn element_size() -> usize {', '        ' + element_size, '    }']
     return writer.block('BorshType', 'BorshType', rows)
 
 
@@ -405,23 +422,26 @@ def enum_cases(writer):
 
 
 def from_case(writer, variant, turns):
-    """The arm that makes a variant of its fields."""
+    """The arm that makes a variant of its fields. A field that is an array is taken out by a `let`."""
     names = local_names(variant.fields.encoded(), ())
     inner = {0: '()', 1: names[0] if names else ''}.get(len(names), 'fields')
-    node = pattern(writer.lib('Case'), [inner])
+    held = len(names) == 1 and isinstance(variant.fields.encoded()[0].type, Array)
+    node = 'case' if held else pattern(writer.lib('Case'), [inner])
     for turn in reversed(turns):
         node = pattern('%s::%s' % (writer.lib('Fork'), turn.capitalize()), [node])
     value = made('%s::%s' % (writer.marked.name, variant.name), variant.fields, names)
-    if len(names) < 2:
+    if len(names) < 2 and not held:
         return [arm(node, value, 12)]
-    rows = [' ' * 12 + laid_out(node, 12, 12, len(' => {')) + ' => {'] + taking_apart('fields', names, 16)
+    taken = [' ' * 16 + 'let %s = case.0;' % names[0]] if held else taking_apart('fields', names, 16)
+    rows = [' ' * 12 + laid_out(node, 12, 12, len(' => {')) + ' => {'] + taken
     return rows + [statement('', value, '', 16), '            }']
 
 
 def enum_meaning(writer):
     view = quote(writer, writer.own(), 'FromCases', '.view')
     variants = quote(writer, writer.alias_use(), 'Cases', '.variants')
-    return meaning(writer, view, 'Cases', [ghost_member('lawful_if', 'enum_lawful_if', [view, variants, Term('', ['refl'])], 4)], 'false')
+    laws = ghost_member('lawful_if', 'enum_lawful_if', [view, variants, Term('', ['refl'])], 4)
+    return meaning(writer, view, 'Cases', laws, 'false', '<%s>::element_size()' % writer.alias_use())
 
 
 def enum_encoding(writer):

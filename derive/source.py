@@ -200,6 +200,7 @@ def read_module(text):
             module.items[module.marked[-1].name] = True
         else:
             read_item(reader, module)
+    mark_above(reader, seen)
     refuse_stray_marks(reader, seen)
     return module
 
@@ -220,14 +221,14 @@ def mark_above(reader, seen):
         if options is None or comment in seen:
             continue
         seen.add(comment)
+        if reader.at_end():
+            raise Refusal(comment.line, 'no type is below the comment')
         if comment.line == reader.last_line():
             raise Refusal(comment.line, 'the comment stands behind code: write it above the type')
         if found is not None:
             raise Refusal(comment.line, 'a second comment of this kind above one type')
         check_options(options, comment.line)
         found = comment
-    if found is not None and reader.at_end():
-        raise Refusal(found.line, 'no type is below the comment')
     return found
 
 

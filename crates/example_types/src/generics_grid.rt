@@ -21,11 +21,11 @@ impl<const N: usize> BorshType for Grid<N> {
     ghost premises = { Prim.search key_facts };
 
     fn encodes_empty() -> bool {
-        <Fields<N>>::encodes_empty()
+        <[u8; N]>::encodes_empty() && bool::encodes_empty()
     }
 
     fn element_size() -> usize {
-        <Fields<N>>::element_size()
+        <[u8; N]>::element_size().saturating_add(bool::element_size())
     }
 }
 

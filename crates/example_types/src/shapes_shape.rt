@@ -83,7 +83,10 @@ impl FromCases for Shape {
                 let (part0, part1) = fields;
                 Shape::Named(part0, part1)
             }
-            Fork::Right(Fork::Right(Fork::Right(Fork::Left(Case(part0))))) => Shape::Tagged(part0),
+            Fork::Right(Fork::Right(Fork::Right(Fork::Left(case)))) => {
+                let part0 = case.0;
+                Shape::Tagged(part0)
+            }
             Fork::Right(Fork::Right(Fork::Right(Fork::Right(Case(()))))) => Shape::Last,
         }
     }
