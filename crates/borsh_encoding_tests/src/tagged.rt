@@ -1,10 +1,5 @@
 // A struct of a text and a number.
-ghost use Rattle.borsh.specs.Shapes.{contramap};
-ghost use Rattle.borsh.specs.Laws.Exact.{contramap-lawful};
-ghost use Rattle.borsh.specs.Laws.Numbers.{unsigned-lawful};
-ghost use Rattle.borsh.specs.Laws.Pairs.{pair-lawful};
-ghost use Rattle.borsh.specs.Laws.Types.{text-lawful};
-ghost use Rattle.std.specs.String.{string_bytes};
+ghost use Rattle.borsh.specs.Laws.OfParts.{contramap, contramap-lawful, from, key_facts};
 
 use borsh::io::{Result, Write};
 use borsh::ser::write_two;
@@ -21,7 +16,9 @@ pub(crate) struct Tagged {
 impl BorshType for Tagged {
     ghost codec = { contramap (λ v. (v.tag, v.value)) ⟦<(String, u64) as BorshType>⟧.codec };
 
-    ghost lawful = { contramap-lawful (λ v. (v.tag, v.value)) (pair-lawful (contramap-lawful string_bytes text-lawful) (unsigned-lawful 8)) };
+    ghost lawful_if = { from (contramap-lawful (λ v. (v.tag, v.value))) ⟦<(String, u64) as BorshType>⟧.lawful_if };
+
+    ghost premises = { Prim.search key_facts };
 
     fn encodes_empty() -> bool {
         <(String, u64)>::encodes_empty()

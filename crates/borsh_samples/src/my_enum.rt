@@ -1,4 +1,5 @@
 // An enum of three variants.
+ghost use Rattle.borsh.specs.Laws.Conditional.{always};
 ghost use Rattle.borsh_samples.specs.MyEnum.{my_enum, my_enum-lawful};
 
 use borsh::de::{invalid_data, read_tag};
@@ -18,7 +19,9 @@ pub enum MyEnum {
 impl BorshType for MyEnum {
     ghost codec = { my_enum };
 
-    ghost lawful = { my_enum-lawful };
+    ghost lawful_if = { always my_enum-lawful };
+
+    ghost premises = { tt };
 
     fn encodes_empty() -> bool {
         false

@@ -1,9 +1,5 @@
 // A struct of two parts.
-ghost use Rattle.borsh.specs.Shapes.{contramap};
-ghost use Rattle.borsh.specs.Laws.Exact.{contramap-lawful};
-ghost use Rattle.borsh.specs.Laws.Numbers.{unsigned-lawful};
-ghost use Rattle.borsh.specs.Laws.Pairs.{pair-lawful};
-ghost use Rattle.borsh.specs.Laws.Rows.{list-lawful};
+ghost use Rattle.borsh.specs.Laws.OfParts.{contramap, contramap-lawful, from, key_facts};
 
 use borsh::de::{FromParts, read_parts};
 use borsh::io::{Read, Result, Write};
@@ -19,11 +15,11 @@ pub struct MyStruct {
 }
 
 impl BorshType for MyStruct {
-    ghost codec = { contramap (λ v. (v.a, v.b)) ⟦<(u64, Vec<u8>) as BorshType>⟧.codec };
+    ghost codec = { contramap ⟦<MyStruct as FromParts>⟧.view ⟦<(u64, Vec<u8>) as BorshType>⟧.codec };
 
-    ghost lawful = { contramap-lawful (λ v. (v.a, v.b))
-        (pair-lawful (unsigned-lawful 8)
-        (contramap-lawful (λ v. v.items) (list-lawful (unsigned-lawful 1)))) };
+    ghost lawful_if = { from (contramap-lawful ⟦<MyStruct as FromParts>⟧.view) ⟦<(u64, Vec<u8>) as BorshType>⟧.lawful_if };
+
+    ghost premises = { Prim.search key_facts };
 
     fn encodes_empty() -> bool {
         <(u64, Vec<u8>)>::encodes_empty()

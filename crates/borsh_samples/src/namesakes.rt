@@ -1,8 +1,6 @@
 // Two types that go by one name: no container can have the schemas of both.
+ghost use Rattle.borsh.specs.Laws.OfParts.{contramap, contramap-lawful, from, key_facts};
 ghost use Rattle.std.specs.Prelude.{codes};
-ghost use Rattle.borsh.specs.Shapes.{contramap, unsigned};
-ghost use Rattle.borsh.specs.Laws.Exact.{contramap-lawful};
-ghost use Rattle.borsh.specs.Laws.Numbers.{unsigned-lawful};
 ghost use Rattle.borsh.specs.Schema.Laws.Members.{describes_contramap, describes_number};
 ghost use Rattle.borsh.specs.Schema.Types.{primitive_definitions};
 
@@ -21,9 +19,11 @@ pub struct ShortA(pub u8);
 pub struct LongA(pub u16);
 
 impl BorshType for ShortA {
-    ghost codec = { contramap (λ v. v.0) (unsigned 1) };
+    ghost codec = { contramap (λ v. v.0) ⟦<u8 as BorshType>⟧.codec };
 
-    ghost lawful = { contramap-lawful (λ v. v.0) (unsigned-lawful 1) };
+    ghost lawful_if = { from (contramap-lawful (λ v. v.0)) ⟦<u8 as BorshType>⟧.lawful_if };
+
+    ghost premises = { Prim.search key_facts };
 
     fn encodes_empty() -> bool {
         false
@@ -35,9 +35,11 @@ impl BorshType for ShortA {
 }
 
 impl BorshType for LongA {
-    ghost codec = { contramap (λ v. v.0) (unsigned 2) };
+    ghost codec = { contramap (λ v. v.0) ⟦<u16 as BorshType>⟧.codec };
 
-    ghost lawful = { contramap-lawful (λ v. v.0) (unsigned-lawful 2) };
+    ghost lawful_if = { from (contramap-lawful (λ v. v.0)) ⟦<u16 as BorshType>⟧.lawful_if };
+
+    ghost premises = { Prim.search key_facts };
 
     fn encodes_empty() -> bool {
         false

@@ -1,7 +1,5 @@
 // A byte in a type of its own: the same encoding, and no way to read or write many at once.
-ghost use Rattle.borsh.specs.Shapes.{contramap, unsigned};
-ghost use Rattle.borsh.specs.Laws.Exact.{contramap-lawful};
-ghost use Rattle.borsh.specs.Laws.Numbers.{unsigned-lawful};
+ghost use Rattle.borsh.specs.Laws.OfParts.{contramap, contramap-lawful, from, key_facts};
 
 use borsh::io::{Read, Result, Write};
 use borsh::{BorshDeserialize, BorshSerialize, BorshType};
@@ -12,9 +10,11 @@ use std::alloc::Global;
 pub struct Octet(pub u8);
 
 impl BorshType for Octet {
-    ghost codec = { contramap (λ v. v.0) (unsigned 1) };
+    ghost codec = { contramap (λ v. v.0) ⟦<u8 as BorshType>⟧.codec };
 
-    ghost lawful = { contramap-lawful (λ v. v.0) (unsigned-lawful 1) };
+    ghost lawful_if = { from (contramap-lawful (λ v. v.0)) ⟦<u8 as BorshType>⟧.lawful_if };
+
+    ghost premises = { Prim.search key_facts };
 
     fn encodes_empty() -> bool {
         false

@@ -1,4 +1,5 @@
 // An enum of one variant.
+ghost use Rattle.borsh.specs.Laws.Conditional.{always};
 ghost use Rattle.borsh_samples.specs.One.{one, one-lawful};
 
 use borsh::de::{invalid_data, read_tag};
@@ -16,7 +17,9 @@ pub enum One {
 impl BorshType for One {
     ghost codec = { one };
 
-    ghost lawful = { one-lawful };
+    ghost lawful_if = { always one-lawful };
+
+    ghost premises = { tt };
 
     fn encodes_empty() -> bool {
         false

@@ -1,4 +1,5 @@
 // A type that has only some of another one's values.
+ghost use Rattle.borsh.specs.Laws.Conditional.{always};
 ghost use Rattle.borsh_samples.specs.OneOrZero.{one_or_zero, one_or_zero-lawful};
 
 use crate::my_enum::MyEnum;
@@ -17,7 +18,9 @@ const MANY_NOT_ALLOWED: &str = "MyEnum::Many not allowed here";
 impl BorshType for OneOrZero {
     ghost codec = { one_or_zero };
 
-    ghost lawful = { one_or_zero-lawful };
+    ghost lawful_if = { always one_or_zero-lawful };
+
+    ghost premises = { tt };
 
     fn encodes_empty() -> bool {
         false

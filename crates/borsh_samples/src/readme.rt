@@ -1,10 +1,5 @@
 // The struct of the original's README: a number and a text.
-ghost use Rattle.borsh.specs.Shapes.{contramap};
-ghost use Rattle.borsh.specs.Laws.Exact.{contramap-lawful};
-ghost use Rattle.borsh.specs.Laws.Numbers.{unsigned-lawful};
-ghost use Rattle.borsh.specs.Laws.Pairs.{pair-lawful};
-ghost use Rattle.borsh.specs.Laws.Types.{text-lawful};
-ghost use Rattle.std.specs.String.{string_bytes};
+ghost use Rattle.borsh.specs.Laws.OfParts.{contramap, contramap-lawful, from, key_facts};
 
 use borsh::de::{FromParts, read_parts};
 use borsh::io::{Read, Result, Write};
@@ -20,10 +15,11 @@ pub struct A {
 }
 
 impl BorshType for A {
-    ghost codec = { contramap (λ v. (v.x, v.y)) ⟦<(u64, String) as BorshType>⟧.codec };
+    ghost codec = { contramap ⟦<A as FromParts>⟧.view ⟦<(u64, String) as BorshType>⟧.codec };
 
-    ghost lawful = { contramap-lawful (λ v. (v.x, v.y))
-        (pair-lawful (unsigned-lawful 8) (contramap-lawful string_bytes text-lawful)) };
+    ghost lawful_if = { from (contramap-lawful ⟦<A as FromParts>⟧.view) ⟦<(u64, String) as BorshType>⟧.lawful_if };
+
+    ghost premises = { Prim.search key_facts };
 
     fn encodes_empty() -> bool {
         <(u64, String)>::encodes_empty()

@@ -1,4 +1,5 @@
 // Containers as bytes: the root's name, and then the definitions by ascending name.
+ghost use Rattle.borsh_codec.proofs.Laws.Conditional.{always};
 ghost use Rattle.borsh_schema.specs.Codecs.{container, container-lawful};
 
 use super::container::BorshSchemaContainer;
@@ -13,7 +14,9 @@ use std::collections::BTreeMap;
 impl BorshType for BorshSchemaContainer {
     ghost codec = { container };
 
-    ghost lawful = { container-lawful };
+    ghost lawful_if = { always container-lawful };
+
+    ghost premises = { tt };
 
     fn encodes_empty() -> bool {
         false

@@ -1,4 +1,5 @@
 // Definitions as bytes: the variant's place in the order, one byte, and its parts in order.
+ghost use Rattle.borsh_codec.proofs.Laws.Conditional.{always};
 ghost use Rattle.borsh_walks.specs.Codecs.{ends, length_range, length_range-lawful, fields, fields-lawful, definition, definition-lawful};
 
 use crate::definition::{
@@ -13,7 +14,9 @@ use std::alloc::Global;
 impl BorshType for LengthRange {
     ghost codec = { length_range };
 
-    ghost lawful = { length_range-lawful };
+    ghost lawful_if = { always length_range-lawful };
+
+    ghost premises = { tt };
 
     fn encodes_empty() -> bool {
         false
@@ -52,7 +55,9 @@ impl BorshDeserialize for LengthRange {
 impl BorshType for Fields {
     ghost codec = { fields };
 
-    ghost lawful = { fields-lawful };
+    ghost lawful_if = { always fields-lawful };
+
+    ghost premises = { tt };
 
     fn encodes_empty() -> bool {
         false
@@ -103,7 +108,9 @@ impl EnumExt for Fields {
 impl BorshType for Definition {
     ghost codec = { definition };
 
-    ghost lawful = { definition-lawful };
+    ghost lawful_if = { always definition-lawful };
+
+    ghost premises = { tt };
 
     fn encodes_empty() -> bool {
         false

@@ -1,5 +1,5 @@
 // A struct of four fields.
-ghost use Rattle.example_account.specs.Account.{account, account-lawful, fields_of};
+ghost use Rattle.borsh.specs.Laws.OfParts.{contramap, contramap-lawful, from, key_facts};
 
 use borsh::de::{FromParts, read_parts};
 use borsh::io::{Read, Result, Write};
@@ -23,9 +23,11 @@ pub struct Account {
 pub type Fields = ([u8; 32], u128, Vec<String>, Option<BTreeMap<String, u64>>);
 
 impl BorshType for Account {
-    ghost codec = { account };
+    ghost codec = { contramap ⟦<Account as FromParts>⟧.view ⟦<Fields as BorshType>⟧.codec };
 
-    ghost lawful = { account-lawful };
+    ghost lawful_if = { from (contramap-lawful ⟦<Account as FromParts>⟧.view) ⟦<Fields as BorshType>⟧.lawful_if };
+
+    ghost premises = { Prim.search key_facts };
 
     fn encodes_empty() -> bool {
         <Fields>::encodes_empty()
@@ -52,7 +54,7 @@ impl BorshSerialize for Account {
 impl FromParts for Account {
     type Parts = Fields;
 
-    ghost view = { fields_of };
+    ghost view = { λ a. (a.key, a.balance, a.notes, a.limits) };
 
     fn from_parts((key, balance, notes, limits): Fields) -> Account {
         Account {

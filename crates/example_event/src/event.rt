@@ -1,4 +1,5 @@
 // An enum with a variant of two fields.
+ghost use Rattle.borsh.specs.Laws.Conditional.{always};
 ghost use Rattle.example_event.specs.Event.{event, event-lawful};
 
 use borsh::de::{invalid_data, read_tag};
@@ -23,7 +24,9 @@ pub enum Event {
 impl BorshType for Event {
     ghost codec = { event };
 
-    ghost lawful = { event-lawful };
+    ghost lawful_if = { always event-lawful };
+
+    ghost premises = { tt };
 
     fn encodes_empty() -> bool {
         false
