@@ -1,11 +1,12 @@
 #!/usr/bin/env python3
 """Writes the implementations of types that are marked by a comment.
 
-    python3 borsh_derive.py CRATE            writes src/MODULE_TYPE.rt for each type with `// derive: borsh` above it
-    python3 borsh_derive.py CRATE --check    names each file that isn't what it would write, and exits with 1
+    borsh_derive.py CRATE            writes src/MODULE_TYPE.rt for each type with `// derive: borsh` above it
+    borsh_derive.py CRATE --check    names each file that isn't what it would write, and exits with 1
 
-CRATE is the folder of a crate. If a type can't be taken, its file, line and the reason are printed, and nothing is written.
-What is written is ordinary source, which the prover checks as any other: nothing rests on this program being right.
+CRATE is the folder of a crate. If a type can't be taken, its file, line and the reason are printed, and
+nothing is written. What is written is ordinary source, which the prover checks as any other: nothing rests on
+this program being right.
 """
 
 import os
@@ -14,19 +15,12 @@ import sys
 
 from emit import WRITTEN, Place, Writer
 from refusal import Refusal
+from rust_types import bare_names
 from source import read_module
 
 HEAD = '// Written by borsh_derive.py from '
 
 USAGE = 'usage: borsh_derive.py CRATE [--check]'
-
-
-class Written:
-    """A file to be written: its name in src/, its text, the root file and the `mod` line that it needs."""
-
-    def __init__(self, name, text):
-        self.name = name
-        self.text = text
 
 
 def main(arguments):
@@ -142,10 +136,12 @@ def refuse_clashes(places, root):
     for place, marked in places:
         file = source_name(place, root)
         if marked.name in names:
-            raise Refusal(marked.line, 'a second type `%s`: the other one is in src/%s' % (marked.name, names[marked.name]), 'src/' + file)
+            reason = 'a second type `%s`: the other one is in src/%s' % (marked.name, names[marked.name])
+            raise Refusal(marked.line, reason, 'src/' + file)
         own = file_name(place, marked)
         if own in files:
-            raise Refusal(marked.line, '`%s` and `%s` would have one file, %s' % (files[own], marked.name, own), 'src/' + file)
+            reason = '`%s` and `%s` would have one file, %s' % (files[own], marked.name, own)
+            raise Refusal(marked.line, reason, 'src/' + file)
         names[marked.name] = file
         files[own] = marked.name
 
@@ -168,22 +164,40 @@ def refuse_cycles(places, root):
         found = reached(marked.name, [marked.name])
         if found and found[-1] == marked.name:
             through = ' through `%s`' % '`, `'.join(found[1:-1]) if len(found) > 2 else ''
-            raise Refusal(marked.line, '`%s` holds itself%s: its encodings have no bound that the proofs could go by' % (marked.name, through), 'src/' + source_name(place, root))
+            reason = '`%s` holds itself%s: its encodings have no bound that the proofs could go by' % (marked.name, through)
+            raise Refusal(marked.line, reason, 'src/' + source_name(place, root))
 
 
 def refuse_fields(marked, place):
     """Fields that a module beside the type's own couldn't name, and too many of them."""
     private = [name for name in marked.heads() if place.module.items.get(name) is False and place.module_name]
     if private:
-        raise Refusal(marked.line, '`%s` names `%s`, which is private to the file: make it `pub` or `pub(crate)`' % (marked.name, private[0]))
+        reason = '`%s` names `%s`, which is private to the file: make it `pub` or `pub(crate)`'
+        raise Refusal(marked.line, reason % (marked.name, private[0]))
     for group in marked.groups():
         encoded = group.encoded()
         most = WRITTEN if marked.variants is None else WRITTEN - 1
         if len(encoded) > most:
-            raise Refusal(encoded[most].line, 'more than %d fields: put some of them into a struct of their own, whose bytes are the same' % most)
+            reason = 'more than %d fields: put some of them into a struct of their own, whose bytes are the same'
+            raise Refusal(encoded[most].line, reason % most)
         for field in group.all:
-            if marked.variants is None and not field.public and place.module_name:
-                raise Refusal(field.line, 'the field `%s` of `%s` is private, and what is written is a module of its own: make it `pub` or `pub(crate)`' % (field.name, marked.name))
+            if marked.variants is not None:
+                refuse_bare_parameter(marked, field)
+            elif not field.public and place.module_name:
+                reason = ('the field `%s` of `%s` is private, and what is written is a module of its own: '
+                          'make it `pub` or `pub(crate)`')
+                raise Refusal(field.line, reason % (field.name, marked.name))
+
+
+def refuse_bare_parameter(marked, field):
+    """A parameter by itself in a variant: that the variants fit in memory doesn't follow."""
+    names = [] if field.skipped else bare_names(field.type)
+    for parameter in marked.parameters:
+        if parameter.name in names:
+            instead = 'the length as a number' if parameter.constant else '`Box<%s>`' % parameter.name
+            reason = ('the parameter `%s` stands by itself in a variant, and the proofs need an enum of a known size: '
+                      'write %s')
+            raise Refusal(field.line, reason % (parameter.name, instead))
 
 
 def refuse_files(folder, sources, files):
@@ -193,7 +207,8 @@ def refuse_files(folder, sources, files):
             raise Refusal(1, 'this file would be written over, and was written by hand', 'src/' + name)
     for name, text in sources.items():
         if text.startswith(HEAD) and name not in files:
-            raise Refusal(1, 'no type is marked for this file any more: delete it, and its `mod` line', 'src/' + name)
+            reason = 'no type is marked for this file any more: delete it, and its `mod` line'
+            raise Refusal(1, reason, 'src/' + name)
 
 
 # ---- the root file

@@ -6,23 +6,25 @@ from layout import (Group, Term, arm, binding, call, function_head, ghost_cases,
                     impl_head, import_lines, laid_out, pattern, statement, struct_of, tuple_of, type_layout, type_text)
 from rust_types import Array
 
-NUMBERS = ('zero', 'one', 'two', 'three', 'four', 'five', 'six', 'seven', 'eight', 'nine', 'ten', 'eleven', 'twelve',
-           'thirteen', 'fourteen', 'fifteen', 'sixteen', 'seventeen', 'eighteen', 'nineteen', 'twenty')
+NUMBERS = ('zero', 'one', 'two', 'three', 'four', 'five', 'six', 'seven', 'eight', 'nine', 'ten', 'eleven',
+           'twelve', 'thirteen', 'fourteen', 'fifteen', 'sixteen', 'seventeen', 'eighteen', 'nineteen', 'twenty')
 
 # the most parts that a tuple has, and that are written in one call
 TUPLE = 12
 WRITTEN = 20
 
 # words that can't name a variable of a ghost term
-GHOST_WORDS = set('''data record deriving module where use mod pub package open as unfoldable abbrev axiom unfold unfolding
-    ruleset mutual infix infixl infixr elim let in do coe fcoe tcoe hcom com rw simp search grw cc omega grind hlevel
-    assumption first_of cap tt absurd left right fields refl'''.split())
+GHOST_WORDS = set('''data record deriving module where use mod pub package open as unfoldable abbrev axiom unfold
+    unfolding ruleset mutual infix infixl infixr elim let in do coe fcoe tcoe hcom com rw simp search grw cc omega
+    grind hlevel assumption first_of cap tt absurd left right fields refl'''.split())
 
 # where the library has what is written here
 BORSH = {
-    'BorshDeserialize': 'borsh', 'BorshSerialize': 'borsh', 'BorshType': 'borsh', 'EnumExt': 'borsh',
+    'BorshDeserialize': 'borsh', 'BorshKey': 'borsh', 'BorshSerialize': 'borsh', 'BorshType': 'borsh',
+    'EnumExt': 'borsh',
     'FromParts': 'borsh::de', 'read_parts': 'borsh::de',
-    'Case': 'borsh::de', 'Cases': 'borsh::de', 'Fork': 'borsh::de', 'FromCases': 'borsh::de', 'read_enum': 'borsh::de', 'read_variant': 'borsh::de',
+    'Case': 'borsh::de', 'Cases': 'borsh::de', 'Fork': 'borsh::de', 'FromCases': 'borsh::de',
+    'read_enum': 'borsh::de', 'read_variant': 'borsh::de',
     'Read': 'borsh::io', 'Result': 'borsh::io', 'Write': 'borsh::io',
     'Tag': 'borsh::ser', 'write_bytes': 'borsh::ser',
     'Global': 'std::alloc',
@@ -31,7 +33,7 @@ BORSH.update({'write_' + number: 'borsh::ser' for number in NUMBERS[2:]})
 
 
 class Place:
-    """Where a type is: the name of its crate, the file's module (None for the root file), and what the module says."""
+    """Where a type is: its crate's name, the file's module (None for the root file), and what the module says."""
 
     def __init__(self, crate, module_name, module):
         self.crate = crate
@@ -109,19 +111,31 @@ class Writer:
 
     def premises(self):
         """The proof of what the laws rest on: facts of keys, and what the parameters bring."""
-        brought = [parameter.name + '.premises' for parameter in self.marked.parameters if not parameter.constant]
+        types = [parameter for parameter in self.marked.parameters if not parameter.constant]
+        keys = [parameter.name for parameter in types if re.search(r'\bBorshKey\b', parameter.bounds)]
+        brought = [name.lower() + '_key' for name in keys] + [parameter.name + '.premises' for parameter in types]
         facts = '(%s)' % ', '.join(['key_facts'] + brought) if brought else 'key_facts'
-        return '    ghost premises = { Prim.search %s };' % facts
+        if not keys:
+            return '    ghost premises = { Prim.search %s };' % facts
+        lets = [row for name in keys for row in key_fact(name)]
+        return '\n'.join(['    ghost premises = {'] + lets + ['        Prim.search %s };' % facts])
 
     # ---- the whole
 
     def text(self):
         blocks = struct_blocks(self) if self.marked.variants is None else enum_blocks(self)
         body = '\n\n'.join(blocks)
-        rows = ['// Written by borsh_derive.py from %s: edit that file, and run the program again.' % self.place.file()]
+        head = '// Written by borsh_derive.py from %s: edit that file, and run the program again.'
+        rows = [head % self.place.file()]
         rows += ghost_imports(self, body)
         rows += [''] + import_lines(self.imports) + ['', body]
         return '\n'.join(rows) + '\n'
+
+
+def key_fact(name):
+    """What a map asks of a parameter that is its key, as a variable of a ghost term."""
+    return ['        let %s_key : IsKey %s.ordered %s.cmp %s.eq %s.codec =' % (name.lower(), name, name, name, name),
+            '          record { key = %s.key; total = %s.total; matches = %s.matches_eq } in' % (name, name, name)]
 
 
 def free_name(name, taken):
@@ -173,7 +187,7 @@ def split_bounds(where):
 def ghost_imports(writer, body):
     """The imports of ghost terms."""
     names = {
-        'Rattle.borsh.specs.Laws.OfParts': ('contramap', 'contramap-lawful', 'from', 'key_facts'),
+        'Rattle.borsh.specs.Laws.OfParts': ('IsKey', 'contramap', 'contramap-lawful', 'contramap_ordered', 'from', 'key_facts'),
         'Rattle.borsh.specs.Cases': ('fields', 'left', 'right'),
         'Rattle.borsh.specs.CaseLaws': ('enum_lawful_if',),
         'Rattle.std.specs.Prelude': ('refl',),
@@ -258,7 +272,10 @@ def made(path, fields, names):
 # ---- structs
 
 def struct_blocks(writer):
-    return [struct_fields(writer), struct_meaning(writer), struct_encoding(writer), struct_parts(writer), struct_decoding(writer)]
+    blocks = [struct_fields, struct_meaning, struct_encoding, struct_parts, struct_decoding]
+    if 'key' in writer.marked.options:
+        blocks.append(struct_key)
+    return [block(writer) for block in blocks]
 
 
 def struct_fields(writer):
@@ -280,8 +297,11 @@ def struct_meaning(writer):
         view = struct_view(writer).within('(', ')')
     else:
         view = quote(writer, writer.own(), 'FromParts', '.view')
-    laws = ghost_member('lawful_if', 'from', [view.within('(contramap-lawful ', ')'), quote(writer, writer.alias_use(), 'BorshType', '.lawful_if')], 4)
-    return meaning(writer, view, 'BorshType', laws, of_parts(writer, 'encodes_empty', and_then), of_parts(writer, 'element_size', added))
+    of_fields = quote(writer, writer.alias_use(), 'BorshType', '.lawful_if')
+    laws = ghost_member('lawful_if', 'from', [view.within('(contramap-lawful ', ')'), of_fields], 4)
+    encodes_empty = of_parts(writer, 'encodes_empty', and_then)
+    element_size = of_parts(writer, 'element_size', added)
+    return meaning(writer, view, 'BorshType', laws, encodes_empty, element_size)
 
 
 def of_parts(writer, name, joined):
@@ -294,7 +314,9 @@ def of_parts(writer, name, joined):
 
 
 def and_then(calls):
-    return calls[0] if len(calls) == 1 else '%s && %s' % (calls[0], calls[1] if len(calls) == 2 else '(%s)' % and_then(calls[1:]))
+    if len(calls) < 3:
+        return ' && '.join(calls)
+    return '%s && (%s)' % (calls[0], and_then(calls[1:]))
 
 
 def added(calls):
@@ -307,7 +329,7 @@ def quote(writer, name, trait, member):
 
 
 def meaning(writer, view, trait, laws, encodes_empty, element_size):
-    """`impl BorshType`: the codec of the parts, seen through the view, and the laws that follow from those of the parts."""
+    """`impl BorshType`: the codec of the parts, seen through the view, and the laws that follow from theirs."""
     codec = quote(writer, writer.alias_use(), trait, '.codec')
     rows = [ghost_member('codec', 'contramap', [view, codec], 4), '', laws, '', writer.premises(), '',
             '    fn encodes_empty() -> bool {', '        ' + encodes_empty, '    }', '',
@@ -322,7 +344,8 @@ def struct_encoding(writer):
     elif len(names) == 1:
         body = call(names[0] + '.serialize', ['alloc', 'writer'])
     else:
-        body = call(writer.lib('write_' + NUMBERS[len(names)]), ['&' + name for name in names] + ['alloc', 'writer'])
+        arguments = ['&' + name for name in names] + ['alloc', 'writer']
+        body = call(writer.lib('write_' + NUMBERS[len(names)]), arguments)
     rows = [serialize_head(writer, used=bool(names)), statement('', body, '', 8), '    }']
     return writer.block('BorshSerialize', 'BorshSerialize', rows)
 
@@ -338,8 +361,9 @@ def struct_parts(writer):
     fields = writer.marked.fields
     names = local_names(fields.encoded(), ())
     parameter = {0: '_fields', 1: names[0] if names else ''}.get(len(names), 'fields')
-    rows = ['    type Parts = %s;' % writer.alias_use(), '', ghost_term(struct_view(writer).within('ghost view = { ', ' };'), 4), '',
-            function_head('from_parts', ['%s: %s' % (parameter, writer.alias_use())], writer.own(), 4)]
+    view = ghost_term(struct_view(writer).within('ghost view = { ', ' };'), 4)
+    head = function_head('from_parts', ['%s: %s' % (parameter, writer.alias_use())], writer.own(), 4)
+    rows = ['    type Parts = %s;' % writer.alias_use(), '', view, '', head]
     if len(names) > 1:
         rows += taking_apart('fields', names, 8)
     rows += [statement('', made(writer.marked.name, fields, names), '', 8), '    }']
@@ -347,19 +371,35 @@ def struct_parts(writer):
 
 
 def struct_decoding(writer):
+    head = deserialize_head(writer, 'deserialize_reader', [])
     body = '        %s(alloc, reader)' % writer.lib('read_parts')
-    return writer.block('BorshDeserialize', 'BorshDeserialize', [deserialize_head(writer, 'deserialize_reader', []), body, '    }'])
+    return writer.block('BorshDeserialize', 'BorshDeserialize', [head, body, '    }'])
+
+
+def struct_key(writer):
+    """`impl BorshKey`: derived comparisons go over nested pairs."""
+    fields = writer.marked.fields.encoded()
+    view = Term('(λ v. ', [pairs(['v.' + ghost_name(field.name) for field in fields])], ')')
+    ordered = quote(writer, pairs([type_text(field.type) for field in fields]), 'BorshKey', '.ordered')
+    rows = [ghost_member('ordered', 'contramap_ordered', [view, ordered], 4), '', '    ghost key = { Self.ordered.key };']
+    return writer.block('BorshKey', 'BorshKey', rows)
+
+
+def pairs(items):
+    return items[0] if len(items) == 1 else '(%s, %s)' % (items[0], pairs(items[1:]))
 
 
 def deserialize_head(writer, name, more):
     parameters = ['alloc: %s' % writer.lib('Global'), 'reader: &mut %s' % writer.source] + more
-    return function_head('%s<%s: %s>' % (name, writer.source, writer.lib('Read')), parameters, '%s<%s>' % (writer.lib('Result'), writer.own()), 4)
+    generic = '%s<%s: %s>' % (name, writer.source, writer.lib('Read'))
+    return function_head(generic, parameters, '%s<%s>' % (writer.lib('Result'), writer.own()), 4)
 
 
 # ---- enums
 
 def enum_blocks(writer):
-    return [enum_variants(writer), enum_cases(writer), enum_meaning(writer), enum_encoding(writer), enum_decoding(writer), enum_after_tag(writer)]
+    blocks = [enum_variants, enum_cases, enum_meaning, enum_encoding, enum_decoding, enum_after_tag]
+    return [block(writer) for block in blocks]
 
 
 def tree(items, leaf, fork):
@@ -413,8 +453,9 @@ def ghost_binders(fields):
 
 
 def enum_cases(writer):
-    rows = ['    type Cases = %s;' % writer.alias_use(), '', ghost_cases('view', enum_view(writer), 4), '']
-    rows += [function_head('from_cases', ['cases: %s' % writer.alias_use()], writer.own(), 4), '        match cases {']
+    head = function_head('from_cases', ['cases: %s' % writer.alias_use()], writer.own(), 4)
+    view = ghost_cases('view', enum_view(writer), 4)
+    rows = ['    type Cases = %s;' % writer.alias_use(), '', view, '', head, '        match cases {']
     for variant, turns in on_tree(writer.marked.variants):
         rows += from_case(writer, variant, turns)
     rows += ['        }', '    }', '', '    ghost distinct_tags = { refl };']
@@ -460,7 +501,8 @@ def written_variant(writer, variant):
     if not names:
         return arm(node, call(writer.lib('write_bytes'), ['&[%d]' % variant.tag, 'writer']), 12)
     tag = '&%s(%d)' % (writer.lib('Tag'), variant.tag)
-    return arm(node, call(writer.lib('write_' + NUMBERS[len(names) + 1]), [tag] + names + ['alloc', 'writer']), 12)
+    function = writer.lib('write_' + NUMBERS[len(names) + 1])
+    return arm(node, call(function, [tag] + names + ['alloc', 'writer']), 12)
 
 
 def matched(path, fields, names):
@@ -469,15 +511,19 @@ def matched(path, fields, names):
         return path
     if fields.kind == 'tuple':
         return pattern(path, [names.get(field, '_') for field in fields.all])
-    rows = [field.name if names[field] == field.name else '%s: %s' % (field.name, names[field]) for field in fields.encoded()]
+    rows = []
+    for field in fields.encoded():
+        rows.append(field.name if names[field] == field.name else '%s: %s' % (field.name, names[field]))
     return struct_of(path, rows + (['..'] if len(rows) < len(fields.all) else []))
 
 
 def enum_decoding(writer):
+    head = deserialize_head(writer, 'deserialize_reader', [])
     body = '        %s(alloc, reader)' % writer.lib('read_enum')
-    return writer.block('BorshDeserialize', 'BorshDeserialize', [deserialize_head(writer, 'deserialize_reader', []), body, '    }'])
+    return writer.block('BorshDeserialize', 'BorshDeserialize', [head, body, '    }'])
 
 
 def enum_after_tag(writer):
+    head = deserialize_head(writer, 'deserialize_variant', ['tag: u8'])
     body = '        %s(alloc, reader, tag)' % writer.lib('read_variant')
-    return writer.block('EnumExt', 'BorshDeserialize', [deserialize_head(writer, 'deserialize_variant', ['tag: u8']), body, '    }'])
+    return writer.block('EnumExt', 'BorshDeserialize', [head, body, '    }'])

@@ -2,7 +2,7 @@
 
 import re
 
-from rust_types import Array, Constant, Path, Tuple
+from rust_types import Array, Constant, Tuple
 
 WIDTH = 100
 
@@ -118,7 +118,7 @@ def binding(node, value, indent):
 def arm(pattern_node, body, indent):
     """An arm of a `match`: a pattern and one expression."""
     start = ' ' * indent
-    text = laid_out(pattern_node, indent, indent, len(' =>')) if not isinstance(pattern_node, str) else pattern_node
+    text = laid_out(pattern_node, indent, indent, len(' =>'))
     last = text.split('\n')[-1]
     used = len(last) + len(' => ') + (indent if '\n' not in text else 0)
     line = flat(body)
@@ -201,7 +201,8 @@ def ghost_term(node, indent):
 
 def ghost_member(name, function, arguments, indent):
     """`ghost name = { function arguments };`, with each argument in a line of its own where it is too wide."""
-    line = '%sghost %s = { %s %s };' % (' ' * indent, name, function, ' '.join(argument.flat() for argument in arguments))
+    flat_arguments = ' '.join(argument.flat() for argument in arguments)
+    line = '%sghost %s = { %s %s };' % (' ' * indent, name, function, flat_arguments)
     if len(line) <= WIDTH:
         return line
     rows = ['%sghost %s = { %s' % (' ' * indent, name, function)]
@@ -211,11 +212,12 @@ def ghost_member(name, function, arguments, indent):
 
 def ghost_cases(name, arms, indent):
     """`ghost name = { elim [ .. ] };`, one arm a line where it is too wide."""
-    line = '%sghost %s = { elim [ %s ] };' % (' ' * indent, name, ' | '.join(arm.flat() for arm in arms))
+    start = '%sghost %s = { elim [' % (' ' * indent, name)
+    line = '%s %s ] };' % (start, ' | '.join(one.flat() for one in arms))
     if len(line) <= WIDTH:
         return line
-    rows = [ghost_term(arm.within('| ', ''), indent + 2) for arm in arms]
-    return '\n'.join(['%sghost %s = { elim [' % (' ' * indent, name)] + rows + [' ' * indent + '] };'])
+    rows = [ghost_term(one.within('| ', ''), indent + 2) for one in arms]
+    return '\n'.join([start] + rows + [' ' * indent + '] };'])
 
 
 # ---- imports
@@ -248,7 +250,8 @@ def split_alias(path):
 def import_order(prefix, names):
     segments = prefix.split('::') + ([names[0]] if len(names) == 1 else [])
     rank = ('self', 'super', 'crate').index(segments[0]) if segments[0] in ('self', 'super', 'crate') else 3
-    return (rank, [natural(segment) for segment in segments] + ([] if len(names) == 1 else [(True, [(2, 0, '')])]))
+    last = [] if len(names) == 1 else [(True, [(2, 0, '')])]
+    return rank, [natural(segment) for segment in segments] + last
 
 
 def import_line(prefix, names):

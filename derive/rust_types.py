@@ -4,7 +4,7 @@ from refusal import Refusal
 
 
 class Path:
-    """A name with its arguments, as `Vec<u8>` or `std::net::IpAddr`: segments, each a name and a list of types."""
+    """A name with its arguments, as `Vec<u8>`: segments, each a name and a list of types."""
 
     def __init__(self, segments):
         self.segments = segments
@@ -82,7 +82,8 @@ def parse_array(reader):
     line = reader.take('[').line
     element = parse_type(reader)
     if not reader.skip(';'):
-        raise Refusal(line, 'a slice without a length has no place in a field: write `Vec<..>` or `[..; N]`')
+        reason = 'a slice without a length has no place in a field: write `Vec<..>` or `[..; N]`'
+        raise Refusal(line, reason)
     length = reader.until(']')
     reader.take(']')
     names = [t.text for t in length if t.kind == 'word']
@@ -121,14 +122,38 @@ def parse_argument(reader):
     return parse_type(reader)
 
 
+# types of the library whose values lie in memory of their own
+HELD = ('Box', 'Rc', 'Vec', 'VecDeque', 'LinkedList', 'BTreeMap', 'BTreeSet', 'HashMap', 'HashSet', 'IndexMap',
+        'IndexSet', 'BoxedSlice', 'RcSlice', 'PhantomData')
+
+
+def bare_names(tree):
+    """The names in a type that don't stand within a type of `HELD`."""
+    if isinstance(tree, Path):
+        name, arguments = tree.segments[-1]
+        if name in HELD:
+            return []
+        return [tree.head()] + [found for argument in arguments for found in bare_names(argument)]
+    if isinstance(tree, Tuple):
+        return [found for item in tree.items for found in bare_names(item)]
+    if isinstance(tree, Array):
+        return tree.names + bare_names(tree.element)
+    return []
+
+
+# marks with no space before them, and those with none behind them
+TIGHT = (',', ';', ')', ']', '>', '::', '?', '.', ':')
+OPEN = ('', '(', '[', '<', '::', '&', '?', '.')
+
+
 def joined(tokens):
     """Tokens as one text, as a formatter writes an expression or a bound."""
     text = ''
     for index, token in enumerate(tokens):
         before = tokens[index - 1].text if index else ''
-        tight = token.text in (',', ';', ')', ']', '>', '::', '?', '.', ':') or (token.text in ('<', '(') and before[-1:].isalnum())
-        open_before = before in ('', '(', '[', '<', '::', '&', '?', '.')
-        text += token.text if tight or open_before else ' ' + token.text
+        called = token.text in ('<', '(') and before[-1:].isalnum()
+        tight = called or token.text in TIGHT or before in OPEN
+        text += token.text if tight else ' ' + token.text
     return text
 
 

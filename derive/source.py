@@ -1,4 +1,4 @@
-"""A module's source: its imports, the names of its items, and the types that are marked by a comment `// derive: ..`."""
+"""A module's source: its imports, its items, and the types that are marked by a comment `// derive: ..`."""
 
 import re
 
@@ -6,7 +6,11 @@ from refusal import Refusal
 from rust_types import heads, joined, parse_type
 from tokens import tokens_of
 
-OPTIONS = ('borsh',)
+# what a comment `// derive: ..` may ask for
+OPTIONS = ('borsh', 'key')
+
+# what a key is compared by
+COMPARED = ('PartialEq', 'Eq', 'PartialOrd', 'Ord')
 
 # attributes of a type that say nothing of its encoding
 TYPE_ATTRIBUTES = ('derive', 'derive_where', 'doc', 'must_use', 'allow', 'repr')
@@ -57,9 +61,12 @@ class Parameter:
 
 
 class Marked:
-    """A type that is marked: a struct with its fields, or an enum with its variants."""
+    """A type that is marked: a struct with its fields, or an enum with its variants.
+
+    `options` is what the mark asks for."""
 
     def __init__(self, name, line, parameters, where, fields=None, variants=None):
+        self.options = ()
         self.name = name
         self.line = line
         self.parameters = parameters
@@ -196,7 +203,10 @@ def read_module(text):
             break
         if mark is not None:
             check_attributes(attributes, TYPE_ATTRIBUTES, 'type')
-            module.marked.append(read_marked(reader, mark, seen))
+            marked = read_marked(reader, mark)
+            marked.options = options_of(mark_of(mark))
+            check_key(marked, attributes)
+            module.marked.append(marked)
             module.items[module.marked[-1].name] = True
         else:
             read_item(reader, module)
@@ -232,11 +242,15 @@ def mark_above(reader, seen):
     return found
 
 
+def options_of(text):
+    return [option.strip() for option in text.split(',')]
+
+
 def check_options(text, line):
-    options = [option.strip() for option in text.split(',')]
+    options = options_of(text)
     for index, option in enumerate(options):
         if option not in OPTIONS:
-            raise Refusal(line, '`%s` is no option: write `// derive: borsh`' % option)
+            raise Refusal(line, '`%s` is no option: write `// derive: borsh` or `// derive: borsh, key`' % option)
         if option in options[:index]:
             raise Refusal(line, 'the option `%s` comes twice' % option)
     if 'borsh' not in options:
@@ -248,10 +262,16 @@ def refuse_stray_marks(reader, seen):
     for comments in reader.before.values():
         for comment in comments:
             if mark_of(comment) is not None and comment not in seen:
-                raise Refusal(comment.line, 'the comment stands within an item: only types at the top of a file are taken')
+                reason = 'the comment stands within an item: only types at the top of a file are taken'
+                raise Refusal(comment.line, reason)
 
 
 # ---- items
+
+# words before the keyword of an item, and keywords behind which an item has its name
+MODIFIERS = ('unsafe', 'const', 'final', 'extern', 'async')
+NAMED = ('struct', 'enum', 'type', 'const', 'static', 'fn', 'trait', 'mod', 'union')
+
 
 def read_item(reader, module):
     """An item that isn't marked: its name is kept, and what it imports."""
@@ -265,10 +285,9 @@ def read_item(reader, module):
             module.imports[name] = path
         reader.take(';')
         return
-    for keyword in ('unsafe', 'const', 'final', 'extern', 'async'):
-        if reader.is_next(keyword) and reader.peek(1).kind == 'word' and reader.peek(1).text in ('fn', 'unsafe', 'trait', 'impl'):
-            reader.next()
-    if reader.peek().text in ('struct', 'enum', 'type', 'const', 'static', 'fn', 'trait', 'mod', 'union') and reader.peek(1).kind == 'word':
+    while reader.peek().text in MODIFIERS and reader.peek(1).text in ('fn', 'trait', 'impl') + MODIFIERS:
+        reader.next()
+    if reader.peek().text in NAMED and reader.peek(1).kind == 'word':
         module.items[reader.peek(1).text] = public
     reader.place = start
     skip_item(reader)
@@ -355,9 +374,27 @@ def check_attributes(attributes, allowed, what):
             raise Refusal(line, 'the attribute `#%s` of a %s is not taken' % (text, what))
 
 
+def check_key(marked, attributes):
+    """A key is a struct without parameters that is compared field by field."""
+    if 'key' not in marked.options:
+        return
+    derived = ' '.join(text for name, text, _ in attributes if name == 'derive')
+    missing = [name for name in COMPARED if not re.search(r'\b%s\b' % name, derived)]
+    if missing:
+        reason = 'a key is compared as its fields are: `#[derive(..)]` lacks `%s`'
+        raise Refusal(marked.line, reason % '`, `'.join(missing))
+    if marked.variants is not None or not marked.fields.all:
+        raise Refusal(marked.line, 'a key is a struct with fields here: implement `BorshKey` of another type by hand')
+    if marked.parameters:
+        raise Refusal(marked.line, 'a key with parameters is not taken')
+    if len(marked.fields.encoded()) < len(marked.fields.all):
+        reason = 'a key has no field that is left out: two keys with one encoding would not be equal'
+        raise Refusal(marked.line, reason)
+
+
 # ---- marked types
 
-def read_marked(reader, mark, seen):
+def read_marked(reader, mark):
     """The struct or the enum below a mark."""
     line = reader.peek().line
     if not reader.skip('pub') or reader.peek().text not in ('struct', 'enum'):
@@ -387,7 +424,8 @@ def read_parameters(reader):
     while not reader.is_next('>'):
         token = reader.peek()
         if token.kind == 'lifetime':
-            raise Refusal(token.line, 'the lifetime `%s`: a value that borrows is never decoded' % token.text)
+            reason = 'the lifetime `%s`: a value that borrows is never decoded'
+            raise Refusal(token.line, reason % token.text)
         constant = reader.skip('const')
         name = reader.word()
         bounds = joined(angle_until(reader, ',', '>', '=')) if reader.skip(':') else ''
@@ -429,7 +467,8 @@ def read_named_fields(reader, what):
         check_attributes(attributes_of(reader), FIELD_ATTRIBUTES, 'field')
         line = reader.peek().line
         if reader.is_next('ghost'):
-            raise Refusal(line, 'a ghost field says what values there are, which a decoder has to prove: implement this type by hand')
+            reason = 'a ghost field says which values there are, which a decoder has to prove: implement the type by hand'
+            raise Refusal(line, reason)
         public = skip_visibility(reader) or what == 'variant'
         name = reader.word()
         reader.take(':')
@@ -477,7 +516,8 @@ def read_variants(reader):
         fields = variant_fields(reader)
         if reader.skip('='):
             if told is not None:
-                raise Refusal(line, 'the variant `%s` has a discriminant and a comment `// tag: ..`: write one of them' % name)
+                reason = 'the variant `%s` has a discriminant and a comment `// tag: ..`: write one of them'
+                raise Refusal(line, reason % name)
             told = number_of(reader.until(',', '}'), line)
         tag = tag if told is None else told
         refuse_tag(found, name, tag, line)

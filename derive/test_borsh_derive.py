@@ -141,6 +141,18 @@ class Taken(Cases):
         self.assertIn('fn serialize<WType: Write>(', text)
         self.assertIn('fn deserialize_reader<RType: Read>(', text)
 
+    def test_keys(self):
+        text = self.written('// derive: borsh, key\n#[derive(Drop, PartialEq, Eq, PartialOrd, Ord)]\npub struct Id {\n    pub a: u8,\n    pub b: String,\n    pub c: bool,\n}\n', 'types_id')
+        self.assertIn('impl BorshKey for Id {\n', text)
+        self.assertIn('contramap_ordered', text)
+        self.assertIn('(λ v. (v.a, (v.b, v.c)))', text)
+        self.assertIn('⟦<(u8, (String, bool)) as BorshKey>⟧.ordered', text)
+
+    def test_parameters_that_are_keys(self):
+        text = self.written('use borsh::BorshKey;\n\n// derive: borsh\npub struct Book<K: BorshKey + Ord, V> {\n    pub map: Map<K, V>,\n}\n', 'types_book')
+        self.assertIn('let k_key : IsKey K.ordered K.cmp K.eq K.codec =', text)
+        self.assertIn('Prim.search (key_facts, k_key, K.premises, V.premises)', text)
+
     def test_names_of_ghost_terms(self):
         text = self.written('// derive: borsh\npub struct Book {\n    pub data: u8,\n    pub record: u8,\n}\n', 'types_book')
         self.assertIn('λ v. (v.«data», v.«record»)', text)
@@ -234,6 +246,13 @@ class Refused(Cases):
         self.refused('// derive: borsh, borsh\npub struct A;\n', 1, 'comes twice')
         self.refused('// derive:\npub struct A;\n', 1, '`` is no option')
 
+    def test_keys(self):
+        self.refused('// derive: borsh, key\n#[derive(Drop, PartialEq, Eq)]\npub struct A(pub u8);\n', 3, 'lacks `PartialOrd`, `Ord`')
+        derive = '// derive: borsh, key\n#[derive(PartialEq, Eq, PartialOrd, Ord)]\n'
+        self.refused(derive + 'pub enum A {\n    B,\n}\n', 3, 'a key is a struct with fields')
+        self.refused(derive + 'pub struct A<T>(pub T);\n', 3, 'a key with parameters')
+        self.refused(derive + 'pub struct A {\n    pub a: u8,\n    // skip\n    pub b: u8,\n}\n', 3, 'no field that is left out')
+
     def test_marks_that_mark_nothing(self):
         self.one('struct A;\n', 1, 'no `pub struct` or `pub enum` is below')
         self.one('pub fn a() {}\n', 1, 'no `pub struct` or `pub enum` is below')
@@ -293,6 +312,11 @@ class Refused(Cases):
 
     def test_parameters(self):
         self.one('pub struct A<T = u8>(pub T);\n', 2, 'the parameter `T` has a default')
+
+    def test_parameters_of_enums(self):
+        self.one('pub enum A<T> {\n    B(Vec<T>),\n    C(Option<T>),\n}\n', 4, 'the parameter `T` stands by itself in a variant')
+        self.one('pub enum A<const N: usize> {\n    B([u8; N]),\n}\n', 3, 'write the length as a number')
+        self.written('// derive: borsh\npub enum A<T> {\n    B(Vec<(T, T)>),\n    C(Option<Box<T>>),\n}\n', 'types_a')
 
     def test_variants(self):
         self.one('pub enum A {}\n', 2, 'an enum without variants')

@@ -27,3 +27,12 @@ pub struct Grid<const N: usize> {
     pub cells: [u8; N],
     pub turned: bool,
 }
+
+/// An enum with a parameter, which is within a list or a box in each variant.
+// derive: borsh
+#[derive(Drop)]
+pub enum Listed<T> {
+    Many(Vec<T>),
+    One(Box<T>),
+    None,
+}

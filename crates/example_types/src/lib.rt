@@ -3,6 +3,7 @@
 
 pub mod generics;
 mod generics_grid;
+mod generics_listed;
 mod generics_pair;
 mod generics_table;
 pub mod messages;
