@@ -118,7 +118,8 @@ class Writer:
         if not keys:
             return '    ghost premises = { Prim.search %s };' % facts
         lets = [row for name in keys for row in key_fact(name)]
-        return '\n'.join(['    ghost premises = {'] + lets + ['        Prim.search %s };' % facts])
+        rows = lets + ['        Prim.search %s };' % facts]
+        return '    ghost premises = { ' + '\n'.join(rows).lstrip()
 
     # ---- the whole
 
@@ -135,7 +136,7 @@ class Writer:
 def key_fact(name):
     """What a map asks of a parameter that is its key, as a variable of a ghost term."""
     return ['        let %s_key : IsKey %s.ordered %s.cmp %s.eq %s.codec =' % (name.lower(), name, name, name, name),
-            '          record { key = %s.key; total = %s.total; matches = %s.matches_eq } in' % (name, name, name)]
+            '        record { key = %s.key; total = %s.total; matches = %s.matches_eq } in' % (name, name, name)]
 
 
 def free_name(name, taken):

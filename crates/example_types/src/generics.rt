@@ -1,4 +1,5 @@
 // Types with parameters.
+use borsh::BorshKey;
 use std::collections::BTreeMap;
 
 /// Two values.
@@ -18,6 +19,14 @@ where
 {
     pub rows: Vec<T>,
     pub by_number: BTreeMap<u32, Option<T>>,
+}
+
+/// A parameter that is the key of a map.
+// derive: borsh
+#[derive(Drop)]
+pub struct Ledger<K: BorshKey + Ord, V> {
+    pub entries: BTreeMap<K, V>,
+    pub closed: bool,
 }
 
 /// A parameter that is a length.

@@ -3,6 +3,7 @@
 
 pub mod generics;
 mod generics_grid;
+mod generics_ledger;
 mod generics_listed;
 mod generics_pair;
 mod generics_table;
@@ -16,10 +17,12 @@ pub mod records;
 mod records_account;
 mod records_block;
 mod records_cached;
+mod records_directory;
 mod records_marker;
 mod records_name;
 mod records_point;
 mod records_settings;
+mod records_user_id;
 pub mod shapes;
 mod shapes_shape;
 #[cfg(test)]

@@ -1,5 +1,5 @@
 // Structs.
-use std::collections::{BTreeMap, HashMap};
+use std::collections::{BTreeMap, BTreeSet, HashMap};
 use std::net::Ipv4Addr;
 
 /// Fields of different types: a map and an option among them.
@@ -47,6 +47,22 @@ pub struct Cached {
     // skip
     pub hits: u64,
     pub hosts: HashMap<u8, Ipv4Addr>,
+}
+
+/// A key of maps.
+// derive: borsh, key
+#[derive(Drop, PartialEq, Eq, PartialOrd, Ord)]
+pub struct UserId {
+    pub realm: u8,
+    pub name: String,
+}
+
+/// A map whose keys are marked as well, and a set of them.
+// derive: borsh
+#[derive(Drop)]
+pub struct Directory {
+    pub users: BTreeMap<UserId, Name>,
+    pub blocked: BTreeSet<UserId>,
 }
 
 /// More fields than a tuple has.

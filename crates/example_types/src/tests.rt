@@ -1,12 +1,12 @@
 // The encodings of the types, worked out by the rules of the format, and what is refused.
-use super::generics::{Grid, Listed, Pair, Table};
+use super::generics::{Grid, Ledger, Listed, Pair, Table};
 use super::messages::{Envelope, Level, Message, Request, Version};
-use super::records::{Account, Block, Cached, Marker, Name, Point, Settings};
+use super::records::{Account, Block, Cached, Directory, Marker, Name, Point, Settings, UserId};
 use super::shapes::Shape;
 use borsh::io::{ErrorKind, Result as IoResult};
 use borsh::{BorshDeserialize, BorshSerialize, from_slice, to_vec};
 use std::alloc::{AllocError, Global};
-use std::collections::{BTreeMap, HashMap};
+use std::collections::{BTreeMap, BTreeSet, HashMap};
 use std::net::Ipv4Addr;
 use std::test::Fail;
 
@@ -219,6 +219,49 @@ fn parameters_are_encoded_as_their_types(rt: HostRuntime) -> Result<(), Fail> {
     assert!(rt; is_encoding(alloc, &many, b"\0\x01\0\0\0\x01")?);
     let one = Listed::One(Box::new(alloc, 7u8)?);
     assert!(rt; is_encoding(alloc, &one, b"\x01\x07")?);
+    Ok(())
+}
+
+fn user(alloc: Global, realm: u8, name: &str) -> Result<UserId, AllocError> {
+    Ok(UserId {
+        realm,
+        name: text(alloc, name)?,
+    })
+}
+
+#[test]
+fn keys_are_in_the_order_of_their_fields(rt: HostRuntime) -> Result<(), Fail> {
+    let alloc = rt.alloc();
+    let mut users = BTreeMap::new(alloc);
+    users.insert(
+        user(alloc, 2, "a")?,
+        Name {
+            text: text(alloc, "x")?,
+        },
+    )?;
+    users.insert(
+        user(alloc, 1, "b")?,
+        Name {
+            text: text(alloc, "")?,
+        },
+    )?;
+    let mut blocked = BTreeSet::new(alloc);
+    blocked.insert(user(alloc, 1, "b")?)?;
+    let directory = Directory { users, blocked };
+    let bytes =
+        b"\x02\0\0\0\x01\x01\0\0\0b\0\0\0\0\x02\x01\0\0\0a\x01\0\0\0x\x01\0\0\0\x01\x01\0\0\0b";
+    assert!(rt; is_encoding(alloc, &directory, bytes)?);
+    let wrong = b"\x02\0\0\0\x02\x01\0\0\0a\0\0\0\0\x01\x01\0\0\0b\0\0\0\0\0\0\0\0";
+    assert!(rt;
+        is_refused::<Directory>(alloc, wrong, "keys were not serialized in ascending order")
+    );
+    let mut entries = BTreeMap::new(alloc);
+    entries.insert(user(alloc, 3, "")?, 4u16)?;
+    let ledger = Ledger {
+        entries,
+        closed: true,
+    };
+    assert!(rt; is_encoding(alloc, &ledger, b"\x01\0\0\0\x03\0\0\0\0\x04\0\x01")?);
     Ok(())
 }
 
