@@ -1,0 +1,83 @@
+// The variants of an enum as one type.
+ghost use Rattle.std.specs.Prelude.{◌≡◌, true};
+ghost use Rattle.borsh_codec.specs.Codec.{Codec};
+ghost use Rattle.borsh_enums.specs.Cases.{case_codec, distinct, fork, has};
+ghost use Rattle.borsh_enums.specs.CaseLaws.{Variants, case_variants, fork_variants};
+
+use borsh_types::BorshType;
+
+/// The variants of an enum, each with a tag: a [`Case`], or a [`Fork`] of such types.
+///
+/// An implementation says what the bytes of a value are (`codec`), and has the tags of the variants
+/// with what the laws of that codec rest on (`variants`).
+pub trait Cases: Sized {
+    ghost codec: { Codec Self };
+
+    ghost variants: { Variants codec };
+
+    /// Whether a variant has this tag.
+    fn has_tag(tag: u8) -> bool
+        ensures { result ≡ has tag variants.tags };
+
+    /// About how many bytes of memory a value takes, as [`BorshType::element_size`].
+    fn element_size() -> usize;
+}
+
+/// A variant: its fields, `A`, behind the tag `TAG`. The fields are `()`, one type, or a tuple.
+#[derive(Drop)]
+pub struct Case<const TAG: u8, A>(pub A);
+
+impl<const TAG: u8, A: BorshType> Cases for Case<TAG, A> {
+    ghost codec = { case_codec (λ v. v.0) TAG A.codec };
+
+    ghost variants = { case_variants (λ v. v.0) TAG A.lawful_if };
+
+    fn has_tag(tag: u8) -> bool {
+        tag == TAG
+    }
+
+    fn element_size() -> usize {
+        A::element_size()
+    }
+}
+
+/// Some variants, or others. A tree of forks is as deep as the logarithm of the number of variants, so
+/// what is said and proved of an enum grows no faster than that number.
+#[derive(Drop)]
+pub enum Fork<A, B> {
+    Left(A),
+    Right(B),
+}
+
+impl<A: Cases, B: Cases> Cases for Fork<A, B> {
+    ghost codec = { fork A.codec B.codec };
+
+    ghost variants = { fork_variants A.variants B.variants };
+
+    fn has_tag(tag: u8) -> bool {
+        A::has_tag(tag) || B::has_tag(tag)
+    }
+
+    fn element_size() -> usize {
+        A::element_size().max(B::element_size())
+    }
+}
+
+/// An enum whose values are put together from their variants.
+///
+/// With [`read_enum`](super::read_enum) and [`read_variant`](super::read_variant) such a type is decoded
+/// with no proof.
+pub trait FromCases: Sized {
+    /// The variants as one type.
+    type Cases: Cases;
+
+    /// The variant of a value.
+    ghost view: { Self → Self.Cases };
+
+    /// The value with this variant.
+    fn from_cases(cases: Self::Cases) -> Self
+        ensures { view result ≡ cases };
+
+    /// No two variants have one tag.
+    ghost distinct_tags: { distinct Self.Cases.variants.tags ≡ true };
+}

@@ -1,0 +1,53 @@
+// Written by borsh_derive.py from generics.rt: edit that file, and run the program again.
+ghost use Rattle.borsh.specs.Laws.OfParts.{contramap, contramap-lawful, from, key_facts};
+
+use super::generics::Grid;
+use borsh::de::{FromParts, read_parts};
+use borsh::io::{Read, Result, Write};
+use borsh::ser::write_two;
+use borsh::{BorshDeserialize, BorshSerialize, BorshType};
+use std::alloc::Global;
+
+/// The fields of [`Grid`], in order.
+type Fields<const N: usize> = ([u8; N], bool);
+
+impl<const N: usize> BorshType for Grid<N> {
+    ghost codec = { contramap (λ v. (v.cells, v.turned)) ⟦<Fields<N> as BorshType>⟧.codec };
+
+    ghost lawful_if = { from
+        (contramap-lawful (λ v. (v.cells, v.turned)))
+        ⟦<Fields<N> as BorshType>⟧.lawful_if };
+
+    ghost premises = { Prim.search key_facts };
+
+    fn encodes_empty() -> bool {
+        <[u8; N]>::encodes_empty() && bool::encodes_empty()
+    }
+
+    fn element_size() -> usize {
+        <[u8; N]>::element_size().saturating_add(bool::element_size())
+    }
+}
+
+impl<const N: usize> BorshSerialize for Grid<N> {
+    fn serialize<W: Write>(&self, alloc: Global, writer: &mut W) -> Result<()> {
+        write_two(&self.cells, &self.turned, alloc, writer)
+    }
+}
+
+impl<const N: usize> FromParts for Grid<N> {
+    type Parts = Fields<N>;
+
+    ghost view = { λ v. (v.cells, v.turned) };
+
+    fn from_parts(fields: Fields<N>) -> Grid<N> {
+        let (cells, turned) = fields;
+        Grid { cells, turned }
+    }
+}
+
+impl<const N: usize> BorshDeserialize for Grid<N> {
+    fn deserialize_reader<R: Read>(alloc: Global, reader: &mut R) -> Result<Grid<N>> {
+        read_parts(alloc, reader)
+    }
+}

@@ -1,0 +1,58 @@
+// Written by borsh_derive.py from messages.rt: edit that file, and run the program again.
+ghost use Rattle.borsh.specs.Laws.OfParts.{contramap, contramap-lawful, from, key_facts};
+
+use super::messages::{Envelope, Level, Message};
+use super::records::Name;
+use borsh::de::{FromParts, read_parts};
+use borsh::io::{Read, Result, Write};
+use borsh::ser::write_three;
+use borsh::{BorshDeserialize, BorshSerialize, BorshType};
+use std::alloc::Global;
+
+/// The fields of [`Envelope`], in order.
+type Fields = (Name, Message, Level);
+
+impl BorshType for Envelope {
+    ghost codec = { contramap ⟦<Envelope as FromParts>⟧.view ⟦<Fields as BorshType>⟧.codec };
+
+    ghost lawful_if = { from
+        (contramap-lawful ⟦<Envelope as FromParts>⟧.view)
+        ⟦<Fields as BorshType>⟧.lawful_if };
+
+    ghost premises = { Prim.search key_facts };
+
+    fn encodes_empty() -> bool {
+        <Fields>::encodes_empty()
+    }
+
+    fn element_size() -> usize {
+        <Fields>::element_size()
+    }
+}
+
+impl BorshSerialize for Envelope {
+    fn serialize<W: Write>(&self, alloc: Global, writer: &mut W) -> Result<()> {
+        write_three(&self.from, &self.message, &self.level, alloc, writer)
+    }
+}
+
+impl FromParts for Envelope {
+    type Parts = Fields;
+
+    ghost view = { λ v. (v.from, v.message, v.level) };
+
+    fn from_parts(fields: Fields) -> Envelope {
+        let (from, message, level) = fields;
+        Envelope {
+            from,
+            message,
+            level,
+        }
+    }
+}
+
+impl BorshDeserialize for Envelope {
+    fn deserialize_reader<R: Read>(alloc: Global, reader: &mut R) -> Result<Envelope> {
+        read_parts(alloc, reader)
+    }
+}

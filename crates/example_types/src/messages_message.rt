@@ -1,0 +1,94 @@
+// Written by borsh_derive.py from messages.rt: edit that file, and run the program again.
+ghost use Rattle.borsh.specs.Laws.OfParts.{contramap, key_facts};
+ghost use Rattle.borsh.specs.Cases.{fields, left, right};
+ghost use Rattle.borsh.specs.CaseLaws.{enum_lawful_if};
+ghost use Rattle.std.specs.Prelude.{refl};
+ghost use Rattle.example_types.specs.declared.messages.Message.{Message};
+
+use super::messages::Message;
+use super::records::Account;
+use borsh::de::{Case, Cases, Fork, FromCases, read_enum, read_variant};
+use borsh::io::{Read, Result, Write};
+use borsh::ser::{Tag, write_bytes, write_three, write_two};
+use borsh::{BorshDeserialize, BorshSerialize, BorshType, EnumExt};
+use std::alloc::Global;
+use std::collections::HashMap;
+
+/// The variants of [`Message`]: each has a tag and its fields, in order.
+type Variants = Fork<
+    Fork<Fork<Case<0, ()>, Case<1, String>>, Case<2, (i32, i32)>>,
+    Fork<Case<3, (u8, Account)>, Case<4, HashMap<u8, u16>>>,
+>;
+
+impl FromCases for Message {
+    type Cases = Variants;
+
+    ghost view = { elim [
+      | Message.Ping ↦ left (left (left (fields tt)))
+      | Message.Text part0 ↦ left (left (right (fields part0)))
+      | Message.Move x y ↦ left (right (fields (x, y)))
+      | Message.Open part0 part1 ↦ right (left (fields (part0, part1)))
+      | Message.Index part0 ↦ right (right (fields part0))
+    ] };
+
+    fn from_cases(cases: Variants) -> Message {
+        match cases {
+            Fork::Left(Fork::Left(Fork::Left(Case(())))) => Message::Ping,
+            Fork::Left(Fork::Left(Fork::Right(Case(part0)))) => Message::Text(part0),
+            Fork::Left(Fork::Right(Case(fields))) => {
+                let (x, y) = fields;
+                Message::Move { x, y }
+            }
+            Fork::Right(Fork::Left(Case(fields))) => {
+                let (part0, part1) = fields;
+                Message::Open(part0, part1)
+            }
+            Fork::Right(Fork::Right(Case(part0))) => Message::Index(part0),
+        }
+    }
+
+    ghost distinct_tags = { refl };
+}
+
+impl BorshType for Message {
+    ghost codec = { contramap ⟦<Message as FromCases>⟧.view ⟦<Variants as Cases>⟧.codec };
+
+    ghost lawful_if = { enum_lawful_if
+        ⟦<Message as FromCases>⟧.view
+        ⟦<Variants as Cases>⟧.variants
+        refl };
+
+    ghost premises = { Prim.search key_facts };
+
+    fn encodes_empty() -> bool {
+        false
+    }
+
+    fn element_size() -> usize {
+        <Variants>::element_size()
+    }
+}
+
+impl BorshSerialize for Message {
+    fn serialize<W: Write>(&self, alloc: Global, writer: &mut W) -> Result<()> {
+        match self {
+            Message::Ping => write_bytes(&[0], writer),
+            Message::Text(part0) => write_two(&Tag(1), part0, alloc, writer),
+            Message::Move { x, y } => write_three(&Tag(2), x, y, alloc, writer),
+            Message::Open(part0, part1) => write_three(&Tag(3), part0, part1, alloc, writer),
+            Message::Index(part0) => write_two(&Tag(4), part0, alloc, writer),
+        }
+    }
+}
+
+impl BorshDeserialize for Message {
+    fn deserialize_reader<R: Read>(alloc: Global, reader: &mut R) -> Result<Message> {
+        read_enum(alloc, reader)
+    }
+}
+
+impl EnumExt for Message {
+    fn deserialize_variant<R: Read>(alloc: Global, reader: &mut R, tag: u8) -> Result<Message> {
+        read_variant(alloc, reader, tag)
+    }
+}

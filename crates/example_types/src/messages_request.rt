@@ -1,0 +1,80 @@
+// Written by borsh_derive.py from messages.rt: edit that file, and run the program again.
+ghost use Rattle.borsh.specs.Laws.OfParts.{contramap, key_facts};
+ghost use Rattle.borsh.specs.Cases.{fields, left, right};
+ghost use Rattle.borsh.specs.CaseLaws.{enum_lawful_if};
+ghost use Rattle.std.specs.Prelude.{refl};
+ghost use Rattle.example_types.specs.declared.messages.Request.{Request};
+
+use super::messages::Request;
+use borsh::de::{Case, Cases, Fork, FromCases, read_enum, read_variant};
+use borsh::io::{Read, Result, Write};
+use borsh::ser::{Tag, write_bytes, write_three, write_two};
+use borsh::{BorshDeserialize, BorshSerialize, BorshType, EnumExt};
+use std::alloc::Global;
+
+/// The variants of [`Request`]: each has a tag and its fields, in order.
+type Variants = Fork<Fork<Case<7, u64>, Case<8, (u64, Vec<u8>)>>, Case<32, ()>>;
+
+impl FromCases for Request {
+    type Cases = Variants;
+
+    ghost view = { elim [
+      | Request.Get part0 ↦ left (left (fields part0))
+      | Request.Put key value ↦ left (right (fields (key, value)))
+      | Request.Stop ↦ right (fields tt)
+    ] };
+
+    fn from_cases(cases: Variants) -> Request {
+        match cases {
+            Fork::Left(Fork::Left(Case(part0))) => Request::Get(part0),
+            Fork::Left(Fork::Right(Case(fields))) => {
+                let (key, value) = fields;
+                Request::Put { key, value }
+            }
+            Fork::Right(Case(())) => Request::Stop,
+        }
+    }
+
+    ghost distinct_tags = { refl };
+}
+
+impl BorshType for Request {
+    ghost codec = { contramap ⟦<Request as FromCases>⟧.view ⟦<Variants as Cases>⟧.codec };
+
+    ghost lawful_if = { enum_lawful_if
+        ⟦<Request as FromCases>⟧.view
+        ⟦<Variants as Cases>⟧.variants
+        refl };
+
+    ghost premises = { Prim.search key_facts };
+
+    fn encodes_empty() -> bool {
+        false
+    }
+
+    fn element_size() -> usize {
+        <Variants>::element_size()
+    }
+}
+
+impl BorshSerialize for Request {
+    fn serialize<W: Write>(&self, alloc: Global, writer: &mut W) -> Result<()> {
+        match self {
+            Request::Get(part0) => write_two(&Tag(7), part0, alloc, writer),
+            Request::Put { key, value } => write_three(&Tag(8), key, value, alloc, writer),
+            Request::Stop => write_bytes(&[32], writer),
+        }
+    }
+}
+
+impl BorshDeserialize for Request {
+    fn deserialize_reader<R: Read>(alloc: Global, reader: &mut R) -> Result<Request> {
+        read_enum(alloc, reader)
+    }
+}
+
+impl EnumExt for Request {
+    fn deserialize_variant<R: Read>(alloc: Global, reader: &mut R, tag: u8) -> Result<Request> {
+        read_variant(alloc, reader, tag)
+    }
+}

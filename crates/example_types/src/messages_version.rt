@@ -1,0 +1,69 @@
+// Written by borsh_derive.py from messages.rt: edit that file, and run the program again.
+ghost use Rattle.borsh.specs.Laws.OfParts.{contramap, key_facts};
+ghost use Rattle.borsh.specs.Cases.{fields};
+ghost use Rattle.borsh.specs.CaseLaws.{enum_lawful_if};
+ghost use Rattle.std.specs.Prelude.{refl};
+ghost use Rattle.example_types.specs.declared.messages.Version.{Version};
+
+use super::messages::Version;
+use borsh::de::{Case, Cases, FromCases, read_enum, read_variant};
+use borsh::io::{Read, Result, Write};
+use borsh::ser::{Tag, write_two};
+use borsh::{BorshDeserialize, BorshSerialize, BorshType, EnumExt};
+use std::alloc::Global;
+
+/// The variants of [`Version`]: each has a tag and its fields, in order.
+type Variants = Case<0, u32>;
+
+impl FromCases for Version {
+    type Cases = Variants;
+
+    ghost view = { elim [ Version.V1 number ↦ fields number ] };
+
+    fn from_cases(cases: Variants) -> Version {
+        match cases {
+            Case(number) => Version::V1 { number },
+        }
+    }
+
+    ghost distinct_tags = { refl };
+}
+
+impl BorshType for Version {
+    ghost codec = { contramap ⟦<Version as FromCases>⟧.view ⟦<Variants as Cases>⟧.codec };
+
+    ghost lawful_if = { enum_lawful_if
+        ⟦<Version as FromCases>⟧.view
+        ⟦<Variants as Cases>⟧.variants
+        refl };
+
+    ghost premises = { Prim.search key_facts };
+
+    fn encodes_empty() -> bool {
+        false
+    }
+
+    fn element_size() -> usize {
+        <Variants>::element_size()
+    }
+}
+
+impl BorshSerialize for Version {
+    fn serialize<W: Write>(&self, alloc: Global, writer: &mut W) -> Result<()> {
+        match self {
+            Version::V1 { number } => write_two(&Tag(0), number, alloc, writer),
+        }
+    }
+}
+
+impl BorshDeserialize for Version {
+    fn deserialize_reader<R: Read>(alloc: Global, reader: &mut R) -> Result<Version> {
+        read_enum(alloc, reader)
+    }
+}
+
+impl EnumExt for Version {
+    fn deserialize_variant<R: Read>(alloc: Global, reader: &mut R, tag: u8) -> Result<Version> {
+        read_variant(alloc, reader, tag)
+    }
+}

@@ -1,0 +1,54 @@
+// Written by borsh_derive.py from records.rt: edit that file, and run the program again.
+ghost use Rattle.borsh.specs.Laws.OfParts.{contramap, contramap-lawful, from, key_facts};
+
+use super::records::Account;
+use borsh::de::{FromParts, read_parts};
+use borsh::io::{Read, Result, Write};
+use borsh::ser::write_three;
+use borsh::{BorshDeserialize, BorshSerialize, BorshType};
+use std::alloc::Global;
+use std::collections::BTreeMap;
+
+/// The fields of [`Account`], in order.
+type Fields = (u64, BTreeMap<String, u64>, Option<String>);
+
+impl BorshType for Account {
+    ghost codec = { contramap ⟦<Account as FromParts>⟧.view ⟦<Fields as BorshType>⟧.codec };
+
+    ghost lawful_if = { from
+        (contramap-lawful ⟦<Account as FromParts>⟧.view)
+        ⟦<Fields as BorshType>⟧.lawful_if };
+
+    ghost premises = { Prim.search key_facts };
+
+    fn encodes_empty() -> bool {
+        <Fields>::encodes_empty()
+    }
+
+    fn element_size() -> usize {
+        <Fields>::element_size()
+    }
+}
+
+impl BorshSerialize for Account {
+    fn serialize<W: Write>(&self, alloc: Global, writer: &mut W) -> Result<()> {
+        write_three(&self.id, &self.balances, &self.note, alloc, writer)
+    }
+}
+
+impl FromParts for Account {
+    type Parts = Fields;
+
+    ghost view = { λ v. (v.id, v.balances, v.note) };
+
+    fn from_parts(fields: Fields) -> Account {
+        let (id, balances, note) = fields;
+        Account { id, balances, note }
+    }
+}
+
+impl BorshDeserialize for Account {
+    fn deserialize_reader<R: Read>(alloc: Global, reader: &mut R) -> Result<Account> {
+        read_parts(alloc, reader)
+    }
+}

@@ -1,0 +1,65 @@
+// Written by borsh_derive.py from records.rt: edit that file, and run the program again.
+ghost use Rattle.borsh.specs.Laws.OfParts.{contramap, contramap-lawful, from, key_facts};
+
+use super::records::{Block, Marker, Name, Point};
+use borsh::de::{FromParts, read_parts};
+use borsh::io::{Read, Result, Write};
+use borsh::ser::write_four;
+use borsh::{BorshDeserialize, BorshSerialize, BorshType};
+use std::alloc::Global;
+
+/// The fields of [`Block`], in order.
+type Fields = ([u8; 32], [[u16; 3]; 2], Vec<Name>, Option<(Point, Marker)>);
+
+impl BorshType for Block {
+    ghost codec = { contramap ⟦<Block as FromParts>⟧.view ⟦<Fields as BorshType>⟧.codec };
+
+    ghost lawful_if = { from
+        (contramap-lawful ⟦<Block as FromParts>⟧.view)
+        ⟦<Fields as BorshType>⟧.lawful_if };
+
+    ghost premises = { Prim.search key_facts };
+
+    fn encodes_empty() -> bool {
+        <Fields>::encodes_empty()
+    }
+
+    fn element_size() -> usize {
+        <Fields>::element_size()
+    }
+}
+
+impl BorshSerialize for Block {
+    fn serialize<W: Write>(&self, alloc: Global, writer: &mut W) -> Result<()> {
+        write_four(
+            &self.hash,
+            &self.rows,
+            &self.signers,
+            &self.origin,
+            alloc,
+            writer,
+        )
+    }
+}
+
+impl FromParts for Block {
+    type Parts = Fields;
+
+    ghost view = { λ v. (v.hash, v.rows, v.signers, v.origin) };
+
+    fn from_parts(fields: Fields) -> Block {
+        let (hash, rows, signers, origin) = fields;
+        Block {
+            hash,
+            rows,
+            signers,
+            origin,
+        }
+    }
+}
+
+impl BorshDeserialize for Block {
+    fn deserialize_reader<R: Read>(alloc: Global, reader: &mut R) -> Result<Block> {
+        read_parts(alloc, reader)
+    }
+}

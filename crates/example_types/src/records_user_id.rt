@@ -1,0 +1,61 @@
+// Written by borsh_derive.py from records.rt: edit that file, and run the program again.
+ghost use Rattle.borsh.specs.Laws.OfParts.{contramap, contramap-lawful, contramap_ordered, from, key_facts};
+
+use super::records::UserId;
+use borsh::de::{FromParts, read_parts};
+use borsh::io::{Read, Result, Write};
+use borsh::ser::write_two;
+use borsh::{BorshDeserialize, BorshKey, BorshSerialize, BorshType};
+use std::alloc::Global;
+
+/// The fields of [`UserId`], in order.
+type Fields = (u8, String);
+
+impl BorshType for UserId {
+    ghost codec = { contramap ⟦<UserId as FromParts>⟧.view ⟦<Fields as BorshType>⟧.codec };
+
+    ghost lawful_if = { from
+        (contramap-lawful ⟦<UserId as FromParts>⟧.view)
+        ⟦<Fields as BorshType>⟧.lawful_if };
+
+    ghost premises = { Prim.search key_facts };
+
+    fn encodes_empty() -> bool {
+        <Fields>::encodes_empty()
+    }
+
+    fn element_size() -> usize {
+        <Fields>::element_size()
+    }
+}
+
+impl BorshSerialize for UserId {
+    fn serialize<W: Write>(&self, alloc: Global, writer: &mut W) -> Result<()> {
+        write_two(&self.realm, &self.name, alloc, writer)
+    }
+}
+
+impl FromParts for UserId {
+    type Parts = Fields;
+
+    ghost view = { λ v. (v.realm, v.name) };
+
+    fn from_parts(fields: Fields) -> UserId {
+        let (realm, name) = fields;
+        UserId { realm, name }
+    }
+}
+
+impl BorshDeserialize for UserId {
+    fn deserialize_reader<R: Read>(alloc: Global, reader: &mut R) -> Result<UserId> {
+        read_parts(alloc, reader)
+    }
+}
+
+impl BorshKey for UserId {
+    ghost ordered = { contramap_ordered
+        (λ v. (v.realm, v.name))
+        ⟦<(u8, String) as BorshKey>⟧.ordered };
+
+    ghost key = { Self.ordered.key };
+}

@@ -1,0 +1,530 @@
+"""The text that is written for a type: what its bytes are, and how it is encoded and decoded."""
+
+import re
+
+from layout import (Group, Term, arm, binding, call, function_head, ghost_cases, ghost_member, ghost_term, ghost_tuple,
+                    impl_head, import_lines, laid_out, pattern, statement, struct_of, tuple_of, type_layout, type_text)
+from rust_types import Array
+
+NUMBERS = ('zero', 'one', 'two', 'three', 'four', 'five', 'six', 'seven', 'eight', 'nine', 'ten', 'eleven',
+           'twelve', 'thirteen', 'fourteen', 'fifteen', 'sixteen', 'seventeen', 'eighteen', 'nineteen', 'twenty')
+
+# the most parts that a tuple has, and that are written in one call
+TUPLE = 12
+WRITTEN = 20
+
+# words that can't name a variable of a ghost term
+GHOST_WORDS = set('''data record deriving module where use mod pub package open as unfoldable abbrev axiom unfold
+    unfolding ruleset mutual infix infixl infixr elim let in do coe fcoe tcoe hcom com rw simp search grw cc omega
+    grind hlevel assumption first_of cap tt absurd left right fields refl'''.split())
+
+# where the library has what is written here
+BORSH = {
+    'BorshDeserialize': 'borsh', 'BorshKey': 'borsh', 'BorshSerialize': 'borsh', 'BorshType': 'borsh',
+    'EnumExt': 'borsh',
+    'FromParts': 'borsh::de', 'read_parts': 'borsh::de',
+    'Case': 'borsh::de', 'Cases': 'borsh::de', 'Fork': 'borsh::de', 'FromCases': 'borsh::de',
+    'read_enum': 'borsh::de', 'read_variant': 'borsh::de',
+    'Read': 'borsh::io', 'Result': 'borsh::io', 'Write': 'borsh::io',
+    'Tag': 'borsh::ser', 'write_bytes': 'borsh::ser',
+    'Global': 'std::alloc',
+}
+BORSH.update({'write_' + number: 'borsh::ser' for number in NUMBERS[2:]})
+
+
+class Place:
+    """Where a type is: its crate's name, the file's module (None for the root file), and what the module says."""
+
+    def __init__(self, crate, module_name, module):
+        self.crate = crate
+        self.module_name = module_name
+        self.module = module
+
+    def file(self):
+        return (self.module_name or 'lib') + '.rt'
+
+
+class Writer:
+    """Puts together the text for one type."""
+
+    def __init__(self, marked, place):
+        self.marked = marked
+        self.place = place
+        self.imports = set(user_imports(marked, place))
+        self.taken = set(marked.heads()) | {marked.name} | {parameter.name for parameter in marked.parameters}
+        self.taken |= {path.split(' as ')[-1].split('::')[-1] for path in self.imports}
+        self.alias = free_name('Fields' if marked.variants is None else 'Variants', self.taken)
+        self.sink = free_name('W', self.taken)
+        self.source = free_name('R', self.taken)
+
+    # ---- names
+
+    def lib(self, name):
+        """A name of the library, imported unless the type uses that name for something else."""
+        path = '%s::%s' % (BORSH[name], name)
+        if name in self.taken and path not in self.imports:
+            return path
+        self.imports.add(path)
+        return name
+
+    def arguments(self):
+        """The parameters as arguments: `<A, N>` or nothing."""
+        names = [parameter.name for parameter in self.marked.parameters]
+        return '<%s>' % ', '.join(names) if names else ''
+
+    def own(self):
+        return self.marked.name + self.arguments()
+
+    def alias_use(self):
+        """The alias with those parameters that the encoded fields name."""
+        names = [parameter.name for parameter in self.alias_parameters()]
+        return self.alias + ('<%s>' % ', '.join(names) if names else '')
+
+    def alias_head(self):
+        """The alias as it is declared."""
+        names = ['const %s: %s' % (p.name, p.bounds) if p.constant else p.name for p in self.alias_parameters()]
+        return self.alias + ('<%s>' % ', '.join(names) if names else '')
+
+    def alias_parameters(self):
+        named = self.marked.names()
+        return [parameter for parameter in self.marked.parameters if parameter.name in named]
+
+    def bounded(self, bound):
+        """The parameters with their bounds and one more on types, as an `impl` declares them."""
+        found = []
+        for parameter in self.marked.parameters:
+            if parameter.constant:
+                found.append('const %s: %s' % (parameter.name, parameter.bounds))
+                continue
+            bounds = [part.strip() for part in parameter.bounds.split('+')] if parameter.bounds else []
+            added = [] if bound in bounds else [bound]
+            found.append('%s: %s' % (parameter.name, ' + '.join(bounds + added)))
+        return found
+
+    def where(self):
+        return split_bounds(self.marked.where)
+
+    def block(self, trait, bound, rows):
+        """An `impl` block."""
+        head = impl_head(self.bounded(self.lib(bound)), self.lib(trait), self.own(), self.where())
+        return '\n'.join([head] + rows + ['}'])
+
+    def premises(self):
+        """The proof of what the laws rest on: facts of keys, and what the parameters bring."""
+        types = [parameter for parameter in self.marked.parameters if not parameter.constant]
+        keys = [parameter.name for parameter in types if re.search(r'\bBorshKey\b', parameter.bounds)]
+        brought = [name.lower() + '_key' for name in keys] + [parameter.name + '.premises' for parameter in types]
+        facts = '(%s)' % ', '.join(['key_facts'] + brought) if brought else 'key_facts'
+        if not keys:
+            return '    ghost premises = { Prim.search %s };' % facts
+        lets = [row for name in keys for row in key_fact(name)]
+        rows = lets + ['        Prim.search %s };' % facts]
+        return '    ghost premises = { ' + '\n'.join(rows).lstrip()
+
+    # ---- the whole
+
+    def text(self):
+        blocks = struct_blocks(self) if self.marked.variants is None else enum_blocks(self)
+        body = '\n\n'.join(blocks)
+        head = '// Written by borsh_derive.py from %s: edit that file, and run the program again.'
+        rows = [head % self.place.file()]
+        rows += ghost_imports(self, body)
+        rows += [''] + import_lines(self.imports) + ['', body]
+        return '\n'.join(rows) + '\n'
+
+
+def key_fact(name):
+    """What a map asks of a parameter that is its key, as a variable of a ghost term."""
+    return ['        let %s_key : IsKey %s.ordered %s.cmp %s.eq %s.codec =' % (name.lower(), name, name, name, name),
+            '        record { key = %s.key; total = %s.total; matches = %s.matches_eq } in' % (name, name, name)]
+
+
+def free_name(name, taken):
+    while name in taken:
+        name += 'Type'
+    return name
+
+
+def user_imports(marked, place):
+    """The imports of what the type's fields and bounds name, as a module beside the type's own sees it."""
+    found = [beside(place, marked.name)]
+    for name in marked.heads():
+        if name in place.module.imports:
+            found.append(moved(place, place.module.imports[name]))
+        elif name in place.module.items:
+            found.append(beside(place, name))
+    found += [moved(place, path) for name, path in place.module.imports.items() if name.startswith('*')]
+    return found
+
+
+def beside(place, name):
+    """The path of an item of the type's own module."""
+    return 'super::' + (place.module_name + '::' if place.module_name else '') + name
+
+
+def moved(place, path):
+    """A path of the type's own module, for a module beside it."""
+    head, _, rest = path.partition('::')
+    if head == 'self':
+        return beside(place, rest)
+    if head in place.module.items:
+        return beside(place, path)
+    return path
+
+
+def split_bounds(where):
+    """The bounds of a `where`, one by one."""
+    found, depth, part = [], 0, ''
+    for c in where:
+        depth += (c in '(<[') - (c in ')>]')
+        if c == ',' and depth == 0:
+            found.append(part.strip())
+            part = ''
+        else:
+            part += c
+    return found + ([part.strip()] if part.strip() else [])
+
+
+def ghost_imports(writer, body):
+    """The imports of ghost terms."""
+    names = {
+        'Rattle.borsh.specs.Laws.OfParts': ('IsKey', 'contramap', 'contramap-lawful', 'contramap_ordered', 'from', 'key_facts'),
+        'Rattle.borsh.specs.Cases': ('fields', 'left', 'right'),
+        'Rattle.borsh.specs.CaseLaws': ('enum_lawful_if',),
+        'Rattle.std.specs.Prelude': ('refl',),
+    }
+    ghost = ' '.join(re.findall(r'ghost \w+ = \{(.*?)\};', body, re.S))
+    rows = []
+    for path, offered in names.items():
+        used = [name for name in offered if re.search(r'(?<![\w.-])%s(?![\w-])' % re.escape(name), ghost)]
+        if used:
+            rows.append('ghost use %s.{%s};' % (path, ', '.join(used)))
+    if writer.marked.variants is not None:
+        module = writer.place.module_name + '.' if writer.place.module_name else ''
+        name = writer.marked.name
+        rows.append('ghost use Rattle.%s.specs.declared.%s%s.{%s};' % (writer.place.crate, module, name, name))
+    return rows
+
+
+# ---- fields
+
+def ghost_name(name):
+    return '«%s»' % name if name in GHOST_WORDS else name
+
+
+def parts(items, make):
+    """Items as a tuple; past twelve, the last ones are a tuple within."""
+    if len(items) == 1:
+        return items[0]
+    if len(items) > TUPLE:
+        items = items[:TUPLE - 1] + [parts(items[TUPLE - 1:], make)]
+    return make(items)
+
+
+def type_of_parts(fields):
+    layouts = [type_layout(field.type) for field in fields]
+    return parts(layouts, tuple_of) if layouts else '()'
+
+
+def ghost_parts(items):
+    """Names in the form of the type of the parts."""
+    return items[:TUPLE - 1] + [ghost_tuple(ghost_parts(items[TUPLE - 1:]))] if len(items) > TUPLE else items
+
+
+def local_names(fields, avoid):
+    """A variable for each encoded field: its own name, or `part0` where it has none or that name is in use."""
+    found = []
+    for index, field in enumerate(fields):
+        bare = field.name[0].isdigit() or field.name in avoid
+        found.append('part%d' % index if bare else field.name)
+    return found
+
+
+def taking_apart(value, names, indent):
+    """Statements that bind the parts of a value; past twelve, there is a tuple within."""
+    rows = []
+    rest = free_variable('rest', names)
+    while len(names) > TUPLE:
+        rows.append(binding(tuple_of(names[:TUPLE - 1] + [rest]), value, indent))
+        names, value = names[TUPLE - 1:], rest
+    return rows + [binding(tuple_of(names), value, indent)]
+
+
+def free_variable(name, names):
+    while name in names:
+        name += '_parts'
+    return name
+
+
+def made(path, fields, names):
+    """The value with these fields; those that are left out have their default."""
+    encoded = dict(zip(fields.encoded(), names))
+    if fields.kind == 'unit':
+        return path
+    if fields.kind == 'tuple':
+        return call(path, [encoded.get(field, 'Default::default()') for field in fields.all])
+    rows = []
+    for field in fields.all:
+        value = encoded.get(field, 'Default::default()')
+        rows.append(field.name if value == field.name else '%s: %s' % (field.name, value))
+    return struct_of(path, rows)
+
+
+# ---- structs
+
+def struct_blocks(writer):
+    blocks = [struct_fields, struct_meaning, struct_encoding, struct_parts, struct_decoding]
+    if 'key' in writer.marked.options:
+        blocks.append(struct_key)
+    return [block(writer) for block in blocks]
+
+
+def struct_fields(writer):
+    fields = writer.marked.fields.encoded()
+    left_out = ' that are encoded' if len(fields) < len(writer.marked.fields.all) else ''
+    doc = '/// The fields of [`%s`]%s, in order.' % (writer.marked.name, left_out)
+    return '%s\n%s' % (doc, statement('type %s = ' % writer.alias_head(), type_of_parts(fields), ';', 0))
+
+
+def struct_view(writer):
+    """The function from a value to the tuple of its fields."""
+    fields = writer.marked.fields.encoded()
+    return Term('λ v. ' if fields else 'λ _. ', ghost_parts(['v.' + ghost_name(field.name) for field in fields]))
+
+
+def struct_meaning(writer):
+    """The view is that of `FromParts`; with parameters it is written out, since that impl asks for more of them."""
+    if writer.marked.parameters:
+        view = struct_view(writer).within('(', ')')
+    else:
+        view = quote(writer, writer.own(), 'FromParts', '.view')
+    of_fields = quote(writer, writer.alias_use(), 'BorshType', '.lawful_if')
+    laws = ghost_member('lawful_if', 'from', [view.within('(contramap-lawful ', ')'), of_fields], 4)
+    encodes_empty = of_parts(writer, 'encodes_empty', and_then)
+    element_size = of_parts(writer, 'element_size', added)
+    return meaning(writer, view, 'BorshType', laws, encodes_empty, element_size)
+
+
+def of_parts(writer, name, joined):
+    """A call of `BorshType` for all fields. With a length as a parameter each field is asked by itself: that a tuple
+    with an array of such a length fits in memory doesn't follow."""
+    types = [type_text(field.type) for field in writer.marked.fields.encoded()]
+    if not any(parameter.constant for parameter in writer.marked.parameters) or not types:
+        return '<%s>::%s()' % (writer.alias_use(), name)
+    return joined(['%s::%s()' % (text if re.fullmatch(r'\w+', text) else '<%s>' % text, name) for text in types])
+
+
+def and_then(calls):
+    if len(calls) < 3:
+        return ' && '.join(calls)
+    return '%s && (%s)' % (calls[0], and_then(calls[1:]))
+
+
+def added(calls):
+    return calls[0] + ''.join('.saturating_add(%s)' % call for call in calls[1:])
+
+
+def quote(writer, name, trait, member):
+    """A member of an implementation, as a ghost term names it."""
+    return Term('', ['⟦<%s as %s>⟧%s' % (name, writer.lib(trait), member)])
+
+
+def meaning(writer, view, trait, laws, encodes_empty, element_size):
+    """`impl BorshType`: the codec of the parts, seen through the view, and the laws that follow from theirs."""
+    codec = quote(writer, writer.alias_use(), trait, '.codec')
+    rows = [ghost_member('codec', 'contramap', [view, codec], 4), '', laws, '', writer.premises(), '',
+            '    fn encodes_empty() -> bool {', '        ' + encodes_empty, '    }', '',
+            '    fn element_size() -> usize {', '        ' + element_size, '    }']
+    return writer.block('BorshType', 'BorshType', rows)
+
+
+def struct_encoding(writer):
+    names = ['self.' + field.name for field in writer.marked.fields.encoded()]
+    if not names:
+        body = call(writer.lib('write_bytes'), ['&[]', 'writer'])
+    elif len(names) == 1:
+        body = call(names[0] + '.serialize', ['alloc', 'writer'])
+    else:
+        arguments = ['&' + name for name in names] + ['alloc', 'writer']
+        body = call(writer.lib('write_' + NUMBERS[len(names)]), arguments)
+    rows = [serialize_head(writer, used=bool(names)), statement('', body, '', 8), '    }']
+    return writer.block('BorshSerialize', 'BorshSerialize', rows)
+
+
+def serialize_head(writer, used):
+    name = 'serialize<%s: %s>' % (writer.sink, writer.lib('Write'))
+    alloc = 'alloc' if used else '_alloc'
+    parameters = ['&self', '%s: %s' % (alloc, writer.lib('Global')), 'writer: &mut %s' % writer.sink]
+    return function_head(name, parameters, '%s<()>' % writer.lib('Result'), 4)
+
+
+def struct_parts(writer):
+    fields = writer.marked.fields
+    names = local_names(fields.encoded(), ())
+    parameter = {0: '_fields', 1: names[0] if names else ''}.get(len(names), 'fields')
+    view = ghost_term(struct_view(writer).within('ghost view = { ', ' };'), 4)
+    head = function_head('from_parts', ['%s: %s' % (parameter, writer.alias_use())], writer.own(), 4)
+    rows = ['    type Parts = %s;' % writer.alias_use(), '', view, '', head]
+    if len(names) > 1:
+        rows += taking_apart('fields', names, 8)
+    rows += [statement('', made(writer.marked.name, fields, names), '', 8), '    }']
+    return writer.block('FromParts', 'BorshDeserialize', rows)
+
+
+def struct_decoding(writer):
+    head = deserialize_head(writer, 'deserialize_reader', [])
+    body = '        %s(alloc, reader)' % writer.lib('read_parts')
+    return writer.block('BorshDeserialize', 'BorshDeserialize', [head, body, '    }'])
+
+
+def struct_key(writer):
+    """`impl BorshKey`: derived comparisons go over nested pairs."""
+    fields = writer.marked.fields.encoded()
+    view = Term('(λ v. ', [pairs(['v.' + ghost_name(field.name) for field in fields])], ')')
+    ordered = quote(writer, pairs([type_text(field.type) for field in fields]), 'BorshKey', '.ordered')
+    rows = [ghost_member('ordered', 'contramap_ordered', [view, ordered], 4), '', '    ghost key = { Self.ordered.key };']
+    return writer.block('BorshKey', 'BorshKey', rows)
+
+
+def pairs(items):
+    return items[0] if len(items) == 1 else '(%s, %s)' % (items[0], pairs(items[1:]))
+
+
+def deserialize_head(writer, name, more):
+    parameters = ['alloc: %s' % writer.lib('Global'), 'reader: &mut %s' % writer.source] + more
+    generic = '%s<%s: %s>' % (name, writer.source, writer.lib('Read'))
+    return function_head(generic, parameters, '%s<%s>' % (writer.lib('Result'), writer.own()), 4)
+
+
+# ---- enums
+
+def enum_blocks(writer):
+    blocks = [enum_variants, enum_cases, enum_meaning, enum_encoding, enum_decoding, enum_after_tag]
+    return [block(writer) for block in blocks]
+
+
+def tree(items, leaf, fork):
+    """Items as a tree that is split in the middle."""
+    if len(items) == 1:
+        return leaf(items[0])
+    middle = (len(items) + 1) // 2
+    return fork(tree(items[:middle], leaf, fork), tree(items[middle:], leaf, fork))
+
+
+def on_tree(items):
+    """Each item with the turns, 'left' and 'right', that lead to it in that tree."""
+    def turned(turn, pairs):
+        return [(item, [turn] + turns) for item, turns in pairs]
+
+    return tree(items, lambda item: [(item, [])], lambda a, b: turned('left', a) + turned('right', b))
+
+
+def generic_group(name, arguments):
+    return Group(name, '<', arguments, '>')
+
+
+def enum_variants(writer):
+    case, fork = writer.lib('Case'), writer.lib('Fork') if len(writer.marked.variants) > 1 else None
+    node = tree(writer.marked.variants,
+                lambda v: generic_group(case, [str(v.tag), type_of_parts(v.fields.encoded())]),
+                lambda a, b: generic_group(fork, [a, b]))
+    doc = '/// The variants of [`%s`]: each has a tag and its fields, in order.' % writer.marked.name
+    return '%s\n%s' % (doc, statement('type %s = ' % writer.alias_head(), node, ';', 0))
+
+
+def enum_view(writer):
+    """The arms of the function from a value to its variant, on its place in the tree."""
+    rows = []
+    for variant, turns in on_tree(writer.marked.variants):
+        encoded = variant.fields.encoded()
+        names = dict(zip(encoded, ghost_binders(encoded)))
+        binders = [names.get(field, '_') for field in variant.fields.all]
+        node = Term('fields ', ghost_parts([names[field] for field in encoded]))
+        for turn in reversed(turns):
+            node = node.within(turn + ' (', ')')
+        start = ' '.join(['%s.%s' % (writer.marked.name, variant.name)] + binders)
+        rows.append(node.within(start + ' ↦ ', ''))
+    return rows
+
+
+def ghost_binders(fields):
+    names = [field.name for field in fields]
+    plain = all(name not in GHOST_WORDS and not name[0].isdigit() for name in names)
+    return names if plain else ['part%d' % index for index in range(len(names))]
+
+
+def enum_cases(writer):
+    head = function_head('from_cases', ['cases: %s' % writer.alias_use()], writer.own(), 4)
+    view = ghost_cases('view', enum_view(writer), 4)
+    rows = ['    type Cases = %s;' % writer.alias_use(), '', view, '', head, '        match cases {']
+    for variant, turns in on_tree(writer.marked.variants):
+        rows += from_case(writer, variant, turns)
+    rows += ['        }', '    }', '', '    ghost distinct_tags = { refl };']
+    return writer.block('FromCases', 'BorshType', rows)
+
+
+def from_case(writer, variant, turns):
+    """The arm that makes a variant of its fields. A field that is an array is taken out by a `let`."""
+    names = local_names(variant.fields.encoded(), ())
+    inner = {0: '()', 1: names[0] if names else ''}.get(len(names), 'fields')
+    held = len(names) == 1 and isinstance(variant.fields.encoded()[0].type, Array)
+    node = 'case' if held else pattern(writer.lib('Case'), [inner])
+    for turn in reversed(turns):
+        node = pattern('%s::%s' % (writer.lib('Fork'), turn.capitalize()), [node])
+    value = made('%s::%s' % (writer.marked.name, variant.name), variant.fields, names)
+    if len(names) < 2 and not held:
+        return [arm(node, value, 12)]
+    taken = [' ' * 16 + 'let %s = case.0;' % names[0]] if held else taking_apart('fields', names, 16)
+    rows = [' ' * 12 + laid_out(node, 12, 12, len(' => {')) + ' => {'] + taken
+    return rows + [statement('', value, '', 16), '            }']
+
+
+def enum_meaning(writer):
+    view = quote(writer, writer.own(), 'FromCases', '.view')
+    variants = quote(writer, writer.alias_use(), 'Cases', '.variants')
+    laws = ghost_member('lawful_if', 'enum_lawful_if', [view, variants, Term('', ['refl'])], 4)
+    return meaning(writer, view, 'Cases', laws, 'false', '<%s>::element_size()' % writer.alias_use())
+
+
+def enum_encoding(writer):
+    used = any(variant.fields.encoded() for variant in writer.marked.variants)
+    rows = [serialize_head(writer, used), '        match self {']
+    rows += [written_variant(writer, variant) for variant in writer.marked.variants]
+    return writer.block('BorshSerialize', 'BorshSerialize', rows + ['        }', '    }'])
+
+
+def written_variant(writer, variant):
+    """The arm that writes a variant: its tag and its fields."""
+    encoded = variant.fields.encoded()
+    names = local_names(encoded, ('alloc', 'writer'))
+    path = '%s::%s' % (writer.marked.name, variant.name)
+    node = matched(path, variant.fields, dict(zip(encoded, names)))
+    if not names:
+        return arm(node, call(writer.lib('write_bytes'), ['&[%d]' % variant.tag, 'writer']), 12)
+    tag = '&%s(%d)' % (writer.lib('Tag'), variant.tag)
+    function = writer.lib('write_' + NUMBERS[len(names) + 1])
+    return arm(node, call(function, [tag] + names + ['alloc', 'writer']), 12)
+
+
+def matched(path, fields, names):
+    """The pattern that binds the encoded fields of a variant."""
+    if fields.kind == 'unit':
+        return path
+    if fields.kind == 'tuple':
+        return pattern(path, [names.get(field, '_') for field in fields.all])
+    rows = []
+    for field in fields.encoded():
+        rows.append(field.name if names[field] == field.name else '%s: %s' % (field.name, names[field]))
+    return struct_of(path, rows + (['..'] if len(rows) < len(fields.all) else []))
+
+
+def enum_decoding(writer):
+    head = deserialize_head(writer, 'deserialize_reader', [])
+    body = '        %s(alloc, reader)' % writer.lib('read_enum')
+    return writer.block('BorshDeserialize', 'BorshDeserialize', [head, body, '    }'])
+
+
+def enum_after_tag(writer):
+    head = deserialize_head(writer, 'deserialize_variant', ['tag: u8'])
+    body = '        %s(alloc, reader, tag)' % writer.lib('read_variant')
+    return writer.block('EnumExt', 'BorshDeserialize', [head, body, '    }'])

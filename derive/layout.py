@@ -1,0 +1,263 @@
+"""Texts as `rt fmt` lays them out: lines of at most 100 columns."""
+
+import re
+
+from rust_types import Array, Constant, Tuple
+
+WIDTH = 100
+
+# the widest arguments of a call, and the widest fields of a struct, that stay in one line
+CALL_WIDTH = 60
+STRUCT_WIDTH = 18
+
+# where all arguments of a call are as short as this, they fill lines
+SHORT = 10
+
+
+class Group:
+    """A head, as a name, and items in brackets, each a text or a group."""
+
+    def __init__(self, head, opening, items, closing, limit=WIDTH, pad=''):
+        self.head = head
+        self.opening = opening
+        self.items = items
+        self.closing = closing
+        self.limit = limit
+        self.pad = pad
+
+
+def call(name, arguments):
+    return Group(name, '(', arguments, ')', CALL_WIDTH)
+
+
+def tuple_of(items):
+    return Group('', '(', items, ')')
+
+
+def pattern(name, items):
+    return Group(name, '(', items, ')')
+
+
+def struct_of(name, fields):
+    return Group(name, ' {', fields, '}', STRUCT_WIDTH, ' ')
+
+
+def type_layout(tree):
+    """A type as a text or a group."""
+    if isinstance(tree, Constant):
+        return tree.text
+    if isinstance(tree, Array):
+        return '[%s; %s]' % (flat(type_layout(tree.element)), tree.length)
+    if isinstance(tree, Tuple):
+        return tuple_of([type_layout(item) for item in tree.items]) if tree.items else '()'
+    names = []
+    for name, arguments in tree.segments[:-1]:
+        names.append(name + (flat(generic(arguments)) if arguments else ''))
+    name, arguments = tree.segments[-1]
+    head = '::'.join(names + [name])
+    return Group(head, '<', [type_layout(a) for a in arguments], '>') if arguments else head
+
+
+def generic(arguments):
+    return Group('', '<', [type_layout(argument) for argument in arguments], '>')
+
+
+def type_text(tree):
+    return flat(type_layout(tree))
+
+
+def flat(node):
+    """A text or a group in one line."""
+    if isinstance(node, str):
+        return node
+    inner = ', '.join(flat(item) for item in node.items)
+    if node.opening == '(' and not node.head and len(node.items) == 1:
+        inner += ','
+    return node.head + node.opening + node.pad + inner + node.pad + node.closing
+
+
+def is_narrow(node):
+    """Whether no limit of the group or of a group in it is passed."""
+    if isinstance(node, str):
+        return True
+    inner = sum(len(flat(item)) + 2 for item in node.items) - 2
+    return inner <= node.limit and all(is_narrow(item) for item in node.items)
+
+
+def laid_out(node, indent, used, behind):
+    """A text or a group from column `used` on, with `behind` columns behind it; later lines are indented."""
+    line = flat(node)
+    if isinstance(node, str) or (is_narrow(node) and used + len(line) + behind <= WIDTH):
+        return line
+    inner = indent + 4
+    lines = [node.head + node.opening]
+    if node.limit == CALL_WIDTH and all(len(flat(item)) <= SHORT for item in node.items):
+        lines.append(filled(['%s,' % flat(item) for item in node.items], inner))
+    else:
+        lines += ['%s%s,' % (' ' * inner, laid_out(item, inner, inner, 1)) for item in node.items]
+    return '\n'.join(lines + [' ' * indent + node.closing])
+
+
+def statement(prefix, node, suffix, indent):
+    """A line `prefix node suffix`, over more lines where it is too wide."""
+    start = ' ' * indent + prefix
+    return start + laid_out(node, indent, len(start), len(suffix)) + suffix
+
+
+def binding(node, value, indent):
+    """`let node = value;`."""
+    start = ' ' * indent + 'let '
+    line = flat(node)
+    if len(start + line + ' = ' + value + ';') <= WIDTH:
+        return '%s%s = %s;' % (start, line, value)
+    if len(start + line + ' =') <= WIDTH:
+        return '%s%s =\n%s%s;' % (start, line, ' ' * (indent + 4), value)
+    return '%s%s = %s;' % (start, laid_out(node, indent, WIDTH, 0), value)
+
+
+def arm(pattern_node, body, indent):
+    """An arm of a `match`: a pattern and one expression."""
+    start = ' ' * indent
+    text = laid_out(pattern_node, indent, indent, len(' =>'))
+    last = text.split('\n')[-1]
+    used = len(last) + len(' => ') + (indent if '\n' not in text else 0)
+    line = flat(body)
+    if is_narrow(body) and used + len(line) + 1 <= WIDTH:
+        return '%s%s => %s,' % (start, text, line)
+    inner = indent + 4
+    if is_narrow(body) and inner + len(line) + 1 <= WIDTH and '\n' not in text:
+        return '%s%s =>\n%s%s,' % (start, text, ' ' * inner, line)
+    return '%s%s => %s,' % (start, text, laid_out(body, indent, WIDTH, 1))
+
+
+def function_head(name, parameters, result, indent):
+    """`fn name(parameters) -> result {`, over more lines where it is too wide."""
+    start = ' ' * indent
+    line = '%sfn %s(%s) -> %s {' % (start, name, ', '.join(parameters), result)
+    if len(line) <= WIDTH:
+        return line
+    inner = ' ' * (indent + 4)
+    rows = ['%sfn %s(' % (start, name)] + ['%s%s,' % (inner, parameter) for parameter in parameters]
+    return '\n'.join(rows + ['%s) -> %s {' % (start, result)])
+
+
+def impl_head(parameters, trait, name, where):
+    """`impl<..> trait for name where .. {`."""
+    bounds = ['    %s,' % part for part in where]
+    generics = '<%s>' % ', '.join(parameters) if parameters else ''
+    end = '' if where else ' {'
+    line = 'impl%s %s for %s' % (generics, trait, name)
+    if len(line + end) > WIDTH and len('impl%s %s' % (generics, trait)) <= WIDTH:
+        line = 'impl%s %s\n    for %s' % (generics, trait, name)
+    elif len(line + end) > WIDTH:
+        rows = ['    %s,' % parameter for parameter in parameters]
+        line = '\n'.join(['impl<'] + rows + ['> %s for %s' % (trait, name)])
+    return '\n'.join([line, 'where'] + bounds + ['{']) if where else line + ' {'
+
+
+def filled(words, indent, width=WIDTH):
+    """Words over as many lines as they need."""
+    lines = []
+    line = ' ' * indent
+    for word in words:
+        if line.strip() and len(line) + 1 + len(word) > width:
+            lines.append(line)
+            line = ' ' * indent
+        line += word if not line.strip() else ' ' + word
+    return '\n'.join(lines + [line])
+
+
+# ---- ghost terms
+
+class Term:
+    """A ghost term: a tuple of names between two texts."""
+
+    def __init__(self, before, items, behind=''):
+        self.before = before
+        self.items = items
+        self.behind = behind
+
+    def flat(self):
+        return self.before + ghost_tuple(self.items) + self.behind
+
+    def within(self, before, behind):
+        """The same term with more text on both sides."""
+        return Term(before + self.before, self.items, self.behind + behind)
+
+
+def ghost_tuple(items):
+    """Names as a tuple; of one the name, of none the only value of `()`."""
+    return '(%s)' % ', '.join(items) if len(items) > 1 else items[0] if items else 'tt'
+
+
+def ghost_term(node, indent):
+    """A term from column `indent` on; where it is too wide, each name of the tuple gets a line."""
+    line = ' ' * indent + node.flat()
+    if len(line) <= WIDTH or len(node.items) < 2:
+        return line
+    rows = ['%s%s,' % (' ' * (indent + 2), item) for item in node.items]
+    return '\n'.join([' ' * indent + node.before + '('] + rows + [' ' * indent + ')' + node.behind])
+
+
+def ghost_member(name, function, arguments, indent):
+    """`ghost name = { function arguments };`, with each argument in a line of its own where it is too wide."""
+    flat_arguments = ' '.join(argument.flat() for argument in arguments)
+    line = '%sghost %s = { %s %s };' % (' ' * indent, name, function, flat_arguments)
+    if len(line) <= WIDTH:
+        return line
+    rows = ['%sghost %s = { %s' % (' ' * indent, name, function)]
+    rows += [ghost_term(argument, indent + 4) for argument in arguments]
+    return '\n'.join(rows) + ' };'
+
+
+def ghost_cases(name, arms, indent):
+    """`ghost name = { elim [ .. ] };`, one arm a line where it is too wide."""
+    start = '%sghost %s = { elim [' % (' ' * indent, name)
+    line = '%s %s ] };' % (start, ' | '.join(one.flat() for one in arms))
+    if len(line) <= WIDTH:
+        return line
+    rows = [ghost_term(one.within('| ', ''), indent + 2) for one in arms]
+    return '\n'.join([start] + rows + [' ' * indent + '] };'])
+
+
+# ---- imports
+
+def natural(name):
+    """Names in the order of imports: types first, numbers by their value."""
+    parts = re.split(r'(\d+)', name)
+    return (not name[:1].isupper(), [(0, int(p), '') if p.isdigit() else (1, 0, p) for p in parts])
+
+
+def import_lines(imports):
+    """Lines `use a::{b, c};` of paths, sorted; each path is a text, perhaps with ` as name`."""
+    groups = {}
+    for path in set(imports):
+        prefix, _, name = path.rpartition('::') if ' as ' not in path else split_alias(path)
+        groups.setdefault(prefix, []).append(name)
+    lines = []
+    for prefix, names in groups.items():
+        names = sorted(names, key=natural)
+        lines.append((import_order(prefix, names), import_line(prefix, names)))
+    return [line for _, line in sorted(lines)]
+
+
+def split_alias(path):
+    bare, alias = path.split(' as ')
+    prefix, mark, name = bare.rpartition('::')
+    return prefix, mark, '%s as %s' % (name, alias)
+
+
+def import_order(prefix, names):
+    segments = prefix.split('::') + ([names[0]] if len(names) == 1 else [])
+    rank = ('self', 'super', 'crate').index(segments[0]) if segments[0] in ('self', 'super', 'crate') else 3
+    last = [] if len(names) == 1 else [(True, [(2, 0, '')])]
+    return rank, [natural(segment) for segment in segments] + last
+
+
+def import_line(prefix, names):
+    if len(names) == 1:
+        return 'use %s%s;' % (prefix + '::' if prefix else '', names[0])
+    line = 'use %s::{%s};' % (prefix, ', '.join(names))
+    if len(line) <= WIDTH:
+        return line
+    return 'use %s::{\n%s,\n};' % (prefix, filled(', '.join(names).split(' '), 4, WIDTH - 1))

@@ -1,0 +1,183 @@
+"""The types of fields, as trees."""
+
+from refusal import Refusal
+
+
+class Path:
+    """A name with its arguments, as `Vec<u8>`: segments, each a name and a list of types."""
+
+    def __init__(self, segments):
+        self.segments = segments
+
+    def head(self):
+        """The name that has to be known where the type is written."""
+        return self.segments[0][0]
+
+
+class Tuple:
+    def __init__(self, items):
+        self.items = items
+
+
+class Array:
+    """Elements of one type; the length is a text, as it was written."""
+
+    def __init__(self, element, length, names):
+        self.element = element
+        self.length = length
+        self.names = names
+
+
+class Constant:
+    """An argument that is a number or a block, as in `Case<3, u8>`."""
+
+    def __init__(self, text):
+        self.text = text
+
+
+# what can't be the type of a field, by its first token
+NOT_DECODED = {
+    '&': 'a reference is never decoded: hold the value itself, a `Box` or an `Rc`',
+    '*': 'a raw pointer has no encoding',
+    '!': 'the type `!` has no encoding',
+    'dyn': 'a trait object has no encoding',
+    'impl': '`impl Trait` is no type of a field',
+    'fn': 'a function pointer has no encoding',
+    'unsafe': 'a function pointer has no encoding',
+    'extern': 'a function pointer has no encoding',
+    '<': 'a type by its trait, `<T as Trait>::Name`, is not taken: name the type',
+}
+
+
+def parse_type(reader):
+    """The type that begins at the reader's next token."""
+    token = reader.peek()
+    if token.text in NOT_DECODED:
+        raise Refusal(token.line, NOT_DECODED[token.text])
+    if token.kind == 'lifetime':
+        raise Refusal(token.line, 'the lifetime `%s`: a value that borrows is never decoded' % token.text)
+    if token.text == '(':
+        return parse_tuple(reader)
+    if token.text == '[':
+        return parse_array(reader)
+    if token.kind == 'word':
+        return parse_path(reader)
+    raise Refusal(token.line, '`%s` begins no type' % token.text)
+
+
+def parse_tuple(reader):
+    reader.take('(')
+    items = []
+    comma = False
+    while not reader.is_next(')'):
+        items.append(parse_type(reader))
+        comma = reader.skip(',')
+        if not comma:
+            break
+    reader.take(')')
+    return items[0] if len(items) == 1 and not comma else Tuple(items)
+
+
+def parse_array(reader):
+    line = reader.take('[').line
+    element = parse_type(reader)
+    if not reader.skip(';'):
+        reason = 'a slice without a length has no place in a field: write `Vec<..>` or `[..; N]`'
+        raise Refusal(line, reason)
+    length = reader.until(']')
+    reader.take(']')
+    names = [t.text for t in length if t.kind == 'word']
+    return Array(element, joined(length), names)
+
+
+def parse_path(reader):
+    segments = [parse_segment(reader)]
+    while reader.skip('::'):
+        segments.append(parse_segment(reader))
+    if reader.is_next('!'):
+        raise Refusal(reader.peek().line, 'a macro in the place of a type is not taken')
+    return Path(segments)
+
+
+def parse_segment(reader):
+    name = reader.word()
+    arguments = []
+    if reader.skip('<'):
+        while not reader.is_next('>'):
+            arguments.append(parse_argument(reader))
+            if not reader.skip(','):
+                break
+        reader.take('>')
+    elif reader.is_next('('):
+        raise Refusal(reader.peek().line, 'the type of a function has no encoding')
+    return name, arguments
+
+
+def parse_argument(reader):
+    token = reader.peek()
+    if token.kind == 'number':
+        return Constant(reader.next().text)
+    if token.text == '{':
+        return Constant('{ %s }' % joined(reader.group()[1:-1]))
+    return parse_type(reader)
+
+
+# types of the library whose values lie in memory of their own
+HELD = ('Box', 'Rc', 'Vec', 'VecDeque', 'LinkedList', 'BTreeMap', 'BTreeSet', 'HashMap', 'HashSet', 'IndexMap',
+        'IndexSet', 'BoxedSlice', 'RcSlice', 'PhantomData')
+
+
+def bare_names(tree):
+    """The names in a type that don't stand within a type of `HELD`."""
+    if isinstance(tree, Path):
+        name, arguments = tree.segments[-1]
+        if name in HELD:
+            return []
+        return [tree.head()] + [found for argument in arguments for found in bare_names(argument)]
+    if isinstance(tree, Tuple):
+        return [found for item in tree.items for found in bare_names(item)]
+    if isinstance(tree, Array):
+        return tree.names + bare_names(tree.element)
+    return []
+
+
+# marks with no space before them, and those with none behind them
+TIGHT = (',', ';', ')', ']', '>', '::', '?', '.', ':')
+OPEN = ('', '(', '[', '<', '::', '&', '?', '.')
+
+
+def joined(tokens):
+    """Tokens as one text, as a formatter writes an expression or a bound."""
+    text = ''
+    for index, token in enumerate(tokens):
+        before = tokens[index - 1].text if index else ''
+        called = token.text in ('<', '(') and before[-1:].isalnum()
+        tight = called or token.text in TIGHT or before in OPEN
+        text += token.text if tight else ' ' + token.text
+    return text
+
+
+def heads(tree):
+    """The names that have to be known where the type is written, each once, in order."""
+    found = []
+
+    def visit(node):
+        if isinstance(node, Path):
+            add(node.head())
+            for _, arguments in node.segments:
+                for argument in arguments:
+                    visit(argument)
+        elif isinstance(node, Tuple):
+            for item in node.items:
+                visit(item)
+        elif isinstance(node, Array):
+            visit(node.element)
+            for name in node.names:
+                add(name)
+
+    def add(name):
+        if name not in found:
+            found.append(name)
+
+    visit(tree)
+    return found

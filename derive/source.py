@@ -1,0 +1,573 @@
+"""A module's source: its imports, its items, and the types that are marked by a comment `// derive: ..`."""
+
+import re
+
+from refusal import Refusal
+from rust_types import heads, joined, parse_type
+from tokens import tokens_of
+
+# what a comment `// derive: ..` may ask for
+OPTIONS = ('borsh', 'key')
+
+# what a key is compared by
+COMPARED = ('PartialEq', 'Eq', 'PartialOrd', 'Ord')
+
+# attributes of a type that say nothing of its encoding
+TYPE_ATTRIBUTES = ('derive', 'derive_where', 'doc', 'must_use', 'allow', 'repr')
+
+# attributes of a variant that say nothing of its encoding
+VARIANT_ATTRIBUTES = ('default', 'doc')
+
+FIELD_ATTRIBUTES = ('doc',)
+
+
+class Field:
+    """A field: its name, or its number in a tuple, its type, and whether it is left out of the encoding."""
+
+    def __init__(self, name, type, line, public, skipped):
+        self.name = name
+        self.type = type
+        self.line = line
+        self.public = public
+        self.skipped = skipped
+
+
+class Fields:
+    """The fields of a struct or a variant. `kind` is 'named', 'tuple' or 'unit'."""
+
+    def __init__(self, kind, all_fields):
+        self.kind = kind
+        self.all = all_fields
+
+    def encoded(self):
+        return [field for field in self.all if not field.skipped]
+
+
+class Variant:
+    def __init__(self, name, tag, fields, line):
+        self.name = name
+        self.tag = tag
+        self.fields = fields
+        self.line = line
+
+
+class Parameter:
+    """A parameter of a type: a type with its bounds, or a constant with its type."""
+
+    def __init__(self, name, bounds, constant):
+        self.name = name
+        self.bounds = bounds
+        self.constant = constant
+
+
+class Marked:
+    """A type that is marked: a struct with its fields, or an enum with its variants.
+
+    `options` is what the mark asks for."""
+
+    def __init__(self, name, line, parameters, where, fields=None, variants=None):
+        self.options = ()
+        self.name = name
+        self.line = line
+        self.parameters = parameters
+        self.where = where
+        self.fields = fields
+        self.variants = variants
+
+    def groups(self):
+        """The fields of the struct, or those of each variant."""
+        return [self.fields] if self.variants is None else [variant.fields for variant in self.variants]
+
+    def names(self):
+        """The names that the types of its encoded fields are made of, its parameters among them."""
+        return [name for group in self.groups() for field in group.encoded() for name in heads(field.type)]
+
+    def heads(self):
+        """The names from elsewhere that its encoded fields and its bounds are made of."""
+        found = self.names()
+        for parameter in self.parameters:
+            found += re.findall(r'[A-Za-z_]\w*', parameter.bounds)
+        found += re.findall(r'[A-Za-z_]\w*', self.where)
+        own = {parameter.name for parameter in self.parameters}
+        return [name for index, name in enumerate(found) if name not in own and name not in found[:index]]
+
+
+class Module:
+    """What a file says: its imports by the name that each brings in, its items and whether each is public, and its
+    marked types."""
+
+    def __init__(self, imports, items, marked):
+        self.imports = imports
+        self.items = items
+        self.marked = marked
+
+
+class Reader:
+    """Tokens one after another; comments are skipped, and `comments` has those before the next token."""
+
+    def __init__(self, tokens, end_line):
+        self.tokens = [token for token in tokens if token.kind != 'comment']
+        self.before = comments_before(tokens)
+        self.place = 0
+        self.end_line = end_line
+
+    def at_end(self):
+        return self.place >= len(self.tokens)
+
+    def peek(self, ahead=0):
+        if self.place + ahead >= len(self.tokens):
+            raise Refusal(self.end_line, 'the file ends within an item')
+        return self.tokens[self.place + ahead]
+
+    def comments(self):
+        return self.before.get(self.place, [])
+
+    def last_line(self):
+        """The line of the token before this one."""
+        return self.tokens[self.place - 1].line if self.place else 0
+
+    def is_next(self, *texts):
+        """Whether the next tokens are these."""
+        rest = self.tokens[self.place:self.place + len(texts)]
+        return [token.text for token in rest] == list(texts)
+
+    def next(self):
+        token = self.peek()
+        self.place += 1
+        return token
+
+    def take(self, text):
+        token = self.next()
+        if token.text != text:
+            raise Refusal(token.line, '`%s` where `%s` is expected' % (token.text, text))
+        return token
+
+    def skip(self, text):
+        """Goes past the next token if it is this one."""
+        if not self.at_end() and self.tokens[self.place].text == text:
+            self.place += 1
+            return True
+        return False
+
+    def word(self):
+        token = self.next()
+        if token.kind != 'word':
+            raise Refusal(token.line, '`%s` where a name is expected' % token.text)
+        if token.text.startswith('r#'):
+            raise Refusal(token.line, 'the raw identifier `%s`: Rattle has none' % token.text)
+        return token.text
+
+    def group(self):
+        """The tokens of a bracket, with both ends."""
+        start = self.place
+        depth = 0
+        while True:
+            text = self.next().text
+            depth += (text in '([{') - (text in ')]}')
+            if depth == 0:
+                return self.tokens[start:self.place]
+
+    def until(self, *ends):
+        """The tokens before one of these texts that stands in no bracket."""
+        start = self.place
+        while not self.peek().text in ends:
+            if self.peek().text in '([{':
+                self.group()
+            else:
+                self.next()
+        return self.tokens[start:self.place]
+
+
+def comments_before(tokens):
+    """The comments before each other token, by its place among those."""
+    found = {}
+    place = 0
+    for token in tokens:
+        if token.kind == 'comment':
+            found.setdefault(place, []).append(token)
+        else:
+            place += 1
+    return found
+
+
+def read_module(text):
+    """What a file says, or a `Refusal`."""
+    reader = Reader(tokens_of(text), text.count('\n') + 1)
+    module = Module({}, {}, [])
+    seen = set()
+    while not reader.at_end():
+        mark = mark_above(reader, seen)
+        attributes = attributes_of(reader)
+        mark = mark or mark_above(reader, seen)
+        if reader.at_end():
+            break
+        if mark is not None:
+            check_attributes(attributes, TYPE_ATTRIBUTES, 'type')
+            marked = read_marked(reader, mark)
+            marked.options = options_of(mark_of(mark))
+            check_key(marked, attributes)
+            module.marked.append(marked)
+            module.items[module.marked[-1].name] = True
+        else:
+            read_item(reader, module)
+    mark_above(reader, seen)
+    refuse_stray_marks(reader, seen)
+    return module
+
+
+# ---- marks
+
+def mark_of(comment):
+    """What a comment `// derive: ..` says, or None."""
+    match = re.match(r'//(?![/!])\s*derive\s*:(.*)$', comment.text)
+    return match and match[1]
+
+
+def mark_above(reader, seen):
+    """The comment `// derive: borsh` above the next item, or None. Other options are refused."""
+    found = None
+    for comment in reader.comments():
+        options = mark_of(comment)
+        if options is None or comment in seen:
+            continue
+        seen.add(comment)
+        if reader.at_end():
+            raise Refusal(comment.line, 'no type is below the comment')
+        if comment.line == reader.last_line():
+            raise Refusal(comment.line, 'the comment stands behind code: write it above the type')
+        if found is not None:
+            raise Refusal(comment.line, 'a second comment of this kind above one type')
+        check_options(options, comment.line)
+        found = comment
+    return found
+
+
+def options_of(text):
+    return [option.strip() for option in text.split(',')]
+
+
+def check_options(text, line):
+    options = options_of(text)
+    for index, option in enumerate(options):
+        if option not in OPTIONS:
+            raise Refusal(line, '`%s` is no option: write `// derive: borsh` or `// derive: borsh, key`' % option)
+        if option in options[:index]:
+            raise Refusal(line, 'the option `%s` comes twice' % option)
+    if 'borsh' not in options:
+        raise Refusal(line, 'the option `borsh` is missing')
+
+
+def refuse_stray_marks(reader, seen):
+    """A mark within an item marks nothing."""
+    for comments in reader.before.values():
+        for comment in comments:
+            if mark_of(comment) is not None and comment not in seen:
+                reason = 'the comment stands within an item: only types at the top of a file are taken'
+                raise Refusal(comment.line, reason)
+
+
+# ---- items
+
+# words before the keyword of an item, and keywords behind which an item has its name
+MODIFIERS = ('unsafe', 'const', 'final', 'extern', 'async')
+NAMED = ('struct', 'enum', 'type', 'const', 'static', 'fn', 'trait', 'mod', 'union')
+
+
+def read_item(reader, module):
+    """An item that isn't marked: its name is kept, and what it imports."""
+    start = reader.place
+    if reader.is_next('ghost'):
+        skip_item(reader)
+        return
+    public = skip_visibility(reader)
+    if reader.skip('use'):
+        for name, path in use_tree(reader, []):
+            module.imports[name] = path
+        reader.take(';')
+        return
+    while reader.peek().text in MODIFIERS and reader.peek(1).text in ('fn', 'trait', 'impl') + MODIFIERS:
+        reader.next()
+    if reader.peek().text in NAMED and reader.peek(1).kind == 'word':
+        module.items[reader.peek(1).text] = public
+    reader.place = start
+    skip_item(reader)
+
+
+def skip_item(reader):
+    """Goes past an item: to a `;`, or to the end of its last block."""
+    while not reader.at_end():
+        token = reader.peek()
+        if token.text == ';':
+            reader.next()
+            return
+        if token.text == '{':
+            reader.group()
+            if reader.at_end() or not reader.is_next(';') and not goes_on(reader):
+                return
+        elif token.text in '([':
+            reader.group()
+        else:
+            reader.next()
+
+
+def goes_on(reader):
+    """Whether an item goes on behind a block of its clauses, as `requires { .. }`."""
+    return reader.peek().text in ('{', 'ensures', 'requires', 'where', ',', '=')
+
+
+def skip_visibility(reader):
+    """Goes past `pub` or `pub(..)`, and says whether it was there."""
+    if not reader.skip('pub'):
+        return False
+    if reader.is_next('('):
+        reader.group()
+    return True
+
+
+def use_tree(reader, prefix):
+    """The names that an import brings in, each with its path."""
+    path = list(prefix)
+    reader.skip('::')
+    while True:
+        if reader.skip('*'):
+            return [('*' + '::'.join(path), '::'.join(path + ['*']))]
+        if reader.skip('{'):
+            return use_group(reader, path)
+        path.append(reader.word())
+        if not reader.skip('::'):
+            break
+    if path[-1] == 'self':
+        path.pop()
+    if reader.skip('as'):
+        name = reader.next().text
+        return [(name, '%s as %s' % ('::'.join(path), name))]
+    return [(path[-1], '::'.join(path))]
+
+
+def use_group(reader, path):
+    found = []
+    while not reader.is_next('}'):
+        found += use_tree(reader, path)
+        if not reader.skip(','):
+            break
+    reader.take('}')
+    return found
+
+
+# ---- attributes
+
+def attributes_of(reader):
+    """The attributes before an item, each with its name; those of the whole file are passed over."""
+    found = []
+    while reader.is_next('#'):
+        line = reader.take('#').line
+        inner = reader.skip('!')
+        tokens = reader.group()
+        if not inner:
+            found.append((tokens[1].text, joined(tokens), line))
+    return found
+
+
+def check_attributes(attributes, allowed, what):
+    for name, text, line in attributes:
+        if name not in allowed:
+            raise Refusal(line, 'the attribute `#%s` of a %s is not taken' % (text, what))
+
+
+def check_key(marked, attributes):
+    """A key is a struct without parameters that is compared field by field."""
+    if 'key' not in marked.options:
+        return
+    derived = ' '.join(text for name, text, _ in attributes if name == 'derive')
+    missing = [name for name in COMPARED if not re.search(r'\b%s\b' % name, derived)]
+    if missing:
+        reason = 'a key is compared as its fields are: `#[derive(..)]` lacks `%s`'
+        raise Refusal(marked.line, reason % '`, `'.join(missing))
+    if marked.variants is not None or not marked.fields.all:
+        raise Refusal(marked.line, 'a key is a struct with fields here: implement `BorshKey` of another type by hand')
+    if marked.parameters:
+        raise Refusal(marked.line, 'a key with parameters is not taken')
+    if len(marked.fields.encoded()) < len(marked.fields.all):
+        reason = 'a key has no field that is left out: two keys with one encoding would not be equal'
+        raise Refusal(marked.line, reason)
+
+
+# ---- marked types
+
+def read_marked(reader, mark):
+    """The struct or the enum below a mark."""
+    line = reader.peek().line
+    if not reader.skip('pub') or reader.peek().text not in ('struct', 'enum'):
+        raise Refusal(mark.line, 'no `pub struct` or `pub enum` is below the comment')
+    what = reader.next().text
+    name = reader.word()
+    parameters = read_parameters(reader) if reader.is_next('<') else []
+    if what == 'enum':
+        where = read_where(reader)
+        variants = read_variants(reader)
+        if not variants:
+            raise Refusal(line, 'an enum without variants has no values')
+        return Marked(name, line, parameters, where, variants=variants)
+    where = read_where(reader)
+    if reader.is_next('{'):
+        fields = read_named_fields(reader, 'field')
+        return Marked(name, line, parameters, where, fields=fields)
+    fields = read_tuple_fields(reader) if reader.is_next('(') else Fields('unit', [])
+    where = where or read_where(reader)
+    reader.take(';')
+    return Marked(name, line, parameters, where, fields=fields)
+
+
+def read_parameters(reader):
+    reader.take('<')
+    found = []
+    while not reader.is_next('>'):
+        token = reader.peek()
+        if token.kind == 'lifetime':
+            reason = 'the lifetime `%s`: a value that borrows is never decoded'
+            raise Refusal(token.line, reason % token.text)
+        constant = reader.skip('const')
+        name = reader.word()
+        bounds = joined(angle_until(reader, ',', '>', '=')) if reader.skip(':') else ''
+        if reader.is_next('='):
+            raise Refusal(reader.peek().line, 'the parameter `%s` has a default, which is not taken' % name)
+        found.append(Parameter(name, bounds, constant))
+        if not reader.skip(','):
+            break
+    reader.take('>')
+    return found
+
+
+def angle_until(reader, *ends):
+    """The tokens before one of these texts that stands in no bracket, angle brackets among them."""
+    start = reader.place
+    depth = 0
+    while depth > 0 or reader.peek().text not in ends:
+        text = reader.peek().text
+        if text in '([{':
+            reader.group()
+            continue
+        depth += (text == '<') - (text == '>')
+        reader.next()
+    return reader.tokens[start:reader.place]
+
+
+def read_where(reader):
+    """The bounds behind `where`, as one text without a comma at its end."""
+    if not reader.skip('where'):
+        return ''
+    return joined(reader.until('{', ';')).rstrip(',').strip()
+
+
+def read_named_fields(reader, what):
+    reader.take('{')
+    found = []
+    while not reader.is_next('}'):
+        skipped = is_skipped(reader)
+        check_attributes(attributes_of(reader), FIELD_ATTRIBUTES, 'field')
+        line = reader.peek().line
+        if reader.is_next('ghost'):
+            reason = 'a ghost field says which values there are, which a decoder has to prove: implement the type by hand'
+            raise Refusal(line, reason)
+        public = skip_visibility(reader) or what == 'variant'
+        name = reader.word()
+        reader.take(':')
+        found.append(Field(name, parse_type(reader), line, public, skipped))
+        if not reader.skip(','):
+            break
+    reader.take('}')
+    return Fields('named', found)
+
+
+def read_tuple_fields(reader, public=False):
+    reader.take('(')
+    found = []
+    while not reader.is_next(')'):
+        skipped = is_skipped(reader)
+        check_attributes(attributes_of(reader), FIELD_ATTRIBUTES, 'field')
+        line = reader.peek().line
+        is_public = skip_visibility(reader) or public
+        found.append(Field(str(len(found)), parse_type(reader), line, is_public, skipped))
+        if not reader.skip(','):
+            break
+    reader.take(')')
+    return Fields('tuple', found)
+
+
+def is_skipped(reader):
+    """Whether `// skip` stands above the next field."""
+    for comment in reader.comments():
+        if re.match(r'//(?![/!])\s*skip\s*$', comment.text):
+            if comment.line == reader.last_line():
+                raise Refusal(comment.line, '`// skip` stands behind code: write it above the field')
+            return True
+    return False
+
+
+def read_variants(reader):
+    reader.take('{')
+    found = []
+    tag = 0
+    while not reader.is_next('}'):
+        told = tag_above(reader)
+        check_attributes(attributes_of(reader), VARIANT_ATTRIBUTES, 'variant')
+        line = reader.peek().line
+        name = reader.word()
+        fields = variant_fields(reader)
+        if reader.skip('='):
+            if told is not None:
+                reason = 'the variant `%s` has a discriminant and a comment `// tag: ..`: write one of them'
+                raise Refusal(line, reason % name)
+            told = number_of(reader.until(',', '}'), line)
+        tag = tag if told is None else told
+        refuse_tag(found, name, tag, line)
+        found.append(Variant(name, tag, fields, line))
+        tag += 1
+        if not reader.skip(','):
+            break
+    reader.take('}')
+    return found
+
+
+def variant_fields(reader):
+    if reader.is_next('{'):
+        return read_named_fields(reader, 'variant')
+    if reader.is_next('('):
+        return read_tuple_fields(reader, public=True)
+    return Fields('unit', [])
+
+
+def tag_above(reader):
+    """The number in a comment `// tag: 7` above the next variant, or None."""
+    found = None
+    for comment in reader.comments():
+        match = re.match(r'//(?![/!])\s*tag\s*:\s*(.*?)\s*$', comment.text)
+        if match is None:
+            continue
+        if comment.line == reader.last_line():
+            raise Refusal(comment.line, '`// tag: ..` stands behind code: write it above the variant')
+        found = parse_number(match[1], comment.line)
+    return found
+
+
+def number_of(tokens, line):
+    if len(tokens) != 1 or tokens[0].kind != 'number':
+        raise Refusal(line, 'the discriminant `%s` is no number' % joined(tokens))
+    return parse_number(tokens[0].text, line)
+
+
+def parse_number(text, line):
+    """A whole number as Rust writes it: with underscores, in any base, perhaps with its type."""
+    bare = re.sub(r'([ui](8|16|32|64|128|size))$', '', text.replace('_', ''))
+    try:
+        return int(bare, 0) if not re.fullmatch(r'0\d+', bare) else int(bare)
+    except ValueError:
+        raise Refusal(line, '`%s` is no number' % text)
+
+
+def refuse_tag(variants, name, tag, line):
+    if not 0 <= tag <= 255:
+        raise Refusal(line, 'the tag of `%s` is %d, and a tag is one byte' % (name, tag))
+    for variant in variants:
+        if variant.tag == tag:
+            raise Refusal(line, '`%s` and `%s` have one tag, %d' % (variant.name, name, tag))
