@@ -8,7 +8,10 @@ import re
 import sys
 
 HEAD = "| Crate | Files of `specs/`, with their lines | Lines |"
-CRATES = "borsh_io borsh_codec borsh_de places borsh_enums borsh_walks borsh_schema borsh borsh_answers borsh_lines".split()
+CRATES = (
+    "borsh_io borsh_codec borsh_de places borsh_enums borsh_walks borsh_values borsh_schema borsh "
+    "borsh_answers borsh_lines borsh_tool"
+).split()
 
 top = pathlib.Path(__file__).resolve().parent.parent
 

@@ -37,6 +37,7 @@ pub fn command<'a>(alloc: Global) -> Result<Command<'a>, AllocError> {
         AFTER_SIZE,
     );
     Command::new(alloc, "borsh")
+        .bin_name("borsh")?
         .about("Answers what a Borsh schema container says")
         .after_help(AFTER_HELP)
         .subcommand_required(true)

@@ -1,32 +1,81 @@
 // Definitions as text, one a line.
+ghost use Rattle.std.specs.Prelude.{◌≡◌, ◌++◌, OnOk, IfOk, codes, flat_map, option_map};
+ghost use Rattle.borsh_schema.specs.Containers.{map_of};
+ghost use Rattle.borsh_tool.specs.Answers.{line_of, missing_text};
+ghost use Rattle.borsh_tool.specs.Definitions.{braced, definition_text, elements_text, field_text, fields_text, listed, other_text, part_text, parts_text, range_text, root_line, schema_lines, sequence_text, size_text, variant_text};
+ghost use Rattle.borsh_tool.specs.Plain.{name_text};
+
 use super::plain_text::PlainText;
 use borsh::schema::{BorshSchemaContainer, Declaration, Definition, Fields, LengthRange};
 use std::alloc::{AllocError, Global};
 
 /// The definitions of a container, one a line: the root's, and then the others by name. A root without a
 /// definition is `missing` and its name.
-pub fn schema_text(
-    alloc: Global,
-    container: &BorshSchemaContainer,
-) -> Result<PlainText, AllocError> {
+pub fn schema_text(alloc: Global, container: &BorshSchemaContainer) -> Result<PlainText, AllocError>
+    ensures { IfOk result (λ t. t.text.items ≡ schema_lines container.now) }
+{
     let mut out = PlainText::new(alloc);
-    let root = container.declaration();
-    match container.get_definition(root.as_str()) {
-        Some(definition) => push_definition(alloc, root.as_str(), definition, &mut out)?,
-        None => push_missing(root.as_str(), &mut out)?,
-    }
-    for (name, definition) in container.definitions() {
-        if name != root {
-            push_definition(alloc, name.as_str(), definition, &mut out)?;
-        }
-    }
+    let root = container.declaration().as_str();
+    push_root(alloc, root, container.get_definition(root), &mut out)?;
+    push_others(alloc, root, container, &mut out)?;
     Ok(out)
 }
 
-fn push_missing(name: &str, out: &mut PlainText) -> Result<(), AllocError> {
+fn push_root(
+    alloc: Global,
+    root: &str,
+    definition: Option<&Definition>,
+    out: &mut PlainText,
+) -> Result<(), AllocError>
+    ensures { OnOk result (out.new.text.items ≡ out.old.text.items
+        ++ root_line root.now (option_map (λ d. d.now) definition.entry)) }
+{
+    match definition {
+        Some(definition) => push_definition(alloc, root, definition, out),
+        None => push_missing(root, out),
+    }
+}
+
+fn push_missing(name: &str, out: &mut PlainText) -> Result<(), AllocError>
+    ensures { OnOk result (out.new.text.items ≡ out.old.text.items ++ missing_text name.now) }
+{
     out.push("missing ")?;
     out.push_name(name)?;
     out.end_line()
+}
+
+/// The definitions of the names other than the root.
+fn push_others(
+    alloc: Global,
+    root: &str,
+    container: &BorshSchemaContainer,
+    out: &mut PlainText,
+) -> Result<(), AllocError>
+    ensures { OnOk result (out.new.text.items ≡ out.old.text.items
+        ++ flat_map (other_text root.now) (map_of container.now).entries) }
+{
+    for (name, definition) in container.definitions() {
+        push_other(alloc, root, name, definition, out)?;
+    }
+    Ok(())
+}
+
+/// A name and its definition, as a line, or nothing for the root.
+#[tactic(auto, unfolding(crate::specs::Definitions::other_text))]
+fn push_other(
+    alloc: Global,
+    root: &str,
+    name: &Declaration,
+    definition: &Definition,
+    out: &mut PlainText,
+) -> Result<(), AllocError>
+    ensures { OnOk result (out.new.text.items ≡ out.old.text.items
+        ++ other_text root.now (name.now, definition.now)) }
+{
+    if name.as_str() == root {
+        return Ok(());
+    }
+    push_definition(alloc, name.as_str(), definition, out)
 }
 
 /// A name and its definition, as a line.
@@ -35,9 +84,25 @@ fn push_definition(
     name: &str,
     definition: &Definition,
     out: &mut PlainText,
-) -> Result<(), AllocError> {
+) -> Result<(), AllocError>
+    ensures { OnOk result (out.new.text.items ≡ out.old.text.items
+        ++ line_of (definition_text name.now definition.now)) }
+{
+    push_definition_text(alloc, name, definition, out)?;
+    out.end_line()
+}
+
+fn push_definition_text(
+    alloc: Global,
+    name: &str,
+    definition: &Definition,
+    out: &mut PlainText,
+) -> Result<(), AllocError>
+    ensures { OnOk result (out.new.text.items ≡ out.old.text.items
+        ++ definition_text name.now definition.now) }
+{
     match definition {
-        Definition::Primitive(size) => push_primitive(alloc, name, *size, out)?,
+        Definition::Primitive(size) => push_primitive(alloc, name, *size, out),
         Definition::Sequence {
             length_width,
             length_range,
@@ -49,15 +114,14 @@ fn push_definition(
             length_range,
             elements.as_str(),
             out,
-        )?,
-        Definition::Tuple { elements } => push_tuple(name, elements.as_slice(), out)?,
+        ),
+        Definition::Tuple { elements } => push_tuple(name, elements.as_slice(), out),
         Definition::Enum {
             tag_width,
             variants,
-        } => push_enum(alloc, name, *tag_width, variants.as_slice(), out)?,
-        Definition::Struct { fields } => push_struct(name, fields, out)?,
+        } => push_enum(alloc, name, *tag_width, variants.as_slice(), out),
+        Definition::Struct { fields } => push_struct(name, fields, out),
     }
-    out.end_line()
 }
 
 /// `primitive u32 = 4 bytes`
@@ -66,11 +130,14 @@ fn push_primitive(
     name: &str,
     size: u8,
     out: &mut PlainText,
-) -> Result<(), AllocError> {
+) -> Result<(), AllocError>
+    ensures { OnOk result (out.new.text.items ≡ out.old.text.items
+        ++ (codes "primitive " ++ (name_text name.now ++ (codes " = " ++ size_text size)))) }
+{
     out.push("primitive ")?;
     out.push_name(name)?;
     out.push(" = ")?;
-    out.push_size(alloc, size)
+    push_size(alloc, size, out)
 }
 
 /// `sequence String = [u8; 0..=4294967295], length in 4 bytes`, or `array "[u8; 4]" = [u8; 4]` where no
@@ -82,35 +149,65 @@ fn push_sequence(
     length_range: &LengthRange,
     elements: &str,
     out: &mut PlainText,
-) -> Result<(), AllocError> {
-    out.push(if length_width == 0 {
-        "array "
-    } else {
-        "sequence "
-    })?;
+) -> Result<(), AllocError>
+    ensures { OnOk result (out.new.text.items ≡ out.old.text.items
+        ++ sequence_text name.now length_width length_range.now elements.now) }
+{
+    if length_width == 0 {
+        out.push("array ")?;
+        return push_elements(alloc, name, length_range, elements, out);
+    }
+    out.push("sequence ")?;
+    push_elements(alloc, name, length_range, elements, out)?;
+    out.push(", length in ")?;
+    push_size(alloc, length_width, out)
+}
+
+/// `String = [u8; 0..=4294967295]`
+#[tactic(auto, unfolding(crate::specs::Definitions::elements_text))]
+fn push_elements(
+    alloc: Global,
+    name: &str,
+    length_range: &LengthRange,
+    elements: &str,
+    out: &mut PlainText,
+) -> Result<(), AllocError>
+    ensures { OnOk result (out.new.text.items ≡ out.old.text.items
+        ++ elements_text name.now length_range.now elements.now) }
+{
     out.push_name(name)?;
     out.push(" = [")?;
     out.push_name(elements)?;
     out.push("; ")?;
-    out.push_number(alloc, length_range.start)?;
-    if length_range.start != length_range.end {
-        out.push("..=")?;
-        out.push_number(alloc, length_range.end)?;
-    }
-    out.push("]")?;
-    if length_width == 0 {
+    push_range(alloc, length_range, out)?;
+    out.push("]")
+}
+
+/// `0..=4294967295`, or `4`
+fn push_range(alloc: Global, range: &LengthRange, out: &mut PlainText) -> Result<(), AllocError>
+    ensures { OnOk result (out.new.text.items ≡ out.old.text.items ++ range_text range.now) }
+{
+    out.push_number(alloc, range.start)?;
+    if range.start == range.end {
         return Ok(());
     }
-    out.push(", length in ")?;
-    out.push_size(alloc, length_width)
+    out.push("..=")?;
+    out.push_number(alloc, range.end)
 }
 
 /// `tuple "(u8, u16)" = (u8, u16)`
-fn push_tuple(name: &str, elements: &[Declaration], out: &mut PlainText) -> Result<(), AllocError> {
+fn push_tuple(
+    name: &str,
+    elements: &[Declaration],
+    out: &mut PlainText,
+) -> Result<(), AllocError>
+    ensures { OnOk result (out.new.text.items ≡ out.old.text.items
+        ++ (codes "tuple " ++ (name_text name.now ++ (codes " = " ++ parts_text elements.now)))) }
+{
     out.push("tuple ")?;
     out.push_name(name)?;
     out.push(" = ")?;
-    push_names(elements, out)
+    push_parts(elements, out)
 }
 
 /// `enum "Option<u8>" { None("()") = 0, Some(u8) = 1 }, tag in 1 byte`
@@ -120,58 +217,164 @@ fn push_enum(
     tag_width: u8,
     variants: &[(i64, String, Declaration)],
     out: &mut PlainText,
-) -> Result<(), AllocError> {
+) -> Result<(), AllocError>
+    ensures { OnOk result (out.new.text.items ≡ out.old.text.items
+        ++ (codes "enum " ++ (name_text name.now ++ (braced variant_text variants.now
+        ++ (codes ", tag in " ++ size_text tag_width))))) }
+{
     out.push("enum ")?;
     out.push_name(name)?;
-    out.push(" {")?;
-    let mut before = " ";
-    for (tag, variant, part) in variants {
-        out.push(before)?;
-        out.push_name(variant.as_str())?;
-        out.push("(")?;
-        out.push_name(part.as_str())?;
-        out.push(") = ")?;
-        out.push_signed(alloc, *tag)?;
-        before = ", ";
-    }
-    out.push(if variants.is_empty() { "}" } else { " }" })?;
+    push_variants(alloc, variants, out)?;
     out.push(", tag in ")?;
-    out.push_size(alloc, tag_width)
+    push_size(alloc, tag_width, out)
+}
+
+/// ` { None("()") = 0, Some(u8) = 1 }`
+fn push_variants(
+    alloc: Global,
+    variants: &[(i64, String, Declaration)],
+    out: &mut PlainText,
+) -> Result<(), AllocError>
+    ensures { OnOk result (out.new.text.items ≡ out.old.text.items
+        ++ braced variant_text variants.now) }
+{
+    let [first, others @ ..] = variants else {
+        return out.push(" {}");
+    };
+    out.push(" { ")?;
+    push_variant(alloc, first, out)?;
+    push_other_variants(alloc, others, out)?;
+    out.push(" }")
+}
+
+fn push_other_variants(
+    alloc: Global,
+    variants: &[(i64, String, Declaration)],
+    out: &mut PlainText,
+) -> Result<(), AllocError>
+    ensures { OnOk result (out.new.text.items ≡ out.old.text.items
+        ++ flat_map (λ v. codes ", " ++ variant_text v) variants.now) }
+{
+    for variant in variants {
+        out.push(", ")?;
+        push_variant(alloc, variant, out)?;
+    }
+    Ok(())
+}
+
+/// `Some(u8) = 1`
+fn push_variant(
+    alloc: Global,
+    variant: &(i64, String, Declaration),
+    out: &mut PlainText,
+) -> Result<(), AllocError>
+    ensures { OnOk result (out.new.text.items ≡ out.old.text.items ++ variant_text variant.now) }
+{
+    let (tag, name, part) = variant;
+    out.push_name(name.as_str())?;
+    out.push("(")?;
+    out.push_name(part.as_str())?;
+    out.push(") = ")?;
+    out.push_signed(alloc, tag)
 }
 
 /// `struct A { x: u64, y: String }`, `struct B(u64, String)` or `struct C`
-fn push_struct(name: &str, fields: &Fields, out: &mut PlainText) -> Result<(), AllocError> {
+fn push_struct(name: &str, fields: &Fields, out: &mut PlainText) -> Result<(), AllocError>
+    ensures { OnOk result (out.new.text.items ≡ out.old.text.items
+        ++ (codes "struct " ++ (name_text name.now ++ fields_text fields.now))) }
+{
     out.push("struct ")?;
     out.push_name(name)?;
+    push_fields(fields, out)
+}
+
+fn push_fields(fields: &Fields, out: &mut PlainText) -> Result<(), AllocError>
+    ensures { OnOk result (out.new.text.items ≡ out.old.text.items ++ fields_text fields.now) }
+{
     match fields {
-        Fields::NamedFields(fields) => push_fields(fields.as_slice(), out),
-        Fields::UnnamedFields(parts) => push_names(parts.as_slice(), out),
+        Fields::NamedFields(fields) => push_named(fields.as_slice(), out),
+        Fields::UnnamedFields(parts) => push_parts(parts.as_slice(), out),
         Fields::Empty => Ok(()),
     }
 }
 
 /// ` { x: u64, y: String }`
-fn push_fields(fields: &[(String, Declaration)], out: &mut PlainText) -> Result<(), AllocError> {
-    out.push(" {")?;
-    let mut before = " ";
-    for (field, part) in fields {
-        out.push(before)?;
-        out.push_name(field.as_str())?;
-        out.push(": ")?;
-        out.push_name(part.as_str())?;
-        before = ", ";
+fn push_named(fields: &[(String, Declaration)], out: &mut PlainText) -> Result<(), AllocError>
+    ensures { OnOk result (out.new.text.items ≡ out.old.text.items
+        ++ braced field_text fields.now) }
+{
+    let [first, others @ ..] = fields else {
+        return out.push(" {}");
+    };
+    out.push(" { ")?;
+    push_field(first, out)?;
+    push_other_fields(others, out)?;
+    out.push(" }")
+}
+
+fn push_other_fields(
+    fields: &[(String, Declaration)],
+    out: &mut PlainText,
+) -> Result<(), AllocError>
+    ensures { OnOk result (out.new.text.items ≡ out.old.text.items
+        ++ flat_map (λ f. codes ", " ++ field_text f) fields.now) }
+{
+    for field in fields {
+        out.push(", ")?;
+        push_field(field, out)?;
     }
-    out.push(if fields.is_empty() { "}" } else { " }" })
+    Ok(())
+}
+
+/// `x: u64`
+fn push_field(field: &(String, Declaration), out: &mut PlainText) -> Result<(), AllocError>
+    ensures { OnOk result (out.new.text.items ≡ out.old.text.items ++ field_text field.now) }
+{
+    let (name, part) = field;
+    out.push_name(name.as_str())?;
+    out.push(": ")?;
+    out.push_name(part.as_str())
 }
 
 /// `(u64, String)`
-fn push_names(names: &[Declaration], out: &mut PlainText) -> Result<(), AllocError> {
+fn push_parts(parts: &[Declaration], out: &mut PlainText) -> Result<(), AllocError>
+    ensures { OnOk result (out.new.text.items ≡ out.old.text.items ++ parts_text parts.now) }
+{
     out.push("(")?;
-    let mut before = "";
-    for name in names {
-        out.push(before)?;
-        out.push_name(name.as_str())?;
-        before = ", ";
-    }
+    push_listed_parts(parts, out)?;
     out.push(")")
+}
+
+fn push_listed_parts(parts: &[Declaration], out: &mut PlainText) -> Result<(), AllocError>
+    ensures { OnOk result (out.new.text.items ≡ out.old.text.items
+        ++ listed part_text parts.now) }
+{
+    let [first, others @ ..] = parts else {
+        return Ok(());
+    };
+    out.push_name(first.as_str())?;
+    push_other_parts(others, out)
+}
+
+fn push_other_parts(parts: &[Declaration], out: &mut PlainText) -> Result<(), AllocError>
+    ensures { OnOk result (out.new.text.items ≡ out.old.text.items
+        ++ flat_map (λ p. codes ", " ++ part_text p) parts.now) }
+{
+    for part in parts {
+        out.push(", ")?;
+        out.push_name(part.as_str())?;
+    }
+    Ok(())
+}
+
+/// `1 byte` or `4 bytes`
+fn push_size(alloc: Global, size: u8, out: &mut PlainText) -> Result<(), AllocError>
+    ensures { OnOk result (out.new.text.items ≡ out.old.text.items ++ size_text size) }
+{
+    out.push_number(alloc, u64::from(size))?;
+    if size == 1 {
+        out.push(" byte")
+    } else {
+        out.push(" bytes")
+    }
 }

@@ -1,5 +1,6 @@
 // Text that a terminal shows as it is.
-ghost use Rattle.std.specs.Prelude.{◌≡◌, ◌++◌, ◌∷◌, ◌<◌, ◌≤◌, [], All, IfOk, OnOk, flat_map};
+ghost use Rattle.std.specs.Prelude.{◌≡◌, ◌++◌, ◌∷◌, ◌<◌, ◌≤◌, [], All, OnOk, decimal, flat_map};
+ghost use Rattle.std.specs.Fmt.{signed_decimal};
 ghost use Rattle.borsh_tool.specs.Plain.{IsPlain, digit as digit_of, escaped, quoted, name_text, is_word as is_word_byte, is_identifier as is_identifier_text};
 ghost use Rattle.std.specs.List.{list_all};
 
@@ -44,21 +45,20 @@ impl PlainText {
     }
 
     /// Adds a number in decimal.
-    pub fn push_number(&mut self, alloc: Global, number: u64) -> Result<(), AllocError> {
+    pub fn push_number(&mut self, alloc: Global, number: u64) -> Result<(), AllocError>
+        ensures { OnOk result (self.new.text.items ≡ self.old.text.items ++ decimal number) }
+    {
         let text = format!(in alloc; "{number}")?;
         self.push(text.as_str())
     }
 
     /// The same of a number with a sign.
-    pub fn push_signed(&mut self, alloc: Global, number: i64) -> Result<(), AllocError> {
+    pub fn push_signed(&mut self, alloc: Global, number: &i64) -> Result<(), AllocError>
+        ensures { OnOk result (self.new.text.items
+            ≡ self.old.text.items ++ flat_map escaped (signed_decimal number.now)) }
+    {
         let text = format!(in alloc; "{number}")?;
         self.push(text.as_str())
-    }
-
-    /// Adds a number of bytes, as `1 byte` or `4 bytes`.
-    pub fn push_size(&mut self, alloc: Global, size: u8) -> Result<(), AllocError> {
-        self.push_number(alloc, u64::from(size))?;
-        self.push(if size == 1 { " byte" } else { " bytes" })
     }
 
     /// Adds a name: an identifier as it is, and any other name in quotation marks, with a backslash
