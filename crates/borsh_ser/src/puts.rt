@@ -82,7 +82,8 @@ pub fn put_three<A: BorshSerialize, B: BorshSerialize, C: BorshSerialize>(
     c: &C,
     room: &mut [u8],
 ) -> Option<usize>
-    ensures { Puts ((pair A.codec (pair B.codec C.codec)).encoding (a.now, (b.now, c.now))) room.old room.new result }
+    ensures { Puts ((pair A.codec (pair B.codec C.codec)).encoding (a.now, (b.now, c.now))) room.old
+        room.new result }
 {
     let first = a.put(room)?;
     let second = put_two(b, c, &mut room[first..])?;
@@ -98,7 +99,13 @@ pub fn put_four<A: BorshSerialize, B: BorshSerialize, C: BorshSerialize, D: Bors
     d: &D,
     room: &mut [u8],
 ) -> Option<usize>
-    ensures { Puts ((pair A.codec (pair B.codec (pair C.codec D.codec))).encoding (a.now, (b.now, (c.now, d.now)))) room.old room.new result }
+    ensures { Puts ((pair A.codec (pair B.codec (pair C.codec D.codec))).encoding (
+      a.now,
+      (
+        b.now,
+        (c.now, d.now),
+      ),
+    )) room.old room.new result }
 {
     let first = a.put(room)?;
     let second = put_three(b, c, d, &mut room[first..])?;
@@ -114,7 +121,8 @@ pub fn put_five<
     D: BorshSerialize,
     E: BorshSerialize,
 >(a: &A, b: &B, c: &C, d: &D, e: &E, room: &mut [u8]) -> Option<usize>
-    ensures { Puts ((pair A.codec (pair B.codec (pair C.codec (pair D.codec E.codec)))).encoding (a.now, (b.now, (c.now, (d.now, e.now))))) room.old room.new result }
+    ensures { Puts ((pair A.codec (pair B.codec (pair C.codec (pair D.codec E.codec)))).encoding
+        (a.now, (b.now, (c.now, (d.now, e.now))))) room.old room.new result }
 {
     let first = a.put(room)?;
     let second = put_four(b, c, d, e, &mut room[first..])?;
@@ -131,7 +139,9 @@ pub fn put_six<
     E: BorshSerialize,
     F: BorshSerialize,
 >(a: &A, b: &B, c: &C, d: &D, e: &E, f: &F, room: &mut [u8]) -> Option<usize>
-    ensures { Puts ((pair A.codec (pair B.codec (pair C.codec (pair D.codec (pair E.codec F.codec))))).encoding (a.now, (b.now, (c.now, (d.now, (e.now, f.now)))))) room.old room.new result }
+    ensures { Puts ((pair A.codec (pair B.codec (pair C.codec (pair D.codec (pair E.codec
+        F.codec))))).encoding (a.now, (b.now, (c.now, (d.now, (e.now, f.now)))))) room.old room.new
+        result }
 {
     let first = a.put(room)?;
     let second = put_five(b, c, d, e, f, &mut room[first..])?;
@@ -149,7 +159,9 @@ pub fn put_seven<
     F: BorshSerialize,
     G: BorshSerialize,
 >(a: &A, b: &B, c: &C, d: &D, e: &E, f: &F, g: &G, room: &mut [u8]) -> Option<usize>
-    ensures { Puts ((pair A.codec (pair B.codec (pair C.codec (pair D.codec (pair E.codec (pair F.codec G.codec)))))).encoding (a.now, (b.now, (c.now, (d.now, (e.now, (f.now, g.now))))))) room.old room.new result }
+    ensures { Puts ((pair A.codec (pair B.codec (pair C.codec (pair D.codec (pair E.codec (pair
+        F.codec G.codec)))))).encoding (a.now, (b.now, (c.now, (d.now, (e.now, (f.now, g.now)))))))
+        room.old room.new result }
 {
     let first = a.put(room)?;
     let second = put_six(b, c, d, e, f, g, &mut room[first..])?;
@@ -168,7 +180,23 @@ pub fn put_eight<
     G: BorshSerialize,
     H: BorshSerialize,
 >(a: &A, b: &B, c: &C, d: &D, e: &E, f: &F, g: &G, h: &H, room: &mut [u8]) -> Option<usize>
-    ensures { Puts ((pair A.codec (pair B.codec (pair C.codec (pair D.codec (pair E.codec (pair F.codec (pair G.codec H.codec))))))).encoding (a.now, (b.now, (c.now, (d.now, (e.now, (f.now, (g.now, h.now)))))))) room.old room.new result }
+    ensures { Puts ((pair A.codec (pair B.codec (pair C.codec (pair D.codec (pair E.codec (pair
+        F.codec (pair G.codec H.codec))))))).encoding (
+          a.now,
+          (
+            b.now,
+            (
+              c.now,
+              (
+                d.now,
+                (
+                  e.now,
+                  (f.now, (g.now, h.now)),
+                ),
+              ),
+            ),
+          ),
+        )) room.old room.new result }
 {
     let first = a.put(room)?;
     let second = put_seven(b, c, d, e, f, g, h, &mut room[first..])?;
@@ -188,7 +216,20 @@ pub fn put_nine<
     H: BorshSerialize,
     I: BorshSerialize,
 >(a: &A, b: &B, c: &C, d: &D, e: &E, f: &F, g: &G, h: &H, i: &I, room: &mut [u8]) -> Option<usize>
-    ensures { Puts ((pair A.codec (pair B.codec (pair C.codec (pair D.codec (pair E.codec (pair F.codec (pair G.codec (pair H.codec I.codec)))))))).encoding (a.now, (b.now, (c.now, (d.now, (e.now, (f.now, (g.now, (h.now, i.now))))))))) room.old room.new result }
+    ensures { Puts ((pair A.codec (pair B.codec (pair C.codec (pair D.codec (pair E.codec (pair
+        F.codec (pair G.codec (pair H.codec I.codec)))))))).encoding (
+          a.now,
+          (
+            b.now,
+            (
+              c.now,
+              (
+                d.now,
+                (e.now, (f.now, (g.now, (h.now, i.now)))),
+              ),
+            ),
+          ),
+        )) room.old room.new result }
 {
     let first = a.put(room)?;
     let second = put_eight(b, c, d, e, f, g, h, i, &mut room[first..])?;
@@ -221,7 +262,15 @@ pub fn put_ten<
     j: &J,
     room: &mut [u8],
 ) -> Option<usize>
-    ensures { Puts ((pair A.codec (pair B.codec (pair C.codec (pair D.codec (pair E.codec (pair F.codec (pair G.codec (pair H.codec (pair I.codec J.codec))))))))).encoding (a.now, (b.now, (c.now, (d.now, (e.now, (f.now, (g.now, (h.now, (i.now, j.now)))))))))) room.old room.new result }
+    ensures { Puts ((pair A.codec (pair B.codec (pair C.codec (pair D.codec (pair E.codec (pair
+        F.codec (pair G.codec (pair H.codec (pair I.codec J.codec))))))))).encoding (
+          a.now,
+          (
+            b.now,
+            (c.now, (d.now, (e.now, (f.now, (g.now, (h.now, (i.now, j.now))))))),
+          ),
+        )) room.old room.new
+        result }
 {
     let first = a.put(room)?;
     let second = put_nine(b, c, d, e, f, g, h, i, j, &mut room[first..])?;
@@ -256,7 +305,38 @@ pub fn put_eleven<
     k: &K,
     room: &mut [u8],
 ) -> Option<usize>
-    ensures { Puts ((pair A.codec (pair B.codec (pair C.codec (pair D.codec (pair E.codec (pair F.codec (pair G.codec (pair H.codec (pair I.codec (pair J.codec K.codec)))))))))).encoding (a.now, (b.now, (c.now, (d.now, (e.now, (f.now, (g.now, (h.now, (i.now, (j.now, k.now))))))))))) room.old room.new result }
+    ensures { Puts ((pair A.codec (pair B.codec (pair C.codec (pair D.codec (pair E.codec (pair
+        F.codec (pair G.codec (pair H.codec (pair I.codec (pair J.codec K.codec)))))))))).encoding (
+          a.now,
+          (
+            b.now,
+            (
+              c.now,
+              (
+                d.now,
+                (
+                  e.now,
+                  (
+                    f.now,
+                    (
+                      g.now,
+                      (
+                        h.now,
+                        (
+                          i.now,
+                          (
+                            j.now,
+                            k.now,
+                          ),
+                        ),
+                      ),
+                    ),
+                  ),
+                ),
+              ),
+            ),
+          ),
+        )) room.old room.new result }
 {
     let first = a.put(room)?;
     let second = put_ten(b, c, d, e, f, g, h, i, j, k, &mut room[first..])?;
@@ -293,7 +373,33 @@ pub fn put_twelve<
     l: &L,
     room: &mut [u8],
 ) -> Option<usize>
-    ensures { Puts ((pair A.codec (pair B.codec (pair C.codec (pair D.codec (pair E.codec (pair F.codec (pair G.codec (pair H.codec (pair I.codec (pair J.codec (pair K.codec L.codec))))))))))).encoding (a.now, (b.now, (c.now, (d.now, (e.now, (f.now, (g.now, (h.now, (i.now, (j.now, (k.now, l.now)))))))))))) room.old room.new result }
+    ensures { Puts ((pair A.codec (pair B.codec (pair C.codec (pair D.codec (pair E.codec (pair
+        F.codec (pair G.codec (pair H.codec (pair I.codec (pair J.codec (pair K.codec
+        L.codec))))))))))).encoding (
+          a.now,
+          (
+            b.now,
+            (
+              c.now,
+              (
+                d.now,
+                (
+                  e.now,
+                  (
+                    f.now,
+                    (
+                      g.now,
+                      (
+                        h.now,
+                        (i.now, (j.now, (k.now, l.now))),
+                      ),
+                    ),
+                  ),
+                ),
+              ),
+            ),
+          ),
+        )) room.old room.new result }
 {
     let first = a.put(room)?;
     let second = put_eleven(b, c, d, e, f, g, h, i, j, k, l, &mut room[first..])?;

@@ -292,14 +292,16 @@ impl<A: BorshKey, B: BorshKey> BorshKey for (A, B) {
 }
 
 impl<A: BorshKey, B: BorshKey, C: BorshKey> BorshKey for (A, B, C) {
-    ghost ordered = { last_part (next_part (first_part (λ t. t.0) A.ordered) (λ t. t.1) B.ordered) (λ t. t.2) C.ordered };
+    ghost ordered = { last_part (next_part (first_part (λ t. t.0) A.ordered) (λ t. t.1) B.ordered)
+        (λ t. t.2) C.ordered };
 
     ghost key = { λ x y. last_key
         (next_key (first_key (A.key x.0 y.0)) (B.key x.1 y.1)) (C.key x.2 y.2) };
 }
 
 impl<A: BorshKey, B: BorshKey, C: BorshKey, D: BorshKey> BorshKey for (A, B, C, D) {
-    ghost ordered = { last_part (next_part (next_part (first_part (λ t. t.0) A.ordered) (λ t. t.1) B.ordered) (λ t. t.2) C.ordered) (λ t. t.3) D.ordered };
+    ghost ordered = { last_part (next_part (next_part (first_part (λ t. t.0) A.ordered) (λ t. t.1)
+        B.ordered) (λ t. t.2) C.ordered) (λ t. t.3) D.ordered };
 
     ghost key = { λ x y. last_key
         (next_key (next_key (first_key (A.key x.0 y.0)) (B.key x.1 y.1)) (C.key x.2 y.2))
@@ -307,7 +309,8 @@ impl<A: BorshKey, B: BorshKey, C: BorshKey, D: BorshKey> BorshKey for (A, B, C, 
 }
 
 impl<A: BorshKey, B: BorshKey, C: BorshKey, D: BorshKey, E: BorshKey> BorshKey for (A, B, C, D, E) {
-    ghost ordered = { last_part (next_part (next_part (next_part (first_part (λ t. t.0) A.ordered) (λ t. t.1) B.ordered) (λ t. t.2) C.ordered) (λ t. t.3) D.ordered) (λ t. t.4) E.ordered };
+    ghost ordered = { last_part (next_part (next_part (next_part (first_part (λ t. t.0) A.ordered)
+        (λ t. t.1) B.ordered) (λ t. t.2) C.ordered) (λ t. t.3) D.ordered) (λ t. t.4) E.ordered };
 
     ghost key = { λ x y. last_key
         (next_key (next_key (next_key (first_key (A.key x.0 y.0)) (B.key x.1 y.1)) (C.key x.2 y.2))
@@ -316,7 +319,9 @@ impl<A: BorshKey, B: BorshKey, C: BorshKey, D: BorshKey, E: BorshKey> BorshKey f
 
 impl<A: BorshKey, B: BorshKey, C: BorshKey, D: BorshKey, E: BorshKey, F: BorshKey> BorshKey
     for (A, B, C, D, E, F) {
-    ghost ordered = { last_part (next_part (next_part (next_part (next_part (first_part (λ t. t.0) A.ordered) (λ t. t.1) B.ordered) (λ t. t.2) C.ordered) (λ t. t.3) D.ordered) (λ t. t.4) E.ordered) (λ t. t.5) F.ordered };
+    ghost ordered = { last_part (next_part (next_part (next_part (next_part (first_part (λ t. t.0)
+        A.ordered) (λ t. t.1) B.ordered) (λ t. t.2) C.ordered) (λ t. t.3) D.ordered) (λ t. t.4)
+        E.ordered) (λ t. t.5) F.ordered };
 
     ghost key = { λ x y. last_key
         (next_key (next_key (next_key (next_key (first_key (A.key x.0 y.0)) (B.key x.1 y.1))
@@ -332,7 +337,9 @@ impl<
     F: BorshKey,
     G: BorshKey,
 > BorshKey for (A, B, C, D, E, F, G) {
-    ghost ordered = { last_part (next_part (next_part (next_part (next_part (next_part (first_part (λ t. t.0) A.ordered) (λ t. t.1) B.ordered) (λ t. t.2) C.ordered) (λ t. t.3) D.ordered) (λ t. t.4) E.ordered) (λ t. t.5) F.ordered) (λ t. t.6) G.ordered };
+    ghost ordered = { last_part (next_part (next_part (next_part (next_part (next_part (first_part
+        (λ t. t.0) A.ordered) (λ t. t.1) B.ordered) (λ t. t.2) C.ordered) (λ t. t.3) D.ordered) (λ
+        t. t.4) E.ordered) (λ t. t.5) F.ordered) (λ t. t.6) G.ordered };
 
     ghost key = { λ x y. last_key
         (next_key (next_key (next_key (next_key (next_key (first_key (A.key x.0 y.0))
@@ -350,7 +357,10 @@ impl<
     G: BorshKey,
     H: BorshKey,
 > BorshKey for (A, B, C, D, E, F, G, H) {
-    ghost ordered = { last_part (next_part (next_part (next_part (next_part (next_part (next_part (first_part (λ t. t.0) A.ordered) (λ t. t.1) B.ordered) (λ t. t.2) C.ordered) (λ t. t.3) D.ordered) (λ t. t.4) E.ordered) (λ t. t.5) F.ordered) (λ t. t.6) G.ordered) (λ t. t.7) H.ordered };
+    ghost ordered = { last_part (next_part (next_part (next_part (next_part (next_part (next_part
+        (first_part (λ t. t.0) A.ordered) (λ t. t.1) B.ordered) (λ t. t.2) C.ordered) (λ t. t.3)
+        D.ordered) (λ t. t.4) E.ordered) (λ t. t.5) F.ordered) (λ t. t.6) G.ordered) (λ t. t.7)
+        H.ordered };
 
     ghost key = { λ x y. last_key
         (next_key (next_key (next_key (next_key (next_key (next_key (first_key (A.key x.0 y.0))
@@ -369,7 +379,10 @@ impl<
     H: BorshKey,
     I: BorshKey,
 > BorshKey for (A, B, C, D, E, F, G, H, I) {
-    ghost ordered = { last_part (next_part (next_part (next_part (next_part (next_part (next_part (next_part (first_part (λ t. t.0) A.ordered) (λ t. t.1) B.ordered) (λ t. t.2) C.ordered) (λ t. t.3) D.ordered) (λ t. t.4) E.ordered) (λ t. t.5) F.ordered) (λ t. t.6) G.ordered) (λ t. t.7) H.ordered) (λ t. t.8) I.ordered };
+    ghost ordered = { last_part (next_part (next_part (next_part (next_part (next_part (next_part
+        (next_part (first_part (λ t. t.0) A.ordered) (λ t. t.1) B.ordered) (λ t. t.2) C.ordered) (λ
+        t. t.3) D.ordered) (λ t. t.4) E.ordered) (λ t. t.5) F.ordered) (λ t. t.6) G.ordered) (λ t.
+        t.7) H.ordered) (λ t. t.8) I.ordered };
 
     ghost key = { λ x y. last_key
         (next_key (next_key (next_key (next_key (next_key (next_key (next_key (first_key (A.key x.0 y.0))
@@ -389,7 +402,10 @@ impl<
     I: BorshKey,
     J: BorshKey,
 > BorshKey for (A, B, C, D, E, F, G, H, I, J) {
-    ghost ordered = { last_part (next_part (next_part (next_part (next_part (next_part (next_part (next_part (next_part (first_part (λ t. t.0) A.ordered) (λ t. t.1) B.ordered) (λ t. t.2) C.ordered) (λ t. t.3) D.ordered) (λ t. t.4) E.ordered) (λ t. t.5) F.ordered) (λ t. t.6) G.ordered) (λ t. t.7) H.ordered) (λ t. t.8) I.ordered) (λ t. t.9) J.ordered };
+    ghost ordered = { last_part (next_part (next_part (next_part (next_part (next_part (next_part
+        (next_part (next_part (first_part (λ t. t.0) A.ordered) (λ t. t.1) B.ordered) (λ t. t.2)
+        C.ordered) (λ t. t.3) D.ordered) (λ t. t.4) E.ordered) (λ t. t.5) F.ordered) (λ t. t.6)
+        G.ordered) (λ t. t.7) H.ordered) (λ t. t.8) I.ordered) (λ t. t.9) J.ordered };
 
     ghost key = { λ x y. last_key
         (next_key (next_key (next_key (next_key (next_key (next_key (next_key (next_key (first_key (A.key x.0 y.0))
@@ -410,7 +426,11 @@ impl<
     J: BorshKey,
     K: BorshKey,
 > BorshKey for (A, B, C, D, E, F, G, H, I, J, K) {
-    ghost ordered = { last_part (next_part (next_part (next_part (next_part (next_part (next_part (next_part (next_part (next_part (first_part (λ t. t.0) A.ordered) (λ t. t.1) B.ordered) (λ t. t.2) C.ordered) (λ t. t.3) D.ordered) (λ t. t.4) E.ordered) (λ t. t.5) F.ordered) (λ t. t.6) G.ordered) (λ t. t.7) H.ordered) (λ t. t.8) I.ordered) (λ t. t.9) J.ordered) (λ t. t.10) K.ordered };
+    ghost ordered = { last_part (next_part (next_part (next_part (next_part (next_part (next_part
+        (next_part (next_part (next_part (first_part (λ t. t.0) A.ordered) (λ t. t.1) B.ordered) (λ
+        t. t.2) C.ordered) (λ t. t.3) D.ordered) (λ t. t.4) E.ordered) (λ t. t.5) F.ordered) (λ t.
+        t.6) G.ordered) (λ t. t.7) H.ordered) (λ t. t.8) I.ordered) (λ t. t.9) J.ordered) (λ t.
+        t.10) K.ordered };
 
     ghost key = { λ x y. last_key
         (next_key (next_key (next_key (next_key (next_key (next_key (next_key (next_key (next_key (first_key (A.key x.0 y.0))
@@ -432,7 +452,11 @@ impl<
     K: BorshKey,
     L: BorshKey,
 > BorshKey for (A, B, C, D, E, F, G, H, I, J, K, L) {
-    ghost ordered = { last_part (next_part (next_part (next_part (next_part (next_part (next_part (next_part (next_part (next_part (next_part (first_part (λ t. t.0) A.ordered) (λ t. t.1) B.ordered) (λ t. t.2) C.ordered) (λ t. t.3) D.ordered) (λ t. t.4) E.ordered) (λ t. t.5) F.ordered) (λ t. t.6) G.ordered) (λ t. t.7) H.ordered) (λ t. t.8) I.ordered) (λ t. t.9) J.ordered) (λ t. t.10) K.ordered) (λ t. t.11) L.ordered };
+    ghost ordered = { last_part (next_part (next_part (next_part (next_part (next_part (next_part
+        (next_part (next_part (next_part (next_part (first_part (λ t. t.0) A.ordered) (λ t. t.1)
+        B.ordered) (λ t. t.2) C.ordered) (λ t. t.3) D.ordered) (λ t. t.4) E.ordered) (λ t. t.5)
+        F.ordered) (λ t. t.6) G.ordered) (λ t. t.7) H.ordered) (λ t. t.8) I.ordered) (λ t. t.9)
+        J.ordered) (λ t. t.10) K.ordered) (λ t. t.11) L.ordered };
 
     ghost key = { λ x y. last_key
         (next_key (next_key (next_key (next_key (next_key (next_key (next_key (next_key (next_key (next_key (first_key (A.key x.0 y.0))
@@ -490,7 +514,8 @@ impl<T: BorshKey> BorshKey for CowSlice<'_, T> {
 }
 
 impl<K: BorshKey + Ord, V: BorshKey> BorshKey for BTreeMap<K, V> {
-    ghost ordered = { contramap_ordered (λ m. m.entries) (btree_map_ordered K.cmp K.ordered V.ordered) };
+    ghost ordered = { contramap_ordered (λ m. m.entries) (btree_map_ordered K.cmp K.ordered
+        V.ordered) };
 
     ghost key = { λ m n. all_key (pair K.codec V.codec)
         (pair_key K.codec V.codec K.key V.key)
@@ -541,13 +566,22 @@ impl BorshKey for Uuid {
 }
 
 impl BorshKey for IpAddr {
-    ghost ordered = { record { codec = ip; eq = ⟦<IpAddr as PartialEq>⟧.eq; cmp = ⟦<IpAddr as Ord>⟧.cmp; key = ip_key ⟦<IpAddr as PartialEq>⟧.eq (λ a b. refl) (λ a b. refl) (λ a b. (refl, refl)); total = ip-total; matches = ip-matches } };
+    ghost ordered = { record {
+      codec = ip;
+      eq = ⟦<IpAddr as PartialEq>⟧.eq;
+      cmp = ⟦<IpAddr as Ord>⟧.cmp;
+      key = ip_key ⟦<IpAddr as PartialEq>⟧.eq (λ a b. refl) (λ a b. refl) (λ a b.
+          (refl, refl));
+      total = ip-total;
+      matches = ip-matches;
+    } };
 
     ghost key = { Self.ordered.key };
 }
 
 impl BorshKey for SocketAddrV4 {
-    ghost ordered = { contramap_ordered socket_v4_view (pair_ordered (contramap_ordered ipv4_octets (array_ordered 4 (number_ordered 1))) (number_ordered 2)) };
+    ghost ordered = { contramap_ordered socket_v4_view (pair_ordered (contramap_ordered ipv4_octets
+        (array_ordered 4 (number_ordered 1))) (number_ordered 2)) };
 
     ghost key = { Self.ordered.key };
 }

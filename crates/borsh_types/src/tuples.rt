@@ -109,7 +109,22 @@ impl<A: BorshType, B: BorshType, C: BorshType, D: BorshType, E: BorshType, F: Bo
         (contramap-lawful (λ t. (t.0, (t.1, (t.2, (t.3, (t.4, t.5)))))))
         ⟦<(A, (B, (C, (D, (E, F))))) as BorshType>⟧.lawful_if };
 
-    ghost premises = { (A.premises, (B.premises, (C.premises, (D.premises, (E.premises, F.premises))))) };
+    ghost premises = { (
+      A.premises,
+      (
+        B.premises,
+        (
+          C.premises,
+          (
+            D.premises,
+            (
+              E.premises,
+              F.premises,
+            ),
+          ),
+        ),
+      ),
+    ) };
 
     fn encodes_empty() -> bool {
         <(A, (B, C, D, E, F))>::encodes_empty()
@@ -137,7 +152,25 @@ impl<
         (contramap-lawful (λ t. (t.0, (t.1, (t.2, (t.3, (t.4, (t.5, t.6))))))))
         ⟦<(A, (B, (C, (D, (E, (F, G)))))) as BorshType>⟧.lawful_if };
 
-    ghost premises = { (A.premises, (B.premises, (C.premises, (D.premises, (E.premises, (F.premises, G.premises)))))) };
+    ghost premises = { (
+      A.premises,
+      (
+        B.premises,
+        (
+          C.premises,
+          (
+            D.premises,
+            (
+              E.premises,
+              (
+                F.premises,
+                G.premises,
+              ),
+            ),
+          ),
+        ),
+      ),
+    ) };
 
     fn encodes_empty() -> bool {
         <(A, (B, C, D, E, F, G))>::encodes_empty()
@@ -166,7 +199,25 @@ impl<
         (contramap-lawful (λ t. (t.0, (t.1, (t.2, (t.3, (t.4, (t.5, (t.6, t.7)))))))))
         ⟦<(A, (B, (C, (D, (E, (F, (G, H))))))) as BorshType>⟧.lawful_if };
 
-    ghost premises = { (A.premises, (B.premises, (C.premises, (D.premises, (E.premises, (F.premises, (G.premises, H.premises))))))) };
+    ghost premises = { (
+      A.premises,
+      (
+        B.premises,
+        (
+          C.premises,
+          (
+            D.premises,
+            (
+              E.premises,
+              (
+                F.premises,
+                (G.premises, H.premises),
+              ),
+            ),
+          ),
+        ),
+      ),
+    ) };
 
     fn encodes_empty() -> bool {
         <(A, (B, C, D, E, F, G, H))>::encodes_empty()
@@ -196,7 +247,25 @@ impl<
         (contramap-lawful (λ t. (t.0, (t.1, (t.2, (t.3, (t.4, (t.5, (t.6, (t.7, t.8))))))))))
         ⟦<(A, (B, (C, (D, (E, (F, (G, (H, I)))))))) as BorshType>⟧.lawful_if };
 
-    ghost premises = { (A.premises, (B.premises, (C.premises, (D.premises, (E.premises, (F.premises, (G.premises, (H.premises, I.premises)))))))) };
+    ghost premises = { (
+      A.premises,
+      (
+        B.premises,
+        (
+          C.premises,
+          (
+            D.premises,
+            (
+              E.premises,
+              (
+                F.premises,
+                (G.premises, (H.premises, I.premises)),
+              ),
+            ),
+          ),
+        ),
+      ),
+    ) };
 
     fn encodes_empty() -> bool {
         <(A, (B, C, D, E, F, G, H, I))>::encodes_empty()
@@ -227,7 +296,25 @@ impl<
         (contramap-lawful (λ t. (t.0, (t.1, (t.2, (t.3, (t.4, (t.5, (t.6, (t.7, (t.8, t.9)))))))))))
         ⟦<(A, (B, (C, (D, (E, (F, (G, (H, (I, J))))))))) as BorshType>⟧.lawful_if };
 
-    ghost premises = { (A.premises, (B.premises, (C.premises, (D.premises, (E.premises, (F.premises, (G.premises, (H.premises, (I.premises, J.premises))))))))) };
+    ghost premises = { (
+      A.premises,
+      (
+        B.premises,
+        (
+          C.premises,
+          (
+            D.premises,
+            (
+              E.premises,
+              (
+                F.premises,
+                (G.premises, (H.premises, (I.premises, J.premises))),
+              ),
+            ),
+          ),
+        ),
+      ),
+    ) };
 
     fn encodes_empty() -> bool {
         <(A, (B, C, D, E, F, G, H, I, J))>::encodes_empty()
@@ -259,7 +346,25 @@ impl<
         (contramap-lawful (λ t. (t.0, (t.1, (t.2, (t.3, (t.4, (t.5, (t.6, (t.7, (t.8, (t.9, t.10))))))))))))
         ⟦<(A, (B, (C, (D, (E, (F, (G, (H, (I, (J, K)))))))))) as BorshType>⟧.lawful_if };
 
-    ghost premises = { (A.premises, (B.premises, (C.premises, (D.premises, (E.premises, (F.premises, (G.premises, (H.premises, (I.premises, (J.premises, K.premises)))))))))) };
+    ghost premises = { (
+      A.premises,
+      (
+        B.premises,
+        (
+          C.premises,
+          (
+            D.premises,
+            (
+              E.premises,
+              (
+                F.premises,
+                (G.premises, (H.premises, (I.premises, (J.premises, K.premises)))),
+              ),
+            ),
+          ),
+        ),
+      ),
+    ) };
 
     fn encodes_empty() -> bool {
         <(A, (B, C, D, E, F, G, H, I, J, K))>::encodes_empty()
@@ -292,7 +397,25 @@ impl<
         (contramap-lawful (λ t. (t.0, (t.1, (t.2, (t.3, (t.4, (t.5, (t.6, (t.7, (t.8, (t.9, (t.10, t.11)))))))))))))
         ⟦<(A, (B, (C, (D, (E, (F, (G, (H, (I, (J, (K, L))))))))))) as BorshType>⟧.lawful_if };
 
-    ghost premises = { (A.premises, (B.premises, (C.premises, (D.premises, (E.premises, (F.premises, (G.premises, (H.premises, (I.premises, (J.premises, (K.premises, L.premises))))))))))) };
+    ghost premises = { (
+      A.premises,
+      (
+        B.premises,
+        (
+          C.premises,
+          (
+            D.premises,
+            (
+              E.premises,
+              (
+                F.premises,
+                (G.premises, (H.premises, (I.premises, (J.premises, (K.premises, L.premises))))),
+              ),
+            ),
+          ),
+        ),
+      ),
+    ) };
 
     fn encodes_empty() -> bool {
         <(A, (B, C, D, E, F, G, H, I, J, K, L))>::encodes_empty()
