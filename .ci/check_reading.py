@@ -8,7 +8,7 @@ import re
 import sys
 
 HEAD = "| Crate | Files of `specs/`, with their lines | Lines |"
-CRATES = "borsh_io borsh_codec borsh_de places borsh_walks borsh_schema borsh borsh_answers borsh_lines".split()
+CRATES = "borsh_io borsh_codec borsh_de places borsh_walks borsh_values borsh_schema borsh borsh_answers borsh_lines".split()
 
 top = pathlib.Path(__file__).resolve().parent.parent
 
