@@ -15,7 +15,7 @@ pub mod tags;
 pub mod unambiguous;
 
 pub use members::{Decoded, Membership, decode, is_member};
-pub use nodes::Node;
+pub use nodes::{Node, encode};
 pub use unambiguous::find_ambiguous;
 
 #[cfg(test)]

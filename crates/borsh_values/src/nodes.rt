@@ -1,8 +1,8 @@
 // The nodes of a value.
-ghost use Rattle.borsh_values.specs.Nodes.{ListsNode};
+ghost use Rattle.borsh_values.specs.Nodes.{ListsNode, joined_bytes, views};
 ghost use Rattle.borsh_walks.specs.Definitions.{definitions_in};
 ghost use Rattle.borsh_walks.specs.ZeroAnswer.{ZeroTable};
-ghost use Rattle.std.specs.Prelude.{OnOk, ◌≡◌, true};
+ghost use Rattle.std.specs.Prelude.{IfOk, OnOk, ◌≡◌, true};
 
 use borsh_walks::zero::is_zero;
 use borsh_walks::{Counted, Definition, Expansions};
@@ -48,4 +48,18 @@ pub fn list_node<'a>(
     }
     nodes.push(node)?;
     Ok(())
+}
+
+/// The bytes of the value that has these nodes: the own bytes of each, one after another.
+///
+/// Whether they are a value at all isn't asked; [`crate::is_member`] says so of the bytes. An error is a refused
+/// allocation.
+pub fn encode(alloc: Global, nodes: &[Node<'_>]) -> Result<Vec<u8>, AllocError>
+    ensures { IfOk result (λ bytes. bytes.items ≡ joined_bytes (views nodes.now)) }
+{
+    let mut bytes: Vec<u8> = Vec::new(alloc);
+    for node in nodes {
+        bytes.extend_from_slice(node.bytes)?;
+    }
+    Ok(bytes)
 }

@@ -453,6 +453,7 @@ fn nodes_in_preorder(rt: HostRuntime) -> Result<(), Fail> {
             return Err(Fail::from("no nodes"));
         };
         assert_eq!(rt; nodes.len(), expected.len());
+        assert_eq!(rt; &encode(alloc, &nodes)?[..], *bytes);
         for (node, (name, own)) in nodes.iter().zip(expected.iter()) {
             assert_eq!(rt; node.name, *name);
             assert_eq!(rt; node.bytes, *own);
