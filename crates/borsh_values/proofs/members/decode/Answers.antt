@@ -1,5 +1,5 @@
-use Rattle.std.proofs.Common.{◌≡◌, ℕ, List, [], ◌∷◌, refl, sym, subst}
-use Rattle.borsh_walks.specs.Container.{stays, Reached, IsIn}
+use Rattle.std.proofs.Common.{[], refl, sym, subst}
+use Rattle.borsh_walks.specs.Container.{stays, Reached}
 use Rattle.borsh_walks.specs.Definitions.{definitions_in}
 use Rattle.borsh_walks.proofs.Names.{among_one}
 use Rattle.borsh_walks.proofs.RulesGlue.{empty_table}
