@@ -16,7 +16,7 @@ pub mod tags;
 pub mod unambiguous;
 
 pub use members::{Decoded, Membership, decode, is_member};
-pub use nodes::{Node, encode};
+pub use nodes::{Node, encode, variant_of};
 pub use unambiguous::find_ambiguous;
 
 #[cfg(test)]
