@@ -1,5 +1,5 @@
 -- The nodes that were listed, and those of the rest.
-use Rattle.std.proofs.Common.{◌≡◌, ℕ, suc, zero, List, [], ◌∷◌, ◌++◌, take, drop, Some, refl, sym, ◌∙◌, ap, subst, append_assoc, ◌⊎◌, inl, inr}
+use Rattle.std.proofs.Common.{◌≡◌, ℕ, suc, zero, List, [], ◌∷◌, ◌++◌, take, drop, Some, refl, sym, ◌∙◌, ap, subst, append_assoc, inl, inr}
 use Rattle.std.specs.Prelude.{Option}
 use Rattle.borsh_walks.specs.Container.{Shape, IsZeroSize}
 use Rattle.borsh_walks.specs.Definitions.{shape_of}

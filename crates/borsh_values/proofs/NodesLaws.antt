@@ -1,14 +1,14 @@
 -- Laws of nodes.
-use Rattle.std.proofs.Common.{◌≡◌, ℕ, suc, zero, ◌^◌, ◌+◌, ◌≤◌, ◌<◌, List, [], ◌∷◌, ◌++◌, length, take, drop, replicate, Some, refl, sym, ◌∙◌, ap, subst, arith, append_assoc, ◌⊎◌, inl, inr}
-use Rattle.std.specs.Prelude.{Option, All, ℤ, pos}
-use Rattle.borsh_walks.specs.Container.{Shape, primitive, sequence, product, choice, IsIn, first, later, IsListedVariant, variant_names, references, element_unless_none, zero_size_references, tag, Member, of_primitive, of_sequence, of_parts, of_choice, Members, no_members, more_members, IsZeroSize, Reaches, onward, Reached}
+use Rattle.std.proofs.Common.{◌≡◌, ℕ, suc, zero, ◌≤◌, List, [], ◌∷◌, ◌++◌, length, replicate, Some, refl, sym, ◌∙◌, ap, subst, arith, append_assoc, inl, inr}
+use Rattle.std.specs.Prelude.{Option, pos}
+use Rattle.borsh_walks.specs.Container.{Shape, primitive, sequence, product, choice, IsIn, first, later, variant_names, references, element_unless_none, Member, of_primitive, of_sequence, of_parts, of_choice, Members, no_members, more_members, IsZeroSize, onward, Reached}
 use Rattle.borsh_walks.proofs.Names.{among_append, among_one}
 use Rattle.borsh_walks.proofs.Laws.{one_definition, variant-listed, among-replicate, length-tag, tag-zero, zero_as}
 use Rattle.borsh_values.specs.Unambiguous.{UnambiguousShape, IsUnambiguous}
 use Rattle.borsh_values.specs.Nodes.{Opens, NodeView, Nodes, nodes_none, nodes_zero, nodes_more, joined_bytes}
 use Rattle.borsh_values.specs.Steps.{OnlyEmpty}
 use Rattle.borsh_values.proofs.PrefixFree.{same_front, one_count, one_variant}
-use Rattle.borsh_values.proofs.Required.{whole, unwhole}
+use Rattle.borsh_values.proofs.Required.{unwhole}
 
 no_bytes : (bs : List ℕ) → length bs ≡ 0 → bs ≡ []
 no_bytes [] e = refl

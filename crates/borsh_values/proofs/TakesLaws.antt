@@ -9,7 +9,7 @@ use Rattle.std.specs.Borrow.{Bor}
 use Rattle.borsh_values.specs.declared.tags.Found.TheVariants.{Nothing, One}
 use Rattle.borsh_values.specs.Steps.{required_by, OnlyEmpty, AllOnlyEmpty, Takes, FoundAs}
 use Rattle.borsh_values.proofs.PrefixFree.{same_front, one_count, member_as}
-use Rattle.borsh_values.proofs.Required.{members_head, only_empty_members, members_only_empty}
+use Rattle.borsh_values.proofs.Required.{members_head, only_empty_members}
 
 take_drop : (n : ℕ) (xs : List ℕ) → take n xs ++ drop n xs ≡ xs
 take_drop zero xs = refl

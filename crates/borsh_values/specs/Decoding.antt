@@ -10,13 +10,13 @@ use Rattle.borsh_values.specs.declared.members.Decoded.TheVariants.{Nodes as IsN
 module _ (C : List ℕ → Option Shape) (root bytes : List ℕ) where
   -- each answer is right
   abbrev pub IsDecoded : Decoded → Type 0
-  IsDecoded (IsNodes ns) = Nodes C (root ∷ []) bytes (views ns.items) × Member C root bytes
+  IsDecoded (IsNodes ns) = Nodes C (root ∷ []) bytes (views ns.items) × Member C root bytes × (bytes ≡ joined_bytes (views ns.items))
   IsDecoded NoMember = Member C root bytes → ⊥
   IsDecoded Ambiguous = HasAmbiguous C root
 
-  -- the nodes are the only ones of the bytes, and their bytes are the bytes
+  -- the bytes have no other nodes
   abbrev pub AreTheNodes : Decoded → Type 0
-  AreTheNodes (IsNodes ns) = (bytes ≡ joined_bytes (views ns.items)) × ((es : List NodeView) → Nodes C (root ∷ []) bytes es → es ≡ views ns.items)
+  AreTheNodes (IsNodes ns) = (es : List NodeView) → Nodes C (root ∷ []) bytes es → es ≡ views ns.items
   AreTheNodes NoMember = ⊤
   AreTheNodes Ambiguous = ⊤
 
@@ -24,7 +24,7 @@ module _ (C : List ℕ → Option Shape) (root bytes : List ℕ) where
   pub record DecodesValue {E : Type 0} (result : Result Decoded E) : Type 0 where
     -- an answer is right
     pub answer : IfOk result (λ a. IsDecoded a)
-    -- where the container is unambiguous, the bytes determine the nodes, and the nodes the bytes
+    -- where the container is unambiguous, the bytes determine the nodes
     pub determined : IsUnambiguous C root → IfOk result (λ a. AreTheNodes a)
     -- a container that is valid and unambiguous gets nodes or no
     pub decided : IsValid C root → IsUnambiguous C root → IfOk result (λ a. a ≡ Ambiguous → ⊥)

@@ -1,5 +1,6 @@
 -- The nodes of a value: its parts in preorder, each with the bytes that it encodes before its own parts.
-use Rattle.std.specs.Prelude.{◌≡◌, ◌⊎◌, ℕ, ◌<◌, ◌≤◌, ℤ, pos, List, [], ◌∷◌, ◌++◌, length, replicate, Option, Some, All}
+use Rattle.std.specs.Prelude.{◌≡◌, ◌⊎◌, ℕ, ◌<◌, ◌≤◌, ℤ, pos, List, [], ◌∷◌, ◌++◌, length, replicate, Option, Some, None, All}
+use Rattle.borsh_values.specs.Tags.{IsVariantIndex}
 use Rattle.borsh_walks.specs.Definitions.{shape_of}
 use Rattle.borsh_values.specs.declared.nodes.Node.{Node}
 use Rattle.borsh_walks.specs.Container.{Shape, primitive, sequence, product, choice, IsListedVariant, tag, Member, IsZeroSize}
@@ -10,6 +11,13 @@ Opens (primitive n) own ns = (length own ≡ n) × All (λ b. b < 256) own × (n
 Opens (sequence w lo hi e) own ns = (k : ℕ) × (lo ≤ k) × (k ≤ hi) × (own ≡ tag w (pos k)) × (ns ≡ replicate k e)
 Opens (product ps) own ns = (own ≡ []) × (ns ≡ ps)
 Opens (choice w vs) own ns = (k : ℤ) × (p : List ℕ) × IsListedVariant k p vs × (own ≡ tag w k) × (ns ≡ p ∷ [])
+
+-- the place of the variant that own bytes encode; none of a definition of another kind
+abbrev pub IsVariantOf : Shape → List ℕ → Option ℕ → Type 0
+IsVariantOf (primitive n) own found = found ≡ None
+IsVariantOf (sequence w lo hi e) own found = found ≡ None
+IsVariantOf (product ps) own found = found ≡ None
+IsVariantOf (choice w vs) own found = IsVariantIndex vs own found
 
 -- a node: its name, the definition of the name, and its own bytes
 abbrev pub NodeView : Type 0

@@ -1,9 +1,10 @@
-//! Values by their container alone: whether bytes are a value of a type, where only the definitions of the
-//! type are known.
+//! Values by their container alone: whether bytes are a value of a type, and which, where only the definitions
+//! of the type are known.
 //!
-//! [`is_member`] answers for any bytes, and [`find_ambiguous`] says whether each byte string is a value in at most one way.
-//! Both take any definitions: names that lead back to themselves, names without a definition, and
-//! 18446744073709551615 elements without bytes. Neither recurses.
+//! [`is_member`] says whether bytes are a value, [`decode`] lists the nodes of the value, and [`encode`] joins
+//! the bytes of nodes. [`find_ambiguous`] says whether the definitions allow at most one value for any bytes.
+//! Each takes any definitions: names that lead back to themselves, names without a definition, and
+//! 18446744073709551615 elements without bytes. None recurses.
 #![tactic(auto)]
 
 pub mod frames;
@@ -15,7 +16,7 @@ pub mod tags;
 pub mod unambiguous;
 
 pub use members::{Decoded, Membership, decode, is_member};
-pub use nodes::Node;
+pub use nodes::{Node, encode, variant_of};
 pub use unambiguous::find_ambiguous;
 
 #[cfg(test)]

@@ -1,9 +1,10 @@
 // The nodes of a value.
-ghost use Rattle.borsh_values.specs.Nodes.{ListsNode};
-ghost use Rattle.borsh_walks.specs.Definitions.{definitions_in};
+ghost use Rattle.borsh_values.specs.Nodes.{IsVariantOf, ListsNode, joined_bytes, views};
+ghost use Rattle.borsh_walks.specs.Definitions.{definitions_in, shape_of};
 ghost use Rattle.borsh_walks.specs.ZeroAnswer.{ZeroTable};
-ghost use Rattle.std.specs.Prelude.{OnOk, ◌≡◌, true};
+ghost use Rattle.std.specs.Prelude.{IfOk, OnOk, ◌≡◌, true};
 
+use crate::tags::variant_at;
 use borsh_walks::zero::is_zero;
 use borsh_walks::{Counted, Definition, Expansions};
 use std::alloc::{AllocError, Global};
@@ -16,6 +17,16 @@ pub struct Node<'a> {
     pub name: &'a str,
     pub definition: &'a Definition,
     pub bytes: &'a [u8],
+}
+
+/// The index of the variant that a node of an enum encodes; none for a node of another kind.
+pub fn variant_of(node: &Node<'_>) -> Option<usize>
+    ensures { IsVariantOf (shape_of node.now.definition.now) node.now.bytes.now result }
+{
+    match node.definition {
+        Definition::Enum { variants, .. } => variant_at(variants, node.bytes),
+        _ => None,
+    }
 }
 
 /// Lists the node, if nodes are wanted and its name isn't of zero size.
@@ -48,4 +59,18 @@ pub fn list_node<'a>(
     }
     nodes.push(node)?;
     Ok(())
+}
+
+/// The bytes of the value that has these nodes: the own bytes of each, one after another.
+///
+/// Whether they are a value at all isn't asked; [`crate::is_member`] says so of the bytes. An error is a refused
+/// allocation.
+pub fn encode(alloc: Global, nodes: &[Node<'_>]) -> Result<Vec<u8>, AllocError>
+    ensures { IfOk result (λ bytes. bytes.items ≡ joined_bytes (views nodes.now)) }
+{
+    let mut bytes: Vec<u8> = Vec::new(alloc);
+    for node in nodes {
+        bytes.extend_from_slice(node.bytes)?;
+    }
+    Ok(bytes)
 }

@@ -1,6 +1,7 @@
 // The tags of variants.
 ghost use Rattle.borsh_values.specs.Tags.{byte_as, is_negative, magnitude_of, tag_from};
 ghost use Rattle.borsh_values.specs.Steps.{FoundAs, more_found};
+ghost use Rattle.borsh_values.specs.Tags.{IsVariantIndex};
 ghost use Rattle.borsh_walks.specs.Container.{tag};
 ghost use Rattle.std.specs.Prelude.{◌≡◌, Decides, length, map, string_bytes};
 
@@ -85,4 +86,21 @@ pub fn find_variant<'a>(
         index += 1;
     }
     found
+}
+
+/// The first variant whose tag is these bytes.
+pub fn variant_at(
+    variants: &Vec<(DiscriminantValue, VariantName, Declaration)>,
+    bytes: &[u8],
+) -> Option<usize>
+    ensures { IsVariantIndex (map (λ v. (v.0, string_bytes v.2)) variants.now.items) bytes.now result }
+{
+    let mut index: usize = 0;
+    while let Some((discriminant, _, _)) = variants.get(index) {
+        if is_tag(discriminant, bytes) {
+            return Some(index);
+        }
+        index += 1;
+    }
+    None
 }

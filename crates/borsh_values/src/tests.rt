@@ -453,11 +453,17 @@ fn nodes_in_preorder(rt: HostRuntime) -> Result<(), Fail> {
             return Err(Fail::from("no nodes"));
         };
         assert_eq!(rt; nodes.len(), expected.len());
+        assert_eq!(rt; &encode(alloc, &nodes)?[..], *bytes);
         for (node, (name, own)) in nodes.iter().zip(expected.iter()) {
             assert_eq!(rt; node.name, *name);
             assert_eq!(rt; node.bytes, *own);
         }
     }
+    let Decoded::Nodes(nodes) = decode(alloc, "signed", &map, &[255, 255, 7])? else {
+        return Err(Fail::from("no nodes"));
+    };
+    assert_eq!(rt; variant_of(&nodes[0]), Some(1));
+    assert_eq!(rt; variant_of(&nodes[1]), None);
     assert!(rt; matches!(decode(alloc, "u8", &map, &[])?, Decoded::NoMember));
     assert!(rt; matches!(decode(alloc, "left", &map, &[])?, Decoded::NoMember));
     assert!(rt; matches!(decode(alloc, "behind", &map, &[5, 0])?, Decoded::Ambiguous));

@@ -14,7 +14,7 @@ use Rattle.borsh_values.specs.declared.members.Membership.{Membership}
 use Rattle.borsh_values.specs.declared.members.Membership.TheVariants.{Member as IsMember, NoMember, Ambiguous}
 use Rattle.borsh_values.specs.Membership.{IsAnswer, IsAnswerAtEnd}
 use Rattle.borsh_values.specs.declared.nodes.Node.{Node}
-use Rattle.borsh_values.specs.Nodes.{NodeView, Nodes, nodes_none, views}
+use Rattle.borsh_values.specs.Nodes.{Nodes, nodes_none, views}
 use Rattle.borsh_values.proofs.NodesLaws.{nodes_skip}
 use Rattle.borsh_values.proofs.Listing.{list_more, all_views}
 use Rattle.borsh_values.specs.Steps.{pending, remaining}

@@ -1,5 +1,5 @@
-use Rattle.std.proofs.Common.{◌≡◌, ℕ, List, [], ◌∷◌, refl, sym, subst}
-use Rattle.borsh_walks.specs.Container.{stays, Reached, IsIn}
+use Rattle.std.proofs.Common.{[], refl, sym, subst}
+use Rattle.borsh_walks.specs.Container.{stays, Reached}
 use Rattle.borsh_walks.specs.Definitions.{definitions_in}
 use Rattle.borsh_walks.proofs.Names.{among_one}
 use Rattle.borsh_walks.proofs.RulesGlue.{empty_table}
@@ -18,11 +18,8 @@ returns-in-Member c =
     let member = subst (λ a. IsAnswer C root c.args.bytes.now a) c.in-Member.is c.in_ok-decide.ensures.answer in
     let nodes = c.in_ok-decide.ensures.listed refl c.in-Member.is in
     record {
-      answer = (nodes, member);
-      determined = λ one. (
-        nodes_bytes C nodes,
-        λ es h. one_reading C root one [] [] (λ y a. subst (λ z. Reached C root z) (sym (among_one a)) stays) h nodes refl,
-      );
+      answer = (nodes, member, nodes_bytes C nodes);
+      determined = λ one es h. one_reading C root one [] [] (λ y a. subst (λ z. Reached C root z) (sym (among_one a)) stays) h nodes refl;
       decided = λ v u e. cc;
     }
 
