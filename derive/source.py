@@ -7,7 +7,7 @@ from rust_types import heads, joined, parse_type
 from tokens import tokens_of
 
 # what a comment `// derive: ..` may ask for
-OPTIONS = ('borsh', 'key')
+OPTIONS = ('borsh', 'schema', 'key')
 
 # what a key is compared by
 COMPARED = ('PartialEq', 'Eq', 'PartialOrd', 'Ord')
@@ -206,6 +206,7 @@ def read_module(text):
             marked = read_marked(reader, mark)
             marked.options = options_of(mark_of(mark))
             check_key(marked, attributes)
+            check_schema(marked)
             module.marked.append(marked)
             module.items[module.marked[-1].name] = True
         else:
@@ -389,6 +390,13 @@ def check_key(marked, attributes):
         raise Refusal(marked.line, 'a key with parameters is not taken')
     if len(marked.fields.encoded()) < len(marked.fields.all):
         reason = 'a key has no field that is left out: two keys with one encoding would not be equal'
+        raise Refusal(marked.line, reason)
+
+
+def check_schema(marked):
+    """A schema is written for a struct without parameters."""
+    if 'schema' in marked.options and (marked.variants is not None or marked.parameters):
+        reason = 'a schema is written for structs without parameters alone: implement `BorshSchema` of this type by hand'
         raise Refusal(marked.line, reason)
 
 
