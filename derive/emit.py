@@ -2,8 +2,9 @@
 
 import re
 
-from layout import (Group, Term, arm, binding, call, function_head, ghost_cases, ghost_member, ghost_term, ghost_tuple,
-                    impl_head, import_lines, laid_out, pattern, statement, struct_of, tuple_of, type_layout, type_text)
+from layout import (Group, Term, arm, binding, call, function_head, ghost_cases, ghost_member, ghost_term,
+                    ghost_tuple, impl_head, import_lines, laid_out, pattern, statement, struct_of, tuple_of,
+                    tuple_type, type_layout, type_text)
 from rust_types import Array
 
 NUMBERS = ('zero', 'one', 'two', 'three', 'four', 'five', 'six', 'seven', 'eight', 'nine', 'ten', 'eleven',
@@ -57,6 +58,7 @@ class Writer:
         self.taken = set(marked.heads()) | {marked.name} | {parameter.name for parameter in marked.parameters}
         self.taken |= {path.split(' as ')[-1].split('::')[-1] for path in self.imports}
         self.alias = free_name('Fields' if marked.variants is None else 'Variants', self.taken)
+        self.chain = free_name('FieldList', self.taken)
         self.sink = free_name('W', self.taken)
         self.source = free_name('R', self.taken)
 
@@ -191,7 +193,8 @@ def split_bounds(where):
 def ghost_imports(writer, body):
     """The imports of ghost terms."""
     names = {
-        'Rattle.borsh.specs.Laws.OfParts': ('IsKey', 'contramap', 'contramap-lawful', 'contramap_ordered', 'from', 'key_facts'),
+        'Rattle.borsh.specs.Laws.OfParts':
+            ('IsKey', 'contramap', 'contramap-lawful', 'contramap_ordered', 'from', 'key_facts'),
         'Rattle.borsh.specs.Cases': ('fields', 'left', 'right'),
         'Rattle.borsh.specs.CaseLaws': ('enum_lawful_if',),
         'Rattle.borsh.specs.Schema.Laws.Quoted': ('no_fields_described', 'struct_described', 'struct_parts'),
@@ -235,7 +238,7 @@ def parts(items, make):
 
 def type_of_parts(fields):
     layouts = [type_layout(field.type) for field in fields]
-    return parts(layouts, tuple_of) if layouts else '()'
+    return parts(layouts, tuple_type) if layouts else '()'
 
 
 def ghost_parts(items):
@@ -396,7 +399,8 @@ def struct_key(writer):
     fields = writer.marked.fields.encoded()
     view = Term('(λ v. ', [pairs(['v.' + ghost_name(field.name) for field in fields])], ')')
     ordered = quote(writer, pairs([type_text(field.type) for field in fields]), 'BorshKey', '.ordered')
-    rows = [ghost_member('ordered', 'contramap_ordered', [view, ordered], 4), '', '    ghost key = { Self.ordered.key };']
+    member = ghost_member('ordered', 'contramap_ordered', [view, ordered], 4)
+    rows = [member, '', '    ghost key = { Self.ordered.key };']
     return writer.block('BorshKey', 'BorshKey', rows)
 
 
@@ -406,17 +410,26 @@ def struct_schema(writer):
     name = writer.marked.name
     kind = writer.marked.fields.kind if fields else 'unit'
     view = Term('(λ %s. ' % ('v' if fields else '_'), [chain(['v.' + ghost_name(f.name) for f in fields], 'tt')], ')')
-    types = chain([type_text(field.type) for field in fields], '()')
-    described = schema_described(writer, types, kind)
+    described = schema_described(writer, kind)
     rows = ['    ghost name = { codes "%s" };' % name, '',
-            schema_parts(writer, types, kind), '',
+            schema_parts(writer, kind), '',
             ghost_member('described', 'struct_described', [view, described, Term('', ['refl'])], 4), '',
             schema_head(writer, 'declaration', [], writer.lib('Declaration')),
             '        %s(alloc, "%s")' % (writer.lib('declared'), name), '    }', '',
             schema_head(writer, 'add_definitions_recursively', [definitions_of(writer)], '()'),
-            statement('', schema_call(writer, types, kind), '', 8), '    }', '',
+            statement('', schema_call(writer, kind), '', 8), '    }', '',
             '    ghost describes = { Self.described.describes };']
-    return writer.block('BorshSchema', 'BorshSchema', rows)
+    block = writer.block('BorshSchema', 'BorshSchema', rows)
+    return block if kind == 'unit' else '%s\n\n%s' % (field_list(writer, fields), block)
+
+
+def field_list(writer, fields):
+    """The types of the fields in the form that schemas go through."""
+    node = '()'
+    for field in reversed(fields):
+        node = tuple_type([type_layout(field.type), node])
+    doc = '/// The fields of [`%s`] as its schema goes through them.' % writer.marked.name
+    return '%s\n%s' % (doc, statement('type %s = ' % writer.chain, node, ';', 0))
 
 
 def chain(items, end):
@@ -424,34 +437,34 @@ def chain(items, end):
     return '(%s, %s)' % (items[0], chain(items[1:], end)) if items else end
 
 
-def schema_described(writer, types, kind):
+def schema_described(writer, kind):
     if kind == 'unit':
         return Term('', ['no_fields_described'])
-    return quote(writer, types, 'FieldTypes', '.described')
+    return quote(writer, writer.chain, 'FieldTypes', '.described')
 
 
-def schema_parts(writer, types, kind):
+def schema_parts(writer, kind):
     """The definitions that the name leads to."""
     name = Term('', ['(codes "%s")' % writer.marked.name])
     if kind == 'unit':
         return ghost_member('parts', 'unit_struct', [name], 4)
     if kind == 'tuple':
-        members = [quote(writer, types, 'FieldTypes', '.described' + member) for member in ('.names', '.parts')]
+        members = [quote(writer, writer.chain, 'FieldTypes', '.described' + one) for one in ('.names', '.parts')]
         return ghost_member('parts', 'unnamed_struct', [name] + members, 4)
     names = ' ∷ '.join(['codes "%s"' % field.name for field in writer.marked.fields.encoded()] + ['[]'])
-    described = schema_described(writer, types, kind)
+    described = schema_described(writer, kind)
     return ghost_member('parts', 'struct_parts', [name, Term('', ['(%s)' % names]), described], 4)
 
 
-def schema_call(writer, types, kind):
+def schema_call(writer, kind):
     """The call that adds these definitions."""
     name = '"%s"' % writer.marked.name
     if kind == 'unit':
         return call(writer.lib('add_unit'), ['alloc', name, 'definitions'])
     if kind == 'tuple':
-        return call('%s::<%s>' % (writer.lib('add_unnamed'), types), ['alloc', name, 'definitions'])
+        return call('%s::<%s>' % (writer.lib('add_unnamed'), writer.chain), ['alloc', name, 'definitions'])
     names = '&[%s]' % ', '.join('"%s"' % field.name for field in writer.marked.fields.encoded())
-    return call('%s::<%s>' % (writer.lib('add_named'), types), ['alloc', name, names, 'definitions'])
+    return call('%s::<%s>' % (writer.lib('add_named'), writer.chain), ['alloc', name, names, 'definitions'])
 
 
 def definitions_of(writer):

@@ -396,7 +396,8 @@ def check_key(marked, attributes):
 def check_schema(marked):
     """A schema is written for a struct without parameters."""
     if 'schema' in marked.options and (marked.variants is not None or marked.parameters):
-        reason = 'a schema is written for structs without parameters alone: implement `BorshSchema` of this type by hand'
+        reason = ('a schema is written for structs without parameters alone: implement `BorshSchema` of this type '
+                  'by hand')
         raise Refusal(marked.line, reason)
 
 
@@ -475,7 +476,8 @@ def read_named_fields(reader, what):
         check_attributes(attributes_of(reader), FIELD_ATTRIBUTES, 'field')
         line = reader.peek().line
         if reader.is_next('ghost'):
-            reason = 'a ghost field says which values there are, which a decoder has to prove: implement the type by hand'
+            reason = ('a ghost field says which values there are, which a decoder has to prove: implement the type '
+                      'by hand')
             raise Refusal(line, reason)
         public = skip_visibility(reader) or what == 'variant'
         name = reader.word()

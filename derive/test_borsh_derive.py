@@ -151,10 +151,11 @@ class Taken(Cases):
     def test_schemas(self):
         text = self.written('// derive: borsh, schema\npub struct P {\n    pub x: u8,\n    pub y: String,\n}\n', 'types_p')
         self.assertIn('(codes "x" ∷ codes "y" ∷ [])', text)
-        self.assertIn('⟦<(u8, (String, ())) as FieldTypes>⟧.described', text)
-        self.assertIn('add_named::<(u8, (String, ()))>(alloc, "P", &["x", "y"], definitions)', text)
+        self.assertIn('type FieldList = (u8, (String, ()));', text)
+        self.assertIn('⟦<FieldList as FieldTypes>⟧.described', text)
+        self.assertIn('add_named::<FieldList>(alloc, "P", &["x", "y"], definitions)', text)
         text = self.written('// derive: borsh, schema\npub struct P(pub u8);\n', 'types_p')
-        self.assertIn('add_unnamed::<(u8, ())>(alloc, "P", definitions)', text)
+        self.assertIn('add_unnamed::<FieldList>(alloc, "P", definitions)', text)
         text = self.written('// derive: borsh, schema\npub struct P;\n', 'types_p')
         self.assertIn('add_unit(alloc, "P", definitions)', text)
 
