@@ -4,6 +4,7 @@
     borsh_derive.py CRATE            writes src/MODULE_TYPE.rt for each type with `// derive: borsh` above it
     borsh_derive.py CRATE --check    names each file that isn't what it would write, and exits with 1
 
+The comment `// derive: borsh, schema, key` also asks for a schema, and for what makes the type a key of maps.
 CRATE is the folder of a crate. If a type can't be taken, its file, line and the reason are printed, and
 nothing is written. What is written is ordinary source, which the prover checks as any other: nothing rests on
 this program being right.
@@ -164,8 +165,8 @@ def refuse_cycles(places, root):
         found = reached(marked.name, [marked.name])
         if found and found[-1] == marked.name:
             through = ' through `%s`' % '`, `'.join(found[1:-1]) if len(found) > 2 else ''
-            reason = '`%s` holds itself%s: its encodings have no bound that the proofs could go by' % (marked.name, through)
-            raise Refusal(marked.line, reason, 'src/' + source_name(place, root))
+            reason = '`%s` holds itself%s: its encodings have no bound that the proofs could go by'
+            raise Refusal(marked.line, reason % (marked.name, through), 'src/' + source_name(place, root))
 
 
 def refuse_fields(marked, place):

@@ -2,8 +2,9 @@
 
 import re
 
-from layout import (Group, Term, arm, binding, call, function_head, ghost_cases, ghost_member, ghost_term, ghost_tuple,
-                    impl_head, import_lines, laid_out, pattern, statement, struct_of, tuple_of, type_layout, type_text)
+from layout import (Group, Term, arm, binding, call, function_head, ghost_cases, ghost_member, ghost_term,
+                    ghost_tuple, impl_head, import_lines, laid_out, pattern, statement, struct_of, tuple_of,
+                    tuple_type, type_layout, type_text)
 from rust_types import Array
 
 NUMBERS = ('zero', 'one', 'two', 'three', 'four', 'five', 'six', 'seven', 'eight', 'nine', 'ten', 'eleven',
@@ -27,7 +28,10 @@ BORSH = {
     'read_enum': 'borsh::de', 'read_variant': 'borsh::de',
     'Read': 'borsh::io', 'Result': 'borsh::io', 'Write': 'borsh::io',
     'Tag': 'borsh::ser', 'write_bytes': 'borsh::ser',
-    'Global': 'std::alloc',
+    'BorshSchema': 'borsh', 'Declaration': 'borsh::schema', 'Definition': 'borsh::schema',
+    'FieldTypes': 'borsh::schema', 'SchemaBuildError': 'borsh::schema', 'declared': 'borsh::schema',
+    'add_named': 'borsh::schema', 'add_unnamed': 'borsh::schema', 'add_unit': 'borsh::schema',
+    'BTreeMap': 'std::collections', 'Global': 'std::alloc',
 }
 BORSH.update({'write_' + number: 'borsh::ser' for number in NUMBERS[2:]})
 
@@ -54,6 +58,7 @@ class Writer:
         self.taken = set(marked.heads()) | {marked.name} | {parameter.name for parameter in marked.parameters}
         self.taken |= {path.split(' as ')[-1].split('::')[-1] for path in self.imports}
         self.alias = free_name('Fields' if marked.variants is None else 'Variants', self.taken)
+        self.chain = free_name('FieldList', self.taken)
         self.sink = free_name('W', self.taken)
         self.source = free_name('R', self.taken)
 
@@ -188,15 +193,18 @@ def split_bounds(where):
 def ghost_imports(writer, body):
     """The imports of ghost terms."""
     names = {
-        'Rattle.borsh.specs.Laws.OfParts': ('IsKey', 'contramap', 'contramap-lawful', 'contramap_ordered', 'from', 'key_facts'),
+        'Rattle.borsh.specs.Laws.OfParts':
+            ('IsKey', 'contramap', 'contramap-lawful', 'contramap_ordered', 'from', 'key_facts'),
         'Rattle.borsh.specs.Cases': ('fields', 'left', 'right'),
         'Rattle.borsh.specs.CaseLaws': ('enum_lawful_if',),
-        'Rattle.std.specs.Prelude': ('refl',),
+        'Rattle.borsh.specs.Schema.Laws.Quoted': ('no_fields_described', 'struct_described', 'struct_parts'),
+        'Rattle.borsh.specs.Schema.Types': ('unit_struct', 'unnamed_struct'),
+        'Rattle.std.specs.Prelude': ('codes', 'refl', '◌∷◌', '[]'),
     }
     ghost = ' '.join(re.findall(r'ghost \w+ = \{(.*?)\};', body, re.S))
     rows = []
     for path, offered in names.items():
-        used = [name for name in offered if re.search(r'(?<![\w.-])%s(?![\w-])' % re.escape(name), ghost)]
+        used = [name for name in offered if is_used(name, ghost)]
         if used:
             rows.append('ghost use %s.{%s};' % (path, ', '.join(used)))
     if writer.marked.variants is not None:
@@ -204,6 +212,13 @@ def ghost_imports(writer, body):
         name = writer.marked.name
         rows.append('ghost use Rattle.%s.specs.declared.%s%s.{%s};' % (writer.place.crate, module, name, name))
     return rows
+
+
+def is_used(name, ghost):
+    """Whether ghost terms have a name; an operator `◌∷◌` stands without its circles."""
+    if not re.search(r'\w', name):
+        return name.strip('◌') in ghost
+    return re.search(r'(?<![\w.-])%s(?![\w-])' % re.escape(name), ghost)
 
 
 # ---- fields
@@ -223,7 +238,7 @@ def parts(items, make):
 
 def type_of_parts(fields):
     layouts = [type_layout(field.type) for field in fields]
-    return parts(layouts, tuple_of) if layouts else '()'
+    return parts(layouts, tuple_type) if layouts else '()'
 
 
 def ghost_parts(items):
@@ -276,6 +291,8 @@ def struct_blocks(writer):
     blocks = [struct_fields, struct_meaning, struct_encoding, struct_parts, struct_decoding]
     if 'key' in writer.marked.options:
         blocks.append(struct_key)
+    if 'schema' in writer.marked.options:
+        blocks.append(struct_schema)
     return [block(writer) for block in blocks]
 
 
@@ -382,8 +399,83 @@ def struct_key(writer):
     fields = writer.marked.fields.encoded()
     view = Term('(λ v. ', [pairs(['v.' + ghost_name(field.name) for field in fields])], ')')
     ordered = quote(writer, pairs([type_text(field.type) for field in fields]), 'BorshKey', '.ordered')
-    rows = [ghost_member('ordered', 'contramap_ordered', [view, ordered], 4), '', '    ghost key = { Self.ordered.key };']
+    member = ghost_member('ordered', 'contramap_ordered', [view, ordered], 4)
+    rows = [member, '', '    ghost key = { Self.ordered.key };']
     return writer.block('BorshKey', 'BorshKey', rows)
+
+
+def struct_schema(writer):
+    """`impl BorshSchema`: the names of the struct and of its fields, and the schemas of their types."""
+    fields = writer.marked.fields.encoded()
+    name = writer.marked.name
+    kind = writer.marked.fields.kind if fields else 'unit'
+    view = Term('(λ %s. ' % ('v' if fields else '_'), [chain(['v.' + ghost_name(f.name) for f in fields], 'tt')], ')')
+    described = schema_described(writer, kind)
+    rows = ['    ghost name = { codes "%s" };' % name, '',
+            schema_parts(writer, kind), '',
+            ghost_member('described', 'struct_described', [view, described, Term('', ['refl'])], 4), '',
+            schema_head(writer, 'declaration', [], writer.lib('Declaration')),
+            '        %s(alloc, "%s")' % (writer.lib('declared'), name), '    }', '',
+            schema_head(writer, 'add_definitions_recursively', [definitions_of(writer)], '()'),
+            statement('', schema_call(writer, kind), '', 8), '    }', '',
+            '    ghost describes = { Self.described.describes };']
+    block = writer.block('BorshSchema', 'BorshSchema', rows)
+    return block if kind == 'unit' else '%s\n\n%s' % (field_list(writer, fields), block)
+
+
+def field_list(writer, fields):
+    """The types of the fields in the form that schemas go through."""
+    node = '()'
+    for field in reversed(fields):
+        node = tuple_type([type_layout(field.type), node])
+    doc = '/// The fields of [`%s`] as its schema goes through them.' % writer.marked.name
+    return '%s\n%s' % (doc, statement('type %s = ' % writer.chain, node, ';', 0))
+
+
+def chain(items, end):
+    """`(a, (b, end))`."""
+    return '(%s, %s)' % (items[0], chain(items[1:], end)) if items else end
+
+
+def schema_described(writer, kind):
+    if kind == 'unit':
+        return Term('', ['no_fields_described'])
+    return quote(writer, writer.chain, 'FieldTypes', '.described')
+
+
+def schema_parts(writer, kind):
+    """The definitions that the name leads to."""
+    name = Term('', ['(codes "%s")' % writer.marked.name])
+    if kind == 'unit':
+        return ghost_member('parts', 'unit_struct', [name], 4)
+    if kind == 'tuple':
+        members = [quote(writer, writer.chain, 'FieldTypes', '.described' + one) for one in ('.names', '.parts')]
+        return ghost_member('parts', 'unnamed_struct', [name] + members, 4)
+    names = ' ∷ '.join(['codes "%s"' % field.name for field in writer.marked.fields.encoded()] + ['[]'])
+    described = schema_described(writer, kind)
+    return ghost_member('parts', 'struct_parts', [name, Term('', ['(%s)' % names]), described], 4)
+
+
+def schema_call(writer, kind):
+    """The call that adds these definitions."""
+    name = '"%s"' % writer.marked.name
+    if kind == 'unit':
+        return call(writer.lib('add_unit'), ['alloc', name, 'definitions'])
+    if kind == 'tuple':
+        return call('%s::<%s>' % (writer.lib('add_unnamed'), writer.chain), ['alloc', name, 'definitions'])
+    names = '&[%s]' % ', '.join('"%s"' % field.name for field in writer.marked.fields.encoded())
+    return call('%s::<%s>' % (writer.lib('add_named'), writer.chain), ['alloc', name, names, 'definitions'])
+
+
+def definitions_of(writer):
+    types = tuple(writer.lib(name) for name in ('BTreeMap', 'Declaration', 'Definition'))
+    return 'definitions: &mut %s<%s, %s>' % types
+
+
+def schema_head(writer, name, more, result):
+    parameters = ['alloc: %s' % writer.lib('Global')] + more
+    outcome = 'std::result::Result<%s, %s>' % (result, writer.lib('SchemaBuildError'))
+    return function_head(name, parameters, outcome, 4)
 
 
 def pairs(items):

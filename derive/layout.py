@@ -6,8 +6,9 @@ from rust_types import Array, Constant, Tuple
 
 WIDTH = 100
 
-# the widest arguments of a call, and the widest fields of a struct, that stay in one line
+# the widest arguments of a call, places of a tuple's type, and fields of a struct, that stay in one line
 CALL_WIDTH = 60
+TUPLE_WIDTH = 60
 STRUCT_WIDTH = 18
 
 # where all arguments of a call are as short as this, they fill lines
@@ -17,21 +18,26 @@ SHORT = 10
 class Group:
     """A head, as a name, and items in brackets, each a text or a group."""
 
-    def __init__(self, head, opening, items, closing, limit=WIDTH, pad=''):
+    def __init__(self, head, opening, items, closing, limit=WIDTH, pad='', fills=False):
         self.head = head
         self.opening = opening
         self.items = items
         self.closing = closing
         self.limit = limit
         self.pad = pad
+        self.fills = fills
 
 
 def call(name, arguments):
-    return Group(name, '(', arguments, ')', CALL_WIDTH)
+    return Group(name, '(', arguments, ')', CALL_WIDTH, fills=True)
 
 
 def tuple_of(items):
     return Group('', '(', items, ')')
+
+
+def tuple_type(items):
+    return Group('', '(', items, ')', TUPLE_WIDTH)
 
 
 def pattern(name, items):
@@ -49,7 +55,7 @@ def type_layout(tree):
     if isinstance(tree, Array):
         return '[%s; %s]' % (flat(type_layout(tree.element)), tree.length)
     if isinstance(tree, Tuple):
-        return tuple_of([type_layout(item) for item in tree.items]) if tree.items else '()'
+        return tuple_type([type_layout(item) for item in tree.items]) if tree.items else '()'
     names = []
     for name, arguments in tree.segments[:-1]:
         names.append(name + (flat(generic(arguments)) if arguments else ''))
@@ -91,7 +97,7 @@ def laid_out(node, indent, used, behind):
         return line
     inner = indent + 4
     lines = [node.head + node.opening]
-    if node.limit == CALL_WIDTH and all(len(flat(item)) <= SHORT for item in node.items):
+    if node.fills and all(len(flat(item)) <= SHORT for item in node.items):
         lines.append(filled(['%s,' % flat(item) for item in node.items], inner))
     else:
         lines += ['%s%s,' % (' ' * inner, laid_out(item, inner, inner, 1)) for item in node.items]

@@ -7,7 +7,7 @@ from rust_types import heads, joined, parse_type
 from tokens import tokens_of
 
 # what a comment `// derive: ..` may ask for
-OPTIONS = ('borsh', 'key')
+OPTIONS = ('borsh', 'schema', 'key')
 
 # what a key is compared by
 COMPARED = ('PartialEq', 'Eq', 'PartialOrd', 'Ord')
@@ -206,6 +206,7 @@ def read_module(text):
             marked = read_marked(reader, mark)
             marked.options = options_of(mark_of(mark))
             check_key(marked, attributes)
+            check_schema(marked)
             module.marked.append(marked)
             module.items[module.marked[-1].name] = True
         else:
@@ -392,6 +393,14 @@ def check_key(marked, attributes):
         raise Refusal(marked.line, reason)
 
 
+def check_schema(marked):
+    """A schema is written for a struct without parameters."""
+    if 'schema' in marked.options and (marked.variants is not None or marked.parameters):
+        reason = ('a schema is written for structs without parameters alone: implement `BorshSchema` of this type '
+                  'by hand')
+        raise Refusal(marked.line, reason)
+
+
 # ---- marked types
 
 def read_marked(reader, mark):
@@ -467,7 +476,8 @@ def read_named_fields(reader, what):
         check_attributes(attributes_of(reader), FIELD_ATTRIBUTES, 'field')
         line = reader.peek().line
         if reader.is_next('ghost'):
-            reason = 'a ghost field says which values there are, which a decoder has to prove: implement the type by hand'
+            reason = ('a ghost field says which values there are, which a decoder has to prove: implement the type '
+                      'by hand')
             raise Refusal(line, reason)
         public = skip_visibility(reader) or what == 'variant'
         name = reader.word()

@@ -148,6 +148,17 @@ class Taken(Cases):
         self.assertIn('(λ v. (v.a, (v.b, v.c)))', text)
         self.assertIn('⟦<(u8, (String, bool)) as BorshKey>⟧.ordered', text)
 
+    def test_schemas(self):
+        text = self.written('// derive: borsh, schema\npub struct P {\n    pub x: u8,\n    pub y: String,\n}\n', 'types_p')
+        self.assertIn('(codes "x" ∷ codes "y" ∷ [])', text)
+        self.assertIn('type FieldList = (u8, (String, ()));', text)
+        self.assertIn('⟦<FieldList as FieldTypes>⟧.described', text)
+        self.assertIn('add_named::<FieldList>(alloc, "P", &["x", "y"], definitions)', text)
+        text = self.written('// derive: borsh, schema\npub struct P(pub u8);\n', 'types_p')
+        self.assertIn('add_unnamed::<FieldList>(alloc, "P", definitions)', text)
+        text = self.written('// derive: borsh, schema\npub struct P;\n', 'types_p')
+        self.assertIn('add_unit(alloc, "P", definitions)', text)
+
     def test_parameters_that_are_keys(self):
         text = self.written('use borsh::BorshKey;\n\n// derive: borsh\npub struct Book<K: BorshKey + Ord, V> {\n    pub map: Map<K, V>,\n}\n', 'types_book')
         self.assertIn('let k_key : IsKey K.ordered K.cmp K.eq K.codec =', text)
@@ -242,9 +253,14 @@ class Refused(Cases):
         self.refused('// derive: borsh\n' + definition, line, reason)
 
     def test_options(self):
-        self.refused('// derive: schema\npub struct A;\n', 1, '`schema` is no option')
+        self.refused('// derive: schema\npub struct A;\n', 1, 'the option `borsh` is missing')
+        self.refused('// derive: borsh, json\npub struct A;\n', 1, '`json` is no option')
         self.refused('// derive: borsh, borsh\npub struct A;\n', 1, 'comes twice')
         self.refused('// derive:\npub struct A;\n', 1, '`` is no option')
+
+    def test_schemas(self):
+        self.refused('// derive: borsh, schema\npub enum A {\n    B,\n}\n', 2, 'a schema is written for structs')
+        self.refused('// derive: borsh, schema\npub struct A<T>(pub T);\n', 2, 'a schema is written for structs')
 
     def test_keys(self):
         self.refused('// derive: borsh, key\n#[derive(Drop, PartialEq, Eq)]\npub struct A(pub u8);\n', 3, 'lacks `PartialOrd`, `Ord`')
