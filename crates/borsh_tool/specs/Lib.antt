@@ -1,3 +1,4 @@
 pub mod Plain
+pub mod Questions
 pub mod Answers
 pub mod Definitions

@@ -6,6 +6,7 @@ ghost use Rattle.borsh_schema.specs.Codecs.{container as container_codec};
 ghost use Rattle.borsh_schema.specs.Containers.{language_of, root_of};
 ghost use Rattle.borsh_tool.specs.Answers.{AnswersCheck, AnswersSize, TellsRule, TellsSize, broken_text, missing_text, line_of};
 ghost use Rattle.borsh_tool.specs.Plain.{escaped};
+ghost use Rattle.borsh_tool.specs.Questions.{AnswersQuestion};
 
 use super::definitions::schema_text;
 use super::plain_text::PlainText;
@@ -47,7 +48,10 @@ pub fn answer_to(
     alloc: Global,
     question: Question,
     container: &BorshSchemaContainer,
-) -> Result<Answer, AllocError> {
+) -> Result<Answer, AllocError>
+    ensures { IfOk result
+        (λ a. AnswersQuestion question container.now a.is_yes a.text.text.items) }
+{
     match question {
         Question::Schema => Ok(Answer {
             is_yes: true,

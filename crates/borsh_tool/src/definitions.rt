@@ -196,11 +196,7 @@ fn push_range(alloc: Global, range: &LengthRange, out: &mut PlainText) -> Result
 }
 
 /// `tuple "(u8, u16)" = (u8, u16)`
-fn push_tuple(
-    name: &str,
-    elements: &[Declaration],
-    out: &mut PlainText,
-) -> Result<(), AllocError>
+fn push_tuple(name: &str, elements: &[Declaration], out: &mut PlainText) -> Result<(), AllocError>
     ensures { OnOk result (out.new.text.items ≡ out.old.text.items
         ++ (codes "tuple " ++ (name_text name.now ++ (codes " = " ++ parts_text elements.now)))) }
 {

@@ -1,4 +1,7 @@
 // A run of the tool.
+ghost use Rattle.std.specs.Prelude.{IfOk};
+ghost use Rattle.borsh_tool.specs.Questions.{AnswersRequest};
+
 use super::answers::{Answer, answer_to, container_from};
 use super::command::{Request, command, request_from};
 use super::failure::{Failure, failure_line, usage_line};
@@ -81,7 +84,10 @@ pub fn answer_about<'a>(
     alloc: Global,
     request: &Request<'a>,
     bytes: &[u8],
-) -> Result<Answer, Failure<'a>> {
+) -> Result<Answer, Failure<'a>>
+    ensures { IfOk result (λ a. AnswersRequest request.now.question bytes.now
+        a.is_yes a.text.text.items) }
+{
     match container_from(alloc, bytes) {
         Ok(container) => Ok(answer_to(alloc, request.question, &container)?),
         Err(error) if error.kind() == ErrorKind::OutOfMemory => Err(Failure::OutOfMemory),

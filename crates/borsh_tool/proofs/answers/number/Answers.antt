@@ -1,4 +1,4 @@
-use Rattle.std.proofs.Common.{◌≡◌, ap, sym, ◌∙◌, rules, ◌++◌, ◌∷◌, [], decimal, flat_map}
+use Rattle.std.proofs.Common.{◌≡◌, ap, ◌∙◌, rules, decimal, flat_map}
 use Rattle.std.proofs.lemmas.Result.{IfOk-weaker}
 use Rattle.borsh_tool.specs.Answers.{line_of}
 use Rattle.borsh_tool.specs.Plain.{escaped}
