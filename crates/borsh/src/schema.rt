@@ -1,7 +1,8 @@
 // Which bytes a type has, told by named definitions.
 pub use borsh_schema::{
-    BorshSchema, BorshSchemaContainer, Both, Definitions, SchemaBuildError, SchemaParts,
-    add_definition, add_with_parts, declared, field, named_variant, variant,
+    BorshSchema, BorshSchemaContainer, Both, Definitions, FieldTypes, SchemaBuildError,
+    SchemaParts, add_definition, add_enum, add_named, add_unit, add_unnamed, add_with_parts,
+    declared, field, named_variant, variant,
 };
 pub use borsh_walks::{
     Counted, Declaration, Definition, DiscriminantValue, Expansions, FieldName, Fields,

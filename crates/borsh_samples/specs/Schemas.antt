@@ -4,11 +4,6 @@ use Rattle.borsh.specs.Schema.Described.{NamedDefinition, variants, named, unnam
 use Rattle.borsh.specs.Schema.Types.{primitive_definitions, text_definitions, list_definitions}
 use Rattle.borsh.specs.Schema.Names.{applied}
 
--- ---- a struct
-
-abbrev pub readme_definitions : DefinitionTree
-readme_definitions = defined (codes "A") (named ((codes "x", codes "u64") ∷ (codes "y", codes "String") ∷ [])) (both (primitive_definitions (codes "u64") 8) (both text_definitions none))
-
 -- ---- an enum: a name for the part of each variant
 
 abbrev pub zero_definitions : DefinitionTree

@@ -1,7 +1,7 @@
 // Two types that go by one name: no container can have the schemas of both.
 ghost use Rattle.borsh.specs.Laws.OfParts.{contramap, contramap-lawful, from, key_facts};
 ghost use Rattle.std.specs.Prelude.{codes};
-ghost use Rattle.borsh.specs.Schema.Laws.Members.{describes_contramap, describes_number};
+ghost use Rattle.borsh.specs.Schema.Laws.Quoted.{contramap_described, number_described};
 ghost use Rattle.borsh.specs.Schema.Types.{primitive_definitions};
 
 use borsh::io::{Read, Result, Write};
@@ -79,6 +79,8 @@ impl BorshSchema for ShortA {
 
     ghost parts = { primitive_definitions (codes "A") 1 };
 
+    ghost described = { contramap_described (λ v. v.0) (number_described (codes "A") 1) };
+
     fn declaration(alloc: Global) -> std::result::Result<Declaration, SchemaBuildError> {
         declared(alloc, "A")
     }
@@ -91,13 +93,15 @@ impl BorshSchema for ShortA {
         add_with_parts::<()>(alloc, name, Definition::Primitive(1), definitions)
     }
 
-    ghost describes = { λ C h. describes_contramap (λ v. v.0) (describes_number 1 h.0) };
+    ghost describes = { Self.described.describes };
 }
 
 impl BorshSchema for LongA {
     ghost name = { codes "A" };
 
     ghost parts = { primitive_definitions (codes "A") 2 };
+
+    ghost described = { contramap_described (λ v. v.0) (number_described (codes "A") 2) };
 
     fn declaration(alloc: Global) -> std::result::Result<Declaration, SchemaBuildError> {
         declared(alloc, "A")
@@ -111,5 +115,5 @@ impl BorshSchema for LongA {
         add_with_parts::<()>(alloc, name, Definition::Primitive(2), definitions)
     }
 
-    ghost describes = { λ C h. describes_contramap (λ v. v.0) (describes_number 2 h.0) };
+    ghost describes = { Self.described.describes };
 }

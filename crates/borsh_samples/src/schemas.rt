@@ -1,17 +1,17 @@
 // The schemas of two of the types, as a user writes them.
-ghost use Rattle.std.specs.Prelude.{codes, refl};
+ghost use Rattle.std.specs.Prelude.{codes, refl, ◌∷◌, []};
 ghost use Rattle.borsh.specs.Schema.Container.{first_variant, later_variant};
-ghost use Rattle.borsh.specs.Schema.Laws.Members.{describes_contramap, describes_number, describes_text, describes_elements, describes_unit, describes_parts, describes_choice, all_none, all_one, all_more, choice_more, choice_none};
-ghost use Rattle.borsh_samples.specs.MyEnum.{my_enum_view};
-ghost use Rattle.borsh_samples.specs.Schemas.{readme_definitions, zero_definitions, one_definitions, many_definitions, my_enum_definitions};
-ghost use Rattle.std.specs.String.{string_bytes};
+ghost use Rattle.borsh.specs.Schema.Laws.Members.{describes_contramap, describes_number, describes_elements, describes_unit, describes_parts, describes_choice, all_none, all_one, choice_more, choice_none};
+ghost use Rattle.borsh.specs.Schema.Laws.Quoted.{struct_described, struct_parts};
+ghost use Rattle.borsh_samples.specs.MyEnum.{my_enum, my_enum_view};
+ghost use Rattle.borsh_samples.specs.Schemas.{zero_definitions, one_definitions, many_definitions, my_enum_definitions};
 
 use super::my_enum::MyEnum;
 use super::readme::A;
 use borsh::BorshSchema;
 use borsh::schema::{
-    Both, Declaration, Definition, Fields, SchemaBuildError, SchemaParts, add_with_parts, declared,
-    field, named_variant,
+    Both, Declaration, Definition, FieldTypes, Fields, SchemaBuildError, SchemaParts, add_named,
+    add_with_parts, declared, named_variant,
 };
 use std::alloc::Global;
 use std::collections::BTreeMap;
@@ -19,7 +19,9 @@ use std::collections::BTreeMap;
 impl BorshSchema for A {
     ghost name = { codes "A" };
 
-    ghost parts = { readme_definitions };
+    ghost parts = { struct_parts (codes "A") (codes "x" ∷ codes "y" ∷ []) ⟦<(u64, (String, ())) as FieldTypes>⟧.described };
+
+    ghost described = { struct_described (λ v. (v.x, (v.y, tt))) ⟦<(u64, (String, ())) as FieldTypes>⟧.described refl };
 
     fn declaration(alloc: Global) -> Result<Declaration, SchemaBuildError> {
         declared(alloc, "A")
@@ -29,24 +31,10 @@ impl BorshSchema for A {
         alloc: Global,
         definitions: &mut BTreeMap<Declaration, Definition>,
     ) -> Result<(), SchemaBuildError> {
-        let fields = Fields::NamedFields(vec![in alloc;
-            field::<u64>(alloc, "x")?,
-            field::<String>(alloc, "y")?,
-        ]?);
-        add_with_parts::<(u64, (String, ()))>(
-            alloc,
-            Self::declaration(alloc)?,
-            Definition::Struct { fields },
-            definitions,
-        )
+        add_named::<(u64, (String, ()))>(alloc, "A", &["x", "y"], definitions)
     }
 
-    ghost describes = { λ C h. describes_contramap (λ v. (v.x, v.y))
-        (describes_parts h.0
-        (all_more (describes_number 8 h.1.0.0)
-        (all_one
-        (describes_contramap string_bytes
-        (describes_text h.1.1.0.0 h.1.1.0.1.0.0))))) };
+    ghost describes = { Self.described.describes };
 }
 
 /// The definitions of the part of `MyEnum::Zero`, which has a name of its own.
@@ -116,6 +104,25 @@ impl BorshSchema for MyEnum {
 
     ghost parts = { my_enum_definitions };
 
+    ghost described = { record {
+      codec = my_enum;
+      describes = λ C h. describes_contramap my_enum_view
+          (describes_choice h.0
+          (choice_more first_variant refl
+          (describes_parts h.1.0.0 all_none)
+          (choice_more (later_variant first_variant) refl
+          (describes_parts h.1.1.0.0 (all_one (describes_number 1 h.1.1.0.1.0.0)))
+          (choice_more
+          (later_variant (later_variant first_variant))
+          refl
+          (describes_parts h.1.1.1.0
+          (all_one
+          (describes_contramap (λ v. v.items)
+          (describes_elements h.1.1.1.1.0.0
+          (describes_number 1 h.1.1.1.1.0.1.0.0)))))
+          choice_none))));
+    } };
+
     fn declaration(alloc: Global) -> Result<Declaration, SchemaBuildError> {
         declared(alloc, "MyEnum")
     }
@@ -140,19 +147,5 @@ impl BorshSchema for MyEnum {
         )
     }
 
-    ghost describes = { λ C h. describes_contramap my_enum_view
-        (describes_choice h.0
-        (choice_more first_variant refl
-        (describes_parts h.1.0.0 all_none)
-        (choice_more (later_variant first_variant) refl
-        (describes_parts h.1.1.0.0 (all_one (describes_number 1 h.1.1.0.1.0.0)))
-        (choice_more
-        (later_variant (later_variant first_variant))
-        refl
-        (describes_parts h.1.1.1.0
-        (all_one
-        (describes_contramap (λ v. v.items)
-        (describes_elements h.1.1.1.1.0.0
-        (describes_number 1 h.1.1.1.1.0.1.0.0)))))
-        choice_none)))) };
+    ghost describes = { Self.described.describes };
 }

@@ -5,3 +5,4 @@ pub mod Containers
 pub mod Own
 pub mod Sameness
 pub mod Agreeing
+pub mod Quoted

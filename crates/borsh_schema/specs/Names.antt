@@ -1,6 +1,7 @@
 -- The names of types that are made of other types.
-use Rattle.std.specs.Prelude.{◌≡◌, ℕ, List, [], ◌∷◌, ◌++◌, map, codes, decimal, String, string_bytes}
+use Rattle.std.specs.Prelude.{◌≡◌, ℕ, ℤ, pos, List, [], ◌∷◌, ◌++◌, map, codes, decimal, String, string_bytes}
 use Rattle.std.specs.Global.{Global}
+use Rattle.std.specs.Borrow.{Bor}
 
 -- the name of a type with one parameter: its beginning up to `<`, and the parameter's name
 abbrev pub applied : List ℕ → List ℕ → List ℕ
@@ -36,3 +37,22 @@ AppendsNames old new names = map (λ d. string_bytes d) new ≡ map (λ d. strin
 -- the names were put at the end of the text, each behind a comma
 abbrev pub AppendsFollowing : String Global → String Global → List (List ℕ) → Type 0
 AppendsFollowing old new names = string_bytes new ≡ string_bytes old ++ following names
+
+-- ---- the names of fields and variants beside those of their types
+
+-- what each reference of a list refers to
+abbrev pub texts : List (Bor (List ℕ)) → List (List ℕ)
+texts rs = map (λ r. r.now) rs
+
+-- one list beside another, as long as both last
+abbrev pub beside : {A B : Type 0} → List A → List B → List (A × B)
+beside xs [] = []
+beside [] (y ∷ ys) = []
+beside (x ∷ xs) (y ∷ ys) = (x, y) ∷ beside xs ys
+
+-- tag, name and type of each variant
+abbrev pub listed_variants : List ℕ → List (List ℕ) → List (List ℕ) → List (ℤ × List ℕ × List ℕ)
+listed_variants [] ns ds = []
+listed_variants (t ∷ ts) [] ds = []
+listed_variants (t ∷ ts) (n ∷ ns) [] = []
+listed_variants (t ∷ ts) (n ∷ ns) (d ∷ ds) = (pos t, n, d) ∷ listed_variants ts ns ds

@@ -1,7 +1,7 @@
 -- What the types of the standard library bring: their names and definitions.
 use Rattle.std.specs.Prelude.{ℕ, pos, List, [], ◌∷◌, codes}
-use Rattle.borsh_schema.specs.Described.{NamedDefinition, bytes, list, tuple, variants, named, DefinitionTree, none, defined, both}
-use Rattle.borsh_schema.specs.Names.{applied, applied_to_two, tuple_name}
+use Rattle.borsh_schema.specs.Described.{NamedDefinition, bytes, list, tuple, variants, named, unnamed, no_fields, DefinitionTree, none, defined, both}
+use Rattle.borsh_schema.specs.Names.{applied, applied_to_two, tuple_name, beside, listed_variants}
 
 -- a name for so many bytes
 abbrev pub primitive_definitions : List ℕ → ℕ → DefinitionTree
@@ -50,3 +50,18 @@ range_to end = named ((codes "end", end) ∷ [])
 abbrev pub map_definitions : List ℕ → List ℕ → List ℕ → DefinitionTree → DefinitionTree → DefinitionTree
 map_definitions head key value keys values =
     defined (applied_to_two head key value) (list_of (tuple_name (key ∷ value ∷ []))) (both (tuple_definitions (key ∷ value ∷ []) (both keys (both values none))) none)
+
+-- a struct: its name, the names of its fields, those of their types, and the definitions of the types
+abbrev pub named_struct : List ℕ → List (List ℕ) → List (List ℕ) → DefinitionTree → DefinitionTree
+named_struct name fields types parts = defined name (named (beside fields types)) parts
+
+-- the same without names of fields, and without fields
+abbrev pub unnamed_struct : List ℕ → List (List ℕ) → DefinitionTree → DefinitionTree
+unnamed_struct name types parts = defined name (unnamed types) parts
+
+abbrev pub unit_struct : List ℕ → DefinitionTree
+unit_struct name = defined name no_fields none
+
+-- an enum: its name, the tag, the name and the type of each variant, and the definitions of the types
+abbrev pub tagged_enum : List ℕ → List ℕ → List (List ℕ) → List (List ℕ) → DefinitionTree → DefinitionTree
+tagged_enum name tags names types parts = defined name (variants 1 (listed_variants tags names types)) parts

@@ -1,12 +1,14 @@
 // Addresses: their octets, and a tag where there are two kinds.
 ghost use Rattle.std.specs.Prelude.{codes, refl};
 ghost use Rattle.std.specs.Net.Addr.{ipv4_octets, ipv6_octets};
-ghost use Rattle.borsh_codec.specs.Types.Addresses.{ip_view};
+ghost use Rattle.borsh_codec.specs.Types.Addresses.{ip, ip_view};
 ghost use Rattle.borsh_walks.specs.Container.{first_variant, later_variant};
 ghost use Rattle.borsh_schema.specs.Addresses.{ipv4_definitions, ipv6_definitions, v4_variant, v6_variant, ip_address_definitions};
 ghost use Rattle.borsh_schema.specs.Laws.Members.{describes_contramap, describes_choice, describes_number, describes_parts, describes_row, all_one, choice_more, choice_none};
+ghost use Rattle.borsh_schema.specs.Laws.Quoted.{struct_described};
 
 use super::definitions::SchemaBuildError;
+use super::fields::FieldTypes;
 use super::parts::{Both, SchemaParts, add_with_parts, declared, field, named_variant};
 use super::schema::BorshSchema;
 use borsh_walks::{Declaration, Definition, Fields};
@@ -18,6 +20,8 @@ impl BorshSchema for Ipv4Addr {
     ghost name = { codes "Ipv4Addr" };
 
     ghost parts = { ipv4_definitions };
+
+    ghost described = { struct_described (λ a. (ipv4_octets a, tt)) ⟦<([u8; 4], ()) as FieldTypes>⟧.described refl };
 
     fn declaration(alloc: Global) -> Result<Declaration, SchemaBuildError> {
         declared(alloc, "Ipv4Addr")
@@ -36,15 +40,15 @@ impl BorshSchema for Ipv4Addr {
         )
     }
 
-    ghost describes = { λ C h. describes_contramap ipv4_octets
-        (describes_parts h.0
-        (all_one (describes_row 4 h.1.0.0 (describes_number 1 h.1.0.1.0.0)))) };
+    ghost describes = { Self.described.describes };
 }
 
 impl BorshSchema for Ipv6Addr {
     ghost name = { codes "Ipv6Addr" };
 
     ghost parts = { ipv6_definitions };
+
+    ghost described = { struct_described (λ a. (ipv6_octets a, tt)) ⟦<([u8; 16], ()) as FieldTypes>⟧.described refl };
 
     fn declaration(alloc: Global) -> Result<Declaration, SchemaBuildError> {
         declared(alloc, "Ipv6Addr")
@@ -63,9 +67,7 @@ impl BorshSchema for Ipv6Addr {
         )
     }
 
-    ghost describes = { λ C h. describes_contramap ipv6_octets
-        (describes_parts h.0
-        (all_one (describes_row 16 h.1.0.0 (describes_number 1 h.1.0.1.0.0)))) };
+    ghost describes = { Self.described.describes };
 }
 
 // The part of `IpAddr::V4`.
@@ -113,6 +115,25 @@ impl BorshSchema for IpAddr {
 
     ghost parts = { ip_address_definitions };
 
+    ghost described = { record {
+      codec = ip;
+      describes = λ C h. describes_contramap ip_view
+          (describes_choice h.0
+          (choice_more first_variant refl
+          (describes_parts h.1.0.0
+          (all_one
+          (describes_contramap ipv4_octets
+          (describes_parts h.1.0.1.0.0
+          (all_one (describes_row 4 h.1.0.1.0.1.0.0 (describes_number 1 h.1.0.1.0.1.0.1.0.0)))))))
+          (choice_more (later_variant first_variant) refl
+          (describes_parts h.1.1.0
+          (all_one
+          (describes_contramap ipv6_octets
+          (describes_parts h.1.1.1.0.0
+          (all_one (describes_row 16 h.1.1.1.0.1.0.0 (describes_number 1 h.1.1.1.0.1.0.1.0.0)))))))
+          choice_none)));
+    } };
+
     fn declaration(alloc: Global) -> Result<Declaration, SchemaBuildError> {
         declared(alloc, "IpAddr")
     }
@@ -136,19 +157,5 @@ impl BorshSchema for IpAddr {
         )
     }
 
-    ghost describes = { λ C h. describes_contramap ip_view
-        (describes_choice h.0
-        (choice_more first_variant refl
-        (describes_parts h.1.0.0
-        (all_one
-        (describes_contramap ipv4_octets
-        (describes_parts h.1.0.1.0.0
-        (all_one (describes_row 4 h.1.0.1.0.1.0.0 (describes_number 1 h.1.0.1.0.1.0.1.0.0)))))))
-        (choice_more (later_variant first_variant) refl
-        (describes_parts h.1.1.0
-        (all_one
-        (describes_contramap ipv6_octets
-        (describes_parts h.1.1.1.0.0
-        (all_one (describes_row 16 h.1.1.1.0.1.0.0 (describes_number 1 h.1.1.1.0.1.0.1.0.0)))))))
-        choice_none))) };
+    ghost describes = { Self.described.describes };
 }

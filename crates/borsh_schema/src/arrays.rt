@@ -2,6 +2,7 @@
 ghost use Rattle.borsh_schema.specs.Described.{defined, list, both, none};
 ghost use Rattle.borsh_schema.specs.Laws.Members.{describes_row};
 ghost use Rattle.borsh_schema.specs.Names.{array_name};
+ghost use Rattle.borsh_schema.specs.Laws.Quoted.{array_described};
 
 use super::definitions::SchemaBuildError;
 use super::parts::add_with_parts;
@@ -14,6 +15,8 @@ impl<T: BorshSchema, const N: usize> BorshSchema for [T; N] {
     ghost name = { array_name T.name N };
 
     ghost parts = { defined (array_name T.name N) (list 0 N N T.name) (both T.parts none) };
+
+    ghost described = { array_described N T.described };
 
     fn declaration(alloc: Global) -> Result<Declaration, SchemaBuildError> {
         let element = T::declaration(alloc)?;

@@ -6,6 +6,7 @@ ghost use Rattle.std.specs.Rc.{rc_slice_items};
 ghost use Rattle.borsh_schema.specs.Laws.Members.{describes_contramap, describes_counted, describes_elements};
 ghost use Rattle.borsh_schema.specs.Names.{applied};
 ghost use Rattle.borsh_schema.specs.Types.{list_definitions};
+ghost use Rattle.borsh_schema.specs.Laws.Quoted.{contramap_described, list_described, slice_described};
 
 use super::definitions::SchemaBuildError;
 use super::parts::add_list;
@@ -21,6 +22,8 @@ impl<T: BorshSchema> BorshSchema for Vec<T> {
     ghost name = { applied (codes "Vec<") T.name };
 
     ghost parts = { list_definitions (codes "Vec<") T.name T.parts };
+
+    ghost described = { contramap_described (λ v. v.items) (list_described (codes "Vec<") T.described) };
 
     fn declaration(alloc: Global) -> Result<Declaration, SchemaBuildError> {
         let element = T::declaration(alloc)?;
@@ -43,6 +46,8 @@ impl<T: BorshSchema> BorshSchema for VecDeque<T> {
 
     ghost parts = { list_definitions (codes "VecDeque<") T.name T.parts };
 
+    ghost described = { contramap_described (λ v. v.items) (list_described (codes "VecDeque<") T.described) };
+
     fn declaration(alloc: Global) -> Result<Declaration, SchemaBuildError> {
         let element = T::declaration(alloc)?;
         Ok(format!(in alloc; "VecDeque<{element}>")?)
@@ -64,6 +69,8 @@ impl<T: BorshSchema> BorshSchema for LinkedList<T> {
 
     ghost parts = { list_definitions (codes "LinkedList<") T.name T.parts };
 
+    ghost described = { list_described (codes "LinkedList<") T.described };
+
     fn declaration(alloc: Global) -> Result<Declaration, SchemaBuildError> {
         let element = T::declaration(alloc)?;
         Ok(format!(in alloc; "LinkedList<{element}>")?)
@@ -83,6 +90,8 @@ impl<T: BorshSchema> BorshSchema for BoxedSlice<T> {
     ghost name = { applied (codes "Vec<") T.name };
 
     ghost parts = { list_definitions (codes "Vec<") T.name T.parts };
+
+    ghost described = { contramap_described boxed_slice_items (list_described (codes "Vec<") T.described) };
 
     fn declaration(alloc: Global) -> Result<Declaration, SchemaBuildError> {
         let element = T::declaration(alloc)?;
@@ -105,6 +114,8 @@ impl<T: BorshSchema> BorshSchema for RcSlice<T> {
 
     ghost parts = { list_definitions (codes "Vec<") T.name T.parts };
 
+    ghost described = { contramap_described rc_slice_items (list_described (codes "Vec<") T.described) };
+
     fn declaration(alloc: Global) -> Result<Declaration, SchemaBuildError> {
         let element = T::declaration(alloc)?;
         Ok(format!(in alloc; "Vec<{element}>")?)
@@ -126,6 +137,8 @@ impl<T: BorshSchema> BorshSchema for CowSlice<'_, T> {
 
     ghost parts = { list_definitions (codes "Vec<") T.name T.parts };
 
+    ghost described = { contramap_described cow_slice_items (list_described (codes "Vec<") T.described) };
+
     fn declaration(alloc: Global) -> Result<Declaration, SchemaBuildError> {
         let element = T::declaration(alloc)?;
         Ok(format!(in alloc; "Vec<{element}>")?)
@@ -146,6 +159,8 @@ impl<T: BorshSchema> BorshSchema for &[T] {
     ghost name = { applied (codes "Vec<") T.name };
 
     ghost parts = { list_definitions (codes "Vec<") T.name T.parts };
+
+    ghost described = { contramap_described (λ r. r.now) (slice_described (codes "Vec<") T.described) };
 
     fn declaration(alloc: Global) -> Result<Declaration, SchemaBuildError> {
         let element = T::declaration(alloc)?;

@@ -4,6 +4,7 @@ ghost use Rattle.borsh_codec.specs.Maps.{unit_entries};
 ghost use Rattle.borsh_schema.specs.Laws.Members.{describes_contramap, describes_ordered, describes_parts, describes_refused_if, describes_sorted, all_one, all_more};
 ghost use Rattle.borsh_schema.specs.Names.{applied, applied_to_two};
 ghost use Rattle.borsh_schema.specs.Types.{list_definitions, map_definitions};
+ghost use Rattle.borsh_schema.specs.Laws.Quoted.{btree_map_described, btree_set_described, contramap_described, hash_map_described, hash_set_described};
 
 use super::definitions::SchemaBuildError;
 use super::parts::add_list;
@@ -18,6 +19,8 @@ impl<K: BorshSchema + BorshKey + Ord, V: BorshSchema> BorshSchema for BTreeMap<K
     ghost name = { applied_to_two (codes "BTreeMap<") K.name V.name };
 
     ghost parts = { map_definitions (codes "BTreeMap<") K.name V.name K.parts V.parts };
+
+    ghost described = { contramap_described (λ m. m.entries) (btree_map_described (codes "BTreeMap<") K.cmp K.described V.described) };
 
     fn declaration(alloc: Global) -> Result<Declaration, SchemaBuildError> {
         let key = K::declaration(alloc)?;
@@ -44,6 +47,8 @@ impl<K: BorshSchema + BorshKey + Ord> BorshSchema for BTreeSet<K> {
 
     ghost parts = { list_definitions (codes "BTreeSet<") K.name K.parts };
 
+    ghost described = { contramap_described (λ s. s.keys) (btree_set_described (codes "BTreeSet<") K.cmp K.described) };
+
     fn declaration(alloc: Global) -> Result<Declaration, SchemaBuildError> {
         let key = K::declaration(alloc)?;
         Ok(format!(in alloc; "BTreeSet<{key}>")?)
@@ -67,6 +72,8 @@ impl<K: BorshSchema + BorshKey + Ord + Hash, V: BorshSchema, S: BuildHasher> Bor
     ghost name = { applied_to_two (codes "HashMap<") K.name V.name };
 
     ghost parts = { map_definitions (codes "HashMap<") K.name V.name K.parts V.parts };
+
+    ghost described = { contramap_described (λ m. m.entries) (hash_map_described (codes "HashMap<") K.cmp K.described V.described) };
 
     fn declaration(alloc: Global) -> Result<Declaration, SchemaBuildError> {
         let key = K::declaration(alloc)?;
@@ -92,6 +99,8 @@ impl<K: BorshSchema + BorshKey + Ord + Hash, S: BuildHasher> BorshSchema for Has
     ghost name = { applied (codes "HashSet<") K.name };
 
     ghost parts = { list_definitions (codes "HashSet<") K.name K.parts };
+
+    ghost described = { contramap_described (λ s. s.keys) (hash_set_described (codes "HashSet<") K.cmp K.described) };
 
     fn declaration(alloc: Global) -> Result<Declaration, SchemaBuildError> {
         let key = K::declaration(alloc)?;

@@ -3,6 +3,7 @@ ghost use Rattle.std.specs.Prelude.{codes};
 ghost use Rattle.std.specs.Int.NonZero.{non_zero_u8_get, non_zero_u16_get, non_zero_u32_get, non_zero_u64_get, non_zero_u128_get, non_zero_usize_get, non_zero_i8_get, non_zero_i16_get, non_zero_i32_get, non_zero_i64_get, non_zero_i128_get};
 ghost use Rattle.borsh_schema.specs.Types.{primitive_definitions};
 ghost use Rattle.borsh_schema.specs.Laws.Members.{describes_contramap, describes_number, describes_signed};
+ghost use Rattle.borsh_schema.specs.Laws.Quoted.{contramap_described, number_described, signed_described};
 
 use super::definitions::SchemaBuildError;
 use super::parts::{add_primitive, declared};
@@ -20,6 +21,8 @@ impl BorshSchema for NonZeroU8 {
 
     ghost parts = { primitive_definitions (codes "NonZeroU8") 1 };
 
+    ghost described = { contramap_described non_zero_u8_get (number_described (codes "NonZeroU8") 1) };
+
     fn declaration(alloc: Global) -> Result<Declaration, SchemaBuildError> {
         declared(alloc, "NonZeroU8")
     }
@@ -31,13 +34,15 @@ impl BorshSchema for NonZeroU8 {
         add_primitive(alloc, "NonZeroU8", 1, definitions)
     }
 
-    ghost describes = { λ C h. describes_contramap non_zero_u8_get (describes_number 1 h.0) };
+    ghost describes = { Self.described.describes };
 }
 
 impl BorshSchema for NonZeroU16 {
     ghost name = { codes "NonZeroU16" };
 
     ghost parts = { primitive_definitions (codes "NonZeroU16") 2 };
+
+    ghost described = { contramap_described non_zero_u16_get (number_described (codes "NonZeroU16") 2) };
 
     fn declaration(alloc: Global) -> Result<Declaration, SchemaBuildError> {
         declared(alloc, "NonZeroU16")
@@ -50,13 +55,15 @@ impl BorshSchema for NonZeroU16 {
         add_primitive(alloc, "NonZeroU16", 2, definitions)
     }
 
-    ghost describes = { λ C h. describes_contramap non_zero_u16_get (describes_number 2 h.0) };
+    ghost describes = { Self.described.describes };
 }
 
 impl BorshSchema for NonZeroU32 {
     ghost name = { codes "NonZeroU32" };
 
     ghost parts = { primitive_definitions (codes "NonZeroU32") 4 };
+
+    ghost described = { contramap_described non_zero_u32_get (number_described (codes "NonZeroU32") 4) };
 
     fn declaration(alloc: Global) -> Result<Declaration, SchemaBuildError> {
         declared(alloc, "NonZeroU32")
@@ -69,13 +76,15 @@ impl BorshSchema for NonZeroU32 {
         add_primitive(alloc, "NonZeroU32", 4, definitions)
     }
 
-    ghost describes = { λ C h. describes_contramap non_zero_u32_get (describes_number 4 h.0) };
+    ghost describes = { Self.described.describes };
 }
 
 impl BorshSchema for NonZeroU64 {
     ghost name = { codes "NonZeroU64" };
 
     ghost parts = { primitive_definitions (codes "NonZeroU64") 8 };
+
+    ghost described = { contramap_described non_zero_u64_get (number_described (codes "NonZeroU64") 8) };
 
     fn declaration(alloc: Global) -> Result<Declaration, SchemaBuildError> {
         declared(alloc, "NonZeroU64")
@@ -88,13 +97,15 @@ impl BorshSchema for NonZeroU64 {
         add_primitive(alloc, "NonZeroU64", 8, definitions)
     }
 
-    ghost describes = { λ C h. describes_contramap non_zero_u64_get (describes_number 8 h.0) };
+    ghost describes = { Self.described.describes };
 }
 
 impl BorshSchema for NonZeroU128 {
     ghost name = { codes "NonZeroU128" };
 
     ghost parts = { primitive_definitions (codes "NonZeroU128") 16 };
+
+    ghost described = { contramap_described non_zero_u128_get (number_described (codes "NonZeroU128") 16) };
 
     fn declaration(alloc: Global) -> Result<Declaration, SchemaBuildError> {
         declared(alloc, "NonZeroU128")
@@ -107,13 +118,15 @@ impl BorshSchema for NonZeroU128 {
         add_primitive(alloc, "NonZeroU128", 16, definitions)
     }
 
-    ghost describes = { λ C h. describes_contramap non_zero_u128_get (describes_number 16 h.0) };
+    ghost describes = { Self.described.describes };
 }
 
 impl BorshSchema for NonZeroUsize {
     ghost name = { codes "NonZeroUsize" };
 
     ghost parts = { primitive_definitions (codes "NonZeroUsize") 8 };
+
+    ghost described = { contramap_described non_zero_usize_get (number_described (codes "NonZeroUsize") 8) };
 
     fn declaration(alloc: Global) -> Result<Declaration, SchemaBuildError> {
         declared(alloc, "NonZeroUsize")
@@ -126,13 +139,15 @@ impl BorshSchema for NonZeroUsize {
         add_primitive(alloc, "NonZeroUsize", 8, definitions)
     }
 
-    ghost describes = { λ C h. describes_contramap non_zero_usize_get (describes_number 8 h.0) };
+    ghost describes = { Self.described.describes };
 }
 
 impl BorshSchema for NonZeroI8 {
     ghost name = { codes "NonZeroI8" };
 
     ghost parts = { primitive_definitions (codes "NonZeroI8") 1 };
+
+    ghost described = { contramap_described non_zero_i8_get (signed_described (codes "NonZeroI8") 1) };
 
     fn declaration(alloc: Global) -> Result<Declaration, SchemaBuildError> {
         declared(alloc, "NonZeroI8")
@@ -145,13 +160,15 @@ impl BorshSchema for NonZeroI8 {
         add_primitive(alloc, "NonZeroI8", 1, definitions)
     }
 
-    ghost describes = { λ C h. describes_contramap non_zero_i8_get (describes_signed 1 h.0) };
+    ghost describes = { Self.described.describes };
 }
 
 impl BorshSchema for NonZeroI16 {
     ghost name = { codes "NonZeroI16" };
 
     ghost parts = { primitive_definitions (codes "NonZeroI16") 2 };
+
+    ghost described = { contramap_described non_zero_i16_get (signed_described (codes "NonZeroI16") 2) };
 
     fn declaration(alloc: Global) -> Result<Declaration, SchemaBuildError> {
         declared(alloc, "NonZeroI16")
@@ -164,13 +181,15 @@ impl BorshSchema for NonZeroI16 {
         add_primitive(alloc, "NonZeroI16", 2, definitions)
     }
 
-    ghost describes = { λ C h. describes_contramap non_zero_i16_get (describes_signed 2 h.0) };
+    ghost describes = { Self.described.describes };
 }
 
 impl BorshSchema for NonZeroI32 {
     ghost name = { codes "NonZeroI32" };
 
     ghost parts = { primitive_definitions (codes "NonZeroI32") 4 };
+
+    ghost described = { contramap_described non_zero_i32_get (signed_described (codes "NonZeroI32") 4) };
 
     fn declaration(alloc: Global) -> Result<Declaration, SchemaBuildError> {
         declared(alloc, "NonZeroI32")
@@ -183,13 +202,15 @@ impl BorshSchema for NonZeroI32 {
         add_primitive(alloc, "NonZeroI32", 4, definitions)
     }
 
-    ghost describes = { λ C h. describes_contramap non_zero_i32_get (describes_signed 4 h.0) };
+    ghost describes = { Self.described.describes };
 }
 
 impl BorshSchema for NonZeroI64 {
     ghost name = { codes "NonZeroI64" };
 
     ghost parts = { primitive_definitions (codes "NonZeroI64") 8 };
+
+    ghost described = { contramap_described non_zero_i64_get (signed_described (codes "NonZeroI64") 8) };
 
     fn declaration(alloc: Global) -> Result<Declaration, SchemaBuildError> {
         declared(alloc, "NonZeroI64")
@@ -202,13 +223,15 @@ impl BorshSchema for NonZeroI64 {
         add_primitive(alloc, "NonZeroI64", 8, definitions)
     }
 
-    ghost describes = { λ C h. describes_contramap non_zero_i64_get (describes_signed 8 h.0) };
+    ghost describes = { Self.described.describes };
 }
 
 impl BorshSchema for NonZeroI128 {
     ghost name = { codes "NonZeroI128" };
 
     ghost parts = { primitive_definitions (codes "NonZeroI128") 16 };
+
+    ghost described = { contramap_described non_zero_i128_get (signed_described (codes "NonZeroI128") 16) };
 
     fn declaration(alloc: Global) -> Result<Declaration, SchemaBuildError> {
         declared(alloc, "NonZeroI128")
@@ -221,5 +244,5 @@ impl BorshSchema for NonZeroI128 {
         add_primitive(alloc, "NonZeroI128", 16, definitions)
     }
 
-    ghost describes = { λ C h. describes_contramap non_zero_i128_get (describes_signed 16 h.0) };
+    ghost describes = { Self.described.describes };
 }

@@ -2,6 +2,7 @@
 ghost use Rattle.std.specs.Prelude.{codes};
 ghost use Rattle.borsh_schema.specs.Types.{primitive_definitions};
 ghost use Rattle.borsh_schema.specs.Laws.Members.{describes_number, describes_signed};
+ghost use Rattle.borsh_schema.specs.Laws.Quoted.{number_described, signed_described};
 
 use super::definitions::SchemaBuildError;
 use super::parts::{add_primitive, declared};
@@ -15,6 +16,8 @@ impl BorshSchema for u8 {
 
     ghost parts = { primitive_definitions (codes "u8") 1 };
 
+    ghost described = { number_described (codes "u8") 1 };
+
     fn declaration(alloc: Global) -> Result<Declaration, SchemaBuildError> {
         declared(alloc, "u8")
     }
@@ -26,13 +29,15 @@ impl BorshSchema for u8 {
         add_primitive(alloc, "u8", 1, definitions)
     }
 
-    ghost describes = { λ C h. describes_number 1 h.0 };
+    ghost describes = { Self.described.describes };
 }
 
 impl BorshSchema for u16 {
     ghost name = { codes "u16" };
 
     ghost parts = { primitive_definitions (codes "u16") 2 };
+
+    ghost described = { number_described (codes "u16") 2 };
 
     fn declaration(alloc: Global) -> Result<Declaration, SchemaBuildError> {
         declared(alloc, "u16")
@@ -45,13 +50,15 @@ impl BorshSchema for u16 {
         add_primitive(alloc, "u16", 2, definitions)
     }
 
-    ghost describes = { λ C h. describes_number 2 h.0 };
+    ghost describes = { Self.described.describes };
 }
 
 impl BorshSchema for u32 {
     ghost name = { codes "u32" };
 
     ghost parts = { primitive_definitions (codes "u32") 4 };
+
+    ghost described = { number_described (codes "u32") 4 };
 
     fn declaration(alloc: Global) -> Result<Declaration, SchemaBuildError> {
         declared(alloc, "u32")
@@ -64,13 +71,15 @@ impl BorshSchema for u32 {
         add_primitive(alloc, "u32", 4, definitions)
     }
 
-    ghost describes = { λ C h. describes_number 4 h.0 };
+    ghost describes = { Self.described.describes };
 }
 
 impl BorshSchema for u64 {
     ghost name = { codes "u64" };
 
     ghost parts = { primitive_definitions (codes "u64") 8 };
+
+    ghost described = { number_described (codes "u64") 8 };
 
     fn declaration(alloc: Global) -> Result<Declaration, SchemaBuildError> {
         declared(alloc, "u64")
@@ -83,13 +92,15 @@ impl BorshSchema for u64 {
         add_primitive(alloc, "u64", 8, definitions)
     }
 
-    ghost describes = { λ C h. describes_number 8 h.0 };
+    ghost describes = { Self.described.describes };
 }
 
 impl BorshSchema for u128 {
     ghost name = { codes "u128" };
 
     ghost parts = { primitive_definitions (codes "u128") 16 };
+
+    ghost described = { number_described (codes "u128") 16 };
 
     fn declaration(alloc: Global) -> Result<Declaration, SchemaBuildError> {
         declared(alloc, "u128")
@@ -102,13 +113,15 @@ impl BorshSchema for u128 {
         add_primitive(alloc, "u128", 16, definitions)
     }
 
-    ghost describes = { λ C h. describes_number 16 h.0 };
+    ghost describes = { Self.described.describes };
 }
 
 impl BorshSchema for usize {
     ghost name = { codes "u64" };
 
     ghost parts = { primitive_definitions (codes "u64") 8 };
+
+    ghost described = { number_described (codes "u64") 8 };
 
     fn declaration(alloc: Global) -> Result<Declaration, SchemaBuildError> {
         declared(alloc, "u64")
@@ -121,13 +134,15 @@ impl BorshSchema for usize {
         add_primitive(alloc, "u64", 8, definitions)
     }
 
-    ghost describes = { λ C h. describes_number 8 h.0 };
+    ghost describes = { Self.described.describes };
 }
 
 impl BorshSchema for i8 {
     ghost name = { codes "i8" };
 
     ghost parts = { primitive_definitions (codes "i8") 1 };
+
+    ghost described = { signed_described (codes "i8") 1 };
 
     fn declaration(alloc: Global) -> Result<Declaration, SchemaBuildError> {
         declared(alloc, "i8")
@@ -140,13 +155,15 @@ impl BorshSchema for i8 {
         add_primitive(alloc, "i8", 1, definitions)
     }
 
-    ghost describes = { λ C h. describes_signed 1 h.0 };
+    ghost describes = { Self.described.describes };
 }
 
 impl BorshSchema for i16 {
     ghost name = { codes "i16" };
 
     ghost parts = { primitive_definitions (codes "i16") 2 };
+
+    ghost described = { signed_described (codes "i16") 2 };
 
     fn declaration(alloc: Global) -> Result<Declaration, SchemaBuildError> {
         declared(alloc, "i16")
@@ -159,13 +176,15 @@ impl BorshSchema for i16 {
         add_primitive(alloc, "i16", 2, definitions)
     }
 
-    ghost describes = { λ C h. describes_signed 2 h.0 };
+    ghost describes = { Self.described.describes };
 }
 
 impl BorshSchema for i32 {
     ghost name = { codes "i32" };
 
     ghost parts = { primitive_definitions (codes "i32") 4 };
+
+    ghost described = { signed_described (codes "i32") 4 };
 
     fn declaration(alloc: Global) -> Result<Declaration, SchemaBuildError> {
         declared(alloc, "i32")
@@ -178,13 +197,15 @@ impl BorshSchema for i32 {
         add_primitive(alloc, "i32", 4, definitions)
     }
 
-    ghost describes = { λ C h. describes_signed 4 h.0 };
+    ghost describes = { Self.described.describes };
 }
 
 impl BorshSchema for i64 {
     ghost name = { codes "i64" };
 
     ghost parts = { primitive_definitions (codes "i64") 8 };
+
+    ghost described = { signed_described (codes "i64") 8 };
 
     fn declaration(alloc: Global) -> Result<Declaration, SchemaBuildError> {
         declared(alloc, "i64")
@@ -197,13 +218,15 @@ impl BorshSchema for i64 {
         add_primitive(alloc, "i64", 8, definitions)
     }
 
-    ghost describes = { λ C h. describes_signed 8 h.0 };
+    ghost describes = { Self.described.describes };
 }
 
 impl BorshSchema for i128 {
     ghost name = { codes "i128" };
 
     ghost parts = { primitive_definitions (codes "i128") 16 };
+
+    ghost described = { signed_described (codes "i128") 16 };
 
     fn declaration(alloc: Global) -> Result<Declaration, SchemaBuildError> {
         declared(alloc, "i128")
@@ -216,13 +239,15 @@ impl BorshSchema for i128 {
         add_primitive(alloc, "i128", 16, definitions)
     }
 
-    ghost describes = { λ C h. describes_signed 16 h.0 };
+    ghost describes = { Self.described.describes };
 }
 
 impl BorshSchema for isize {
     ghost name = { codes "i64" };
 
     ghost parts = { primitive_definitions (codes "i64") 8 };
+
+    ghost described = { signed_described (codes "i64") 8 };
 
     fn declaration(alloc: Global) -> Result<Declaration, SchemaBuildError> {
         declared(alloc, "i64")
@@ -235,5 +260,5 @@ impl BorshSchema for isize {
         add_primitive(alloc, "i64", 8, definitions)
     }
 
-    ghost describes = { λ C h. describes_signed 8 h.0 };
+    ghost describes = { Self.described.describes };
 }

@@ -1,5 +1,7 @@
 // The schemas of what schemas are made of: lengths, fields, definitions and containers.
 ghost use Rattle.std.specs.Prelude.{codes};
+ghost use Rattle.borsh_walks.specs.Codecs.{length_range, fields, definition};
+ghost use Rattle.borsh_schema.specs.Codecs.{container};
 ghost use Rattle.borsh_schema.specs.Laws.Own.{length_range_described, fields_described, definition_described, container_described};
 ghost use Rattle.borsh_schema.specs.Own.{length_range_name, length_range_definitions, fields_definitions, named_fields_variant, unnamed_fields_variant, empty_variant, definition_definitions, primitive_variant, sequence_variant, tuple_variant, enum_variant, struct_variant, container_definitions};
 
@@ -17,6 +19,8 @@ impl BorshSchema for LengthRange {
     ghost name = { length_range_name };
 
     ghost parts = { length_range_definitions };
+
+    ghost described = { record { codec = length_range; describes = length_range_described } };
 
     fn declaration(alloc: Global) -> Result<Declaration, SchemaBuildError> {
         declared(alloc, "RangeInclusive<u64>")
@@ -38,7 +42,7 @@ impl BorshSchema for LengthRange {
         )
     }
 
-    ghost describes = { length_range_described };
+    ghost describes = { Self.described.describes };
 }
 
 // The part of `Fields::NamedFields`.
@@ -110,6 +114,8 @@ impl BorshSchema for Fields {
 
     ghost parts = { fields_definitions };
 
+    ghost described = { record { codec = fields; describes = fields_described } };
+
     fn declaration(alloc: Global) -> Result<Declaration, SchemaBuildError> {
         declared(alloc, "Fields")
     }
@@ -134,7 +140,7 @@ impl BorshSchema for Fields {
         )
     }
 
-    ghost describes = { fields_described };
+    ghost describes = { Self.described.describes };
 }
 
 // The part of `Definition::Primitive`.
@@ -251,6 +257,8 @@ impl BorshSchema for Definition {
 
     ghost parts = { definition_definitions };
 
+    ghost described = { record { codec = definition; describes = definition_described } };
+
     fn declaration(alloc: Global) -> Result<Declaration, SchemaBuildError> {
         declared(alloc, "Definition")
     }
@@ -282,13 +290,15 @@ impl BorshSchema for Definition {
         )
     }
 
-    ghost describes = { definition_described };
+    ghost describes = { Self.described.describes };
 }
 
 impl BorshSchema for BorshSchemaContainer {
     ghost name = { codes "BorshSchemaContainer" };
 
     ghost parts = { container_definitions };
+
+    ghost described = { record { codec = container; describes = container_described } };
 
     fn declaration(alloc: Global) -> Result<Declaration, SchemaBuildError> {
         declared(alloc, "BorshSchemaContainer")
@@ -310,5 +320,5 @@ impl BorshSchema for BorshSchemaContainer {
         )
     }
 
-    ghost describes = { container_described };
+    ghost describes = { Self.described.describes };
 }

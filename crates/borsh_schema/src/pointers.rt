@@ -1,5 +1,6 @@
 // Pointers, which are what they point to.
 ghost use Rattle.borsh_schema.specs.Laws.Members.{describes_contramap, describes_stored};
+ghost use Rattle.borsh_schema.specs.Laws.Quoted.{allocated_described, contramap_described};
 
 use super::definitions::SchemaBuildError;
 use super::schema::BorshSchema;
@@ -12,6 +13,8 @@ impl<T: BorshSchema> BorshSchema for Box<T> {
     ghost name = { T.name };
 
     ghost parts = { T.parts };
+
+    ghost described = { contramap_described (λ b. b.value) (allocated_described T.described) };
 
     fn declaration(alloc: Global) -> Result<Declaration, SchemaBuildError> {
         T::declaration(alloc)
@@ -32,6 +35,8 @@ impl<T: BorshSchema> BorshSchema for Rc<T> {
     ghost name = { T.name };
 
     ghost parts = { T.parts };
+
+    ghost described = { contramap_described (λ b. b.value) (allocated_described T.described) };
 
     fn declaration(alloc: Global) -> Result<Declaration, SchemaBuildError> {
         T::declaration(alloc)

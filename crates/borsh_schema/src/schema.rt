@@ -4,7 +4,7 @@ ghost use Rattle.borsh_walks.specs.Container.{Shape};
 ghost use Rattle.borsh_schema.specs.declared.definitions.SchemaBuildError.TheVariants.{OutOfMemory};
 ghost use Rattle.borsh_schema.specs.Described.{DefinitionTree};
 ghost use Rattle.borsh_schema.specs.Joined.{AddsDefinitions};
-ghost use Rattle.borsh_schema.specs.Language.{Holds, Describes};
+ghost use Rattle.borsh_schema.specs.Language.{Holds, Describes, DescribedCodec};
 
 use super::definitions::SchemaBuildError;
 use borsh_types::BorshType;
@@ -16,11 +16,14 @@ use std::collections::BTreeMap;
 ///
 /// An implementation says the bytes of the type's name (`name`) and the definitions of all that the
 /// name leads to (`parts`), and proves that in every container that holds these definitions each
-/// encoding is a member of the name (`describes`).
+/// encoding is a member of the name (`describes`). `described` has the same for a codec of its own, so that
+/// other implementations can quote it.
 pub trait BorshSchema: BorshType {
     ghost name: { List ℕ };
 
     ghost parts: { DefinitionTree };
+
+    ghost described: { DescribedCodec Self name parts };
 
     /// The name of the type. The error is always `OutOfMemory`.
     fn declaration(alloc: Global) -> Result<Declaration, SchemaBuildError>

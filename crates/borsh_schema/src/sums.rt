@@ -6,6 +6,7 @@ ghost use Rattle.borsh_schema.specs.Described.{defined, both, none};
 ghost use Rattle.borsh_schema.specs.Laws.Members.{describes_contramap, describes_bool, describes_choice, describes_unit, choice_more, choice_none};
 ghost use Rattle.borsh_schema.specs.Names.{applied, applied_to_two};
 ghost use Rattle.borsh_schema.specs.Types.{primitive_definitions, unit_definitions, option_of, result_of};
+ghost use Rattle.borsh_schema.specs.Laws.Quoted.{bool_described, option_described, result_described};
 
 use super::definitions::SchemaBuildError;
 use super::parts::{add_primitive, add_with_parts, declared, variant};
@@ -19,6 +20,8 @@ impl BorshSchema for bool {
 
     ghost parts = { primitive_definitions (codes "bool") 1 };
 
+    ghost described = { bool_described };
+
     fn declaration(alloc: Global) -> Result<Declaration, SchemaBuildError> {
         declared(alloc, "bool")
     }
@@ -30,7 +33,7 @@ impl BorshSchema for bool {
         add_primitive(alloc, "bool", 1, definitions)
     }
 
-    ghost describes = { λ C h. describes_bool h.0 };
+    ghost describes = { Self.described.describes };
 }
 
 impl<T: BorshSchema> BorshSchema for Option<T> {
@@ -38,6 +41,8 @@ impl<T: BorshSchema> BorshSchema for Option<T> {
 
     ghost parts = { defined (applied (codes "Option<") T.name) (option_of T.name)
         (both T.parts (both unit_definitions none)) };
+
+    ghost described = { option_described T.described };
 
     fn declaration(alloc: Global) -> Result<Declaration, SchemaBuildError> {
         let value = T::declaration(alloc)?;
@@ -75,6 +80,8 @@ impl<T: BorshSchema, E: BorshSchema> BorshSchema for Result<T, E> {
     ghost parts = { defined (applied_to_two (codes "Result<") T.name E.name)
         (result_of T.name E.name)
         (both T.parts (both E.parts none)) };
+
+    ghost described = { result_described T.described E.described };
 
     fn declaration(alloc: Global) -> Result<Declaration, SchemaBuildError> {
         let value = T::declaration(alloc)?;

@@ -8,6 +8,7 @@ ghost use Rattle.borsh_schema.specs.declared.definitions.SchemaBuildError.TheVar
 ghost use Rattle.borsh_schema.specs.Joined.{AddsDefinitions};
 ghost use Rattle.borsh_schema.specs.Laws.Members.{describes_contramap, describes_text};
 ghost use Rattle.borsh_schema.specs.Types.{text_definitions};
+ghost use Rattle.borsh_schema.specs.Laws.Quoted.{contramap_described, text_described};
 
 use super::definitions::SchemaBuildError;
 use super::parts::{add_list, declared};
@@ -24,6 +25,8 @@ impl BorshSchema for String {
 
     ghost parts = { text_definitions };
 
+    ghost described = { contramap_described string_bytes text_described };
+
     fn declaration(alloc: Global) -> Result<Declaration, SchemaBuildError> {
         declared(alloc, "String")
     }
@@ -35,7 +38,7 @@ impl BorshSchema for String {
         add_list::<u8>(alloc, Self::declaration(alloc)?, definitions)
     }
 
-    ghost describes = { λ C h. describes_contramap string_bytes (describes_text h.0 h.1.0.0) };
+    ghost describes = { Self.described.describes };
 }
 
 impl BorshSchema for &str {
@@ -43,6 +46,8 @@ impl BorshSchema for &str {
 
     ghost parts = { text_definitions };
 
+    ghost described = { contramap_described (λ r. r.now) text_described };
+
     fn declaration(alloc: Global) -> Result<Declaration, SchemaBuildError>
         ensures ok { IfOk result (λ d. string_bytes d ≡ codes "String") }
         ensures err { IfErr result (λ e. e ≡ OutOfMemory) }
@@ -59,7 +64,7 @@ impl BorshSchema for &str {
         add_list::<u8>(alloc, Self::declaration(alloc)?, definitions)
     }
 
-    ghost describes = { λ C h. describes_contramap (λ r. r.now) (describes_text h.0 h.1.0.0) };
+    ghost describes = { Self.described.describes };
 }
 
 impl BorshSchema for BoxedStr {
@@ -67,6 +72,8 @@ impl BorshSchema for BoxedStr {
 
     ghost parts = { text_definitions };
 
+    ghost described = { contramap_described boxed_str_bytes text_described };
+
     fn declaration(alloc: Global) -> Result<Declaration, SchemaBuildError> {
         declared(alloc, "String")
     }
@@ -78,7 +85,7 @@ impl BorshSchema for BoxedStr {
         add_list::<u8>(alloc, Self::declaration(alloc)?, definitions)
     }
 
-    ghost describes = { λ C h. describes_contramap boxed_str_bytes (describes_text h.0 h.1.0.0) };
+    ghost describes = { Self.described.describes };
 }
 
 impl BorshSchema for RcStr {
@@ -86,6 +93,8 @@ impl BorshSchema for RcStr {
 
     ghost parts = { text_definitions };
 
+    ghost described = { contramap_described rc_str_bytes text_described };
+
     fn declaration(alloc: Global) -> Result<Declaration, SchemaBuildError> {
         declared(alloc, "String")
     }
@@ -97,13 +106,15 @@ impl BorshSchema for RcStr {
         add_list::<u8>(alloc, Self::declaration(alloc)?, definitions)
     }
 
-    ghost describes = { λ C h. describes_contramap rc_str_bytes (describes_text h.0 h.1.0.0) };
+    ghost describes = { Self.described.describes };
 }
 
 impl BorshSchema for CowStr<'_> {
     ghost name = { codes "String" };
 
     ghost parts = { text_definitions };
+
+    ghost described = { contramap_described cow_str_bytes text_described };
 
     fn declaration(alloc: Global) -> Result<Declaration, SchemaBuildError>
         ensures ok { IfOk result (λ d. string_bytes d ≡ codes "String") }
@@ -121,5 +132,5 @@ impl BorshSchema for CowStr<'_> {
         add_list::<u8>(alloc, Self::declaration(alloc)?, definitions)
     }
 
-    ghost describes = { λ C h. describes_contramap cow_str_bytes (describes_text h.0 h.1.0.0) };
+    ghost describes = { Self.described.describes };
 }

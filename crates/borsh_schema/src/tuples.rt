@@ -1,11 +1,13 @@
 // Tuples: their parts in order.
-ghost use Rattle.std.specs.Prelude.{◌∷◌, []};
+ghost use Rattle.std.specs.Prelude.{◌∷◌, [], refl};
 ghost use Rattle.borsh_schema.specs.Described.{both, none};
 ghost use Rattle.borsh_schema.specs.Laws.Members.{describes_contramap, describes_parts, all_one, all_more};
 ghost use Rattle.borsh_schema.specs.Names.{tuple_name};
 ghost use Rattle.borsh_schema.specs.Types.{tuple_definitions};
+ghost use Rattle.borsh_schema.specs.Laws.Quoted.{struct_described, tuple_of};
 
 use super::definitions::SchemaBuildError;
+use super::fields::FieldTypes;
 use super::schema::BorshSchema;
 use super::tuple_parts::{add_tuple, tuple_declaration};
 use borsh_walks::{Declaration, Definition};
@@ -13,9 +15,13 @@ use std::alloc::Global;
 use std::collections::BTreeMap;
 
 impl<A: BorshSchema> BorshSchema for (A,) {
-    ghost name = { tuple_name (A.name ∷ []) };
+    ghost name = { tuple_name ⟦<(A, ()) as FieldTypes>⟧.names };
 
-    ghost parts = { tuple_definitions (A.name ∷ []) (both A.parts none) };
+    ghost parts = { tuple_of ⟦<(A, ()) as FieldTypes>⟧.described };
+
+    ghost described = { struct_described
+        (λ t. (t.0, tt))
+        ⟦<(A, ()) as FieldTypes>⟧.described refl };
 
     fn declaration(alloc: Global) -> Result<Declaration, SchemaBuildError> {
         let a = A::declaration(alloc)?;
@@ -34,9 +40,13 @@ impl<A: BorshSchema> BorshSchema for (A,) {
 }
 
 impl<A: BorshSchema, B: BorshSchema> BorshSchema for (A, B) {
-    ghost name = { tuple_name (A.name ∷ B.name ∷ []) };
+    ghost name = { tuple_name ⟦<(A, (B, ())) as FieldTypes>⟧.names };
 
-    ghost parts = { tuple_definitions (A.name ∷ B.name ∷ []) (both A.parts (both B.parts none)) };
+    ghost parts = { tuple_of ⟦<(A, (B, ())) as FieldTypes>⟧.described };
+
+    ghost described = { struct_described
+        (λ t. (t.0, (t.1, tt)))
+        ⟦<(A, (B, ())) as FieldTypes>⟧.described refl };
 
     fn declaration(alloc: Global) -> Result<Declaration, SchemaBuildError> {
         tuple_declaration::<A, (B, ())>(alloc)
@@ -54,10 +64,13 @@ impl<A: BorshSchema, B: BorshSchema> BorshSchema for (A, B) {
 }
 
 impl<A: BorshSchema, B: BorshSchema, C: BorshSchema> BorshSchema for (A, B, C) {
-    ghost name = { tuple_name (A.name ∷ B.name ∷ C.name ∷ []) };
+    ghost name = { tuple_name ⟦<(A, (B, (C, ()))) as FieldTypes>⟧.names };
 
-    ghost parts = { tuple_definitions (A.name ∷ B.name ∷ C.name ∷ [])
-        (both A.parts (both B.parts (both C.parts none))) };
+    ghost parts = { tuple_of ⟦<(A, (B, (C, ()))) as FieldTypes>⟧.described };
+
+    ghost described = { struct_described
+        (λ t. (t.0, (t.1, (t.2, tt))))
+        ⟦<(A, (B, (C, ()))) as FieldTypes>⟧.described refl };
 
     fn declaration(alloc: Global) -> Result<Declaration, SchemaBuildError> {
         tuple_declaration::<A, (B, (C, ()))>(alloc)
@@ -70,18 +83,19 @@ impl<A: BorshSchema, B: BorshSchema, C: BorshSchema> BorshSchema for (A, B, C) {
         add_tuple::<(A, (B, (C, ())))>(alloc, Self::declaration(alloc)?, definitions)
     }
 
-    ghost describes = { λ defs h. describes_contramap (λ t. (t.0, (t.1, t.2)))
-        (describes_parts h.0
-        (all_more (A.describes defs h.1.0)
-        (all_more (B.describes defs h.1.1.0)
+    ghost describes = { λ defs h. describes_contramap (λ t. (t.0, (t.1, t.2))) (describes_parts h.0
+        (all_more (A.describes defs h.1.0) (all_more (B.describes defs h.1.1.0)
         (all_one (C.describes defs h.1.1.1.0))))) };
 }
 
 impl<A: BorshSchema, B: BorshSchema, C: BorshSchema, D: BorshSchema> BorshSchema for (A, B, C, D) {
-    ghost name = { tuple_name (A.name ∷ B.name ∷ C.name ∷ D.name ∷ []) };
+    ghost name = { tuple_name ⟦<(A, (B, (C, (D, ())))) as FieldTypes>⟧.names };
 
-    ghost parts = { tuple_definitions (A.name ∷ B.name ∷ C.name ∷ D.name ∷ [])
-        (both A.parts (both B.parts (both C.parts (both D.parts none)))) };
+    ghost parts = { tuple_of ⟦<(A, (B, (C, (D, ())))) as FieldTypes>⟧.described };
+
+    ghost described = { struct_described
+        (λ t. (t.0, (t.1, (t.2, (t.3, tt)))))
+        ⟦<(A, (B, (C, (D, ())))) as FieldTypes>⟧.described refl };
 
     fn declaration(alloc: Global) -> Result<Declaration, SchemaBuildError> {
         tuple_declaration::<A, (B, (C, (D, ())))>(alloc)
@@ -95,19 +109,19 @@ impl<A: BorshSchema, B: BorshSchema, C: BorshSchema, D: BorshSchema> BorshSchema
     }
 
     ghost describes = { λ defs h. describes_contramap (λ t. (t.0, (t.1, (t.2, t.3))))
-        (describes_parts h.0
-        (all_more (A.describes defs h.1.0)
-        (all_more (B.describes defs h.1.1.0)
-        (all_more (C.describes defs h.1.1.1.0)
-        (all_one (D.describes defs h.1.1.1.1.0)))))) };
+        (describes_parts h.0 (all_more (A.describes defs h.1.0) (all_more (B.describes defs h.1.1.0)
+        (all_more (C.describes defs h.1.1.1.0) (all_one (D.describes defs h.1.1.1.1.0)))))) };
 }
 
 impl<A: BorshSchema, B: BorshSchema, C: BorshSchema, D: BorshSchema, E: BorshSchema> BorshSchema
     for (A, B, C, D, E) {
-    ghost name = { tuple_name (A.name ∷ B.name ∷ C.name ∷ D.name ∷ E.name ∷ []) };
+    ghost name = { tuple_name ⟦<(A, (B, (C, (D, (E, ()))))) as FieldTypes>⟧.names };
 
-    ghost parts = { tuple_definitions (A.name ∷ B.name ∷ C.name ∷ D.name ∷ E.name ∷ [])
-        (both A.parts (both B.parts (both C.parts (both D.parts (both E.parts none))))) };
+    ghost parts = { tuple_of ⟦<(A, (B, (C, (D, (E, ()))))) as FieldTypes>⟧.described };
+
+    ghost described = { struct_described
+        (λ t. (t.0, (t.1, (t.2, (t.3, (t.4, tt))))))
+        ⟦<(A, (B, (C, (D, (E, ()))))) as FieldTypes>⟧.described refl };
 
     fn declaration(alloc: Global) -> Result<Declaration, SchemaBuildError> {
         tuple_declaration::<A, (B, (C, (D, (E, ()))))>(alloc)
@@ -121,11 +135,8 @@ impl<A: BorshSchema, B: BorshSchema, C: BorshSchema, D: BorshSchema, E: BorshSch
     }
 
     ghost describes = { λ defs h. describes_contramap (λ t. (t.0, (t.1, (t.2, (t.3, t.4)))))
-        (describes_parts h.0
-        (all_more (A.describes defs h.1.0)
-        (all_more (B.describes defs h.1.1.0)
-        (all_more (C.describes defs h.1.1.1.0)
-        (all_more (D.describes defs h.1.1.1.1.0)
+        (describes_parts h.0 (all_more (A.describes defs h.1.0) (all_more (B.describes defs h.1.1.0)
+        (all_more (C.describes defs h.1.1.1.0) (all_more (D.describes defs h.1.1.1.1.0)
         (all_one (E.describes defs h.1.1.1.1.1.0))))))) };
 }
 
@@ -137,15 +148,13 @@ impl<
     E: BorshSchema,
     F: BorshSchema,
 > BorshSchema for (A, B, C, D, E, F) {
-    ghost name = { tuple_name (A.name ∷ B.name ∷ C.name ∷ D.name ∷ E.name ∷ F.name ∷ []) };
+    ghost name = { tuple_name ⟦<(A, (B, (C, (D, (E, (F, ())))))) as FieldTypes>⟧.names };
 
-    ghost parts = { tuple_definitions (A.name ∷ B.name ∷ C.name ∷ D.name ∷ E.name ∷ F.name ∷ [])
-        (both A.parts
-        (both B.parts
-        (both C.parts
-        (both D.parts
-        (both E.parts
-        (both F.parts none)))))) };
+    ghost parts = { tuple_of ⟦<(A, (B, (C, (D, (E, (F, ())))))) as FieldTypes>⟧.described };
+
+    ghost described = { struct_described
+        (λ t. (t.0, (t.1, (t.2, (t.3, (t.4, (t.5, tt)))))))
+        ⟦<(A, (B, (C, (D, (E, (F, ())))))) as FieldTypes>⟧.described refl };
 
     fn declaration(alloc: Global) -> Result<Declaration, SchemaBuildError> {
         tuple_declaration::<A, (B, (C, (D, (E, (F, ())))))>(alloc)
@@ -159,11 +168,8 @@ impl<
     }
 
     ghost describes = { λ defs h. describes_contramap (λ t. (t.0, (t.1, (t.2, (t.3, (t.4, t.5))))))
-        (describes_parts h.0
-        (all_more (A.describes defs h.1.0)
-        (all_more (B.describes defs h.1.1.0)
-        (all_more (C.describes defs h.1.1.1.0)
-        (all_more (D.describes defs h.1.1.1.1.0)
+        (describes_parts h.0 (all_more (A.describes defs h.1.0) (all_more (B.describes defs h.1.1.0)
+        (all_more (C.describes defs h.1.1.1.0) (all_more (D.describes defs h.1.1.1.1.0)
         (all_more (E.describes defs h.1.1.1.1.1.0)
         (all_one (F.describes defs h.1.1.1.1.1.1.0)))))))) };
 }
@@ -177,17 +183,13 @@ impl<
     F: BorshSchema,
     G: BorshSchema,
 > BorshSchema for (A, B, C, D, E, F, G) {
-    ghost name = { tuple_name (A.name ∷ B.name ∷ C.name ∷ D.name ∷ E.name ∷ F.name ∷ G.name ∷ []) };
+    ghost name = { tuple_name ⟦<(A, (B, (C, (D, (E, (F, (G, ()))))))) as FieldTypes>⟧.names };
 
-    ghost parts = { tuple_definitions
-        (A.name ∷ B.name ∷ C.name ∷ D.name ∷ E.name ∷ F.name ∷ G.name ∷ [])
-        (both A.parts
-        (both B.parts
-        (both C.parts
-        (both D.parts
-        (both E.parts
-        (both F.parts
-        (both G.parts none))))))) };
+    ghost parts = { tuple_of ⟦<(A, (B, (C, (D, (E, (F, (G, ()))))))) as FieldTypes>⟧.described };
+
+    ghost described = { struct_described
+        (λ t. (t.0, (t.1, (t.2, (t.3, (t.4, (t.5, (t.6, tt))))))))
+        ⟦<(A, (B, (C, (D, (E, (F, (G, ()))))))) as FieldTypes>⟧.described refl };
 
     fn declaration(alloc: Global) -> Result<Declaration, SchemaBuildError> {
         tuple_declaration::<A, (B, (C, (D, (E, (F, (G, ()))))))>(alloc)
@@ -204,15 +206,11 @@ impl<
         )
     }
 
-    ghost describes = { λ defs h. describes_contramap
-        (λ t. (t.0, (t.1, (t.2, (t.3, (t.4, (t.5, t.6)))))))
-        (describes_parts h.0
-        (all_more (A.describes defs h.1.0)
-        (all_more (B.describes defs h.1.1.0)
-        (all_more (C.describes defs h.1.1.1.0)
-        (all_more (D.describes defs h.1.1.1.1.0)
-        (all_more (E.describes defs h.1.1.1.1.1.0)
-        (all_more (F.describes defs h.1.1.1.1.1.1.0)
+    ghost describes = { λ defs h.
+        describes_contramap (λ t. (t.0, (t.1, (t.2, (t.3, (t.4, (t.5, t.6)))))))
+        (describes_parts h.0 (all_more (A.describes defs h.1.0) (all_more (B.describes defs h.1.1.0)
+        (all_more (C.describes defs h.1.1.1.0) (all_more (D.describes defs h.1.1.1.1.0)
+        (all_more (E.describes defs h.1.1.1.1.1.0) (all_more (F.describes defs h.1.1.1.1.1.1.0)
         (all_one (G.describes defs h.1.1.1.1.1.1.1.0))))))))) };
 }
 
@@ -226,19 +224,14 @@ impl<
     G: BorshSchema,
     H: BorshSchema,
 > BorshSchema for (A, B, C, D, E, F, G, H) {
-    ghost name = { tuple_name
-        (A.name ∷ B.name ∷ C.name ∷ D.name ∷ E.name ∷ F.name ∷ G.name ∷ H.name ∷ []) };
+    ghost name = { tuple_name ⟦<(A, (B, (C, (D, (E, (F, (G, (H, ())))))))) as FieldTypes>⟧.names };
 
-    ghost parts = { tuple_definitions
-        (A.name ∷ B.name ∷ C.name ∷ D.name ∷ E.name ∷ F.name ∷ G.name ∷ H.name ∷ [])
-        (both A.parts
-        (both B.parts
-        (both C.parts
-        (both D.parts
-        (both E.parts
-        (both F.parts
-        (both G.parts
-        (both H.parts none)))))))) };
+    ghost parts = { tuple_of
+        ⟦<(A, (B, (C, (D, (E, (F, (G, (H, ())))))))) as FieldTypes>⟧.described };
+
+    ghost described = { struct_described
+        (λ t. (t.0, (t.1, (t.2, (t.3, (t.4, (t.5, (t.6, (t.7, tt)))))))))
+        ⟦<(A, (B, (C, (D, (E, (F, (G, (H, ())))))))) as FieldTypes>⟧.described refl };
 
     fn declaration(alloc: Global) -> Result<Declaration, SchemaBuildError> {
         tuple_declaration::<A, (B, (C, (D, (E, (F, (G, (H, ())))))))>(alloc)
@@ -255,15 +248,11 @@ impl<
         )
     }
 
-    ghost describes = { λ defs h. describes_contramap
-        (λ t. (t.0, (t.1, (t.2, (t.3, (t.4, (t.5, (t.6, t.7))))))))
-        (describes_parts h.0
-        (all_more (A.describes defs h.1.0)
-        (all_more (B.describes defs h.1.1.0)
-        (all_more (C.describes defs h.1.1.1.0)
-        (all_more (D.describes defs h.1.1.1.1.0)
-        (all_more (E.describes defs h.1.1.1.1.1.0)
-        (all_more (F.describes defs h.1.1.1.1.1.1.0)
+    ghost describes = { λ defs h.
+        describes_contramap (λ t. (t.0, (t.1, (t.2, (t.3, (t.4, (t.5, (t.6, t.7))))))))
+        (describes_parts h.0 (all_more (A.describes defs h.1.0) (all_more (B.describes defs h.1.1.0)
+        (all_more (C.describes defs h.1.1.1.0) (all_more (D.describes defs h.1.1.1.1.0)
+        (all_more (E.describes defs h.1.1.1.1.1.0) (all_more (F.describes defs h.1.1.1.1.1.1.0)
         (all_more (G.describes defs h.1.1.1.1.1.1.1.0)
         (all_one (H.describes defs h.1.1.1.1.1.1.1.1.0)))))))))) };
 }
@@ -280,19 +269,14 @@ impl<
     I: BorshSchema,
 > BorshSchema for (A, B, C, D, E, F, G, H, I) {
     ghost name = { tuple_name
-        (A.name ∷ B.name ∷ C.name ∷ D.name ∷ E.name ∷ F.name ∷ G.name ∷ H.name ∷ I.name ∷ []) };
+        ⟦<(A, (B, (C, (D, (E, (F, (G, (H, (I, ()))))))))) as FieldTypes>⟧.names };
 
-    ghost parts = { tuple_definitions
-        (A.name ∷ B.name ∷ C.name ∷ D.name ∷ E.name ∷ F.name ∷ G.name ∷ H.name ∷ I.name ∷ [])
-        (both A.parts
-        (both B.parts
-        (both C.parts
-        (both D.parts
-        (both E.parts
-        (both F.parts
-        (both G.parts
-        (both H.parts
-        (both I.parts none))))))))) };
+    ghost parts = { tuple_of
+        ⟦<(A, (B, (C, (D, (E, (F, (G, (H, (I, ()))))))))) as FieldTypes>⟧.described };
+
+    ghost described = { struct_described
+        (λ t. (t.0, (t.1, (t.2, (t.3, (t.4, (t.5, (t.6, (t.7, (t.8, tt))))))))))
+        ⟦<(A, (B, (C, (D, (E, (F, (G, (H, (I, ()))))))))) as FieldTypes>⟧.described refl };
 
     fn declaration(alloc: Global) -> Result<Declaration, SchemaBuildError> {
         tuple_declaration::<A, (B, (C, (D, (E, (F, (G, (H, (I, ()))))))))>(alloc)
@@ -309,15 +293,11 @@ impl<
         )
     }
 
-    ghost describes = { λ defs h. describes_contramap
-        (λ t. (t.0, (t.1, (t.2, (t.3, (t.4, (t.5, (t.6, (t.7, t.8)))))))))
-        (describes_parts h.0
-        (all_more (A.describes defs h.1.0)
-        (all_more (B.describes defs h.1.1.0)
-        (all_more (C.describes defs h.1.1.1.0)
-        (all_more (D.describes defs h.1.1.1.1.0)
-        (all_more (E.describes defs h.1.1.1.1.1.0)
-        (all_more (F.describes defs h.1.1.1.1.1.1.0)
+    ghost describes = { λ defs h.
+        describes_contramap (λ t. (t.0, (t.1, (t.2, (t.3, (t.4, (t.5, (t.6, (t.7, t.8)))))))))
+        (describes_parts h.0 (all_more (A.describes defs h.1.0) (all_more (B.describes defs h.1.1.0)
+        (all_more (C.describes defs h.1.1.1.0) (all_more (D.describes defs h.1.1.1.1.0)
+        (all_more (E.describes defs h.1.1.1.1.1.0) (all_more (F.describes defs h.1.1.1.1.1.1.0)
         (all_more (G.describes defs h.1.1.1.1.1.1.1.0)
         (all_more (H.describes defs h.1.1.1.1.1.1.1.1.0)
         (all_one (I.describes defs h.1.1.1.1.1.1.1.1.1.0))))))))))) };
@@ -336,40 +316,14 @@ impl<
     J: BorshSchema,
 > BorshSchema for (A, B, C, D, E, F, G, H, I, J) {
     ghost name = { tuple_name
-        (A.name
-        ∷ B.name
-        ∷ C.name
-        ∷ D.name
-        ∷ E.name
-        ∷ F.name
-        ∷ G.name
-        ∷ H.name
-        ∷ I.name
-        ∷ J.name
-        ∷ []) };
+        ⟦<(A, (B, (C, (D, (E, (F, (G, (H, (I, (J, ())))))))))) as FieldTypes>⟧.names };
 
-    ghost parts = { tuple_definitions
-        (A.name
-        ∷ B.name
-        ∷ C.name
-        ∷ D.name
-        ∷ E.name
-        ∷ F.name
-        ∷ G.name
-        ∷ H.name
-        ∷ I.name
-        ∷ J.name
-        ∷ [])
-        (both A.parts
-        (both B.parts
-        (both C.parts
-        (both D.parts
-        (both E.parts
-        (both F.parts
-        (both G.parts
-        (both H.parts
-        (both I.parts
-        (both J.parts none)))))))))) };
+    ghost parts = { tuple_of
+        ⟦<(A, (B, (C, (D, (E, (F, (G, (H, (I, (J, ())))))))))) as FieldTypes>⟧.described };
+
+    ghost described = { struct_described
+        (λ t. (t.0, (t.1, (t.2, (t.3, (t.4, (t.5, (t.6, (t.7, (t.8, (t.9, tt)))))))))))
+        ⟦<(A, (B, (C, (D, (E, (F, (G, (H, (I, (J, ())))))))))) as FieldTypes>⟧.described refl };
 
     fn declaration(alloc: Global) -> Result<Declaration, SchemaBuildError> {
         tuple_declaration::<A, (B, (C, (D, (E, (F, (G, (H, (I, (J, ())))))))))>(alloc)
@@ -386,15 +340,11 @@ impl<
         )
     }
 
-    ghost describes = { λ defs h. describes_contramap
-        (λ t. (t.0, (t.1, (t.2, (t.3, (t.4, (t.5, (t.6, (t.7, (t.8, t.9))))))))))
-        (describes_parts h.0
-        (all_more (A.describes defs h.1.0)
-        (all_more (B.describes defs h.1.1.0)
-        (all_more (C.describes defs h.1.1.1.0)
-        (all_more (D.describes defs h.1.1.1.1.0)
-        (all_more (E.describes defs h.1.1.1.1.1.0)
-        (all_more (F.describes defs h.1.1.1.1.1.1.0)
+    ghost describes = { λ defs h.
+        describes_contramap (λ t. (t.0, (t.1, (t.2, (t.3, (t.4, (t.5, (t.6, (t.7, (t.8, t.9))))))))))
+        (describes_parts h.0 (all_more (A.describes defs h.1.0) (all_more (B.describes defs h.1.1.0)
+        (all_more (C.describes defs h.1.1.1.0) (all_more (D.describes defs h.1.1.1.1.0)
+        (all_more (E.describes defs h.1.1.1.1.1.0) (all_more (F.describes defs h.1.1.1.1.1.1.0)
         (all_more (G.describes defs h.1.1.1.1.1.1.1.0)
         (all_more (H.describes defs h.1.1.1.1.1.1.1.1.0)
         (all_more (I.describes defs h.1.1.1.1.1.1.1.1.1.0)
@@ -415,43 +365,14 @@ impl<
     K: BorshSchema,
 > BorshSchema for (A, B, C, D, E, F, G, H, I, J, K) {
     ghost name = { tuple_name
-        (A.name
-        ∷ B.name
-        ∷ C.name
-        ∷ D.name
-        ∷ E.name
-        ∷ F.name
-        ∷ G.name
-        ∷ H.name
-        ∷ I.name
-        ∷ J.name
-        ∷ K.name
-        ∷ []) };
+        ⟦<(A, (B, (C, (D, (E, (F, (G, (H, (I, (J, (K, ()))))))))))) as FieldTypes>⟧.names };
 
-    ghost parts = { tuple_definitions
-        (A.name
-        ∷ B.name
-        ∷ C.name
-        ∷ D.name
-        ∷ E.name
-        ∷ F.name
-        ∷ G.name
-        ∷ H.name
-        ∷ I.name
-        ∷ J.name
-        ∷ K.name
-        ∷ [])
-        (both A.parts
-        (both B.parts
-        (both C.parts
-        (both D.parts
-        (both E.parts
-        (both F.parts
-        (both G.parts
-        (both H.parts
-        (both I.parts
-        (both J.parts
-        (both K.parts none))))))))))) };
+    ghost parts = { tuple_of
+        ⟦<(A, (B, (C, (D, (E, (F, (G, (H, (I, (J, (K, ()))))))))))) as FieldTypes>⟧.described };
+
+    ghost described = { struct_described
+        (λ t. (t.0, (t.1, (t.2, (t.3, (t.4, (t.5, (t.6, (t.7, (t.8, (t.9, (t.10, tt))))))))))))
+        ⟦<(A, (B, (C, (D, (E, (F, (G, (H, (I, (J, (K, ()))))))))))) as FieldTypes>⟧.described refl };
 
     fn declaration(alloc: Global) -> Result<Declaration, SchemaBuildError> {
         tuple_declaration::<A, (B, (C, (D, (E, (F, (G, (H, (I, (J, (K, ()))))))))))>(alloc)
@@ -468,15 +389,11 @@ impl<
         )
     }
 
-    ghost describes = { λ defs h. describes_contramap
-        (λ t. (t.0, (t.1, (t.2, (t.3, (t.4, (t.5, (t.6, (t.7, (t.8, (t.9, t.10)))))))))))
-        (describes_parts h.0
-        (all_more (A.describes defs h.1.0)
-        (all_more (B.describes defs h.1.1.0)
-        (all_more (C.describes defs h.1.1.1.0)
-        (all_more (D.describes defs h.1.1.1.1.0)
-        (all_more (E.describes defs h.1.1.1.1.1.0)
-        (all_more (F.describes defs h.1.1.1.1.1.1.0)
+    ghost describes = { λ defs h.
+        describes_contramap (λ t. (t.0, (t.1, (t.2, (t.3, (t.4, (t.5, (t.6, (t.7, (t.8, (t.9, t.10)))))))))))
+        (describes_parts h.0 (all_more (A.describes defs h.1.0) (all_more (B.describes defs h.1.1.0)
+        (all_more (C.describes defs h.1.1.1.0) (all_more (D.describes defs h.1.1.1.1.0)
+        (all_more (E.describes defs h.1.1.1.1.1.0) (all_more (F.describes defs h.1.1.1.1.1.1.0)
         (all_more (G.describes defs h.1.1.1.1.1.1.1.0)
         (all_more (H.describes defs h.1.1.1.1.1.1.1.1.0)
         (all_more (I.describes defs h.1.1.1.1.1.1.1.1.1.0)
@@ -499,46 +416,14 @@ impl<
     L: BorshSchema,
 > BorshSchema for (A, B, C, D, E, F, G, H, I, J, K, L) {
     ghost name = { tuple_name
-        (A.name
-        ∷ B.name
-        ∷ C.name
-        ∷ D.name
-        ∷ E.name
-        ∷ F.name
-        ∷ G.name
-        ∷ H.name
-        ∷ I.name
-        ∷ J.name
-        ∷ K.name
-        ∷ L.name
-        ∷ []) };
+        ⟦<(A, (B, (C, (D, (E, (F, (G, (H, (I, (J, (K, (L, ())))))))))))) as FieldTypes>⟧.names };
 
-    ghost parts = { tuple_definitions
-        (A.name
-        ∷ B.name
-        ∷ C.name
-        ∷ D.name
-        ∷ E.name
-        ∷ F.name
-        ∷ G.name
-        ∷ H.name
-        ∷ I.name
-        ∷ J.name
-        ∷ K.name
-        ∷ L.name
-        ∷ [])
-        (both A.parts
-        (both B.parts
-        (both C.parts
-        (both D.parts
-        (both E.parts
-        (both F.parts
-        (both G.parts
-        (both H.parts
-        (both I.parts
-        (both J.parts
-        (both K.parts
-        (both L.parts none)))))))))))) };
+    ghost parts = { tuple_of
+        ⟦<(A, (B, (C, (D, (E, (F, (G, (H, (I, (J, (K, (L, ())))))))))))) as FieldTypes>⟧.described };
+
+    ghost described = { struct_described
+        (λ t. (t.0, (t.1, (t.2, (t.3, (t.4, (t.5, (t.6, (t.7, (t.8, (t.9, (t.10, (t.11, tt)))))))))))))
+        ⟦<(A, (B, (C, (D, (E, (F, (G, (H, (I, (J, (K, (L, ())))))))))))) as FieldTypes>⟧.described refl };
 
     fn declaration(alloc: Global) -> Result<Declaration, SchemaBuildError> {
         tuple_declaration::<A, (B, (C, (D, (E, (F, (G, (H, (I, (J, (K, (L, ())))))))))))>(alloc)
@@ -555,15 +440,11 @@ impl<
         )
     }
 
-    ghost describes = { λ defs h. describes_contramap
-        (λ t. (t.0, (t.1, (t.2, (t.3, (t.4, (t.5, (t.6, (t.7, (t.8, (t.9, (t.10, t.11))))))))))))
-        (describes_parts h.0
-        (all_more (A.describes defs h.1.0)
-        (all_more (B.describes defs h.1.1.0)
-        (all_more (C.describes defs h.1.1.1.0)
-        (all_more (D.describes defs h.1.1.1.1.0)
-        (all_more (E.describes defs h.1.1.1.1.1.0)
-        (all_more (F.describes defs h.1.1.1.1.1.1.0)
+    ghost describes = { λ defs h.
+        describes_contramap (λ t. (t.0, (t.1, (t.2, (t.3, (t.4, (t.5, (t.6, (t.7, (t.8, (t.9, (t.10, t.11))))))))))))
+        (describes_parts h.0 (all_more (A.describes defs h.1.0) (all_more (B.describes defs h.1.1.0)
+        (all_more (C.describes defs h.1.1.1.0) (all_more (D.describes defs h.1.1.1.1.0)
+        (all_more (E.describes defs h.1.1.1.1.1.0) (all_more (F.describes defs h.1.1.1.1.1.1.0)
         (all_more (G.describes defs h.1.1.1.1.1.1.1.0)
         (all_more (H.describes defs h.1.1.1.1.1.1.1.1.0)
         (all_more (I.describes defs h.1.1.1.1.1.1.1.1.1.0)

@@ -1,8 +1,9 @@
 // Types whose encodings are empty.
-ghost use Rattle.std.specs.Prelude.{codes};
+ghost use Rattle.std.specs.Prelude.{codes, refl};
 ghost use Rattle.borsh_schema.specs.Described.{defined, no_fields, none};
 ghost use Rattle.borsh_schema.specs.Laws.Members.{describes_contramap, describes_unit, describes_parts, all_none};
 ghost use Rattle.borsh_schema.specs.Types.{unit_definitions};
+ghost use Rattle.borsh_schema.specs.Laws.Quoted.{contramap_described, no_fields_described, struct_described, unit_described};
 
 use super::definitions::SchemaBuildError;
 use super::parts::{add_primitive, add_with_parts, declared};
@@ -18,6 +19,8 @@ impl BorshSchema for () {
 
     ghost parts = { unit_definitions };
 
+    ghost described = { unit_described };
+
     fn declaration(alloc: Global) -> Result<Declaration, SchemaBuildError> {
         declared(alloc, "()")
     }
@@ -29,7 +32,7 @@ impl BorshSchema for () {
         add_primitive(alloc, "()", 0, definitions)
     }
 
-    ghost describes = { λ C h. describes_unit h.0 };
+    ghost describes = { Self.described.describes };
 }
 
 impl<T> BorshSchema for PhantomData<T> {
@@ -37,6 +40,8 @@ impl<T> BorshSchema for PhantomData<T> {
 
     ghost parts = { unit_definitions };
 
+    ghost described = { contramap_described (λ _. tt) unit_described };
+
     fn declaration(alloc: Global) -> Result<Declaration, SchemaBuildError> {
         declared(alloc, "()")
     }
@@ -48,13 +53,15 @@ impl<T> BorshSchema for PhantomData<T> {
         add_primitive(alloc, "()", 0, definitions)
     }
 
-    ghost describes = { λ C h. describes_contramap (λ _. tt) (describes_unit h.0) };
+    ghost describes = { Self.described.describes };
 }
 
 impl BorshSchema for RangeFull {
     ghost name = { codes "RangeFull" };
 
     ghost parts = { defined (codes "RangeFull") no_fields none };
+
+    ghost described = { struct_described (λ _. tt) no_fields_described refl };
 
     fn declaration(alloc: Global) -> Result<Declaration, SchemaBuildError> {
         declared(alloc, "RangeFull")
@@ -70,5 +77,5 @@ impl BorshSchema for RangeFull {
         add_with_parts::<()>(alloc, Self::declaration(alloc)?, definition, definitions)
     }
 
-    ghost describes = { λ C h. describes_contramap (λ _. tt) (describes_parts h.0 all_none) };
+    ghost describes = { Self.described.describes };
 }

@@ -8,6 +8,7 @@
 mod addresses;
 #[cfg(test)]
 mod keys;
+pub mod kinds_of_keys;
 #[cfg(test)]
 mod refusals;
 #[cfg(test)]

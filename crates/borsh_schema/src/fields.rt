@@ -1,0 +1,224 @@
+// The fields of structs, tuples and variants: their types, one after another.
+ghost use Rattle.std.specs.Prelude.{◌≡◌, ◌∷◌, [], ◌++◌, List, ℕ, IfErr, OnOk, map, string_bytes};
+ghost use Rattle.borsh_schema.specs.declared.definitions.SchemaBuildError.TheVariants.{OutOfMemory};
+ghost use Rattle.borsh_schema.specs.Described.{field_bytes, variant_bytes};
+ghost use Rattle.borsh_schema.specs.Joined.{AddsDefinitions};
+ghost use Rattle.borsh_schema.specs.Language.{DescribedFields};
+ghost use Rattle.borsh_schema.specs.Laws.Quoted.{fields_described, no_fields_described};
+ghost use Rattle.borsh_schema.specs.Names.{AppendsNames, AppendsFollowing, texts, beside, listed_variants};
+ghost use Rattle.borsh_schema.specs.Types.{named_struct, unnamed_struct, unit_struct, tagged_enum};
+
+use super::definitions::SchemaBuildError;
+use super::parts::{SchemaParts, add_with_parts, declared};
+use super::schema::BorshSchema;
+use borsh_walks::{Declaration, Definition, DiscriminantValue, FieldName, Fields, VariantName};
+use std::alloc::Global;
+use std::collections::BTreeMap;
+
+/// The types of fields, one after another, as `(A, (B, ()))`.
+pub trait FieldTypes: SchemaParts {
+    ghost names: { List (List ℕ) };
+
+    ghost described: { DescribedFields Self };
+
+    /// How many there are.
+    fn count() -> usize;
+
+    /// Puts the names of the types at the end of the list.
+    fn push_types(alloc: Global, types: &mut Vec<Declaration>) -> Result<(), SchemaBuildError>
+        ensures ok { OnOk result (AppendsNames types.old.items types.new.items names) }
+        ensures err { IfErr result (λ e. e ≡ OutOfMemory) };
+
+    /// Puts the names at the end of the text, each behind a comma.
+    fn push_names(alloc: Global, text: &mut String) -> Result<(), SchemaBuildError>
+        ensures ok { OnOk result (AppendsFollowing text.old text.new names) }
+        ensures err { IfErr result (λ e. e ≡ OutOfMemory) };
+
+    /// Puts fields of these names and types at the end of the list.
+    fn push_fields(
+        alloc: Global,
+        fields: &[&str],
+        list: &mut Vec<(FieldName, Declaration)>,
+    ) -> Result<(), SchemaBuildError>
+        ensures ok { OnOk result (map field_bytes list.new.items
+            ≡ map field_bytes list.old.items ++ beside (texts fields.now) names) }
+        ensures err { IfErr result (λ e. e ≡ OutOfMemory) };
+}
+
+impl FieldTypes for () {
+    ghost names = { [] };
+
+    ghost described = { no_fields_described };
+
+    fn count() -> usize {
+        0
+    }
+
+    fn push_types(_alloc: Global, _types: &mut Vec<Declaration>) -> Result<(), SchemaBuildError> {
+        Ok(())
+    }
+
+    fn push_names(_alloc: Global, _text: &mut String) -> Result<(), SchemaBuildError> {
+        Ok(())
+    }
+
+    fn push_fields(
+        _alloc: Global,
+        _fields: &[&str],
+        _list: &mut Vec<(FieldName, Declaration)>,
+    ) -> Result<(), SchemaBuildError> {
+        Ok(())
+    }
+}
+
+impl<T: BorshSchema, R: FieldTypes> FieldTypes for (T, R) {
+    ghost names = { T.name ∷ R.names };
+
+    ghost described = { fields_described T.described R.described };
+
+    fn count() -> usize {
+        R::count().saturating_add(1)
+    }
+
+    fn push_types(alloc: Global, types: &mut Vec<Declaration>) -> Result<(), SchemaBuildError> {
+        types.push(T::declaration(alloc)?)?;
+        R::push_types(alloc, types)
+    }
+
+    fn push_names(alloc: Global, text: &mut String) -> Result<(), SchemaBuildError> {
+        let name = T::declaration(alloc)?;
+        text.push_str(", ")?;
+        text.push_str(name.as_str())?;
+        R::push_names(alloc, text)
+    }
+
+    fn push_fields(
+        alloc: Global,
+        fields: &[&str],
+        list: &mut Vec<(FieldName, Declaration)>,
+    ) -> Result<(), SchemaBuildError> {
+        if let [first, rest @ ..] = fields {
+            let name = declared(alloc, first)?;
+            list.push((name, T::declaration(alloc)?))?;
+            return R::push_fields(alloc, rest, list);
+        }
+        Ok(())
+    }
+}
+
+/// Adds a struct with these names of fields, and the definitions of their types, `P`. The answers are
+/// those of [`BorshSchema::add_definitions_recursively`].
+///
+/// ```
+/// add_named::<(u64, (String, ()))>(alloc, "Account", &["balance", "name"], definitions)?;
+/// ```
+pub fn add_named<P: FieldTypes>(
+    alloc: Global,
+    name: &str,
+    fields: &[&str],
+    definitions: &mut BTreeMap<Declaration, Definition>,
+) -> Result<(), SchemaBuildError>
+    ensures { AddsDefinitions definitions.old definitions.new
+        (named_struct name.now (texts fields.now) P.names P.all_parts) result }
+{
+    let mut list = Vec::new(alloc);
+    P::push_fields(alloc, fields, &mut list)?;
+    let declaration = declared(alloc, name)?;
+    let fields = Fields::NamedFields(list);
+    add_with_parts::<P>(
+        alloc,
+        declaration,
+        Definition::Struct { fields },
+        definitions,
+    )
+}
+
+/// Adds a struct whose fields, of the types `P`, have no names. The answers are those of
+/// [`BorshSchema::add_definitions_recursively`].
+pub fn add_unnamed<P: FieldTypes>(
+    alloc: Global,
+    name: &str,
+    definitions: &mut BTreeMap<Declaration, Definition>,
+) -> Result<(), SchemaBuildError>
+    ensures { AddsDefinitions definitions.old definitions.new
+        (unnamed_struct name.now P.names P.all_parts) result }
+{
+    let mut list = Vec::with_capacity(alloc, P::count())?;
+    P::push_types(alloc, &mut list)?;
+    let declaration = declared(alloc, name)?;
+    let fields = Fields::UnnamedFields(list);
+    add_with_parts::<P>(
+        alloc,
+        declaration,
+        Definition::Struct { fields },
+        definitions,
+    )
+}
+
+/// Adds a struct without fields. The answers are those of
+/// [`BorshSchema::add_definitions_recursively`].
+pub fn add_unit(
+    alloc: Global,
+    name: &str,
+    definitions: &mut BTreeMap<Declaration, Definition>,
+) -> Result<(), SchemaBuildError>
+    ensures { AddsDefinitions definitions.old definitions.new (unit_struct name.now) result }
+{
+    let declaration = declared(alloc, name)?;
+    let fields = Fields::Empty;
+    add_with_parts::<()>(
+        alloc,
+        declaration,
+        Definition::Struct { fields },
+        definitions,
+    )
+}
+
+// Puts variants of these tags, names and types at the end of the list.
+fn push_variants(
+    alloc: Global,
+    tags: &[u8],
+    names: &[&str],
+    types: &[&str],
+    list: &mut Vec<(DiscriminantValue, VariantName, Declaration)>,
+) -> Result<(), SchemaBuildError>
+    ensures ok { OnOk result (map variant_bytes list.new.items
+        ≡ map variant_bytes list.old.items
+        ++ listed_variants tags.now (texts names.now) (texts types.now)) }
+    ensures err { IfErr result (λ e. e ≡ OutOfMemory) }
+{
+    if let [tag, tags @ ..] = tags {
+        if let [name, names @ ..] = names {
+            if let [variant, types @ ..] = types {
+                let name = declared(alloc, name)?;
+                let variant = declared(alloc, variant)?;
+                list.push((i64::from(*tag), name, variant))?;
+                return push_variants(alloc, tags, names, types, list);
+            }
+        }
+    }
+    Ok(())
+}
+
+/// Adds an enum whose variants have these tags, names and types, and the definitions of the types, `P`.
+/// The answers are those of [`BorshSchema::add_definitions_recursively`].
+pub fn add_enum<P: SchemaParts>(
+    alloc: Global,
+    name: &str,
+    tags: &[u8],
+    names: &[&str],
+    types: &[&str],
+    definitions: &mut BTreeMap<Declaration, Definition>,
+) -> Result<(), SchemaBuildError>
+    ensures { AddsDefinitions definitions.old definitions.new
+        (tagged_enum name.now tags.now (texts names.now) (texts types.now) P.all_parts) result }
+{
+    let mut variants = Vec::with_capacity(alloc, tags.len())?;
+    push_variants(alloc, tags, names, types, &mut variants)?;
+    let declaration = declared(alloc, name)?;
+    let definition = Definition::Enum {
+        tag_width: 1,
+        variants,
+    };
+    add_with_parts::<P>(alloc, declaration, definition, definitions)
+}
