@@ -3,7 +3,7 @@ use std::collections::{BTreeMap, BTreeSet, HashMap};
 use std::net::Ipv4Addr;
 
 /// Fields of different types: a map and an option among them.
-// derive: borsh
+// derive: borsh, schema
 #[derive(Drop)]
 pub struct Account {
     pub id: u64,
@@ -12,17 +12,17 @@ pub struct Account {
 }
 
 /// Fields without names.
-// derive: borsh
+// derive: borsh, schema
 #[derive(Drop)]
 pub struct Point(pub u32, pub i32);
 
 /// No fields: the encoding is empty.
-// derive: borsh
+// derive: borsh, schema
 #[derive(Drop)]
 pub struct Marker;
 
 /// One field: the bytes are its bytes.
-// derive: borsh
+// derive: borsh, schema
 #[derive(Drop)]
 pub struct Name {
     pub text: String,

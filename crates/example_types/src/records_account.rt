@@ -1,11 +1,14 @@
 // Written by borsh_derive.py from records.rt: edit that file, and run the program again.
 ghost use Rattle.borsh.specs.Laws.OfParts.{contramap, contramap-lawful, from, key_facts};
+ghost use Rattle.borsh.specs.Schema.Laws.Quoted.{struct_described, struct_parts};
+ghost use Rattle.std.specs.Prelude.{codes, refl, ◌∷◌, []};
 
 use super::records::Account;
 use borsh::de::{FromParts, read_parts};
 use borsh::io::{Read, Result, Write};
+use borsh::schema::{Declaration, Definition, FieldTypes, SchemaBuildError, add_named, declared};
 use borsh::ser::write_three;
-use borsh::{BorshDeserialize, BorshSerialize, BorshType};
+use borsh::{BorshDeserialize, BorshSchema, BorshSerialize, BorshType};
 use std::alloc::Global;
 use std::collections::BTreeMap;
 
@@ -51,4 +54,34 @@ impl BorshDeserialize for Account {
     fn deserialize_reader<R: Read>(alloc: Global, reader: &mut R) -> Result<Account> {
         read_parts(alloc, reader)
     }
+}
+
+/// The fields of [`Account`] as its schema goes through them.
+type FieldList = (u64, (BTreeMap<String, u64>, (Option<String>, ())));
+
+impl BorshSchema for Account {
+    ghost name = { codes "Account" };
+
+    ghost parts = { struct_parts
+        (codes "Account")
+        (codes "id" ∷ codes "balances" ∷ codes "note" ∷ [])
+        ⟦<FieldList as FieldTypes>⟧.described };
+
+    ghost described = { struct_described
+        (λ v. (v.id, (v.balances, (v.note, tt))))
+        ⟦<FieldList as FieldTypes>⟧.described
+        refl };
+
+    fn declaration(alloc: Global) -> std::result::Result<Declaration, SchemaBuildError> {
+        declared(alloc, "Account")
+    }
+
+    fn add_definitions_recursively(
+        alloc: Global,
+        definitions: &mut BTreeMap<Declaration, Definition>,
+    ) -> std::result::Result<(), SchemaBuildError> {
+        add_named::<FieldList>(alloc, "Account", &["id", "balances", "note"], definitions)
+    }
+
+    ghost describes = { Self.described.describes };
 }

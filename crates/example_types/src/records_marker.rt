@@ -1,12 +1,17 @@
 // Written by borsh_derive.py from records.rt: edit that file, and run the program again.
 ghost use Rattle.borsh.specs.Laws.OfParts.{contramap, contramap-lawful, from, key_facts};
+ghost use Rattle.borsh.specs.Schema.Laws.Quoted.{no_fields_described, struct_described};
+ghost use Rattle.borsh.specs.Schema.Types.{unit_struct};
+ghost use Rattle.std.specs.Prelude.{codes, refl};
 
 use super::records::Marker;
 use borsh::de::{FromParts, read_parts};
 use borsh::io::{Read, Result, Write};
+use borsh::schema::{Declaration, Definition, SchemaBuildError, add_unit, declared};
 use borsh::ser::write_bytes;
-use borsh::{BorshDeserialize, BorshSerialize, BorshType};
+use borsh::{BorshDeserialize, BorshSchema, BorshSerialize, BorshType};
 use std::alloc::Global;
+use std::collections::BTreeMap;
 
 /// The fields of [`Marker`], in order.
 type Fields = ();
@@ -49,4 +54,25 @@ impl BorshDeserialize for Marker {
     fn deserialize_reader<R: Read>(alloc: Global, reader: &mut R) -> Result<Marker> {
         read_parts(alloc, reader)
     }
+}
+
+impl BorshSchema for Marker {
+    ghost name = { codes "Marker" };
+
+    ghost parts = { unit_struct (codes "Marker") };
+
+    ghost described = { struct_described (λ _. tt) no_fields_described refl };
+
+    fn declaration(alloc: Global) -> std::result::Result<Declaration, SchemaBuildError> {
+        declared(alloc, "Marker")
+    }
+
+    fn add_definitions_recursively(
+        alloc: Global,
+        definitions: &mut BTreeMap<Declaration, Definition>,
+    ) -> std::result::Result<(), SchemaBuildError> {
+        add_unit(alloc, "Marker", definitions)
+    }
+
+    ghost describes = { Self.described.describes };
 }

@@ -4,7 +4,9 @@ use super::messages::{Envelope, Level, Message, Request, Version};
 use super::records::{Account, Block, Cached, Directory, Marker, Name, Point, Settings, UserId};
 use super::shapes::Shape;
 use borsh::io::{ErrorKind, Result as IoResult};
-use borsh::{BorshDeserialize, BorshSerialize, from_slice, to_vec};
+use borsh::{
+    BorshDeserialize, BorshSchema, BorshSerialize, from_slice, max_serialized_size, to_vec,
+};
 use std::alloc::{AllocError, Global};
 use std::collections::{BTreeMap, BTreeSet, HashMap};
 use std::net::Ipv4Addr;
@@ -262,6 +264,24 @@ fn keys_are_in_the_order_of_their_fields(rt: HostRuntime) -> Result<(), Fail> {
         closed: true,
     };
     assert!(rt; is_encoding(alloc, &ledger, b"\x01\0\0\0\x03\0\0\0\0\x04\0\x01")?);
+    Ok(())
+}
+
+/// Whether the schema of `T` says that no encoding is longer than this, and that one may be as long.
+fn is_greatest_size<T: BorshSchema>(alloc: Global, size: usize) -> bool {
+    match max_serialized_size::<T>(alloc) {
+        Ok(found) => found == size,
+        Err(_) => false,
+    }
+}
+
+#[test]
+fn schemas_give_sizes(rt: HostRuntime) -> Result<(), Fail> {
+    let alloc = rt.alloc();
+    assert!(rt; is_greatest_size::<Point>(alloc, 8));
+    assert!(rt; is_greatest_size::<Marker>(alloc, 0));
+    assert!(rt; is_greatest_size::<Option<(Point, Marker)>>(alloc, 9));
+    assert!(rt; is_greatest_size::<Name>(alloc, 4294967299));
     Ok(())
 }
 
