@@ -3,7 +3,7 @@ use Rattle.std.specs.Prelude.{◌≡◌, ℕ, List, [], ◌∷◌, Option, Some,
 use Rattle.borsh_schema.specs.declared.container.BorshSchemaContainer.{BorshSchemaContainer}
 use Rattle.borsh_schema.specs.Codecs.{container}
 use Rattle.borsh_schema.specs.Containers.{IsContainerOf}
-use Rattle.borsh_schema.specs.Described.{list as sequence, no_fields, DefinitionTree, none, defined, both}
+use Rattle.borsh_schema.specs.Described.{list as sequence, named, no_fields, DefinitionTree, none, defined, both}
 use Rattle.borsh_schema.specs.Names.{applied, applied_to_two, array_name, tuple_name}
 use Rattle.borsh_schema.specs.Types.{list_definitions, map_definitions, option_of, primitive_definitions, range_of, range_from as range_from_of, range_to as range_to_of, result_of, text_definitions, tuple_definitions, unit_definitions}
 use Rattle.borsh.specs.WithSchema.{HasClash}
@@ -75,6 +75,11 @@ list head s = (applied head s.0, list_definitions head s.0 s.1)
 
 abbrev pub map : List ℕ → Schema → Schema → Schema
 map head k v = (applied_to_two head k.0 v.0, map_definitions head k.0 v.0 k.1 v.1)
+
+-- ---- the struct of the samples
+
+abbrev pub readme : Schema
+readme = (codes "A", defined (codes "A") (named ((codes "x", codes "u64") ∷ (codes "y", codes "String") ∷ [])) (both (primitive_definitions (codes "u64") 8) (both text_definitions none)))
 
 -- what answers a line that asks for the schema with this name and these definitions: the encoding of its container
 pub record IsSchemaText (name : List ℕ) (parts : DefinitionTree) (out : List ℕ) : Type 0 where

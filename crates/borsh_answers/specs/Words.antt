@@ -11,7 +11,7 @@ use Rattle.borsh_schema.specs.Own.{container_definitions}
 use Rattle.borsh_samples.specs.MyEnum.{my_enum}
 use Rattle.borsh_samples.specs.One.{one}
 use Rattle.borsh_samples.specs.OneOrZero.{one_or_zero}
-use Rattle.borsh_samples.specs.Schemas.{readme_definitions, my_enum_definitions}
+use Rattle.borsh_samples.specs.Schemas.{my_enum_definitions}
 use Rattle.borsh_answers.specs.declared.words.Word.{Word}
 use Rattle.borsh_answers.specs.declared.words.Word.TheVariants as word
 use Rattle.borsh_answers.specs.Meanings.{hash_map_u8, hash_set_u8, index_map_u8, index_set_u8, map_by_byte, map_unit, non_zero_i16, ranges, set_u8, stored_in_box, string, shared_text, vec_of, deque, boxed, readme, my_struct}
@@ -68,7 +68,7 @@ row word.Ip = row_of (codes "ip") ip (Some (codes "IpAddr", ip_address_definitio
 row word.BoxU8 = row_of (codes "box-u8") (boxed (unsigned 1)) (Some (schema.list (codes "Vec<") schema.u8))
 row word.RcString = row_of (codes "rc-string") shared_text (Some schema.string)
 row word.Container = row_of (codes "container") container (Some (codes "BorshSchemaContainer", container_definitions))
-row word.Readme = row_of (codes "readme") readme (Some (codes "A", readme_definitions))
+row word.Readme = row_of (codes "readme") readme (Some schema.readme)
 row word.MyEnum = row_of (codes "myenum") my_enum (Some (codes "MyEnum", my_enum_definitions))
 row word.IndexMapU8 = row_of (codes "imap-u8") index_map_u8 None
 row word.IndexSetU8 = row_of (codes "iset-u8") index_set_u8 None
