@@ -58,8 +58,8 @@ fn write_one_by_one<T: BorshSerialize, W: Write>(
     Ok(())
 }
 
-/// Writes the elements one after another: those that put themselves into a room by the room, and
-/// the others by `serialize`. Fails as `write_elements` does.
+/// Writes the elements one after another: by a room as long as they put themselves into it, and from the
+/// first one that doesn't by `serialize`. Fails as `write_elements` does.
 ///
 /// At most 32 elements share the room, so that LLVM knows that elements of up to 32 bytes fit, and
 /// tests no room for them.
@@ -78,12 +78,10 @@ fn write_by_room<T: BorshSerialize, W: Write>(
         let end = next + (items.len() - next).min(32);
         let (count, filled) = put_front(&items[next..end], &mut room);
         if count == 0 {
-            items[next].serialize(alloc, writer)?;
-            next += 1;
-        } else {
-            write_bytes(&room[..filled], writer)?;
-            next += count;
+            return write_one_by_one(&items[next..], alloc, writer);
         }
+        write_bytes(&room[..filled], writer)?;
+        next += count;
     }
     Ok(())
 }
