@@ -60,7 +60,15 @@ fn print(kind: &str, action: &str, [mine, other]: [f64; 2]) {
     println!("{kind}\t{action}\t{mine:.4}\t{other:.4}");
 }
 
+/// Whether this kind is asked for: every one, or those whose names have the program's argument in them.
+fn is_wanted(name: &str) -> bool {
+    std::env::args().nth(1).is_none_or(|part| name.contains(&part))
+}
+
 fn row<T: BorshSerialize + BorshDeserialize>(kind: u32, name: &str, value: T) {
+    if !is_wanted(name) {
+        return;
+    }
     let bytes = to_vec(&value).unwrap();
     // Some megabytes a turn.
     let rounds = (1 << 22) / bytes.len().max(64) + 4;
@@ -75,6 +83,9 @@ fn row<T: BorshSerialize + BorshDeserialize>(kind: u32, name: &str, value: T) {
 }
 
 fn container(name: &str, value: &BorshSchemaContainer, rounds: usize, with_original: bool) {
+    if !is_wanted(name) {
+        return;
+    }
     let bytes = to_vec(value).unwrap();
     for (sizes, word) in [(false, "validate"), (true, "size")] {
         let mine = |n| unsafe { ours_of_container(sizes, bytes.as_ptr(), bytes.len(), n) };
@@ -107,6 +118,10 @@ fn structs(count: usize, parts: impl Fn(usize) -> Vec<usize>) -> BorshSchemaCont
 }
 
 fn refusals() {
+    let name = "Vec<u8> that announces 16 MiB and has a byte";
+    if !is_wanted(name) {
+        return;
+    }
     let bytes = [0xff, 0xff, 0xff, 0, 7];
     let rounds = 200;
     let times = compare(
@@ -114,7 +129,7 @@ fn refusals() {
         |n| unsafe { ours_refuses(bytes.as_ptr(), bytes.len(), n) },
         |n| (0..n).filter(|_| black_box(from_slice::<Vec<u8>>(black_box(&bytes))).is_err()).count(),
     );
-    print("Vec<u8> that announces 16 MiB and has a byte", "read", times);
+    print(name, "read", times);
 }
 
 fn main() {

@@ -391,7 +391,7 @@ def struct_parts(writer):
 def struct_decoding(writer):
     head = deserialize_head(writer, 'deserialize_reader', [])
     body = '        %s(alloc, reader)' % writer.lib('read_parts')
-    return writer.block('BorshDeserialize', 'BorshDeserialize', [head, body, '    }'])
+    return writer.block('BorshDeserialize', 'BorshDeserialize', [head, body, '    }'] + own_width(writer))
 
 
 def struct_key(writer):
@@ -613,7 +613,15 @@ def matched(path, fields, names):
 def enum_decoding(writer):
     head = deserialize_head(writer, 'deserialize_reader', [])
     body = '        %s(alloc, reader)' % writer.lib('read_enum')
-    return writer.block('BorshDeserialize', 'BorshDeserialize', [head, body, '    }'])
+    return writer.block('BorshDeserialize', 'BorshDeserialize', [head, body, '    }'] + own_width(writer))
+
+
+def own_width(writer):
+    """The method `width` of a type with a length as a parameter: that it fits in memory, which the provided one has to
+    know, doesn't follow from the length."""
+    if not any(parameter.constant for parameter in writer.marked.parameters):
+        return []
+    return ['', '    fn width() -> usize {', '        0', '    }']
 
 
 def enum_after_tag(writer):

@@ -50,4 +50,8 @@ impl<const N: usize> BorshDeserialize for Grid<N> {
     fn deserialize_reader<R: Read>(alloc: Global, reader: &mut R) -> Result<Grid<N>> {
         read_parts(alloc, reader)
     }
+
+    fn width() -> usize {
+        0
+    }
 }
