@@ -407,63 +407,54 @@ fn many_variants(rt: HostRuntime) -> Result<(), Fail> {
     Ok(())
 }
 
+/// The nodes as a text: each name, its own bytes, and a semicolon.
+fn text_of(alloc: Global, nodes: &[Node<'_>]) -> Result<String, Fail> {
+    let mut text = String::new(alloc);
+    for node in nodes {
+        text.push_str(node.name)?;
+        for byte in node.bytes {
+            text.push_str(format!(in alloc; " {byte}")?.as_str())?;
+        }
+        text.push(';')?;
+    }
+    Ok(text)
+}
+
 #[test]
 fn nodes_in_preorder(rt: HostRuntime) -> Result<(), Fail> {
     let alloc = rt.alloc();
     let map = definitions(alloc)?;
-    let table: &[(&str, &[u8], &[(&str, &[u8])])] = &[
-        ("u32", &[1, 2, 3, 4], &[("u32", &[1, 2, 3, 4])]),
-        ("Unit", &[], &[]),
-        ("most units", &[], &[]),
-        (
-            "counted units",
-            &[9, 0, 0, 0],
-            &[("counted units", &[9, 0, 0, 0])],
-        ),
-        (
-            "[u8; 3]",
-            &[1, 2, 3],
-            &[("[u8; 3]", &[]), ("u8", &[1]), ("u8", &[2]), ("u8", &[3])],
-        ),
+    let table: &[(&str, &[u8], &str)] = &[
+        ("u32", &[1, 2, 3, 4], "u32 1 2 3 4;"),
+        ("Unit", &[], ""),
+        ("most units", &[], ""),
+        ("counted units", &[9, 0, 0, 0], "counted units 9 0 0 0;"),
+        ("[u8; 3]", &[1, 2, 3], "[u8; 3];u8 1;u8 2;u8 3;"),
         (
             "Pair",
             &[7, 1, 0, 0, 0, 8],
-            &[
-                ("Pair", &[]),
-                ("u8", &[7]),
-                ("Vec<u8>", &[1, 0, 0, 0]),
-                ("u8", &[8]),
-            ],
+            "Pair;u8 7;Vec<u8> 1 0 0 0;u8 8;",
         ),
-        ("Option<u8>", &[0], &[("Option<u8>", &[0])]),
-        ("Option<u8>", &[1, 5], &[("Option<u8>", &[1]), ("u8", &[5])]),
-        (
-            "signed",
-            &[255, 255, 7],
-            &[("signed", &[255, 255]), ("u8", &[7])],
-        ),
-        (
-            "List",
-            &[1, 5, 0],
-            &[("List", &[1]), ("Link", &[]), ("u8", &[5]), ("List", &[0])],
-        ),
+        ("Option<u8>", &[0], "Option<u8> 0;"),
+        ("Option<u8>", &[1, 5], "Option<u8> 1;u8 5;"),
+        ("signed", &[255, 255, 7], "signed 255 255;u8 7;"),
+        ("List", &[1, 5, 0], "List 1;Link;u8 5;List 0;"),
     ];
     for (root, bytes, expected) in table {
         let Decoded::Nodes(nodes) = decode(alloc, root, &map, bytes)? else {
             return Err(Fail::from("no nodes"));
         };
-        assert_eq!(rt; nodes.len(), expected.len());
+        assert_eq!(rt; text_of(alloc, &nodes)?.as_str(), *expected);
         assert_eq!(rt; &encode(alloc, &nodes)?[..], *bytes);
-        for (node, (name, own)) in nodes.iter().zip(expected.iter()) {
-            assert_eq!(rt; node.name, *name);
-            assert_eq!(rt; node.bytes, *own);
-        }
     }
     let Decoded::Nodes(nodes) = decode(alloc, "signed", &map, &[255, 255, 7])? else {
         return Err(Fail::from("no nodes"));
     };
-    assert_eq!(rt; variant_of(&nodes[0]), Some(1));
-    assert_eq!(rt; variant_of(&nodes[1]), None);
+    let [first, second] = nodes.as_slice() else {
+        return Err(Fail::from("not two nodes"));
+    };
+    assert_eq!(rt; variant_of(first), Some(1));
+    assert_eq!(rt; variant_of(second), None);
     assert!(rt; matches!(decode(alloc, "u8", &map, &[])?, Decoded::NoMember));
     assert!(rt; matches!(decode(alloc, "left", &map, &[])?, Decoded::NoMember));
     assert!(rt; matches!(decode(alloc, "behind", &map, &[5, 0])?, Decoded::Ambiguous));
