@@ -24,7 +24,7 @@ use std::rc::RcSlice;
 ///
 /// Fails as the element that could not be written does. Then a beginning of the encoding was
 /// written.
-#[inline]
+#[inline(always)]
 pub(crate) fn write_elements<T: BorshSerialize, W: Write>(
     items: &[T],
     alloc: Global,
@@ -43,7 +43,9 @@ pub(crate) fn write_elements<T: BorshSerialize, W: Write>(
 }
 
 /// Writes the elements one after another. Fails as `write_elements` does.
-#[inline]
+///
+/// As a function of its own it would take three times as long: each element's `Result` would be copied.
+#[inline(always)]
 fn write_one_by_one<T: BorshSerialize, W: Write>(
     items: &[T],
     alloc: Global,
@@ -63,7 +65,7 @@ fn write_one_by_one<T: BorshSerialize, W: Write>(
 ///
 /// At most 32 elements share the room, so that LLVM knows that elements of up to 32 bytes fit, and
 /// tests no room for them.
-#[inline]
+#[inline(always)]
 fn write_by_room<T: BorshSerialize, W: Write>(
     items: &[T],
     alloc: Global,
