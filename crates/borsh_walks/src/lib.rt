@@ -22,6 +22,3 @@ pub use definition::{
 pub use error::{SchemaContainerValidateError, SchemaMaxSerializedSizeError};
 pub use rules::check_rules;
 pub use sizes::root_size;
-
-#[cfg(test)]
-mod tests;

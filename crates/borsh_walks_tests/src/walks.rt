@@ -1,92 +1,15 @@
 // What no clause says: that there is memory for the walks, also over long chains, and for copies.
-use super::*;
+use super::build::{Definitions, choice, named, put, sequence, simple, text, texts, tuple};
+use borsh_walks::{
+    Counted, Definition, Expansions, Fields, LengthRange, SchemaContainerValidateError,
+    SchemaMaxSerializedSizeError, check_rules, root_size,
+};
 use std::alloc::Global;
-use std::collections::BTreeMap;
 use std::test::Fail;
-
-type Definitions = BTreeMap<String, Definition>;
 
 // The rule that is broken, the fault of the size, the size where there is one, and how many definitions
 // were visited for the rules, the zero sizes and the size.
 type Answers = (&'static str, &'static str, usize, [u64; 3]);
-
-fn text(alloc: Global, name: &str) -> Result<String, Fail> {
-    Ok(String::from_str(alloc, name)?)
-}
-
-fn texts(alloc: Global, names: &[&str]) -> Result<Vec<String>, Fail> {
-    let mut texts = Vec::new(alloc);
-    for name in names {
-        texts.push(text(alloc, name)?)?;
-    }
-    Ok(texts)
-}
-
-fn tuple(alloc: Global, names: &[&str]) -> Result<Definition, Fail> {
-    let elements = texts(alloc, names)?;
-    Ok(Definition::Tuple { elements })
-}
-
-fn sequence(
-    alloc: Global,
-    length_width: u8,
-    range: (u64, u64),
-    element: &str,
-) -> Result<Definition, Fail> {
-    let elements = text(alloc, element)?;
-    Ok(Definition::Sequence {
-        length_width,
-        length_range: LengthRange {
-            start: range.0,
-            end: range.1,
-        },
-        elements,
-    })
-}
-
-fn choice(alloc: Global, tag_width: u8, listed: &[(i64, &str)]) -> Result<Definition, Fail> {
-    let mut variants = Vec::new(alloc);
-    for (discriminant, variant) in listed {
-        let name = text(alloc, "variant")?;
-        let declaration = text(alloc, variant)?;
-        variants.push((*discriminant, name, declaration))?;
-    }
-    Ok(Definition::Enum {
-        tag_width,
-        variants,
-    })
-}
-
-fn named(alloc: Global, listed: &[&str]) -> Result<Definition, Fail> {
-    let mut fields = Vec::new(alloc);
-    for field in listed {
-        let name = text(alloc, "field")?;
-        let declaration = text(alloc, field)?;
-        fields.push((name, declaration))?;
-    }
-    Ok(Definition::Struct {
-        fields: Fields::NamedFields(fields),
-    })
-}
-
-fn put(
-    alloc: Global,
-    definitions: &mut Definitions,
-    name: &str,
-    definition: Definition,
-) -> Result<(), Fail> {
-    let name = text(alloc, name)?;
-    definitions.insert(name, definition)?;
-    Ok(())
-}
-
-// One byte is named P, and no bytes are named ().
-fn simple(alloc: Global) -> Result<Definitions, Fail> {
-    let mut definitions = BTreeMap::new(alloc);
-    put(alloc, &mut definitions, "P", Definition::Primitive(1))?;
-    put(alloc, &mut definitions, "()", Definition::Primitive(0))?;
-    Ok(definitions)
-}
 
 fn rule(answer: &Result<(), SchemaContainerValidateError>) -> &'static str {
     match answer {
