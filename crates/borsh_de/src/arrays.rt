@@ -6,7 +6,7 @@ ghost use Rattle.borsh_codec.specs.Reading.{Decoded, NotDecoded, Decodes, Decode
 ghost use Rattle.borsh_de.specs.FixedWidth.{IsFixedWidth, GetsValue, TakesPiece};
 
 use super::deserialize::BorshDeserialize;
-use super::fixed::width_of_parts;
+use super::fixed::{ROOM, read_over, width_of_parts};
 use borsh_io::{Error, Read, Result};
 use places::{Held, Maker, TryMaker, array_from, release, try_array_from};
 use std::alloc::Global;
@@ -45,36 +45,45 @@ fn read_each<T: BorshDeserialize, R: Read, const N: usize>(
     try_array_from(elements)
 }
 
-// Makes values that are to be written over, where the type has one.
+// Makes values that are to be written over, each from the same bytes.
 #[derive(Drop)]
-struct Blanks;
+struct Alike<'a> {
+    alloc: Global,
+    bytes: &'a [u8],
+}
 
-impl<T: BorshDeserialize> Maker<T> for Blanks {
+impl<'a, T: BorshDeserialize> Maker<T> for Alike<'a> {
     ghost makes = { λ _ _ _. ⊤ };
 
     ghost gives_up = { λ _ _. ⊤ };
 
     #[inline]
     fn make(&mut self) -> Option<T> {
-        T::blank()
+        T::get(self.alloc, self.bytes)
     }
 }
 
-// Reads the elements at once, where their bytes lie in memory as they are; else nothing is read.
+// Reads many elements at a time, where they have a width; else nothing is read.
 #[inline]
 fn read_at_once<T: BorshDeserialize, R: Read, const N: usize>(
+    alloc: Global,
     reader: &mut R,
 ) -> Result<Option<[T; N]>>
     ensures { MayDecode (array N T.codec) R.stream reader.old reader.new result }
 {
-    let Ok(mut items) = array_from::<T, Blanks, N>(&mut Blanks) else {
+    let width = T::width();
+    if width == 0 || width > ROOM {
+        return Ok(None);
+    }
+    let mut room = [0u8; ROOM];
+    let Ok(mut items) = array_from::<T, Alike, N>(&mut Alike {
+        alloc,
+        bytes: &room[..width],
+    }) else {
         return Ok(None);
     };
-    if T::fill_slice(&mut items, reader)? {
-        Ok(Some(items))
-    } else {
-        Ok(None)
-    }
+    read_over(alloc, width, &mut room, &mut items, reader)?;
+    Ok(Some(items))
 }
 
 // Reads the array, and answers it in a struct of its own.
@@ -85,7 +94,7 @@ fn read_row<T: BorshDeserialize, const N: usize, R: Read>(
 ) -> Result<Held<[T; N]>>
     ensures { DecodesAs (λ held. held.0) (array N T.codec) R.stream reader.old reader.new result }
 {
-    if let Some(items) = read_at_once(reader)? {
+    if let Some(items) = read_at_once(alloc, reader)? {
         return Ok(Held(items));
     }
     read_each(&mut Elements { reader, alloc })

@@ -1,7 +1,7 @@
 // Types whose values are decoded.
 ghost use Rattle.std.specs.Prelude.{◌<◌, true};
 ghost use Rattle.borsh_io.specs.Stream.{slice_state};
-ghost use Rattle.borsh_codec.specs.Reading.{Decodes, DecodesAfterTag, DecodesAtOnce, DecodesOver};
+ghost use Rattle.borsh_codec.specs.Reading.{Decodes, DecodesAfterTag, DecodesAtOnce};
 ghost use Rattle.borsh_codec.specs.Reading.{DecodesReader, DecodesAll};
 ghost use Rattle.borsh_de.specs.FixedWidth.{IsFixedWidth, GetsValue};
 
@@ -45,22 +45,8 @@ pub trait BorshDeserialize: BorshType + Sized + Drop {
         Ok(None)
     }
 
-    /// Any value, to be overwritten by [`fill_slice`](BorshDeserialize::fill_slice): only `u8` returns one.
-    fn blank() -> Option<Self> {
-        None
-    }
-
-    /// Overwrites the values of the slice by the next ones, if the type can read them at once: only `u8`
-    /// can. If it returns `false`, nothing was read. It doesn't allocate.
-    fn fill_slice<R: Read>(_items: &mut [Self], _reader: &mut R) -> Result<bool>
-        ensures { DecodesOver Self.codec R.stream
-            _reader.old _reader.new _items.old _items.new result }
-    {
-        Ok(false)
-    }
-
     /// How many bytes each encoding has, for a type of which every so many bytes are an encoding, as a
-    /// number; 0 for any other type. Lists of such a type are read many elements at a time.
+    /// number; 0 for any other type. Lists and arrays of such a type are read many elements at a time.
     fn width() -> usize
         ensures { 0 < result → IsFixedWidth Self.codec result }
     {
