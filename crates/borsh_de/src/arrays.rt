@@ -2,7 +2,7 @@
 ghost use Rattle.std.specs.Prelude.{◌≡◌, ◌<◌, ⊤, length};
 ghost use Rattle.borsh_io.specs.Errors.{error_kind};
 ghost use Rattle.borsh_codec.specs.Shapes.{array};
-ghost use Rattle.borsh_codec.specs.Reading.{Decoded, NotDecoded, Decodes, DecodesAs, MayDecode};
+ghost use Rattle.borsh_codec.specs.Reading.{Decoded, NotDecoded, Decodes, DecodesAs};
 ghost use Rattle.borsh_de.specs.FixedWidth.{IsFixedWidth, GetsValue, TakesPiece};
 
 use super::deserialize::BorshDeserialize;
@@ -63,30 +63,7 @@ impl<'a, T: BorshDeserialize> Maker<T> for Alike<'a> {
     }
 }
 
-// Reads many elements at a time, where they have a width; else nothing is read.
-#[inline]
-fn read_at_once<T: BorshDeserialize, R: Read, const N: usize>(
-    alloc: Global,
-    reader: &mut R,
-) -> Result<Option<[T; N]>>
-    ensures { MayDecode (array N T.codec) R.stream reader.old reader.new result }
-{
-    let width = T::width();
-    if width == 0 || width > ROOM {
-        return Ok(None);
-    }
-    let mut room = [0u8; ROOM];
-    let Ok(mut items) = array_from::<T, Alike, N>(&mut Alike {
-        alloc,
-        bytes: &room[..width],
-    }) else {
-        return Ok(None);
-    };
-    read_over(alloc, width, &mut room, &mut items, reader)?;
-    Ok(Some(items))
-}
-
-// Reads the array, and answers it in a struct of its own.
+// Reads the array, many elements at a time where they have a width, and answers it in a struct of its own.
 #[inline]
 fn read_row<T: BorshDeserialize, const N: usize, R: Read>(
     alloc: Global,
@@ -94,8 +71,17 @@ fn read_row<T: BorshDeserialize, const N: usize, R: Read>(
 ) -> Result<Held<[T; N]>>
     ensures { DecodesAs (λ held. held.0) (array N T.codec) R.stream reader.old reader.new result }
 {
-    if let Some(items) = read_at_once(alloc, reader)? {
-        return Ok(Held(items));
+    let width = T::width();
+    if width > 0 && width <= ROOM {
+        let mut room = [0u8; ROOM];
+        if let Ok(items) = array_from::<T, Alike, N>(&mut Alike {
+            alloc,
+            bytes: &room[..width],
+        }) {
+            let mut held = Held(items);
+            read_over(alloc, width, &mut room, &mut held.0, reader)?;
+            return Ok(held);
+        }
     }
     read_each(&mut Elements { reader, alloc })
 }

@@ -153,9 +153,9 @@ pub(crate) fn read_over<T: BorshDeserialize, R: Read>(
     let mut done = 0;
     'rooms: while done < items.len() {
         let count = most.min(items.len() - done);
-        let part = &mut room[..count * width];
-        fill(reader, part)?;
-        overwrite(alloc, width, part, &mut items[done..done + count]);
+        let taken = &mut room[..count * width];
+        fill(reader, taken)?;
+        overwrite(alloc, width, taken, &mut items[done..done + count]);
         done += count;
     }
     Ok(())
