@@ -6,7 +6,7 @@ ghost use Rattle.borsh_codec.specs.Reading.{Decoded, NotDecoded, Decodes, Decode
 ghost use Rattle.borsh_de.specs.FixedWidth.{IsFixedWidth, GetsValue, TakesPiece};
 
 use super::deserialize::BorshDeserialize;
-use super::fixed::{ROOM, read_over, width_of_parts};
+use super::fixed::{ROOM, fits_rooms, read_over, width_of_parts};
 use borsh_io::{Error, Read, Result};
 use places::{Held, Maker, TryMaker, array_from, release, try_array_from};
 use std::alloc::Global;
@@ -72,7 +72,7 @@ fn read_row<T: BorshDeserialize, const N: usize, R: Read>(
     ensures { DecodesAs (λ held. held.0) (array N T.codec) R.stream reader.old reader.new result }
 {
     let width = T::width();
-    if width > 0 && width <= ROOM {
+    if fits_rooms(width, N) {
         let mut room = [0u8; ROOM];
         if let Ok(items) = array_from::<T, Alike, N>(&mut Alike {
             alloc,

@@ -1,5 +1,5 @@
 // Types whose values are decoded.
-ghost use Rattle.std.specs.Prelude.{◌<◌, true};
+ghost use Rattle.std.specs.Prelude.{◌≡◌, ◌<◌, Bool, true, false, IfOk, IsNone};
 ghost use Rattle.borsh_io.specs.Stream.{slice_state};
 ghost use Rattle.borsh_codec.specs.Reading.{Decodes, DecodesAfterTag, DecodesAtOnce};
 ghost use Rattle.borsh_codec.specs.Reading.{DecodesReader, DecodesAll};
@@ -33,6 +33,9 @@ pub trait BorshDeserialize: BorshType + Sized + Drop {
     fn deserialize_reader<R: Read>(alloc: Global, reader: &mut R) -> Result<Self>
         ensures { Decodes Self.codec R.stream reader.old reader.new result };
 
+    /// Whether [`vec_from_reader`](BorshDeserialize::vec_from_reader) may return values: not unless a type says so.
+    ghost reads_at_once: { Bool } = { false };
+
     /// Reads `len` values one after another, if the type can read them at once: only `u8` can, and types of
     /// one's own need not override it. If it returns `None`, nothing was read.
     fn vec_from_reader<R: Read>(
@@ -40,7 +43,8 @@ pub trait BorshDeserialize: BorshType + Sized + Drop {
         _len: u32,
         _reader: &mut R,
     ) -> Result<Option<Vec<Self>>>
-        ensures { DecodesAtOnce _len Self.codec R.stream _reader.old _reader.new result }
+        ensures outcome { DecodesAtOnce _len Self.codec R.stream _reader.old _reader.new result }
+        ensures others { reads_at_once ≡ false → IfOk result IsNone }
     {
         Ok(None)
     }

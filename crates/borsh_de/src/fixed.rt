@@ -1,5 +1,5 @@
 // Elements of which every so many bytes are an encoding: a room is filled at once, and they are taken from it.
-ghost use Rattle.std.specs.Prelude.{◌≡◌, ◌+◌, ◌*◌, ◌<◌, ◌≤◌, ℕ, true, length, IfSome, IfNone, OnOk};
+ghost use Rattle.std.specs.Prelude.{◌≡◌, ◌+◌, ◌*◌, ◌<◌, ◌≤◌, ℕ, true, length, IfSome, IfNone, IsTrue, OnOk};
 ghost use Rattle.borsh_codec.specs.Shapes.{DecodesEach, allocated_array};
 ghost use Rattle.borsh_codec.specs.Reading.{DecodesVec};
 ghost use Rattle.borsh_de.specs.FixedWidth.{IsFixedWidth, AppendsDecoded, DecodesOver};
@@ -114,6 +114,15 @@ pub(crate) fn read_rooms<T: BorshDeserialize, R: Read>(
         append(alloc, width, part, &mut items)?;
     }
     Ok(items)
+}
+
+/// Whether so many elements of an array, which have this width, are read many at a time: if all fit into a room, or if
+/// each is a byte. Others are read one by one, since a large array is moved less often then.
+#[inline]
+pub(crate) fn fits_rooms(width: usize, count: usize) -> bool
+    ensures { IsTrue result → (0 < width) × (width ≤ 512) }
+{
+    width == 1 || (width > 0 && width <= ROOM && count <= ROOM / width)
 }
 
 /// Writes the values that the bytes decode to over those of the slice, one after another.

@@ -1,6 +1,6 @@
 // Whole numbers, the lowest byte first, and with a sign in two's complement. A `usize` is read as a
 // `u64`, and an `isize` as an `i64`.
-ghost use Rattle.std.specs.Prelude.{◌≡◌, Some, IfOk, IsSome};
+ghost use Rattle.std.specs.Prelude.{◌≡◌, true, Some, IfOk, IsSome};
 ghost use Rattle.borsh_codec.specs.Shapes.{unsigned_encoding, signed_encoding, unsigned};
 ghost use Rattle.borsh_codec.specs.Reading.{DecodesAtOnce};
 ghost use Rattle.borsh_de.specs.Numbers.{TakesNumber};
@@ -89,6 +89,8 @@ fn i128_of(bytes: [u8; 16]) -> i128
 }
 
 impl BorshDeserialize for u8 {
+    ghost reads_at_once = { true };
+
     #[inline]
     fn deserialize_reader<R: Read>(_alloc: Global, reader: &mut R) -> Result<u8> {
         Ok(u8_of(number_bytes(reader)?))
