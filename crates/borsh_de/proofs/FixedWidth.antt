@@ -1,5 +1,5 @@
 -- Types of which every so many bytes are an encoding.
-use Rattle.std.proofs.Common.{◌≡◌, ℕ, zero, suc, ◌+◌, ◌*◌, ◌-◌, ◌^◌, ◌<◌, ◌≤◌, Bool, true, false, List, [], ◌∷◌, ◌++◌, length, get_or, take, drop, replicate, Some, inl, inr, refl, sym, ◌∙◌, ap, subst, append-nil, append_assoc, arith, length-append, true≢false, to_z}
+use Rattle.std.proofs.Common.{◌≡◌, ℕ, zero, suc, ◌+◌, ◌*◌, ◌-◌, ◌^◌, ◌<◌, ◌≤◌, Bool, true, false, List, [], ◌∷◌, ◌++◌, length, get_or, take, drop, replicate, Some, inl, inr, refl, sym, ◌∙◌, ap, subst, append_assoc, arith, length-append, true≢false}
 use Rattle.std.proofs.lemmas.List.{take-append-drop, length-take-le, length-drop, length-replicate}
 use Rattle.std.proofs.Math.Nat.{mul-le-mul_right, mul_comm}
 use Rattle.std.specs.Int.{Width, byte_worth, sum_through}
@@ -7,7 +7,7 @@ use mir.Val.{bits, hbits}
 use Rattle.borsh_io.specs.declared.error.ErrorKind.{ErrorKind}
 use Rattle.borsh_io.specs.Stream.{ReaderState}
 use Rattle.borsh_codec.specs.Codec.{Codec, IsDecodable}
-use Rattle.borsh_codec.specs.Shapes.{contramap, unsigned, signed, sign_bound, SplitsInto, pair, DecodesEach, array, allocated_array}
+use Rattle.borsh_codec.specs.Shapes.{contramap, unsigned, signed, sign_bound, pair, DecodesEach, array, allocated_array}
 use Rattle.borsh_codec.specs.Reading.{TakesPrefix, NoPrefix, ReadFails, NotDecoded}
 use Rattle.borsh_codec.proofs.Laws.Lists.{cuts, nil_of_length}
 use Rattle.borsh_codec.proofs.Laws.Numbers.{number_some, length-number, length-signed}
@@ -214,7 +214,7 @@ element_width c n m f =
 
 -- ---- elements that are read a room at a time
 
-each_append : {A : Type 0} (P : List ℕ → A → Type 0) (x y : List ℕ) (xs ys : List A) → DecodesEach P x xs → DecodesEach P y ys → DecodesEach P (x ++ y) (xs ++ ys)
+pub each_append : {A : Type 0} (P : List ℕ → A → Type 0) (x y : List ℕ) (xs ys : List A) → DecodesEach P x xs → DecodesEach P y ys → DecodesEach P (x ++ y) (xs ++ ys)
 each_append P x y [] ys p q = subst (λ z. DecodesEach P (z ++ y) ys) (sym p) q
 each_append P x y (a ∷ xs) ys p q = record {
   first = p.first;
@@ -236,12 +236,12 @@ no_more k s none front rest e h =
     none (take k front) (drop k front ++ rest) (e ∙ ap Some (ap (λ z. z ++ rest) (sym (take-append-drop k front)) ∙ append_assoc (take k front) (drop k front) rest)) (length-take-le k front h)
 
 -- of `len` elements some were read, and the bytes of the next n are refused
-pub denied_room : {A : Type 0} {c : Codec A} {w len k : ℕ} {s t u : ReaderState} {xs : List A} {kind : ErrorKind} (n : ℕ) → k ≡ n * w → IsFixedWidth c w → RowSoFar A c s t xs → length xs + n ≤ len → ReadFails false false (λ x. length x ≡ k) t u kind → NotDecoded (List A) (allocated_array len c) s u kind
-denied_room {c = c} {w = w} {len = len} {k = k} {s = s} {t = t} {xs = xs} n is f p h r = record {
-  refused = refused_after (λ e. refl) (λ e. absurd (true≢false (sym e))) p.took past (refused_map (λ e. e) (λ e. e) (no_more k t) r);
-}
+room_refused : {A : Type 0} {c : Codec A} {memory text : Bool} {w len k : ℕ} {s t u : ReaderState} {xs : List A} {kind : ErrorKind} (n : ℕ) → k ≡ n * w → IsFixedWidth c w → RowSoFar A c s t xs → length xs + n ≤ len → ReadFails false false (λ x. length x ≡ k) t u kind
+    → ReadFails memory text (IsDecodable (array len c) s.strict_order) s u kind
+room_refused {c = c} {w = w} {len = len} {k = k} {s = s} {t = t} {xs = xs} n is f p h r =
+    refused_after (λ e. absurd (true≢false (sym e))) (λ e. absurd (true≢false (sym e))) p.took past (refused_map (λ e. e) (λ e. e) (no_more k t) r)
   where
-    past : (g q front rest : List ℕ) → DecodesEach (c.decodes s.strict_order) g xs → IsDecodable (allocated_array len c) s.strict_order front → g ++ q ≡ front ++ rest → Past (λ x. k ≤ length x) q rest
+    past : (g q front rest : List ℕ) → DecodesEach (c.decodes s.strict_order) g xs → IsDecodable (array len c) s.strict_order front → g ++ q ≡ front ++ rest → Past (λ x. k ≤ length x) q rest
     past g q front rest a b e =
         let y : length g ≡ length xs * w = length-each f s.strict_order g xs a in
         let z : length front ≡ len * w = length-each f s.strict_order front b.0 b.1.parts ∙ ap (λ j. j * w) b.1.long in
@@ -251,3 +251,10 @@ denied_room {c = c} {w = w} {len = len} {k = k} {s = s} {t = t} {xs = xs} n is f
           | inr i ↦ (let none : i.more ≡ [] = nil_of_length i.more (omega (arith, is, y, z, m, ap length i.front, length-append front i.more)) in
               record { more = []; whole = sym (i.rest ∙ ap (λ z. z ++ q) none); holds = omega (arith, is, y, z, m, ap length i.front, length-append front i.more) })
         ]
+
+pub denied_room : {A : Type 0} {c : Codec A} {w len k : ℕ} {s t u : ReaderState} {xs : List A} {kind : ErrorKind} (n : ℕ) → k ≡ n * w → IsFixedWidth c w → RowSoFar A c s t xs → length xs + n ≤ len → ReadFails false false (λ x. length x ≡ k) t u kind → NotDecoded (List A) (allocated_array len c) s u kind
+denied_room n is f p h r = record { refused = room_refused n is f p h r }
+
+-- the same without memory for a list
+pub denied_over : {A : Type 0} {c : Codec A} {w len k : ℕ} {s t u : ReaderState} {xs : List A} {kind : ErrorKind} (n : ℕ) → k ≡ n * w → IsFixedWidth c w → RowSoFar A c s t xs → length xs + n ≤ len → ReadFails false false (λ x. length x ≡ k) t u kind → NotDecoded (List A) (array len c) s u kind
+denied_over n is f p h r = record { refused = room_refused n is f p h r }

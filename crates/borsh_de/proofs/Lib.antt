@@ -6,3 +6,4 @@ pub mod FewBytes
 pub mod GetsWhole
 pub mod ArrayPieces
 pub mod Rooms
+pub mod Overwriting

@@ -1,5 +1,5 @@
 -- Elements that are taken from a room: its bytes are cut into pieces, and each piece decodes to an element.
-use Rattle.std.proofs.Common.{◌≡◌, ℕ, zero, suc, ◌+◌, ◌*◌, ◌-◌, ◌<◌, ◌≤◌, true, List, [], ◌∷◌, ◌++◌, length, Result, Ok, Err, OnOk, MatchResult, Bor, refl, sym, ◌∙◌, ap, subst, arith, length-append}
+use Rattle.std.proofs.Common.{◌≡◌, ℕ, zero, suc, ◌+◌, ◌*◌, ◌-◌, ◌<◌, true, List, [], ◌∷◌, ◌++◌, length, Result, Ok, Err, OnOk, MatchResult, Bor, ◌∙◌, ap, subst, arith, length-append}
 use Rattle.std.specs.Iterator.{Drains}
 use Rattle.std.specs.Iterator.Adapters.{map_source, map_steps}
 use Rattle.std.specs.Slice.Iter.{chunks_exact_rest, chunks_exact_size, chunks_exact_steps}
@@ -17,7 +17,7 @@ none_left : (n m w : ℕ) → m ≡ n * w → m < w → m ≡ 0
 none_left zero m w e h = omega (arith, e)
 none_left (suc n) m w e h = absurd (omega (arith, e, h))
 
-one_fewer : (n m k w : ℕ) → m ≡ n * w → m ≡ w + k → 0 < w → k ≡ (n - 1) * w
+pub one_fewer : (n m k w : ℕ) → m ≡ n * w → m ≡ w + k → 0 < w → k ≡ (n - 1) * w
 one_fewer zero m k w e f h = absurd (omega (arith, e, f, h))
 one_fewer (suc n) m k w e f h = let p : suc n - 1 ≡ n = omega arith in rw p (omega (arith, e, f))
 

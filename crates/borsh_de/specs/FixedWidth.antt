@@ -1,7 +1,11 @@
 -- Types of which every so many bytes are an encoding: numbers, and what is made of them.
-use Rattle.std.specs.Prelude.{◌≡◌, ℕ, ◌<◌, Bool, true, false, List, ◌++◌, length, get_or, Option, MatchOption}
+use Rattle.std.specs.Prelude.{◌≡◌, ℕ, ◌<◌, Bool, true, false, List, ◌++◌, length, get_or, Option, MatchOption, Result, OnOk, IfErr}
+use Rattle.borsh_io.specs.declared.error.Error.{Error}
+use Rattle.borsh_io.specs.Errors.{error_kind}
+use Rattle.borsh_io.specs.Stream.{ReaderState}
 use Rattle.borsh_codec.specs.Codec.{Codec, IsDecodable}
-use Rattle.borsh_codec.specs.Shapes.{DecodesEach}
+use Rattle.borsh_codec.specs.Shapes.{DecodesEach, array}
+use Rattle.borsh_codec.specs.Reading.{Decoded, NotDecoded}
 
 -- each of the numbers is a byte
 abbrev pub AreBytes : List ℕ → Type 0
@@ -32,3 +36,10 @@ pub record TakesPiece {A : Type 0} (c : Codec A) (n : ℕ) (old : List ℕ) (m :
   pub long : length piece ≡ n
   pub same_width : m ≡ n
   pub decodes : c.decodes true piece v
+
+-- the outcome of a call that is to decode values over those of a slice; `state` says what is known of a reader
+pub record DecodesOver {A R : Type 0} (c : Codec A) (state : R → ReaderState) (old new : R) (before after : List A) (result : Result (Unit {0}) Error) : Type 0 where
+  -- `Ok`: a prefix of the bytes to come decodes to the values, as many as the slice has, and the rest is left
+  pub ok : OnOk result (Decoded (List A) (array (length before) c) (state old) (state new) after)
+  -- `Err`: a tail of the bytes to come is left, and the kind of the error says why there are no values
+  pub err : IfErr result (λ e. NotDecoded (List A) (array (length before) c) (state old) (state new) (error_kind e))

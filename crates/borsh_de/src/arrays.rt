@@ -2,11 +2,11 @@
 ghost use Rattle.std.specs.Prelude.{◌≡◌, ◌<◌, ⊤, length};
 ghost use Rattle.borsh_io.specs.Errors.{error_kind};
 ghost use Rattle.borsh_codec.specs.Shapes.{array};
-ghost use Rattle.borsh_codec.specs.Reading.{Decoded, NotDecoded, Decodes, DecodesAs, MayDecode};
+ghost use Rattle.borsh_codec.specs.Reading.{Decoded, NotDecoded, Decodes, DecodesAs};
 ghost use Rattle.borsh_de.specs.FixedWidth.{IsFixedWidth, GetsValue, TakesPiece};
 
 use super::deserialize::BorshDeserialize;
-use super::fixed::width_of_parts;
+use super::fixed::{ROOM, fits_rooms, read_over, width_of_parts};
 use borsh_io::{Error, Read, Result};
 use places::{Held, Maker, TryMaker, array_from, release, try_array_from};
 use std::alloc::Global;
@@ -45,39 +45,25 @@ fn read_each<T: BorshDeserialize, R: Read, const N: usize>(
     try_array_from(elements)
 }
 
-// Makes values that are to be written over, where the type has one.
+// Makes values that are to be written over, each from the same bytes.
 #[derive(Drop)]
-struct Blanks;
+struct Alike<'a> {
+    alloc: Global,
+    bytes: &'a [u8],
+}
 
-impl<T: BorshDeserialize> Maker<T> for Blanks {
+impl<'a, T: BorshDeserialize> Maker<T> for Alike<'a> {
     ghost makes = { λ _ _ _. ⊤ };
 
     ghost gives_up = { λ _ _. ⊤ };
 
     #[inline]
     fn make(&mut self) -> Option<T> {
-        T::blank()
+        T::get(self.alloc, self.bytes)
     }
 }
 
-// Reads the elements at once, where their bytes lie in memory as they are; else nothing is read.
-#[inline]
-fn read_at_once<T: BorshDeserialize, R: Read, const N: usize>(
-    reader: &mut R,
-) -> Result<Option<[T; N]>>
-    ensures { MayDecode (array N T.codec) R.stream reader.old reader.new result }
-{
-    let Ok(mut items) = array_from::<T, Blanks, N>(&mut Blanks) else {
-        return Ok(None);
-    };
-    if T::fill_slice(&mut items, reader)? {
-        Ok(Some(items))
-    } else {
-        Ok(None)
-    }
-}
-
-// Reads the array, and answers it in a struct of its own.
+// Reads the array, many elements at a time where they have a width, and answers it in a struct of its own.
 #[inline]
 fn read_row<T: BorshDeserialize, const N: usize, R: Read>(
     alloc: Global,
@@ -85,8 +71,17 @@ fn read_row<T: BorshDeserialize, const N: usize, R: Read>(
 ) -> Result<Held<[T; N]>>
     ensures { DecodesAs (λ held. held.0) (array N T.codec) R.stream reader.old reader.new result }
 {
-    if let Some(items) = read_at_once(reader)? {
-        return Ok(Held(items));
+    let width = T::width();
+    if fits_rooms(width, N) {
+        let mut room = [0u8; ROOM];
+        if let Ok(items) = array_from::<T, Alike, N>(&mut Alike {
+            alloc,
+            bytes: &room[..width],
+        }) {
+            let mut held = Held(items);
+            read_over(alloc, width, &mut room, &mut held.0, reader)?;
+            return Ok(held);
+        }
     }
     read_each(&mut Elements { reader, alloc })
 }

@@ -1,7 +1,7 @@
 // Types whose values are decoded.
-ghost use Rattle.std.specs.Prelude.{◌<◌, true};
+ghost use Rattle.std.specs.Prelude.{◌≡◌, ◌<◌, Bool, true, false, IfOk, IsNone};
 ghost use Rattle.borsh_io.specs.Stream.{slice_state};
-ghost use Rattle.borsh_codec.specs.Reading.{Decodes, DecodesAfterTag, DecodesAtOnce, DecodesOver};
+ghost use Rattle.borsh_codec.specs.Reading.{Decodes, DecodesAfterTag, DecodesAtOnce};
 ghost use Rattle.borsh_codec.specs.Reading.{DecodesReader, DecodesAll};
 ghost use Rattle.borsh_de.specs.FixedWidth.{IsFixedWidth, GetsValue};
 
@@ -33,6 +33,9 @@ pub trait BorshDeserialize: BorshType + Sized + Drop {
     fn deserialize_reader<R: Read>(alloc: Global, reader: &mut R) -> Result<Self>
         ensures { Decodes Self.codec R.stream reader.old reader.new result };
 
+    /// Whether [`vec_from_reader`](BorshDeserialize::vec_from_reader) may return values: not unless a type says so.
+    ghost reads_at_once: { Bool } = { false };
+
     /// Reads `len` values one after another, if the type can read them at once: only `u8` can, and types of
     /// one's own need not override it. If it returns `None`, nothing was read.
     fn vec_from_reader<R: Read>(
@@ -40,27 +43,14 @@ pub trait BorshDeserialize: BorshType + Sized + Drop {
         _len: u32,
         _reader: &mut R,
     ) -> Result<Option<Vec<Self>>>
-        ensures { DecodesAtOnce _len Self.codec R.stream _reader.old _reader.new result }
+        ensures outcome { DecodesAtOnce _len Self.codec R.stream _reader.old _reader.new result }
+        ensures others { reads_at_once ≡ false → IfOk result IsNone }
     {
         Ok(None)
     }
 
-    /// Any value, to be overwritten by [`fill_slice`](BorshDeserialize::fill_slice): only `u8` returns one.
-    fn blank() -> Option<Self> {
-        None
-    }
-
-    /// Overwrites the values of the slice by the next ones, if the type can read them at once: only `u8`
-    /// can. If it returns `false`, nothing was read. It doesn't allocate.
-    fn fill_slice<R: Read>(_items: &mut [Self], _reader: &mut R) -> Result<bool>
-        ensures { DecodesOver Self.codec R.stream
-            _reader.old _reader.new _items.old _items.new result }
-    {
-        Ok(false)
-    }
-
     /// How many bytes each encoding has, for a type of which every so many bytes are an encoding, as a
-    /// number; 0 for any other type. Lists of such a type are read many elements at a time.
+    /// number; 0 for any other type. Lists and arrays of such a type are read many elements at a time.
     fn width() -> usize
         ensures { 0 < result → IsFixedWidth Self.codec result }
     {

@@ -1,12 +1,12 @@
 // Whole numbers, the lowest byte first, and with a sign in two's complement. A `usize` is read as a
 // `u64`, and an `isize` as an `i64`.
-ghost use Rattle.std.specs.Prelude.{◌≡◌, Some, IfOk, IsSome, IsTrue};
+ghost use Rattle.std.specs.Prelude.{◌≡◌, true, Some, IfOk, IsSome};
 ghost use Rattle.borsh_codec.specs.Shapes.{unsigned_encoding, signed_encoding, unsigned};
-ghost use Rattle.borsh_codec.specs.Reading.{DecodesAtOnce, DecodesOver};
+ghost use Rattle.borsh_codec.specs.Reading.{DecodesAtOnce};
 ghost use Rattle.borsh_de.specs.Numbers.{TakesNumber};
 
 use super::deserialize::BorshDeserialize;
-use super::raw_bytes::{fill, read_bytes, read_vec};
+use super::raw_bytes::{read_bytes, read_vec};
 use borsh_io::{Read, Result};
 use std::alloc::Global;
 
@@ -89,6 +89,8 @@ fn i128_of(bytes: [u8; 16]) -> i128
 }
 
 impl BorshDeserialize for u8 {
+    ghost reads_at_once = { true };
+
     #[inline]
     fn deserialize_reader<R: Read>(_alloc: Global, reader: &mut R) -> Result<u8> {
         Ok(u8_of(number_bytes(reader)?))
@@ -101,25 +103,6 @@ impl BorshDeserialize for u8 {
         ensures some { IfOk result IsSome }
     {
         Ok(Some(read_vec(alloc, len as usize, reader)?))
-    }
-
-    /// 0, always.
-    #[inline]
-    fn blank() -> Option<u8>
-        ensures { result ≡ Some 0 }
-    {
-        Some(0)
-    }
-
-    /// The bytes, always: the answer is never `false`.
-    #[inline]
-    fn fill_slice<R: Read>(items: &mut [u8], reader: &mut R) -> Result<bool>
-        ensures outcome { DecodesOver (unsigned 1) R.stream
-            reader.old reader.new items.old items.new result }
-        ensures filled { IfOk result IsTrue }
-    {
-        fill(reader, items)?;
-        Ok(true)
     }
 
     #[inline]

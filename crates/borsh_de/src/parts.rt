@@ -19,7 +19,7 @@ use std::alloc::Global;
 /// }
 ///
 /// impl BorshType for Point {
-///     ghost codec = { contramap (λ p. (p.x, p.y)) (pair (unsigned 4) (unsigned 4)) };
+///     ghost codec = { contramap ⟦<Point as FromParts>⟧.view ⟦<(u32, u32) as BorshType>⟧.codec };
 ///     // ..
 /// }
 ///

@@ -1,4 +1,3 @@
-use Rattle.std.proofs.Common.{sym}
 use Rattle.borsh_de.proofs.ArrayPieces.{parts_of_array, array_gets}
 use Rattle.borsh_de.proofs.arrays.array_of.Goals as goal
 
