@@ -18,5 +18,5 @@ pub use Rattle.borsh_codec.proofs.DecodeVariants
 pub use Rattle.borsh_codec.proofs.DecodeViews
 pub use Rattle.borsh_codec.proofs.DecodeSums
 pub use Rattle.borsh_codec.proofs.NumberBytes
--- what definitions that are put together say
-pub use Rattle.borsh_schema.proofs.Told
+-- a definition that was added, under an equal name
+pub use Rattle.borsh_schema.proofs.Built

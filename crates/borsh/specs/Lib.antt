@@ -17,7 +17,8 @@ pub use Rattle.borsh_codec.specs.Reading
 pub use Rattle.borsh_codec.specs.Writing
 pub use Rattle.borsh_codec.specs.Untouched
 pub use Rattle.borsh_codec.specs.RawBytes
+pub use Rattle.borsh_codec.specs.Variants
 pub use Rattle.borsh_enums.specs.Cases
 -- the laws of shapes and types, which the ghost members of a type cite
 pub use Rattle.borsh_codec.proofs.Laws
-pub use Rattle.borsh_enums.specs.CaseLaws
+pub use Rattle.borsh_codec.proofs.CaseLaws

@@ -15,7 +15,7 @@ use Rattle.borsh_schema.specs.declared.definitions.SchemaBuildError.{SchemaBuild
 use Rattle.borsh_schema.specs.declared.definitions.SchemaBuildError.TheVariants.{Redefinition, OutOfMemory as NoMemory}
 use Rattle.borsh_schema.specs.Codecs.{container}
 use Rattle.borsh_schema.specs.Containers.{IsContainerOf, map_of}
-use Rattle.borsh_schema.specs.Described.{DefinitionTree, nothing_defined}
+use Rattle.borsh_definitions.specs.Described.{DefinitionTree, nothing_defined}
 use Rattle.borsh_schema.specs.Joined.{Conflicts}
 
 -- the bytes are the encoding of the type's container, and then `rest`

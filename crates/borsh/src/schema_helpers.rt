@@ -4,7 +4,7 @@ ghost use Rattle.borsh_io.specs.Errors.{error_kind};
 ghost use Rattle.std.specs.String.{string_cmp};
 ghost use Rattle.std.specs.BTreeMap.{IsOrdered};
 ghost use Rattle.borsh_schema.specs.Containers.{IsContainerOf, DescribesRoot, map_of};
-ghost use Rattle.borsh_schema.specs.Described.{nothing_defined};
+ghost use Rattle.borsh_definitions.specs.Described.{nothing_defined};
 ghost use Rattle.borsh_schema.specs.Joined.{BuildFault};
 ghost use Rattle.borsh_schema.specs.Sized.{AnswersTypeSize};
 ghost use Rattle.borsh.specs.WithSchema.{DecodesWithSchema, EncodesWithSchema, IsBuildKind, WhyNoContainer};

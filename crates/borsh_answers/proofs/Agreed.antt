@@ -2,7 +2,7 @@
 use Rattle.std.proofs.Common.{List, ℕ, Option, Some, None, MatchOption, refl, inl, inr}
 use Rattle.std.specs.Bool.{⊤}
 use Rattle.std.specs.Fmt.{digits}
-use Rattle.borsh_schema.specs.Laws.Agreeing.{Agree, no_clash}
+use Rattle.borsh_schema.proofs.Laws.Agreeing.{Agree, no_clash}
 use Rattle.borsh_answers.specs.declared.words.Word.{Word}
 use Rattle.borsh_answers.specs.declared.words.Word.TheVariants as word
 use Rattle.borsh_answers.specs.Schemas.{Schema, AnswersSchema, AnswersSchemaOrClash}

@@ -1,4 +1,4 @@
--- What is told of a container.
+-- The answers about a container.
 use Rattle.std.proofs.Common.{◌≡◌, ◌≢◌, ℕ, zero, suc, ◌+◌, ◌%◌, ◌^◌, ◌<◌, ◌≤◌, List, [], ◌++◌, Option, codes, refl, sym, subst, arith, string_bytes, decimal}
 use Rattle.std.proofs.lemmas.Fmt.{decimal_by_steps}
 use Rattle.std.proofs.lemmas.List.Elements.{All-nil, All-push, All-append}
@@ -16,26 +16,26 @@ use Rattle.borsh_answers.specs.Containers.IsRulesText.{invalid}
 use Rattle.borsh_answers.specs.Containers.IsSizeText.{overflows, recurs, misses}
 use Rattle.borsh_answers.specs.Digits.{digits_of}
 use Rattle.borsh_answers.specs.Lines.{IsLine}
-use Rattle.borsh_answers.specs.Telling.{TellsRule, TellsSize}
+use Rattle.borsh_answers.specs.ErrorTexts.{IsBrokenRuleText, IsNoSizeText}
 use Rattle.borsh_answers.proofs.LineSteps.{line_of_text, line_of_digits}
 
 -- ---- `check` and `size`
 
-pub rules_told : {C : List ℕ → Option Shape} {root out : List ℕ} (e : SchemaContainerValidateError) → RulesFault C root e → TellsRule e out → IsRulesText C root out
-rules_told (ZSTSequence m) f t = invalid (string_bytes m) zst_sequence f.0 f.1 t
-rules_told (TagTooWide m) f t = invalid (string_bytes m) tag_too_wide f.0 f.1 t
-rules_told (TagTooNarrow m) f t = invalid (string_bytes m) tag_too_narrow f.0 f.1 t
-rules_told (TagNotPowerOfTwo m) f t = invalid (string_bytes m) tag_not_power_of_two f.0 f.1 t
-rules_told (MissingDefinition m) f t = invalid (string_bytes m) missing_definition f.0 f.1 t
-rules_told (EmptyLengthRange m) f t = invalid (string_bytes m) empty_length_range f.0 f.1 t
-rules_told OutOfMemory f t = absurd t
+pub rules_text : {C : List ℕ → Option Shape} {root out : List ℕ} (e : SchemaContainerValidateError) → RulesFault C root e → IsBrokenRuleText e out → IsRulesText C root out
+rules_text (ZSTSequence m) f t = invalid (string_bytes m) zst_sequence f.0 f.1 t
+rules_text (TagTooWide m) f t = invalid (string_bytes m) tag_too_wide f.0 f.1 t
+rules_text (TagTooNarrow m) f t = invalid (string_bytes m) tag_too_narrow f.0 f.1 t
+rules_text (TagNotPowerOfTwo m) f t = invalid (string_bytes m) tag_not_power_of_two f.0 f.1 t
+rules_text (MissingDefinition m) f t = invalid (string_bytes m) missing_definition f.0 f.1 t
+rules_text (EmptyLengthRange m) f t = invalid (string_bytes m) empty_length_range f.0 f.1 t
+rules_text OutOfMemory f t = absurd t
 
-pub size_told : {C : List ℕ → Option Shape} {root out : List ℕ} (e : SchemaMaxSerializedSizeError) → SizeFault C root e → TellsSize e out → IsSizeText C root out
-size_told Overflow f t = overflows f.0 f.1 f.2 t
-size_told Recursive f t = recurs f t
-size_told (Missing m) f t = misses (string_bytes m) f.0 f.1 t
-size_told NoMemory f t = absurd t
-size_told (Redefinition m) f t = absurd t
+pub size_text : {C : List ℕ → Option Shape} {root out : List ℕ} (e : SchemaMaxSerializedSizeError) → SizeFault C root e → IsNoSizeText e out → IsSizeText C root out
+size_text Overflow f t = overflows f.0 f.1 f.2 t
+size_text Recursive f t = recurs f t
+size_text (Missing m) f t = misses (string_bytes m) f.0 f.1 t
+size_text NoMemory f t = absurd t
+size_text (Redefinition m) f t = absurd t
 
 -- ---- lines
 
@@ -50,8 +50,8 @@ line_of_decimal n h =
 pub line_of_broken : {out : List ℕ} (rule name : List ℕ) → IsLine rule → out ≡ broken_text rule name → IsLine out
 line_of_broken rule name l e =
     let named = joined (codes " ") (digits_of name) (line_of_text (codes " ") refl) (line_of_digits name) in
-    let told = joined rule (codes " " ++ digits_of name) l named in
-    subst IsLine (sym e) (joined (codes "invalid ") (rule ++ (codes " " ++ digits_of name)) (line_of_text (codes "invalid ") refl) told)
+    let behind = joined rule (codes " " ++ digits_of name) l named in
+    subst IsLine (sym e) (joined (codes "invalid ") (rule ++ (codes " " ++ digits_of name)) (line_of_text (codes "invalid ") refl) behind)
 
 pub line_of_missing : {out : List ℕ} (name : List ℕ) → out ≡ missing_text name → IsLine out
 line_of_missing name e = subst IsLine (sym e) (joined (codes "missing ") (digits_of name) (line_of_text (codes "missing ") refl) (line_of_digits name))

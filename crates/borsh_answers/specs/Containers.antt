@@ -17,7 +17,7 @@ use Rattle.borsh_answers.specs.Lines.{IsErrorLine}
 
 -- ---- `check`
 
--- how a rule is told
+-- the text of a rule
 abbrev pub rule_name : Rule → List ℕ
 rule_name zst_sequence = codes "ZSTSequence"
 rule_name tag_too_wide = codes "TagTooWide"
@@ -30,7 +30,7 @@ rule_name empty_length_range = codes "EmptyLengthRange"
 abbrev pub broken_text : List ℕ → List ℕ → List ℕ
 broken_text rule name = codes "invalid " ++ (rule ++ (codes " " ++ digits_of name))
 
--- each reached name keeps its rules, or one breaks the rule that is told
+-- each reached name keeps its rules, or one breaks the rule that is named
 pub data IsRulesText (C : List ℕ → Option Shape) (root out : List ℕ) : Type 0 where
   valid : IsValid C root → out ≡ codes "valid" → IsRulesText C root out
   invalid : (x : List ℕ) (r : Rule) → Reached C root x → Breaks C r x → out ≡ broken_text (rule_name r) x → IsRulesText C root out

@@ -5,5 +5,5 @@ pub mod Requests
 pub mod Meanings
 pub mod Schemas
 pub mod Containers
-pub mod Telling
+pub mod ErrorTexts
 pub mod Answers

@@ -5,9 +5,9 @@ use Rattle.borsh.specs.Codec.{Codec}
 use Rattle.borsh.specs.Shapes.{unsigned, signed, unit, pair, array, list}
 use Rattle.borsh.specs.Types.Addresses.{ip, octets, socket, socket_v6}
 use Rattle.borsh.specs.Types.Sums.{bool, option, result_of}
-use Rattle.borsh_schema.specs.Addresses.{ip_address_definitions}
+use Rattle.borsh_definitions.specs.Addresses.{ip_address_definitions}
 use Rattle.borsh_schema.specs.Codecs.{container}
-use Rattle.borsh_schema.specs.Own.{container_definitions}
+use Rattle.borsh_definitions.specs.Own.{container_definitions}
 use Rattle.borsh_samples.specs.MyEnum.{my_enum}
 use Rattle.borsh_samples.specs.One.{one}
 use Rattle.borsh_samples.specs.OneOrZero.{one_or_zero}

@@ -9,7 +9,7 @@ ghost use Rattle.borsh_schema.specs.Containers.{language_of, root_of, map_of};
 ghost use Rattle.borsh_schema.specs.Questions.{SizeWork};
 ghost use Rattle.borsh_answers.specs.Containers.{AnswersInquiry, CountsIfSized, CountsIfValid, OnlyNeeded, IsRulesText, IsSizeText, IsCountsText, broken_text, missing_text, counts_text};
 ghost use Rattle.borsh_answers.specs.Lines.{IsLine};
-ghost use Rattle.borsh_answers.specs.Telling.{TellsRule, TellsSize};
+ghost use Rattle.borsh_answers.specs.ErrorTexts.{IsBrokenRuleText, IsNoSizeText};
 
 use super::lines::{line_of, push_digits};
 use super::requests::Inquiry;
@@ -65,7 +65,7 @@ fn check_answer(alloc: Global, container: &BorshSchemaContainer) -> Result<Vec<u
 
 /// The rule that is broken, and the name that breaks it. Running out of memory is no answer, but an error.
 fn broken_rule(alloc: Global, error: &SchemaContainerValidateError) -> Result<Vec<u8>, AllocError>
-    ensures tells { IfOk result (λ out. TellsRule error.now out.items) }
+    ensures text { IfOk result (λ out. IsBrokenRuleText error.now out.items) }
     ensures line { IfOk result (λ out. IsLine out.items) }
 {
     match error {
@@ -122,7 +122,7 @@ fn number(alloc: Global, n: usize) -> Result<Vec<u8>, AllocError>
 
 /// Why there is no size. Running out of memory is no answer, but an error.
 fn no_size(alloc: Global, error: &SchemaMaxSerializedSizeError) -> Result<Vec<u8>, AllocError>
-    ensures tells { IfOk result (λ out. TellsSize error.now out.items) }
+    ensures text { IfOk result (λ out. IsNoSizeText error.now out.items) }
     ensures line { IfOk result (λ out. IsLine out.items) }
 {
     match error {

@@ -84,7 +84,7 @@ pub fn ok_answer(alloc: Global, bytes: &[u8]) -> Result<Vec<u8>, AllocError>
 /// answer, but an error.
 pub fn error_answer(alloc: Global, error: &Error) -> Result<Vec<u8>, AllocError>
     ensures is { IfOk result (λ out. IsErrorLine out.items) }
-    ensures told { IfOk result (λ _. error_kind error.now ≢ ErrorKind.OutOfMemory) }
+    ensures kind { IfOk result (λ _. error_kind error.now ≢ ErrorKind.OutOfMemory) }
 {
     if error.kind() == ErrorKind::OutOfMemory {
         return Err(AllocError);

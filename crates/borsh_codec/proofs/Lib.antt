@@ -21,3 +21,5 @@ pub mod KeyOrder
 pub mod ReadMaps
 pub mod SortedRefs
 pub mod WriteMaps
+-- the laws of enums
+pub mod CaseLaws

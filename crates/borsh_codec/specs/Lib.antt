@@ -6,6 +6,7 @@ pub mod Reading
 pub mod RawBytes
 pub mod Writing
 pub mod Untouched
+pub mod Variants
 -- what the crate below says, for those above
 pub use Rattle.borsh_io.specs.Errors
 pub use Rattle.borsh_io.specs.Stream

@@ -17,8 +17,9 @@ use Rattle.borsh_codec.proofs.DecodeOutcomes.{decodes_exit, decodes_err, byte_to
 use Rattle.borsh_codec.proofs.DecodeVariants.{variant_exit, variant_err}
 use Rattle.borsh_enums.specs.declared.cases.Fork.{Fork}
 use Rattle.borsh_enums.specs.declared.cases.Fork.TheVariants.{Left, Right}
-use Rattle.borsh_enums.specs.Cases.{fork, has, distinct, both}
-use Rattle.borsh_enums.specs.CaseLaws.{NonEmpty, Variants, apart_has, fork_distinct}
+use Rattle.borsh_codec.specs.Variants.{NonEmpty, Tags, has, distinct, both}
+use Rattle.borsh_codec.proofs.CaseLaws.{Variants, apart_has, fork_distinct}
+use Rattle.borsh_enums.specs.Cases.{fork}
 
 -- ---- one of two trees
 
@@ -30,18 +31,18 @@ right_of : {A B : Type 0} (a : Codec A) (b : Codec B) (t : ℕ) → Avoids t a �
 right_of a b t f m x (Left v, p) = absurd (f m x v p)
 right_of a b t f m x (Right v, p) = (v, p)
 
-module _ {A B R : Type 0} {a : Codec A} {b : Codec B} (l : Variants a) (r : Variants b) {state : R → ReaderState} {s u : R} {t : ℕ} (d : distinct (both l.tags r.tags) ≡ true) where
-  pub left_exit : has t l.tags ≡ true → (e : Error) {z : Result (Fork A B) Error} → IsErrAnd z (λ y. y ≡ e) → (distinct l.tags ≡ true → DecodesAfterTag t a state s u (Err e)) → DecodesAfterTag t (fork a b) state s u z
+module _ {A B R : Type 0} {i j : Tags} {a : Codec A} {b : Codec B} (l : Variants i a) (r : Variants j b) {state : R → ReaderState} {s u : R} {t : ℕ} (d : distinct (both i j) ≡ true) where
+  pub left_exit : has t i ≡ true → (e : Error) {z : Result (Fork A B) Error} → IsErrAnd z (λ y. y ≡ e) → (distinct i ≡ true → DecodesAfterTag t a state s u (Err e)) → DecodesAfterTag t (fork a b) state s u z
   left_exit h e is f =
-      let k = fork_distinct l.tags r.tags d in
+      let k = fork_distinct i j d in
       variant_exit e is (record {
         refused = refused_map (or_left a.decoding_allocates b.decoding_allocates) (λ x. refl)
-            (λ none front rest x p. none front rest x (left_of a b t (r.avoids t (apart_has t l.tags r.tags k.between h)) (state s).strict_order front p)) (f k.left).err.refused;
+            (λ none front rest x p. none front rest x (left_of a b t (r.avoids t (apart_has t i j k.between h)) (state s).strict_order front p)) (f k.left).err.refused;
       })
 
-  pub right_exit : has t l.tags ≡ false → (e : Error) {z : Result (Fork A B) Error} → IsErrAnd z (λ y. y ≡ e) → (distinct r.tags ≡ true → DecodesAfterTag t b state s u (Err e)) → DecodesAfterTag t (fork a b) state s u z
+  pub right_exit : has t i ≡ false → (e : Error) {z : Result (Fork A B) Error} → IsErrAnd z (λ y. y ≡ e) → (distinct j ≡ true → DecodesAfterTag t b state s u (Err e)) → DecodesAfterTag t (fork a b) state s u z
   right_exit h e is f =
-      let k = fork_distinct l.tags r.tags d in
+      let k = fork_distinct i j d in
       variant_exit e is (record {
         refused = refused_map (or_right a.decoding_allocates b.decoding_allocates) (λ x. refl)
             (λ none front rest x p. none front rest x (right_of a b t (l.avoids t h) (state s).strict_order front p)) (f k.right).err.refused;
@@ -51,7 +52,7 @@ module _ {A B R : Type 0} {a : Codec A} {b : Codec B} (l : Variants a) (r : Vari
 
 module _ {A B R : Type 0} (view : B → A) {c : Codec A} {state : R → ReaderState} where
   -- no variant has the tag
-  pub no_variant : (v : Variants c) {t : ℕ} (a : R) {e : Error} → has t v.tags ≡ false → IsInvalidData c.texts_allocate (error_kind e) → DecodesAfterTag t (contramap view c) state a a (Err e)
+  pub no_variant : {s : Tags} (v : Variants s c) {t : ℕ} (a : R) {e : Error} → has t s ≡ false → IsInvalidData c.texts_allocate (error_kind e) → DecodesAfterTag t (contramap view c) state a a (Err e)
   no_variant v {t = t} a h i = variant_err (record { refused = refused_here {P = λ _. Unit {0}} i (took_nothing (state a) tt) (λ front rest x p. v.avoids t h (state a).strict_order front (view p.0) p.1) })
 
 -- ---- a tag and what is behind it, where nothing decodes from no bytes

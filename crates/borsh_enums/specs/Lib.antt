@@ -1,2 +1,1 @@
 pub mod Cases
-pub mod CaseLaws

@@ -1,23 +1,26 @@
 // The variants of an enum as one type.
 ghost use Rattle.std.specs.Prelude.{◌≡◌, true};
 ghost use Rattle.borsh_codec.specs.Codec.{Codec};
-ghost use Rattle.borsh_enums.specs.Cases.{case_codec, distinct, fork, has};
-ghost use Rattle.borsh_enums.specs.CaseLaws.{Variants, case_variants, fork_variants};
+ghost use Rattle.borsh_codec.proofs.CaseLaws.{Variants, case_variants, contramap_variants, either_variants};
+ghost use Rattle.borsh_codec.specs.Variants.{Tags, both, case_codec, distinct, has, tag_of};
+ghost use Rattle.borsh_enums.specs.Cases.{fork, fork_view};
 
 use borsh_types::BorshType;
 
 /// The variants of an enum, each with a tag: a [`Case`], or a [`Fork`] of such types.
 ///
-/// An implementation says what the bytes of a value are (`codec`), and has the tags of the variants
-/// with what the laws of that codec rest on (`variants`).
+/// An implementation says what the bytes of a value are (`codec`) and which tags the variants have (`tags`),
+/// and has what the laws of that codec rest on (`variants`).
 pub trait Cases: Sized {
     ghost codec: { Codec Self };
 
-    ghost variants: { Variants codec };
+    ghost tags: { Tags };
+
+    ghost variants: { Variants tags codec };
 
     /// Whether a variant has this tag.
     fn has_tag(tag: u8) -> bool
-        ensures { result ≡ has tag variants.tags };
+        ensures { result ≡ has tag tags };
 
     /// About how many bytes of memory a value takes, as [`BorshType::element_size`].
     fn element_size() -> usize;
@@ -29,6 +32,8 @@ pub struct Case<const TAG: u8, A>(pub A);
 
 impl<const TAG: u8, A: BorshType> Cases for Case<TAG, A> {
     ghost codec = { case_codec (λ v. v.0) TAG A.codec };
+
+    ghost tags = { tag_of TAG };
 
     ghost variants = { case_variants (λ v. v.0) TAG A.lawful_if };
 
@@ -52,7 +57,9 @@ pub enum Fork<A, B> {
 impl<A: Cases, B: Cases> Cases for Fork<A, B> {
     ghost codec = { fork A.codec B.codec };
 
-    ghost variants = { fork_variants A.variants B.variants };
+    ghost tags = { both A.tags B.tags };
+
+    ghost variants = { contramap_variants fork_view (either_variants A.variants B.variants) };
 
     fn has_tag(tag: u8) -> bool {
         A::has_tag(tag) || B::has_tag(tag)
@@ -79,5 +86,5 @@ pub trait FromCases: Sized {
         ensures { view result ≡ cases };
 
     /// No two variants have one tag.
-    ghost distinct_tags: { distinct Self.Cases.variants.tags ≡ true };
+    ghost distinct_tags: { distinct Self.Cases.tags ≡ true };
 }

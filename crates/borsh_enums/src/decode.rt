@@ -2,7 +2,7 @@
 ghost use Rattle.std.specs.Prelude.{◌≡◌, true};
 ghost use Rattle.borsh_codec.specs.Shapes.{contramap};
 ghost use Rattle.borsh_codec.specs.Reading.{Decodes, DecodesAfterTag};
-ghost use Rattle.borsh_enums.specs.Cases.{distinct, has};
+ghost use Rattle.borsh_codec.specs.Variants.{distinct, has};
 
 use super::cases::{Case, Cases, Fork, FromCases};
 use borsh_de::{BorshDeserialize, invalid_data, read_tag};
@@ -13,8 +13,8 @@ use std::alloc::Global;
 pub trait DecodeCases: Cases + Drop {
     /// Decodes the fields of the variant with this tag, which was read before and is there.
     fn read_case<R: Read>(alloc: Global, reader: &mut R, tag: u8) -> Result<Self>
-        requires { has tag Self.variants.tags ≡ true }
-        ensures { distinct Self.variants.tags ≡ true →
+        requires { has tag Self.tags ≡ true }
+        ensures { distinct Self.tags ≡ true →
             DecodesAfterTag tag Self.codec R.stream reader.old reader.new result };
 }
 

@@ -3,7 +3,7 @@ ghost use Rattle.borsh_codec.proofs.Laws.Conditional.{always};
 ghost use Rattle.borsh_codec.proofs.Laws.Exact.{contramap-lawful};
 ghost use Rattle.borsh_codec.specs.Reading.{any_byte};
 ghost use Rattle.borsh_codec.specs.Shapes.{contramap};
-ghost use Rattle.borsh_enums.specs.CaseLaws.{any_byte-lawful};
+ghost use Rattle.borsh_codec.proofs.CaseLaws.{any_byte-lawful};
 
 use borsh_io::{Result, Write};
 use borsh_ser::{BorshSerialize, write_bytes};

@@ -11,13 +11,13 @@ use Rattle.borsh.proofs.ReadLaws.{Takes-none, Takes-trans}
 use Rattle.borsh.proofs.WriteLaws.{Rose-after, Writes-none, Writes-trans, WriteFault-after, Refused-after}
 use Rattle.borsh_lines.specs.Counts.{add_saturating}
 use Rattle.borsh_lines.specs.Lines.{lines_of, OutputOf, Answered, Appends, AnswersChunk}
-use Rattle.borsh_lines.specs.Runs.{told, RunsCounted}
+use Rattle.borsh_lines.specs.Runs.{known_bytes, RunsCounted}
 use Rattle.borsh_lines.specs.Runs.WhyStopped.{no_memory, reader_failed, writer_stopped}
 use Rattle.borsh_lines.proofs.LineSteps.{answered-none, output-none, output-push, appends-after, output-at_end, output-at_last, ended-are, first-lines, raised-on, raised-once}
 
-pub told-at_end : (bytes : Option (List ℕ)) → IsAtEnd bytes → told bytes ≡ []
-told-at_end None h = refl
-told-at_end (Some xs) h = h
+pub known-at_end : (bytes : Option (List ℕ)) → IsAtEnd bytes → known_bytes bytes ≡ []
+known-at_end None h = refl
+known-at_end (Some xs) h = h
 
 -- what was answered and written of the bytes that were taken: the lines that end in `done`, whose last part is `line`; nothing is answered of `rest`
 pub record SoFar {W : Type 0} (answers : List ℕ → List ℕ → Type 0) (w : WriterModel W) (s t : ReaderState) (a b : W) (done : List ℕ) (lines : List (List ℕ)) (line out rest : List ℕ) (m n : ℕ) : Type 0 where
@@ -65,7 +65,7 @@ module _ {W : Type 0} {answers : List ℕ → List ℕ → Type 0} {w : WriterMo
       reads_left = le_refl _;
       strict_order = refl;
       answered = [];
-      unanswered = lines_of (told s.bytes);
+      unanswered = lines_of (known_bytes s.bytes);
       first = refl;
       written = [];
       unwritten = [];
@@ -87,8 +87,8 @@ module _ {W : Type 0} {answers : List ℕ → List ℕ → Type 0} {w : WriterMo
       reads_left = p.takes.reads_left;
       strict_order = p.takes.strict_order;
       answered = lines;
-      unanswered = lines_of (line ++ (rest ++ told t.bytes));
-      first = ap lines_of (append_assoc done rest (told t.bytes)) ∙ first-lines (rest ++ told t.bytes) p.answered;
+      unanswered = lines_of (line ++ (rest ++ known_bytes t.bytes));
+      first = ap lines_of (append_assoc done rest (known_bytes t.bytes)) ∙ first-lines (rest ++ known_bytes t.bytes) p.answered;
       written = out;
       unwritten = [];
       output = subst (OutputOf answers lines) (sym (append-nil out)) p.answered.output;
@@ -111,8 +111,8 @@ module _ {W : Type 0} {answers : List ℕ → List ℕ → Type 0} {w : WriterMo
           reads_left = omega (arith, all.reads_left, f.reads_left);
           strict_order = f.strict_order ∙ all.strict_order;
           answered = lines;
-          unanswered = lines_of (line ++ told u.bytes);
-          first = first-lines (told u.bytes) p.answered;
+          unanswered = lines_of (line ++ known_bytes u.bytes);
+          first = first-lines (known_bytes u.bytes) p.answered;
           written = out;
           unwritten = [];
           output = subst (OutputOf answers lines) (sym (append-nil out)) p.answered.output;
@@ -139,12 +139,12 @@ module _ {W : Type 0} {answers : List ℕ → List ℕ → Type 0} {w : WriterMo
           reads_left = all.takes.reads_left;
           strict_order = all.takes.strict_order;
           answered = lines ++ x.lines;
-          unanswered = lines_of (after ++ (x.rest ++ told u.bytes));
+          unanswered = lines_of (after ++ (x.rest ++ known_bytes u.bytes));
           first =
-              ap (λ l. lines_of ((done ++ l) ++ told u.bytes)) x.split
-              ∙ ap (λ l. lines_of (l ++ told u.bytes)) (sym (append_assoc done x.front x.rest))
-              ∙ ap lines_of (append_assoc (done ++ x.front) x.rest (told u.bytes))
-              ∙ first-lines (x.rest ++ told u.bytes) q;
+              ap (λ l. lines_of ((done ++ l) ++ known_bytes u.bytes)) x.split
+              ∙ ap (λ l. lines_of (l ++ known_bytes u.bytes)) (sym (append_assoc done x.front x.rest))
+              ∙ ap lines_of (append_assoc (done ++ x.front) x.rest (known_bytes u.bytes))
+              ∙ first-lines (x.rest ++ known_bytes u.bytes) q;
           written = r.front;
           unwritten = r.rest;
           output = subst (OutputOf answers (lines ++ x.lines)) r.split q.output;
@@ -170,7 +170,7 @@ module _ {W : Type 0} {answers : List ℕ → List ℕ → Type 0} {w : WriterMo
           strict_order = all.strict_order;
           answered = lines;
           unanswered = [];
-          first = ap (λ l. lines_of (done ++ l)) (told-at_end u.bytes end) ∙ ap lines_of (append-nil done) ∙ output-at_end p.answered ∙ sym (append-nil lines);
+          first = ap (λ l. lines_of (done ++ l)) (known-at_end u.bytes end) ∙ ap lines_of (append-nil done) ∙ output-at_end p.answered ∙ sym (append-nil lines);
           written = out;
           unwritten = [];
           output = subst (OutputOf answers lines) (sym (append-nil out)) p.answered.output;
@@ -196,7 +196,7 @@ module _ {W : Type 0} {answers : List ℕ → List ℕ → Type 0} {w : WriterMo
           strict_order = all.strict_order;
           answered = lines;
           unanswered = [];
-          first = ap (λ l. lines_of (taken ++ l)) (told-at_end u.bytes end) ∙ ap lines_of (append-nil taken) ∙ are ∙ sym (append-nil lines);
+          first = ap (λ l. lines_of (taken ++ l)) (known-at_end u.bytes end) ∙ ap lines_of (append-nil taken) ∙ are ∙ sym (append-nil lines);
           written = out ++ added;
           unwritten = [];
           output = subst (OutputOf answers lines) (sym (append-nil (out ++ added))) output;
@@ -218,7 +218,7 @@ module _ {W : Type 0} {answers : List ℕ → List ℕ → Type 0} {w : WriterMo
           strict_order = all.strict_order;
           answered = lines;
           unanswered = [];
-          first = ap (λ l. lines_of (taken ++ l)) (told-at_end u.bytes end) ∙ ap lines_of (append-nil taken) ∙ are ∙ sym (append-nil lines);
+          first = ap (λ l. lines_of (taken ++ l)) (known-at_end u.bytes end) ∙ ap lines_of (append-nil taken) ∙ are ∙ sym (append-nil lines);
           written = z.front;
           unwritten = z.rest;
           output = subst (OutputOf answers lines) z.split output;

@@ -11,9 +11,9 @@ use Rattle.borsh_lines.specs.Counts.{add_saturating}
 use Rattle.borsh_lines.specs.Lines.{lines_of, ended_lines, OutputOf}
 
 -- the bytes of a reader that knows them
-abbrev pub told : Option (List ℕ) → List ℕ
-told None = []
-told (Some xs) = xs
+abbrev pub known_bytes : Option (List ℕ) → List ℕ
+known_bytes None = []
+known_bytes (Some xs) = xs
 
 -- a run came to its end: all bytes were taken without a fault, and no line and no answer is left
 pub record RanToEnd {W : Type 0} (w : WriterModel W) (before after : ReaderState) (old new : W) (unanswered : List (List ℕ)) (unwritten : List ℕ) : Type 0 where
@@ -46,7 +46,7 @@ pub record Runs {W : Type 0} (answers : List ℕ → List ℕ → Type 0) (w : W
   -- the other lines of the input
   pub unanswered : List (List ℕ)
   -- those that were answered are the first ones
-  pub first : lines_of (taken ++ told after.bytes) ≡ answered ++ unanswered
+  pub first : lines_of (taken ++ known_bytes after.bytes) ≡ answered ++ unanswered
   -- the bytes that were written
   pub written : List ℕ
   -- the bytes of answers that were made and not written

@@ -21,14 +21,14 @@ pub fn finish<W: Write>(outcome: &Result<()>, errors: &mut W) -> u8
     match outcome {
         Ok(()) => 0,
         Err(e) => {
-            let _told = tell(e, errors);
+            let _written = write_error(e, errors);
             1
         }
     }
 }
 
 /// Writes what an error displays, as one line.
-fn tell<W: Write>(error: &Error, errors: &mut W) -> Result<()>
+fn write_error<W: Write>(error: &Error, errors: &mut W) -> Result<()>
     ensures writes { OnOk result
         (WroteBytes W.writing errors.old errors.new (error_line error.now)) }
     ensures refused { IfErr result

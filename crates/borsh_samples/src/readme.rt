@@ -17,7 +17,8 @@ pub struct A {
 impl BorshType for A {
     ghost codec = { contramap ⟦<A as FromParts>⟧.view ⟦<(u64, String) as BorshType>⟧.codec };
 
-    ghost lawful_if = { from (contramap-lawful ⟦<A as FromParts>⟧.view) ⟦<(u64, String) as BorshType>⟧.lawful_if };
+    ghost lawful_if = { from (contramap-lawful ⟦<A as FromParts>⟧.view)
+        ⟦<(u64, String) as BorshType>⟧.lawful_if };
 
     ghost premises = { Prim.search key_facts };
 

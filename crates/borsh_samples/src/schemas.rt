@@ -10,8 +10,8 @@ use super::my_enum::MyEnum;
 use super::readme::A;
 use borsh::BorshSchema;
 use borsh::schema::{
-    Both, Declaration, Definition, FieldTypes, Fields, SchemaBuildError, SchemaParts, add_named,
-    add_with_parts, declared, named_variant,
+    Both, Declaration, Definition, FieldTypes, SchemaBuildError, SchemaParts, add_enum, add_named,
+    add_unit, add_unnamed, declared,
 };
 use std::alloc::Global;
 use std::collections::BTreeMap;
@@ -19,9 +19,11 @@ use std::collections::BTreeMap;
 impl BorshSchema for A {
     ghost name = { codes "A" };
 
-    ghost parts = { struct_parts (codes "A") (codes "x" ∷ codes "y" ∷ []) ⟦<(u64, (String, ())) as FieldTypes>⟧.described };
+    ghost parts = { struct_parts (codes "A") (codes "x" ∷ codes "y" ∷ [])
+        ⟦<(u64, (String, ())) as FieldTypes>⟧.described };
 
-    ghost described = { struct_described (λ v. (v.x, (v.y, tt))) ⟦<(u64, (String, ())) as FieldTypes>⟧.described refl };
+    ghost described = { struct_described (λ v. (v.x, (v.y, tt)))
+        ⟦<(u64, (String, ())) as FieldTypes>⟧.described refl };
 
     fn declaration(alloc: Global) -> Result<Declaration, SchemaBuildError> {
         declared(alloc, "A")
@@ -47,15 +49,7 @@ impl SchemaParts for ZeroPart {
         alloc: Global,
         definitions: &mut BTreeMap<Declaration, Definition>,
     ) -> Result<(), SchemaBuildError> {
-        let definition = Definition::Struct {
-            fields: Fields::Empty,
-        };
-        add_with_parts::<()>(
-            alloc,
-            declared(alloc, "MyEnum__Zero")?,
-            definition,
-            definitions,
-        )
+        add_unit(alloc, "MyEnum__Zero", definitions)
     }
 }
 
@@ -69,13 +63,7 @@ impl SchemaParts for OnePart {
         alloc: Global,
         definitions: &mut BTreeMap<Declaration, Definition>,
     ) -> Result<(), SchemaBuildError> {
-        let fields = Fields::UnnamedFields(vec![in alloc; u8::declaration(alloc)?]?);
-        add_with_parts::<(u8, ())>(
-            alloc,
-            declared(alloc, "MyEnum__One")?,
-            Definition::Struct { fields },
-            definitions,
-        )
+        add_unnamed::<(u8, ())>(alloc, "MyEnum__One", definitions)
     }
 }
 
@@ -89,13 +77,7 @@ impl SchemaParts for ManyPart {
         alloc: Global,
         definitions: &mut BTreeMap<Declaration, Definition>,
     ) -> Result<(), SchemaBuildError> {
-        let fields = Fields::UnnamedFields(vec![in alloc; Vec::<u8>::declaration(alloc)?]?);
-        add_with_parts::<(Vec<u8>, ())>(
-            alloc,
-            declared(alloc, "MyEnum__Many")?,
-            Definition::Struct { fields },
-            definitions,
-        )
+        add_unnamed::<(Vec<u8>, ())>(alloc, "MyEnum__Many", definitions)
     }
 }
 
@@ -131,18 +113,12 @@ impl BorshSchema for MyEnum {
         alloc: Global,
         definitions: &mut BTreeMap<Declaration, Definition>,
     ) -> Result<(), SchemaBuildError> {
-        let variants = vec![in alloc;
-            named_variant(alloc, 0, "Zero", "MyEnum__Zero")?,
-            named_variant(alloc, 1, "One", "MyEnum__One")?,
-            named_variant(alloc, 2, "Many", "MyEnum__Many")?,
-        ]?;
-        add_with_parts::<Both<ZeroPart, Both<OnePart, ManyPart>>>(
+        add_enum::<Both<ZeroPart, Both<OnePart, ManyPart>>>(
             alloc,
-            Self::declaration(alloc)?,
-            Definition::Enum {
-                tag_width: 1,
-                variants,
-            },
+            "MyEnum",
+            &[0, 1, 2],
+            &["Zero", "One", "Many"],
+            &["MyEnum__Zero", "MyEnum__One", "MyEnum__Many"],
             definitions,
         )
     }

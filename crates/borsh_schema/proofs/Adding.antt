@@ -9,7 +9,7 @@ use Rattle.std.proofs.lemmas.Slice.Eq.{bytes_eq-Decides}
 use Rattle.std.proofs.lemmas.Map.Text.{btree_map_updates_text}
 use Rattle.borsh_walks.specs.declared.definition.Definition.{Definition}
 use Rattle.borsh_schema.specs.declared.definitions.SchemaBuildError.TheVariants.{Redefinition}
-use Rattle.borsh_schema.specs.Described.{NamedDefinition, named_definition, DefinitionMap, definitions_by_name, none, defined, IsInTree}
+use Rattle.borsh_definitions.specs.Described.{NamedDefinition, named_definition, DefinitionMap, definitions_by_name, none, defined, IsInTree}
 use Rattle.borsh_schema.specs.Joined.{IsDefinedIn, IsUnion, UnionFails}
 
 module _ (a : DefinitionMap) (n : List ℕ) (d : NamedDefinition) (h : a n ≡ Some d) where

@@ -5,10 +5,10 @@ use Rattle.std.specs.String.{string_cmp}
 use Rattle.std.proofs.lemmas.List.{length-map}
 use Rattle.borsh_walks.specs.declared.definition.Definition.{Definition}
 use Rattle.borsh_schema.specs.declared.container.BorshSchemaContainer.{BorshSchemaContainer}
-use Rattle.borsh_schema.specs.Described.{DefinitionTree, definitions_by_name, nothing_defined}
+use Rattle.borsh_definitions.specs.Described.{DefinitionTree, definitions_by_name, nothing_defined}
 use Rattle.borsh_schema.specs.Joined.{IsUnion}
 use Rattle.borsh_schema.specs.Containers.{declaration_of, map_of, IsContainerOf}
-use Rattle.borsh_schema.specs.Laws.Sameness.{said_entry, SayTheSame, container_as, container_once}
+use Rattle.borsh_schema.proofs.Laws.Sameness.{said_entry, SayTheSame, container_as, container_once}
 
 pub container_made : {name : List ℕ} {ps : DefinitionTree} (m n : BTreeMap (String Global) Definition) {d : String Global} (c : BorshSchemaContainer)
     → definitions_by_name m ≡ nothing_defined → IsUnion (definitions_by_name m) ps (definitions_by_name n) → string_bytes d ≡ name → declaration_of c ≡ d → map_of c ≡ n → IsContainerOf name ps c

@@ -13,8 +13,8 @@ use Rattle.borsh_walks.specs.contracts.definition.DefinitionPartialEq.TheImpl as
 use Rattle.borsh_schema.specs.declared.container.BorshSchemaContainer.{BorshSchemaContainer}
 use Rattle.borsh_schema.specs.contracts.container.BorshSchemaContainerPartialEq.TheImpl as of_containers
 use Rattle.borsh_schema.specs.Containers.{map_of}
-use Rattle.borsh_schema.specs.Laws.Sameness.{Entry, said_entry, SayTheSame}
-use Rattle.borsh_schema.specs.Described.{NamedDefinition, field_bytes, variant_bytes, bytes, list, tuple, variants, named, unnamed, no_fields, named_fields, named_definition}
+use Rattle.borsh_schema.proofs.Laws.Sameness.{Entry, said_entry, SayTheSame}
+use Rattle.borsh_definitions.specs.Described.{NamedDefinition, field_bytes, variant_bytes, bytes, list, tuple, variants, named, unnamed, no_fields, named_fields, named_definition}
 
 -- `==` of definitions
 abbrev same : Definition → Definition → Bool

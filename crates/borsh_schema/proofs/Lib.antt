@@ -1,6 +1,7 @@
+pub mod Laws
 pub mod Adding
 pub mod Equality
 pub mod Containing
-pub mod Told
+pub mod Built
 pub mod Outcomes
 mod Counted

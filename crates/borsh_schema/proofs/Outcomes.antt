@@ -5,9 +5,9 @@ use Rattle.std.specs.Result.{IsErrAnd}
 use Rattle.std.proofs.lemmas.Result.{err_from_is_err_and, on_ok_weaker, IfErr-weaker}
 use Rattle.borsh_walks.specs.declared.definition.Definition.{Definition}
 use Rattle.borsh_schema.specs.declared.definitions.SchemaBuildError.{SchemaBuildError}
-use Rattle.borsh_schema.specs.Described.{NamedDefinition, DefinitionTree, none, defined, both}
+use Rattle.borsh_definitions.specs.Described.{NamedDefinition, DefinitionTree, none, defined, both}
 use Rattle.borsh_schema.specs.Joined.{AddsDefinitions}
-use Rattle.borsh_schema.specs.Laws.Joining.{joined_then, joined_defined, not_joined_first, not_joined_then, not_joined_defined}
+use Rattle.borsh_schema.proofs.Laws.Joining.{joined_then, joined_defined, not_joined_first, not_joined_then, not_joined_defined}
 
 -- a map of the program
 abbrev Map : Type 0

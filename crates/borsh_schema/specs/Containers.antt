@@ -10,7 +10,7 @@ use Rattle.borsh_walks.specs.Definitions.{definitions_in}
 use Rattle.borsh_walks.specs.declared.definition.Definition.{Definition}
 use Rattle.borsh_schema.specs.declared.container.BorshSchemaContainer.{BorshSchemaContainer}
 use Rattle.borsh_schema.specs.declared.container.Definitions.{Definitions}
-use Rattle.borsh_schema.specs.Described.{DefinitionMap, definitions_by_name, nothing_defined, DefinitionTree}
+use Rattle.borsh_definitions.specs.Described.{DefinitionMap, definitions_by_name, nothing_defined, DefinitionTree}
 use Rattle.borsh_schema.specs.Joined.{IsUnion}
 
 -- the root

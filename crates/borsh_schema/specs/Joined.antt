@@ -5,7 +5,7 @@ use Rattle.std.specs.BTreeMap.{BTreeMap}
 use Rattle.borsh_walks.specs.declared.definition.Definition.{Definition}
 use Rattle.borsh_schema.specs.declared.definitions.SchemaBuildError.{SchemaBuildError}
 use Rattle.borsh_schema.specs.declared.definitions.SchemaBuildError.TheVariants.{Redefinition, OutOfMemory}
-use Rattle.borsh_schema.specs.Described.{NamedDefinition, named_definition, DefinitionMap, definitions_by_name, DefinitionTree, defined, IsInTree}
+use Rattle.borsh_definitions.specs.Described.{NamedDefinition, named_definition, DefinitionMap, definitions_by_name, DefinitionTree, defined, IsInTree}
 
 -- the name has the definition in the old definitions, or among the new parts
 abbrev pub IsDefinedIn : DefinitionMap → DefinitionTree → List ℕ → NamedDefinition → Type 0

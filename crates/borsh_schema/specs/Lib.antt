@@ -1,13 +1,6 @@
-pub mod Described
 pub mod Joined
-pub mod Names
-pub mod Types
-pub mod Addresses
-pub mod Own
 pub mod Codecs
 pub mod Lending
-pub mod Language
-pub mod Laws
 pub mod Containers
 pub mod Questions
 pub mod Errors

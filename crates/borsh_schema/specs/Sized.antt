@@ -6,7 +6,7 @@ use Rattle.borsh_walks.specs.declared.error.SchemaMaxSerializedSizeError.{Schema
 use Rattle.borsh_schema.specs.declared.container.BorshSchemaContainer.{BorshSchemaContainer}
 use Rattle.borsh_schema.specs.declared.definitions.SchemaBuildError.{SchemaBuildError}
 use Rattle.borsh_schema.specs.Errors.{size_error}
-use Rattle.borsh_schema.specs.Described.{DefinitionTree, nothing_defined}
+use Rattle.borsh_definitions.specs.Described.{DefinitionTree, nothing_defined}
 use Rattle.borsh_schema.specs.Joined.{BuildFault}
 use Rattle.borsh_schema.specs.Containers.{language_of, root_of, IsContainerOf}
 

@@ -3,15 +3,15 @@ ghost use Rattle.std.specs.Prelude.{codes, refl};
 ghost use Rattle.std.specs.Net.Addr.{ipv4_octets, ipv6_octets};
 ghost use Rattle.borsh_codec.specs.Types.Addresses.{ip, ip_view};
 ghost use Rattle.borsh_walks.specs.Container.{first_variant, later_variant};
-ghost use Rattle.borsh_schema.specs.Addresses.{ipv4_definitions, ipv6_definitions, v4_variant, v6_variant, ip_address_definitions};
-ghost use Rattle.borsh_schema.specs.Laws.Members.{describes_contramap, describes_choice, describes_number, describes_parts, describes_row, all_one, choice_more, choice_none};
-ghost use Rattle.borsh_schema.specs.Laws.Quoted.{struct_described};
+ghost use Rattle.borsh_definitions.specs.Addresses.{ipv4_definitions, ipv6_definitions, v4_variant, v6_variant, ip_address_definitions};
+ghost use Rattle.borsh_definitions.proofs.Laws.Members.{describes_contramap, describes_choice, describes_number, describes_parts, describes_row, all_one, choice_more, choice_none};
+ghost use Rattle.borsh_definitions.proofs.Laws.Quoted.{struct_described};
 
 use super::definitions::SchemaBuildError;
-use super::fields::FieldTypes;
-use super::parts::{Both, SchemaParts, add_with_parts, declared, field, named_variant};
+use super::fields::{FieldTypes, add_enum, add_named, add_unnamed};
+use super::parts::{Both, SchemaParts, declared};
 use super::schema::BorshSchema;
-use borsh_walks::{Declaration, Definition, Fields};
+use borsh_walks::{Declaration, Definition};
 use std::alloc::Global;
 use std::collections::BTreeMap;
 use std::net::{IpAddr, Ipv4Addr, Ipv6Addr};
@@ -21,7 +21,8 @@ impl BorshSchema for Ipv4Addr {
 
     ghost parts = { ipv4_definitions };
 
-    ghost described = { struct_described (λ a. (ipv4_octets a, tt)) ⟦<([u8; 4], ()) as FieldTypes>⟧.described refl };
+    ghost described = { struct_described (λ a. (ipv4_octets a, tt))
+        ⟦<([u8; 4], ()) as FieldTypes>⟧.described refl };
 
     fn declaration(alloc: Global) -> Result<Declaration, SchemaBuildError> {
         declared(alloc, "Ipv4Addr")
@@ -31,13 +32,7 @@ impl BorshSchema for Ipv4Addr {
         alloc: Global,
         definitions: &mut BTreeMap<Declaration, Definition>,
     ) -> Result<(), SchemaBuildError> {
-        let fields = Fields::NamedFields(vec![in alloc; field::<[u8; 4]>(alloc, "octets")?]?);
-        add_with_parts::<([u8; 4], ())>(
-            alloc,
-            Self::declaration(alloc)?,
-            Definition::Struct { fields },
-            definitions,
-        )
+        add_named::<([u8; 4], ())>(alloc, "Ipv4Addr", &["octets"], definitions)
     }
 
     ghost describes = { Self.described.describes };
@@ -48,7 +43,8 @@ impl BorshSchema for Ipv6Addr {
 
     ghost parts = { ipv6_definitions };
 
-    ghost described = { struct_described (λ a. (ipv6_octets a, tt)) ⟦<([u8; 16], ()) as FieldTypes>⟧.described refl };
+    ghost described = { struct_described (λ a. (ipv6_octets a, tt))
+        ⟦<([u8; 16], ()) as FieldTypes>⟧.described refl };
 
     fn declaration(alloc: Global) -> Result<Declaration, SchemaBuildError> {
         declared(alloc, "Ipv6Addr")
@@ -58,13 +54,7 @@ impl BorshSchema for Ipv6Addr {
         alloc: Global,
         definitions: &mut BTreeMap<Declaration, Definition>,
     ) -> Result<(), SchemaBuildError> {
-        let fields = Fields::NamedFields(vec![in alloc; field::<[u8; 16]>(alloc, "octets")?]?);
-        add_with_parts::<([u8; 16], ())>(
-            alloc,
-            Self::declaration(alloc)?,
-            Definition::Struct { fields },
-            definitions,
-        )
+        add_named::<([u8; 16], ())>(alloc, "Ipv6Addr", &["octets"], definitions)
     }
 
     ghost describes = { Self.described.describes };
@@ -80,13 +70,7 @@ impl SchemaParts for V4Variant {
         alloc: Global,
         definitions: &mut BTreeMap<Declaration, Definition>,
     ) -> Result<(), SchemaBuildError> {
-        let fields = Fields::UnnamedFields(vec![in alloc; Ipv4Addr::declaration(alloc)?]?);
-        add_with_parts::<(Ipv4Addr, ())>(
-            alloc,
-            declared(alloc, "IpAddr__V4")?,
-            Definition::Struct { fields },
-            definitions,
-        )
+        add_unnamed::<(Ipv4Addr, ())>(alloc, "IpAddr__V4", definitions)
     }
 }
 
@@ -100,13 +84,7 @@ impl SchemaParts for V6Variant {
         alloc: Global,
         definitions: &mut BTreeMap<Declaration, Definition>,
     ) -> Result<(), SchemaBuildError> {
-        let fields = Fields::UnnamedFields(vec![in alloc; Ipv6Addr::declaration(alloc)?]?);
-        add_with_parts::<(Ipv6Addr, ())>(
-            alloc,
-            declared(alloc, "IpAddr__V6")?,
-            Definition::Struct { fields },
-            definitions,
-        )
+        add_unnamed::<(Ipv6Addr, ())>(alloc, "IpAddr__V6", definitions)
     }
 }
 
@@ -142,17 +120,12 @@ impl BorshSchema for IpAddr {
         alloc: Global,
         definitions: &mut BTreeMap<Declaration, Definition>,
     ) -> Result<(), SchemaBuildError> {
-        let variants = vec![in alloc;
-            named_variant(alloc, 0, "V4", "IpAddr__V4")?,
-            named_variant(alloc, 1, "V6", "IpAddr__V6")?,
-        ]?;
-        add_with_parts::<Both<V4Variant, V6Variant>>(
+        add_enum::<Both<V4Variant, V6Variant>>(
             alloc,
-            Self::declaration(alloc)?,
-            Definition::Enum {
-                tag_width: 1,
-                variants,
-            },
+            "IpAddr",
+            &[0, 1],
+            &["V4", "V6"],
+            &["IpAddr__V4", "IpAddr__V6"],
             definitions,
         )
     }

@@ -1,8 +1,8 @@
 // Arrays: their elements in order, with no count.
-ghost use Rattle.borsh_schema.specs.Described.{defined, list, both, none};
-ghost use Rattle.borsh_schema.specs.Laws.Members.{describes_row};
-ghost use Rattle.borsh_schema.specs.Names.{array_name};
-ghost use Rattle.borsh_schema.specs.Laws.Quoted.{array_described};
+ghost use Rattle.borsh_definitions.specs.Described.{defined, list, both, none};
+ghost use Rattle.borsh_definitions.proofs.Laws.Members.{describes_row};
+ghost use Rattle.borsh_definitions.specs.Names.{array_name};
+ghost use Rattle.borsh_definitions.proofs.Laws.Quoted.{array_described};
 
 use super::definitions::SchemaBuildError;
 use super::parts::add_with_parts;

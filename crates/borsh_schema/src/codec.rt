@@ -1,6 +1,8 @@
 // Containers as bytes: the root's name, and then the definitions by ascending name.
 ghost use Rattle.borsh_codec.proofs.Laws.Conditional.{always};
-ghost use Rattle.borsh_schema.specs.Codecs.{container, container-lawful};
+ghost use Rattle.borsh_codec.proofs.Laws.Exact.{contramap-lawful};
+ghost use Rattle.borsh_definitions.proofs.Laws.Own.{root_and_map-lawful};
+ghost use Rattle.borsh_schema.specs.Codecs.{container, container_pair};
 
 use super::container::BorshSchemaContainer;
 use borsh_de::BorshDeserialize;
@@ -14,7 +16,7 @@ use std::collections::BTreeMap;
 impl BorshType for BorshSchemaContainer {
     ghost codec = { container };
 
-    ghost lawful_if = { always container-lawful };
+    ghost lawful_if = { always (contramap-lawful container_pair root_and_map-lawful) };
 
     ghost premises = { tt };
 

@@ -5,7 +5,7 @@ ghost use Rattle.std.specs.Option.{option_copied_mut};
 ghost use Rattle.std.specs.String.{string_cmp};
 ghost use Rattle.std.specs.BTreeMap.{IsOrdered, IsUnchanged};
 ghost use Rattle.borsh_schema.specs.Containers.{declaration_of, map_of, definition_of, left_of, IsContainerOf, DescribesRoot, ReplacesDefinition};
-ghost use Rattle.borsh_schema.specs.Described.{nothing_defined};
+ghost use Rattle.borsh_definitions.specs.Described.{nothing_defined};
 ghost use Rattle.borsh_schema.specs.Joined.{BuildFault};
 ghost use Rattle.borsh_schema.specs.Lending.{LendsDefinition};
 

@@ -2,7 +2,7 @@
 ghost use Rattle.std.specs.Prelude.{◌≡◌, Decides, IfErr};
 ghost use Rattle.std.specs.BTreeMap.{IsUnchanged};
 ghost use Rattle.borsh_schema.specs.declared.definitions.SchemaBuildError.TheVariants.{OutOfMemory};
-ghost use Rattle.borsh_schema.specs.Described.{named_definition, none};
+ghost use Rattle.borsh_definitions.specs.Described.{named_definition, none};
 ghost use Rattle.borsh_schema.specs.Errors.{size_error};
 ghost use Rattle.borsh_schema.specs.Joined.{AddsDefinitions, AnswersKnown, definition_with};
 

@@ -1,12 +1,12 @@
 // The fields of structs, tuples and variants: their types, one after another.
 ghost use Rattle.std.specs.Prelude.{◌≡◌, ◌∷◌, [], ◌++◌, List, ℕ, IfErr, OnOk, map, string_bytes};
 ghost use Rattle.borsh_schema.specs.declared.definitions.SchemaBuildError.TheVariants.{OutOfMemory};
-ghost use Rattle.borsh_schema.specs.Described.{field_bytes, variant_bytes};
+ghost use Rattle.borsh_definitions.specs.Described.{field_bytes, variant_bytes};
 ghost use Rattle.borsh_schema.specs.Joined.{AddsDefinitions};
-ghost use Rattle.borsh_schema.specs.Language.{DescribedFields};
-ghost use Rattle.borsh_schema.specs.Laws.Quoted.{fields_described, no_fields_described};
-ghost use Rattle.borsh_schema.specs.Names.{AppendsNames, AppendsFollowing, texts, beside, listed_variants};
-ghost use Rattle.borsh_schema.specs.Types.{named_struct, unnamed_struct, unit_struct, tagged_enum};
+ghost use Rattle.borsh_definitions.specs.Language.{DescribedFields};
+ghost use Rattle.borsh_definitions.proofs.Laws.Quoted.{fields_described, no_fields_described};
+ghost use Rattle.borsh_definitions.specs.Names.{AppendsNames, AppendsFollowing, texts, beside, listed_variants};
+ghost use Rattle.borsh_definitions.specs.Types.{named_struct, unnamed_struct, unit_struct, tagged_enum};
 
 use super::definitions::SchemaBuildError;
 use super::parts::{SchemaParts, add_with_parts, declared};

@@ -3,10 +3,10 @@ ghost use Rattle.std.specs.Prelude.{codes};
 ghost use Rattle.std.specs.Box.{boxed_slice_items};
 ghost use Rattle.std.specs.Cow.{cow_slice_items};
 ghost use Rattle.std.specs.Rc.{rc_slice_items};
-ghost use Rattle.borsh_schema.specs.Laws.Members.{describes_contramap, describes_counted, describes_elements};
-ghost use Rattle.borsh_schema.specs.Names.{applied};
-ghost use Rattle.borsh_schema.specs.Types.{list_definitions};
-ghost use Rattle.borsh_schema.specs.Laws.Quoted.{contramap_described, list_described, slice_described};
+ghost use Rattle.borsh_definitions.proofs.Laws.Members.{describes_contramap, describes_counted, describes_elements};
+ghost use Rattle.borsh_definitions.specs.Names.{applied};
+ghost use Rattle.borsh_definitions.specs.Types.{list_definitions};
+ghost use Rattle.borsh_definitions.proofs.Laws.Quoted.{contramap_described, list_described, slice_described};
 
 use super::definitions::SchemaBuildError;
 use super::parts::add_list;
@@ -23,7 +23,8 @@ impl<T: BorshSchema> BorshSchema for Vec<T> {
 
     ghost parts = { list_definitions (codes "Vec<") T.name T.parts };
 
-    ghost described = { contramap_described (λ v. v.items) (list_described (codes "Vec<") T.described) };
+    ghost described = { contramap_described (λ v. v.items)
+        (list_described (codes "Vec<") T.described) };
 
     fn declaration(alloc: Global) -> Result<Declaration, SchemaBuildError> {
         let element = T::declaration(alloc)?;
@@ -46,7 +47,8 @@ impl<T: BorshSchema> BorshSchema for VecDeque<T> {
 
     ghost parts = { list_definitions (codes "VecDeque<") T.name T.parts };
 
-    ghost described = { contramap_described (λ v. v.items) (list_described (codes "VecDeque<") T.described) };
+    ghost described = { contramap_described (λ v. v.items)
+        (list_described (codes "VecDeque<") T.described) };
 
     fn declaration(alloc: Global) -> Result<Declaration, SchemaBuildError> {
         let element = T::declaration(alloc)?;
@@ -91,7 +93,8 @@ impl<T: BorshSchema> BorshSchema for BoxedSlice<T> {
 
     ghost parts = { list_definitions (codes "Vec<") T.name T.parts };
 
-    ghost described = { contramap_described boxed_slice_items (list_described (codes "Vec<") T.described) };
+    ghost described = { contramap_described boxed_slice_items
+        (list_described (codes "Vec<") T.described) };
 
     fn declaration(alloc: Global) -> Result<Declaration, SchemaBuildError> {
         let element = T::declaration(alloc)?;
@@ -114,7 +117,8 @@ impl<T: BorshSchema> BorshSchema for RcSlice<T> {
 
     ghost parts = { list_definitions (codes "Vec<") T.name T.parts };
 
-    ghost described = { contramap_described rc_slice_items (list_described (codes "Vec<") T.described) };
+    ghost described = { contramap_described rc_slice_items
+        (list_described (codes "Vec<") T.described) };
 
     fn declaration(alloc: Global) -> Result<Declaration, SchemaBuildError> {
         let element = T::declaration(alloc)?;
@@ -137,7 +141,8 @@ impl<T: BorshSchema> BorshSchema for CowSlice<'_, T> {
 
     ghost parts = { list_definitions (codes "Vec<") T.name T.parts };
 
-    ghost described = { contramap_described cow_slice_items (list_described (codes "Vec<") T.described) };
+    ghost described = { contramap_described cow_slice_items
+        (list_described (codes "Vec<") T.described) };
 
     fn declaration(alloc: Global) -> Result<Declaration, SchemaBuildError> {
         let element = T::declaration(alloc)?;
@@ -160,7 +165,8 @@ impl<T: BorshSchema> BorshSchema for &[T] {
 
     ghost parts = { list_definitions (codes "Vec<") T.name T.parts };
 
-    ghost described = { contramap_described (λ r. r.now) (slice_described (codes "Vec<") T.described) };
+    ghost described = { contramap_described (λ r. r.now)
+        (slice_described (codes "Vec<") T.described) };
 
     fn declaration(alloc: Global) -> Result<Declaration, SchemaBuildError> {
         let element = T::declaration(alloc)?;

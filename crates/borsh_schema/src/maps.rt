@@ -1,10 +1,10 @@
 // Maps and sets: a count of four bytes and the entries.
 ghost use Rattle.std.specs.Prelude.{codes, ⊤};
 ghost use Rattle.borsh_codec.specs.Maps.{unit_entries};
-ghost use Rattle.borsh_schema.specs.Laws.Members.{describes_contramap, describes_ordered, describes_parts, describes_refused_if, describes_sorted, all_one, all_more};
-ghost use Rattle.borsh_schema.specs.Names.{applied, applied_to_two};
-ghost use Rattle.borsh_schema.specs.Types.{list_definitions, map_definitions};
-ghost use Rattle.borsh_schema.specs.Laws.Quoted.{btree_map_described, btree_set_described, contramap_described, hash_map_described, hash_set_described};
+ghost use Rattle.borsh_definitions.proofs.Laws.Members.{describes_contramap, describes_ordered, describes_parts, describes_refused_if, describes_sorted, all_one, all_more};
+ghost use Rattle.borsh_definitions.specs.Names.{applied, applied_to_two};
+ghost use Rattle.borsh_definitions.specs.Types.{list_definitions, map_definitions};
+ghost use Rattle.borsh_definitions.proofs.Laws.Quoted.{btree_map_described, btree_set_described, contramap_described, hash_map_described, hash_set_described};
 
 use super::definitions::SchemaBuildError;
 use super::parts::add_list;
@@ -20,7 +20,8 @@ impl<K: BorshSchema + BorshKey + Ord, V: BorshSchema> BorshSchema for BTreeMap<K
 
     ghost parts = { map_definitions (codes "BTreeMap<") K.name V.name K.parts V.parts };
 
-    ghost described = { contramap_described (λ m. m.entries) (btree_map_described (codes "BTreeMap<") K.cmp K.described V.described) };
+    ghost described = { contramap_described (λ m. m.entries)
+        (btree_map_described (codes "BTreeMap<") K.cmp K.described V.described) };
 
     fn declaration(alloc: Global) -> Result<Declaration, SchemaBuildError> {
         let key = K::declaration(alloc)?;
@@ -47,7 +48,8 @@ impl<K: BorshSchema + BorshKey + Ord> BorshSchema for BTreeSet<K> {
 
     ghost parts = { list_definitions (codes "BTreeSet<") K.name K.parts };
 
-    ghost described = { contramap_described (λ s. s.keys) (btree_set_described (codes "BTreeSet<") K.cmp K.described) };
+    ghost described = { contramap_described (λ s. s.keys)
+        (btree_set_described (codes "BTreeSet<") K.cmp K.described) };
 
     fn declaration(alloc: Global) -> Result<Declaration, SchemaBuildError> {
         let key = K::declaration(alloc)?;
@@ -73,7 +75,8 @@ impl<K: BorshSchema + BorshKey + Ord + Hash, V: BorshSchema, S: BuildHasher> Bor
 
     ghost parts = { map_definitions (codes "HashMap<") K.name V.name K.parts V.parts };
 
-    ghost described = { contramap_described (λ m. m.entries) (hash_map_described (codes "HashMap<") K.cmp K.described V.described) };
+    ghost described = { contramap_described (λ m. m.entries)
+        (hash_map_described (codes "HashMap<") K.cmp K.described V.described) };
 
     fn declaration(alloc: Global) -> Result<Declaration, SchemaBuildError> {
         let key = K::declaration(alloc)?;
@@ -100,7 +103,8 @@ impl<K: BorshSchema + BorshKey + Ord + Hash, S: BuildHasher> BorshSchema for Has
 
     ghost parts = { list_definitions (codes "HashSet<") K.name K.parts };
 
-    ghost described = { contramap_described (λ s. s.keys) (hash_set_described (codes "HashSet<") K.cmp K.described) };
+    ghost described = { contramap_described (λ s. s.keys)
+        (hash_set_described (codes "HashSet<") K.cmp K.described) };
 
     fn declaration(alloc: Global) -> Result<Declaration, SchemaBuildError> {
         let key = K::declaration(alloc)?;

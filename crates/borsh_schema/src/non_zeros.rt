@@ -1,9 +1,9 @@
 // Numbers that are never zero: so many bytes, as those of the number.
 ghost use Rattle.std.specs.Prelude.{codes};
 ghost use Rattle.std.specs.Int.NonZero.{non_zero_u8_get, non_zero_u16_get, non_zero_u32_get, non_zero_u64_get, non_zero_u128_get, non_zero_usize_get, non_zero_i8_get, non_zero_i16_get, non_zero_i32_get, non_zero_i64_get, non_zero_i128_get};
-ghost use Rattle.borsh_schema.specs.Types.{primitive_definitions};
-ghost use Rattle.borsh_schema.specs.Laws.Members.{describes_contramap, describes_number, describes_signed};
-ghost use Rattle.borsh_schema.specs.Laws.Quoted.{contramap_described, number_described, signed_described};
+ghost use Rattle.borsh_definitions.specs.Types.{primitive_definitions};
+ghost use Rattle.borsh_definitions.proofs.Laws.Members.{describes_contramap, describes_number, describes_signed};
+ghost use Rattle.borsh_definitions.proofs.Laws.Quoted.{contramap_described, number_described, signed_described};
 
 use super::definitions::SchemaBuildError;
 use super::parts::{add_primitive, declared};
@@ -21,7 +21,8 @@ impl BorshSchema for NonZeroU8 {
 
     ghost parts = { primitive_definitions (codes "NonZeroU8") 1 };
 
-    ghost described = { contramap_described non_zero_u8_get (number_described (codes "NonZeroU8") 1) };
+    ghost described = { contramap_described non_zero_u8_get
+        (number_described (codes "NonZeroU8") 1) };
 
     fn declaration(alloc: Global) -> Result<Declaration, SchemaBuildError> {
         declared(alloc, "NonZeroU8")
@@ -42,7 +43,8 @@ impl BorshSchema for NonZeroU16 {
 
     ghost parts = { primitive_definitions (codes "NonZeroU16") 2 };
 
-    ghost described = { contramap_described non_zero_u16_get (number_described (codes "NonZeroU16") 2) };
+    ghost described = { contramap_described non_zero_u16_get
+        (number_described (codes "NonZeroU16") 2) };
 
     fn declaration(alloc: Global) -> Result<Declaration, SchemaBuildError> {
         declared(alloc, "NonZeroU16")
@@ -63,7 +65,8 @@ impl BorshSchema for NonZeroU32 {
 
     ghost parts = { primitive_definitions (codes "NonZeroU32") 4 };
 
-    ghost described = { contramap_described non_zero_u32_get (number_described (codes "NonZeroU32") 4) };
+    ghost described = { contramap_described non_zero_u32_get
+        (number_described (codes "NonZeroU32") 4) };
 
     fn declaration(alloc: Global) -> Result<Declaration, SchemaBuildError> {
         declared(alloc, "NonZeroU32")
@@ -84,7 +87,8 @@ impl BorshSchema for NonZeroU64 {
 
     ghost parts = { primitive_definitions (codes "NonZeroU64") 8 };
 
-    ghost described = { contramap_described non_zero_u64_get (number_described (codes "NonZeroU64") 8) };
+    ghost described = { contramap_described non_zero_u64_get
+        (number_described (codes "NonZeroU64") 8) };
 
     fn declaration(alloc: Global) -> Result<Declaration, SchemaBuildError> {
         declared(alloc, "NonZeroU64")
@@ -105,7 +109,8 @@ impl BorshSchema for NonZeroU128 {
 
     ghost parts = { primitive_definitions (codes "NonZeroU128") 16 };
 
-    ghost described = { contramap_described non_zero_u128_get (number_described (codes "NonZeroU128") 16) };
+    ghost described = { contramap_described non_zero_u128_get
+        (number_described (codes "NonZeroU128") 16) };
 
     fn declaration(alloc: Global) -> Result<Declaration, SchemaBuildError> {
         declared(alloc, "NonZeroU128")
@@ -126,7 +131,8 @@ impl BorshSchema for NonZeroUsize {
 
     ghost parts = { primitive_definitions (codes "NonZeroUsize") 8 };
 
-    ghost described = { contramap_described non_zero_usize_get (number_described (codes "NonZeroUsize") 8) };
+    ghost described = { contramap_described non_zero_usize_get
+        (number_described (codes "NonZeroUsize") 8) };
 
     fn declaration(alloc: Global) -> Result<Declaration, SchemaBuildError> {
         declared(alloc, "NonZeroUsize")
@@ -147,7 +153,8 @@ impl BorshSchema for NonZeroI8 {
 
     ghost parts = { primitive_definitions (codes "NonZeroI8") 1 };
 
-    ghost described = { contramap_described non_zero_i8_get (signed_described (codes "NonZeroI8") 1) };
+    ghost described = { contramap_described non_zero_i8_get
+        (signed_described (codes "NonZeroI8") 1) };
 
     fn declaration(alloc: Global) -> Result<Declaration, SchemaBuildError> {
         declared(alloc, "NonZeroI8")
@@ -168,7 +175,8 @@ impl BorshSchema for NonZeroI16 {
 
     ghost parts = { primitive_definitions (codes "NonZeroI16") 2 };
 
-    ghost described = { contramap_described non_zero_i16_get (signed_described (codes "NonZeroI16") 2) };
+    ghost described = { contramap_described non_zero_i16_get
+        (signed_described (codes "NonZeroI16") 2) };
 
     fn declaration(alloc: Global) -> Result<Declaration, SchemaBuildError> {
         declared(alloc, "NonZeroI16")
@@ -189,7 +197,8 @@ impl BorshSchema for NonZeroI32 {
 
     ghost parts = { primitive_definitions (codes "NonZeroI32") 4 };
 
-    ghost described = { contramap_described non_zero_i32_get (signed_described (codes "NonZeroI32") 4) };
+    ghost described = { contramap_described non_zero_i32_get
+        (signed_described (codes "NonZeroI32") 4) };
 
     fn declaration(alloc: Global) -> Result<Declaration, SchemaBuildError> {
         declared(alloc, "NonZeroI32")
@@ -210,7 +219,8 @@ impl BorshSchema for NonZeroI64 {
 
     ghost parts = { primitive_definitions (codes "NonZeroI64") 8 };
 
-    ghost described = { contramap_described non_zero_i64_get (signed_described (codes "NonZeroI64") 8) };
+    ghost described = { contramap_described non_zero_i64_get
+        (signed_described (codes "NonZeroI64") 8) };
 
     fn declaration(alloc: Global) -> Result<Declaration, SchemaBuildError> {
         declared(alloc, "NonZeroI64")
@@ -231,7 +241,8 @@ impl BorshSchema for NonZeroI128 {
 
     ghost parts = { primitive_definitions (codes "NonZeroI128") 16 };
 
-    ghost described = { contramap_described non_zero_i128_get (signed_described (codes "NonZeroI128") 16) };
+    ghost described = { contramap_described non_zero_i128_get
+        (signed_described (codes "NonZeroI128") 16) };
 
     fn declaration(alloc: Global) -> Result<Declaration, SchemaBuildError> {
         declared(alloc, "NonZeroI128")

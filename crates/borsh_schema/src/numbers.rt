@@ -1,8 +1,8 @@
 // Whole numbers: so many bytes.
 ghost use Rattle.std.specs.Prelude.{codes};
-ghost use Rattle.borsh_schema.specs.Types.{primitive_definitions};
-ghost use Rattle.borsh_schema.specs.Laws.Members.{describes_number, describes_signed};
-ghost use Rattle.borsh_schema.specs.Laws.Quoted.{number_described, signed_described};
+ghost use Rattle.borsh_definitions.specs.Types.{primitive_definitions};
+ghost use Rattle.borsh_definitions.proofs.Laws.Members.{describes_number, describes_signed};
+ghost use Rattle.borsh_definitions.proofs.Laws.Quoted.{number_described, signed_described};
 
 use super::definitions::SchemaBuildError;
 use super::parts::{add_primitive, declared};

@@ -1,13 +1,15 @@
 // The schemas of what schemas are made of: lengths, fields, definitions and containers.
 ghost use Rattle.std.specs.Prelude.{codes};
 ghost use Rattle.borsh_walks.specs.Codecs.{length_range, fields, definition};
-ghost use Rattle.borsh_schema.specs.Codecs.{container};
-ghost use Rattle.borsh_schema.specs.Laws.Own.{length_range_described, fields_described, definition_described, container_described};
-ghost use Rattle.borsh_schema.specs.Own.{length_range_name, length_range_definitions, fields_definitions, named_fields_variant, unnamed_fields_variant, empty_variant, definition_definitions, primitive_variant, sequence_variant, tuple_variant, enum_variant, struct_variant, container_definitions};
+ghost use Rattle.borsh_schema.specs.Codecs.{container, container_pair};
+ghost use Rattle.borsh_definitions.proofs.Laws.Members.{describes_contramap};
+ghost use Rattle.borsh_definitions.proofs.Laws.Own.{length_range_described, fields_described, definition_described, container_described};
+ghost use Rattle.borsh_definitions.specs.Own.{length_range_name, length_range_definitions, fields_definitions, named_fields_variant, unnamed_fields_variant, empty_variant, definition_definitions, primitive_variant, sequence_variant, tuple_variant, enum_variant, struct_variant, container_definitions};
 
 use super::container::BorshSchemaContainer;
 use super::definitions::SchemaBuildError;
-use super::parts::{Both, SchemaParts, add_with_parts, declared, field, named_variant};
+use super::fields::{add_enum, add_named, add_unit, add_unnamed};
+use super::parts::{Both, SchemaParts, add_with_parts, declared, field};
 use super::schema::BorshSchema;
 use borsh_walks::{
     Declaration, Definition, DiscriminantValue, FieldName, Fields, LengthRange, VariantName,
@@ -55,13 +57,9 @@ impl SchemaParts for NamedFieldsVariant {
         alloc: Global,
         definitions: &mut BTreeMap<Declaration, Definition>,
     ) -> Result<(), SchemaBuildError> {
-        let fields = Fields::UnnamedFields(vec![in alloc;
-            Vec::<(FieldName, Declaration)>::declaration(alloc)?,
-        ]?);
-        add_with_parts::<(Vec<(FieldName, Declaration)>, ())>(
+        add_unnamed::<(Vec<(FieldName, Declaration)>, ())>(
             alloc,
-            declared(alloc, "Fields__NamedFields")?,
-            Definition::Struct { fields },
+            "Fields__NamedFields",
             definitions,
         )
     }
@@ -77,15 +75,7 @@ impl SchemaParts for UnnamedFieldsVariant {
         alloc: Global,
         definitions: &mut BTreeMap<Declaration, Definition>,
     ) -> Result<(), SchemaBuildError> {
-        let fields = Fields::UnnamedFields(vec![in alloc;
-            Vec::<Declaration>::declaration(alloc)?,
-        ]?);
-        add_with_parts::<(Vec<Declaration>, ())>(
-            alloc,
-            declared(alloc, "Fields__UnnamedFields")?,
-            Definition::Struct { fields },
-            definitions,
-        )
+        add_unnamed::<(Vec<Declaration>, ())>(alloc, "Fields__UnnamedFields", definitions)
     }
 }
 
@@ -99,13 +89,7 @@ impl SchemaParts for EmptyVariant {
         alloc: Global,
         definitions: &mut BTreeMap<Declaration, Definition>,
     ) -> Result<(), SchemaBuildError> {
-        let fields = Fields::Empty;
-        add_with_parts::<()>(
-            alloc,
-            declared(alloc, "Fields__Empty")?,
-            Definition::Struct { fields },
-            definitions,
-        )
+        add_unit(alloc, "Fields__Empty", definitions)
     }
 }
 
@@ -124,18 +108,16 @@ impl BorshSchema for Fields {
         alloc: Global,
         definitions: &mut BTreeMap<Declaration, Definition>,
     ) -> Result<(), SchemaBuildError> {
-        let variants = vec![in alloc;
-            named_variant(alloc, 0, "NamedFields", "Fields__NamedFields")?,
-            named_variant(alloc, 1, "UnnamedFields", "Fields__UnnamedFields")?,
-            named_variant(alloc, 2, "Empty", "Fields__Empty")?,
-        ]?;
-        add_with_parts::<Both<NamedFieldsVariant, Both<UnnamedFieldsVariant, EmptyVariant>>>(
+        add_enum::<Both<NamedFieldsVariant, Both<UnnamedFieldsVariant, EmptyVariant>>>(
             alloc,
-            Self::declaration(alloc)?,
-            Definition::Enum {
-                tag_width: 1,
-                variants,
-            },
+            "Fields",
+            &[0, 1, 2],
+            &["NamedFields", "UnnamedFields", "Empty"],
+            &[
+                "Fields__NamedFields",
+                "Fields__UnnamedFields",
+                "Fields__Empty",
+            ],
             definitions,
         )
     }
@@ -153,13 +135,7 @@ impl SchemaParts for PrimitiveVariant {
         alloc: Global,
         definitions: &mut BTreeMap<Declaration, Definition>,
     ) -> Result<(), SchemaBuildError> {
-        let fields = Fields::UnnamedFields(vec![in alloc; u8::declaration(alloc)?]?);
-        add_with_parts::<(u8, ())>(
-            alloc,
-            declared(alloc, "Definition__Primitive")?,
-            Definition::Struct { fields },
-            definitions,
-        )
+        add_unnamed::<(u8, ())>(alloc, "Definition__Primitive", definitions)
     }
 }
 
@@ -173,15 +149,10 @@ impl SchemaParts for SequenceVariant {
         alloc: Global,
         definitions: &mut BTreeMap<Declaration, Definition>,
     ) -> Result<(), SchemaBuildError> {
-        let fields = Fields::NamedFields(vec![in alloc;
-            field::<u8>(alloc, "length_width")?,
-            field::<LengthRange>(alloc, "length_range")?,
-            field::<Declaration>(alloc, "elements")?,
-        ]?);
-        add_with_parts::<(u8, (LengthRange, (Declaration, ())))>(
+        add_named::<(u8, (LengthRange, (Declaration, ())))>(
             alloc,
-            declared(alloc, "Definition__Sequence")?,
-            Definition::Struct { fields },
+            "Definition__Sequence",
+            &["length_width", "length_range", "elements"],
             definitions,
         )
     }
@@ -197,15 +168,7 @@ impl SchemaParts for TupleVariant {
         alloc: Global,
         definitions: &mut BTreeMap<Declaration, Definition>,
     ) -> Result<(), SchemaBuildError> {
-        let fields = Fields::NamedFields(vec![in alloc;
-            field::<Vec<Declaration>>(alloc, "elements")?,
-        ]?);
-        add_with_parts::<(Vec<Declaration>, ())>(
-            alloc,
-            declared(alloc, "Definition__Tuple")?,
-            Definition::Struct { fields },
-            definitions,
-        )
+        add_named::<(Vec<Declaration>, ())>(alloc, "Definition__Tuple", &["elements"], definitions)
     }
 }
 
@@ -219,14 +182,10 @@ impl SchemaParts for EnumVariant {
         alloc: Global,
         definitions: &mut BTreeMap<Declaration, Definition>,
     ) -> Result<(), SchemaBuildError> {
-        let fields = Fields::NamedFields(vec![in alloc;
-            field::<u8>(alloc, "tag_width")?,
-            field::<Vec<(DiscriminantValue, VariantName, Declaration)>>(alloc, "variants")?,
-        ]?);
-        add_with_parts::<(u8, (Vec<(DiscriminantValue, VariantName, Declaration)>, ()))>(
+        add_named::<(u8, (Vec<(DiscriminantValue, VariantName, Declaration)>, ()))>(
             alloc,
-            declared(alloc, "Definition__Enum")?,
-            Definition::Struct { fields },
+            "Definition__Enum",
+            &["tag_width", "variants"],
             definitions,
         )
     }
@@ -242,13 +201,7 @@ impl SchemaParts for StructVariant {
         alloc: Global,
         definitions: &mut BTreeMap<Declaration, Definition>,
     ) -> Result<(), SchemaBuildError> {
-        let fields = Fields::NamedFields(vec![in alloc; field::<Fields>(alloc, "fields")?]?);
-        add_with_parts::<(Fields, ())>(
-            alloc,
-            declared(alloc, "Definition__Struct")?,
-            Definition::Struct { fields },
-            definitions,
-        )
+        add_named::<(Fields, ())>(alloc, "Definition__Struct", &["fields"], definitions)
     }
 }
 
@@ -267,25 +220,23 @@ impl BorshSchema for Definition {
         alloc: Global,
         definitions: &mut BTreeMap<Declaration, Definition>,
     ) -> Result<(), SchemaBuildError> {
-        let variants = vec![in alloc;
-            named_variant(alloc, 0, "Primitive", "Definition__Primitive")?,
-            named_variant(alloc, 1, "Sequence", "Definition__Sequence")?,
-            named_variant(alloc, 2, "Tuple", "Definition__Tuple")?,
-            named_variant(alloc, 3, "Enum", "Definition__Enum")?,
-            named_variant(alloc, 4, "Struct", "Definition__Struct")?,
-        ]?;
-        add_with_parts::<
+        add_enum::<
             Both<
                 PrimitiveVariant,
                 Both<SequenceVariant, Both<TupleVariant, Both<EnumVariant, StructVariant>>>,
             >,
         >(
             alloc,
-            Self::declaration(alloc)?,
-            Definition::Enum {
-                tag_width: 1,
-                variants,
-            },
+            "Definition",
+            &[0, 1, 2, 3, 4],
+            &["Primitive", "Sequence", "Tuple", "Enum", "Struct"],
+            &[
+                "Definition__Primitive",
+                "Definition__Sequence",
+                "Definition__Tuple",
+                "Definition__Enum",
+                "Definition__Struct",
+            ],
             definitions,
         )
     }
@@ -298,7 +249,10 @@ impl BorshSchema for BorshSchemaContainer {
 
     ghost parts = { container_definitions };
 
-    ghost described = { record { codec = container; describes = container_described } };
+    ghost described = { record {
+      codec = container;
+      describes = λ C h. describes_contramap container_pair (container_described C h);
+    } };
 
     fn declaration(alloc: Global) -> Result<Declaration, SchemaBuildError> {
         declared(alloc, "BorshSchemaContainer")
@@ -308,14 +262,10 @@ impl BorshSchema for BorshSchemaContainer {
         alloc: Global,
         definitions: &mut BTreeMap<Declaration, Definition>,
     ) -> Result<(), SchemaBuildError> {
-        let fields = Fields::NamedFields(vec![in alloc;
-            field::<Declaration>(alloc, "declaration")?,
-            field::<BTreeMap<Declaration, Definition>>(alloc, "definitions")?,
-        ]?);
-        add_with_parts::<(Declaration, (BTreeMap<Declaration, Definition>, ()))>(
+        add_named::<(Declaration, (BTreeMap<Declaration, Definition>, ()))>(
             alloc,
-            <Self as BorshSchema>::declaration(alloc)?,
-            Definition::Struct { fields },
+            "BorshSchemaContainer",
+            &["declaration", "definitions"],
             definitions,
         )
     }

@@ -1,9 +1,9 @@
 // The definitions of a type and of its parts, one after another.
 ghost use Rattle.std.specs.Prelude.{◌≡◌, IfOk, IfErr, string_bytes};
 ghost use Rattle.borsh_schema.specs.declared.definitions.SchemaBuildError.TheVariants.{OutOfMemory};
-ghost use Rattle.borsh_schema.specs.Described.{DefinitionTree, none, both, defined};
+ghost use Rattle.borsh_definitions.specs.Described.{DefinitionTree, none, both, defined};
 ghost use Rattle.borsh_schema.specs.Joined.{AddsDefinitions, definition_with};
-ghost use Rattle.borsh_schema.specs.Types.{primitive_definitions, list_of};
+ghost use Rattle.borsh_definitions.specs.Types.{primitive_definitions, list_of};
 
 use super::definitions::{SchemaBuildError, add_definition};
 use super::schema::BorshSchema;

@@ -1,6 +1,6 @@
 // Pointers, which are what they point to.
-ghost use Rattle.borsh_schema.specs.Laws.Members.{describes_contramap, describes_stored};
-ghost use Rattle.borsh_schema.specs.Laws.Quoted.{allocated_described, contramap_described};
+ghost use Rattle.borsh_definitions.proofs.Laws.Members.{describes_contramap, describes_stored};
+ghost use Rattle.borsh_definitions.proofs.Laws.Quoted.{allocated_described, contramap_described};
 
 use super::definitions::SchemaBuildError;
 use super::schema::BorshSchema;

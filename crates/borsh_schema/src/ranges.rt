@@ -1,11 +1,11 @@
 // Ranges: their ends.
 ghost use Rattle.std.specs.Prelude.{codes, refl};
 ghost use Rattle.std.specs.Range.{range_inclusive_start, range_inclusive_end};
-ghost use Rattle.borsh_schema.specs.Described.{defined, both, none};
-ghost use Rattle.borsh_schema.specs.Laws.Members.{describes_contramap, describes_parts, all_one, all_more};
-ghost use Rattle.borsh_schema.specs.Names.{applied};
-ghost use Rattle.borsh_schema.specs.Types.{range_of, range_from, range_to};
-ghost use Rattle.borsh_schema.specs.Laws.Quoted.{fields_described, no_fields_described, range_described, struct_described};
+ghost use Rattle.borsh_definitions.specs.Described.{defined, both, none};
+ghost use Rattle.borsh_definitions.proofs.Laws.Members.{describes_contramap, describes_parts, all_one, all_more};
+ghost use Rattle.borsh_definitions.specs.Names.{applied};
+ghost use Rattle.borsh_definitions.specs.Types.{range_of, range_from, range_to};
+ghost use Rattle.borsh_definitions.proofs.Laws.Quoted.{fields_described, no_fields_described, range_described, struct_described};
 
 use super::definitions::SchemaBuildError;
 use super::parts::{add_with_parts, field};
@@ -54,7 +54,8 @@ impl<T: BorshSchema> BorshSchema for RangeInclusive<T> {
     ghost parts = { defined (applied (codes "RangeInclusive<") T.name) (range_of T.name)
         (both T.parts none) };
 
-    ghost described = { range_described (λ r. (range_inclusive_start r, range_inclusive_end r)) (codes "RangeInclusive<") T.described };
+    ghost described = { range_described (λ r. (range_inclusive_start r, range_inclusive_end r))
+        (codes "RangeInclusive<") T.described };
 
     fn declaration(alloc: Global) -> Result<Declaration, SchemaBuildError> {
         let start = T::declaration(alloc)?;
@@ -88,7 +89,8 @@ impl<T: BorshSchema> BorshSchema for RangeFrom<T> {
     ghost parts = { defined (applied (codes "RangeFrom<") T.name) (range_from T.name)
         (both T.parts none) };
 
-    ghost described = { struct_described (λ r. (r.start, tt)) (fields_described T.described no_fields_described) refl };
+    ghost described = { struct_described (λ r. (r.start, tt))
+        (fields_described T.described no_fields_described) refl };
 
     fn declaration(alloc: Global) -> Result<Declaration, SchemaBuildError> {
         let start = T::declaration(alloc)?;
@@ -118,7 +120,8 @@ impl<T: BorshSchema> BorshSchema for RangeTo<T> {
     ghost parts = { defined (applied (codes "RangeTo<") T.name) (range_to T.name)
         (both T.parts none) };
 
-    ghost described = { struct_described (λ r. (r.end, tt)) (fields_described T.described no_fields_described) refl };
+    ghost described = { struct_described (λ r. (r.end, tt))
+        (fields_described T.described no_fields_described) refl };
 
     fn declaration(alloc: Global) -> Result<Declaration, SchemaBuildError> {
         let end = T::declaration(alloc)?;
@@ -148,7 +151,8 @@ impl<T: BorshSchema> BorshSchema for RangeToInclusive<T> {
     ghost parts = { defined (applied (codes "RangeToInclusive<") T.name) (range_to T.name)
         (both T.parts none) };
 
-    ghost described = { struct_described (λ r. (r.end, tt)) (fields_described T.described no_fields_described) refl };
+    ghost described = { struct_described (λ r. (r.end, tt))
+        (fields_described T.described no_fields_described) refl };
 
     fn declaration(alloc: Global) -> Result<Declaration, SchemaBuildError> {
         let end = T::declaration(alloc)?;

@@ -2,9 +2,9 @@
 ghost use Rattle.std.specs.Prelude.{◌≡◌, IfOk, IfErr, List, ℕ, Option, string_bytes};
 ghost use Rattle.borsh_walks.specs.Container.{Shape};
 ghost use Rattle.borsh_schema.specs.declared.definitions.SchemaBuildError.TheVariants.{OutOfMemory};
-ghost use Rattle.borsh_schema.specs.Described.{DefinitionTree};
+ghost use Rattle.borsh_definitions.specs.Described.{DefinitionTree};
 ghost use Rattle.borsh_schema.specs.Joined.{AddsDefinitions};
-ghost use Rattle.borsh_schema.specs.Language.{Holds, Describes, DescribedCodec};
+ghost use Rattle.borsh_definitions.specs.Language.{Holds, Describes, DescribedCodec};
 
 use super::definitions::SchemaBuildError;
 use borsh_types::BorshType;

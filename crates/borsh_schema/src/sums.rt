@@ -2,11 +2,11 @@
 ghost use Rattle.std.specs.Prelude.{codes, refl};
 ghost use Rattle.borsh_codec.specs.Types.Sums.{option_view, result_view};
 ghost use Rattle.borsh_walks.specs.Container.{first_variant, later_variant};
-ghost use Rattle.borsh_schema.specs.Described.{defined, both, none};
-ghost use Rattle.borsh_schema.specs.Laws.Members.{describes_contramap, describes_bool, describes_choice, describes_unit, choice_more, choice_none};
-ghost use Rattle.borsh_schema.specs.Names.{applied, applied_to_two};
-ghost use Rattle.borsh_schema.specs.Types.{primitive_definitions, unit_definitions, option_of, result_of};
-ghost use Rattle.borsh_schema.specs.Laws.Quoted.{bool_described, option_described, result_described};
+ghost use Rattle.borsh_definitions.specs.Described.{defined, both, none};
+ghost use Rattle.borsh_definitions.proofs.Laws.Members.{describes_contramap, describes_bool, describes_choice, describes_unit, choice_more, choice_none};
+ghost use Rattle.borsh_definitions.specs.Names.{applied, applied_to_two};
+ghost use Rattle.borsh_definitions.specs.Types.{primitive_definitions, unit_definitions, option_of, result_of};
+ghost use Rattle.borsh_definitions.proofs.Laws.Quoted.{bool_described, option_described, result_described};
 
 use super::definitions::SchemaBuildError;
 use super::parts::{add_primitive, add_with_parts, declared, variant};

@@ -6,9 +6,9 @@ ghost use Rattle.std.specs.Rc.{rc_str_bytes};
 ghost use Rattle.std.specs.String.{string_bytes};
 ghost use Rattle.borsh_schema.specs.declared.definitions.SchemaBuildError.TheVariants.{OutOfMemory};
 ghost use Rattle.borsh_schema.specs.Joined.{AddsDefinitions};
-ghost use Rattle.borsh_schema.specs.Laws.Members.{describes_contramap, describes_text};
-ghost use Rattle.borsh_schema.specs.Types.{text_definitions};
-ghost use Rattle.borsh_schema.specs.Laws.Quoted.{contramap_described, text_described};
+ghost use Rattle.borsh_definitions.proofs.Laws.Members.{describes_contramap, describes_text};
+ghost use Rattle.borsh_definitions.specs.Types.{text_definitions};
+ghost use Rattle.borsh_definitions.proofs.Laws.Quoted.{contramap_described, text_described};
 
 use super::definitions::SchemaBuildError;
 use super::parts::{add_list, declared};

@@ -2,8 +2,8 @@
 ghost use Rattle.std.specs.Prelude.{◌≡◌, IfOk, IfErr, string_bytes};
 ghost use Rattle.borsh_schema.specs.declared.definitions.SchemaBuildError.TheVariants.{OutOfMemory};
 ghost use Rattle.borsh_schema.specs.Joined.{AddsDefinitions};
-ghost use Rattle.borsh_schema.specs.Names.{longer_tuple_name};
-ghost use Rattle.borsh_schema.specs.Types.{tuple_described};
+ghost use Rattle.borsh_definitions.specs.Names.{longer_tuple_name};
+ghost use Rattle.borsh_definitions.specs.Types.{tuple_described};
 
 use super::definitions::SchemaBuildError;
 use super::fields::FieldTypes;

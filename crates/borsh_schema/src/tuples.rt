@@ -1,10 +1,10 @@
 // Tuples: their parts in order.
 ghost use Rattle.std.specs.Prelude.{◌∷◌, [], refl};
-ghost use Rattle.borsh_schema.specs.Described.{both, none};
-ghost use Rattle.borsh_schema.specs.Laws.Members.{describes_contramap, describes_parts, all_one, all_more};
-ghost use Rattle.borsh_schema.specs.Names.{tuple_name};
-ghost use Rattle.borsh_schema.specs.Types.{tuple_definitions};
-ghost use Rattle.borsh_schema.specs.Laws.Quoted.{struct_described, tuple_of};
+ghost use Rattle.borsh_definitions.specs.Described.{both, none};
+ghost use Rattle.borsh_definitions.proofs.Laws.Members.{describes_contramap, describes_parts, all_one, all_more};
+ghost use Rattle.borsh_definitions.specs.Names.{tuple_name};
+ghost use Rattle.borsh_definitions.specs.Types.{tuple_definitions};
+ghost use Rattle.borsh_definitions.proofs.Laws.Quoted.{struct_described, tuple_of};
 
 use super::definitions::SchemaBuildError;
 use super::fields::FieldTypes;

@@ -1,9 +1,9 @@
 // Types whose encodings are empty.
 ghost use Rattle.std.specs.Prelude.{codes, refl};
-ghost use Rattle.borsh_schema.specs.Described.{defined, no_fields, none};
-ghost use Rattle.borsh_schema.specs.Laws.Members.{describes_contramap, describes_unit, describes_parts, all_none};
-ghost use Rattle.borsh_schema.specs.Types.{unit_definitions};
-ghost use Rattle.borsh_schema.specs.Laws.Quoted.{contramap_described, no_fields_described, struct_described, unit_described};
+ghost use Rattle.borsh_definitions.specs.Described.{defined, no_fields, none};
+ghost use Rattle.borsh_definitions.proofs.Laws.Members.{describes_contramap, describes_unit, describes_parts, all_none};
+ghost use Rattle.borsh_definitions.specs.Types.{unit_definitions};
+ghost use Rattle.borsh_definitions.proofs.Laws.Quoted.{contramap_described, no_fields_described, struct_described, unit_described};
 
 use super::definitions::SchemaBuildError;
 use super::parts::{add_primitive, add_with_parts, declared};

@@ -1,4 +1,4 @@
--- What is written so far is a line that tells an error.
+-- What is written so far is a line of an error.
 use Rattle.borsh_answers.specs.Lines.{IsErrorLine}
 use Rattle.borsh_answers.proofs.values.error_answer.Given as goal
 

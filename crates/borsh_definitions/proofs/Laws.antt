@@ -1,0 +1,4 @@
+-- The laws of describing.
+pub mod Members
+pub mod Quoted
+pub mod Own
