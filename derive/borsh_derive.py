@@ -14,9 +14,10 @@ import os
 import re
 import sys
 
-from emit import WRITTEN, Place, Writer
+from emit import WRITTEN, Place, Writer, blocks_of
 from refusal import Refusal
 from rust_types import bare_names
+from schema import with_schema
 from source import read_module
 
 HEAD = '// Written by borsh_derive.py from '
@@ -72,11 +73,17 @@ def texts_of(folder):
     files = {}
     for place, marked in places:
         with_file(source_name(place, root), refuse_fields, marked, place)
-        files[file_name(place, marked)] = Writer(marked, place).text()
+        files[file_name(place, marked)] = with_file(source_name(place, root), text_of, marked, place)
     refuse_files(folder, sources, files)
     if files:
         files[root] = with_modules(sources[root], [name[:-3] for name in files])
     return files
+
+
+def text_of(marked, place):
+    """The text for one type."""
+    writer = Writer(marked, place)
+    return writer.text(with_schema(writer, blocks_of(writer)))
 
 
 def sources_of(folder):

@@ -2,8 +2,8 @@
 
 import re
 
-from layout import (Group, Term, arm, binding, call, function_head, ghost_cases, ghost_member, ghost_term,
-                    ghost_tuple, impl_head, import_lines, laid_out, pattern, statement, struct_of, tuple_of,
+from layout import (GHOST_WORDS, Group, Term, arm, binding, call, function_head, ghost_cases, ghost_member, ghost_name,
+                    ghost_term, ghost_tuple, impl_head, import_lines, laid_out, pattern, statement, struct_of, tuple_of,
                     tuple_type, type_layout, type_text)
 from rust_types import Array
 
@@ -13,11 +13,6 @@ NUMBERS = ('zero', 'one', 'two', 'three', 'four', 'five', 'six', 'seven', 'eight
 # the most parts that a tuple has, and that are written in one call
 TUPLE = 12
 WRITTEN = 20
-
-# words that can't name a variable of a ghost term
-GHOST_WORDS = set('''data record deriving module where use mod pub package open as unfoldable abbrev axiom unfold
-    unfolding ruleset mutual infix infixl infixr elim let in do coe fcoe tcoe hcom com rw simp search grw cc omega
-    grind hlevel assumption first_of cap tt absurd left right fields refl'''.split())
 
 # where the library has what is written here
 BORSH = {
@@ -29,7 +24,8 @@ BORSH = {
     'Read': 'borsh::io', 'Result': 'borsh::io', 'Write': 'borsh::io',
     'Tag': 'borsh::ser', 'write_bytes': 'borsh::ser',
     'BorshSchema': 'borsh', 'Declaration': 'borsh::schema', 'Definition': 'borsh::schema',
-    'FieldTypes': 'borsh::schema', 'SchemaBuildError': 'borsh::schema', 'declared': 'borsh::schema',
+    'FieldTypes': 'borsh::schema', 'SchemaBuildError': 'borsh::schema', 'VariantTypes': 'borsh::schema',
+    'declared': 'borsh::schema', 'declared_with': 'borsh::schema', 'add_enum': 'borsh::schema',
     'add_named': 'borsh::schema', 'add_unnamed': 'borsh::schema', 'add_unit': 'borsh::schema',
     'BTreeMap': 'std::collections', 'Global': 'std::alloc',
 }
@@ -58,7 +54,7 @@ class Writer:
         self.taken = set(marked.heads()) | {marked.name} | {parameter.name for parameter in marked.parameters}
         self.taken |= {path.split(' as ')[-1].split('::')[-1] for path in self.imports}
         self.alias = free_name('Fields' if marked.variants is None else 'Variants', self.taken)
-        self.chain = free_name('FieldList', self.taken)
+        self.list = free_name('FieldList' if marked.variants is None else 'VariantList', self.taken)
         self.sink = free_name('W', self.taken)
         self.source = free_name('R', self.taken)
 
@@ -80,30 +76,38 @@ class Writer:
     def own(self):
         return self.marked.name + self.arguments()
 
-    def alias_use(self):
+    def alias_use(self, alias=None):
         """The alias with those parameters that the encoded fields name."""
         names = [parameter.name for parameter in self.alias_parameters()]
-        return self.alias + ('<%s>' % ', '.join(names) if names else '')
+        return (alias or self.alias) + ('<%s>' % ', '.join(names) if names else '')
 
-    def alias_head(self):
+    def alias_head(self, alias=None):
         """The alias as it is declared."""
         names = ['const %s: %s' % (p.name, p.bounds) if p.constant else p.name for p in self.alias_parameters()]
-        return self.alias + ('<%s>' % ', '.join(names) if names else '')
+        return (alias or self.alias) + ('<%s>' % ', '.join(names) if names else '')
+
+    def list_use(self):
+        """The same of the alias for schemas."""
+        return self.alias_use(self.list)
+
+    def list_head(self):
+        return self.alias_head(self.list)
 
     def alias_parameters(self):
         named = self.marked.names()
         return [parameter for parameter in self.marked.parameters if parameter.name in named]
 
     def bounded(self, bound):
-        """The parameters with their bounds and one more on types, as an `impl` declares them."""
+        """The parameters with their bounds and one more on types that are encoded, as an `impl` declares them."""
         found = []
+        encoded = self.marked.encoded_parameters()
         for parameter in self.marked.parameters:
             if parameter.constant:
                 found.append('const %s: %s' % (parameter.name, parameter.bounds))
                 continue
             bounds = [part.strip() for part in parameter.bounds.split('+')] if parameter.bounds else []
-            added = [] if bound in bounds else [bound]
-            found.append('%s: %s' % (parameter.name, ' + '.join(bounds + added)))
+            bounds += [bound] if parameter in encoded and bound not in bounds else []
+            found.append('%s: %s' % (parameter.name, ' + '.join(bounds)) if bounds else parameter.name)
         return found
 
     def where(self):
@@ -116,7 +120,7 @@ class Writer:
 
     def premises(self):
         """The proof of what the laws rest on: facts of keys, and what the parameters bring."""
-        types = [parameter for parameter in self.marked.parameters if not parameter.constant]
+        types = self.marked.encoded_parameters()
         keys = [parameter.name for parameter in types if re.search(r'\bBorshKey\b', parameter.bounds)]
         brought = [name.lower() + '_key' for name in keys] + [parameter.name + '.premises' for parameter in types]
         facts = '(%s)' % ', '.join(['key_facts'] + brought) if brought else 'key_facts'
@@ -128,8 +132,8 @@ class Writer:
 
     # ---- the whole
 
-    def text(self):
-        blocks = struct_blocks(self) if self.marked.variants is None else enum_blocks(self)
+    def text(self, blocks):
+        """The blocks with their imports."""
         body = '\n\n'.join(blocks)
         head = '// Written by borsh_derive.py from %s: edit that file, and run the program again.'
         rows = [head % self.place.file()]
@@ -197,8 +201,17 @@ def ghost_imports(writer, body):
             ('IsKey', 'contramap', 'contramap-lawful', 'contramap_ordered', 'from', 'key_facts'),
         'Rattle.borsh.specs.Cases': ('fields', 'left', 'right'),
         'Rattle.borsh.specs.CaseLaws': ('enum_lawful_if',),
+        'Rattle.borsh.specs.Types.Sums': ('option_view', 'result_view'),
+        'Rattle.borsh.specs.Maps': ('unit_entries',),
+        'Rattle.borsh.specs.Schema.Container': ('first_variant', 'later_variant'),
+        'Rattle.borsh.specs.Schema.Cases': ('case_described', 'enum_described', 'fork_described'),
+        'Rattle.borsh.specs.Schema.Laws.Members':
+            ('all_more', 'all_one', 'choice_more', 'choice_none', 'describes_choice', 'describes_contramap',
+             'describes_elements', 'describes_ordered', 'describes_parts', 'describes_refused_if', 'describes_row',
+             'describes_sorted', 'describes_stored', 'describes_unit'),
         'Rattle.borsh.specs.Schema.Laws.Quoted': ('no_fields_described', 'struct_described', 'struct_parts'),
         'Rattle.borsh.specs.Schema.Types': ('unit_struct', 'unnamed_struct'),
+        'Rattle.borsh.specs.Schema.Variants': ('enum_definitions', 'name_with'),
         'Rattle.std.specs.Prelude': ('codes', 'refl', '◌∷◌', '[]'),
     }
     ghost = ' '.join(re.findall(r'ghost \w+ = \{(.*?)\};', body, re.S))
@@ -222,10 +235,6 @@ def is_used(name, ghost):
 
 
 # ---- fields
-
-def ghost_name(name):
-    return '«%s»' % name if name in GHOST_WORDS else name
-
 
 def parts(items, make):
     """Items as a tuple; past twelve, the last ones are a tuple within."""
@@ -285,14 +294,17 @@ def made(path, fields, names):
     return struct_of(path, rows)
 
 
+def blocks_of(writer):
+    """What every type has."""
+    return struct_blocks(writer) if writer.marked.variants is None else enum_blocks(writer)
+
+
 # ---- structs
 
 def struct_blocks(writer):
     blocks = [struct_fields, struct_meaning, struct_encoding, struct_parts, struct_decoding]
     if 'key' in writer.marked.options:
         blocks.append(struct_key)
-    if 'schema' in writer.marked.options:
-        blocks.append(struct_schema)
     return [block(writer) for block in blocks]
 
 
@@ -402,80 +414,6 @@ def struct_key(writer):
     member = ghost_member('ordered', 'contramap_ordered', [view, ordered], 4)
     rows = [member, '', '    ghost key = { Self.ordered.key };']
     return writer.block('BorshKey', 'BorshKey', rows)
-
-
-def struct_schema(writer):
-    """`impl BorshSchema`: the names of the struct and of its fields, and the schemas of their types."""
-    fields = writer.marked.fields.encoded()
-    name = writer.marked.name
-    kind = writer.marked.fields.kind if fields else 'unit'
-    view = Term('(λ %s. ' % ('v' if fields else '_'), [chain(['v.' + ghost_name(f.name) for f in fields], 'tt')], ')')
-    described = schema_described(writer, kind)
-    rows = ['    ghost name = { codes "%s" };' % name, '',
-            schema_parts(writer, kind), '',
-            ghost_member('described', 'struct_described', [view, described, Term('', ['refl'])], 4), '',
-            schema_head(writer, 'declaration', [], writer.lib('Declaration')),
-            '        %s(alloc, "%s")' % (writer.lib('declared'), name), '    }', '',
-            schema_head(writer, 'add_definitions_recursively', [definitions_of(writer)], '()'),
-            statement('', schema_call(writer, kind), '', 8), '    }', '',
-            '    ghost describes = { Self.described.describes };']
-    block = writer.block('BorshSchema', 'BorshSchema', rows)
-    return block if kind == 'unit' else '%s\n\n%s' % (field_list(writer, fields), block)
-
-
-def field_list(writer, fields):
-    """The types of the fields in the form that schemas go through."""
-    node = '()'
-    for field in reversed(fields):
-        node = tuple_type([type_layout(field.type), node])
-    doc = '/// The fields of [`%s`] as its schema goes through them.' % writer.marked.name
-    return '%s\n%s' % (doc, statement('type %s = ' % writer.chain, node, ';', 0))
-
-
-def chain(items, end):
-    """`(a, (b, end))`."""
-    return '(%s, %s)' % (items[0], chain(items[1:], end)) if items else end
-
-
-def schema_described(writer, kind):
-    if kind == 'unit':
-        return Term('', ['no_fields_described'])
-    return quote(writer, writer.chain, 'FieldTypes', '.described')
-
-
-def schema_parts(writer, kind):
-    """The definitions that the name leads to."""
-    name = Term('', ['(codes "%s")' % writer.marked.name])
-    if kind == 'unit':
-        return ghost_member('parts', 'unit_struct', [name], 4)
-    if kind == 'tuple':
-        members = [quote(writer, writer.chain, 'FieldTypes', '.described' + one) for one in ('.names', '.parts')]
-        return ghost_member('parts', 'unnamed_struct', [name] + members, 4)
-    names = ' ∷ '.join(['codes "%s"' % field.name for field in writer.marked.fields.encoded()] + ['[]'])
-    described = schema_described(writer, kind)
-    return ghost_member('parts', 'struct_parts', [name, Term('', ['(%s)' % names]), described], 4)
-
-
-def schema_call(writer, kind):
-    """The call that adds these definitions."""
-    name = '"%s"' % writer.marked.name
-    if kind == 'unit':
-        return call(writer.lib('add_unit'), ['alloc', name, 'definitions'])
-    if kind == 'tuple':
-        return call('%s::<%s>' % (writer.lib('add_unnamed'), writer.chain), ['alloc', name, 'definitions'])
-    names = '&[%s]' % ', '.join('"%s"' % field.name for field in writer.marked.fields.encoded())
-    return call('%s::<%s>' % (writer.lib('add_named'), writer.chain), ['alloc', name, names, 'definitions'])
-
-
-def definitions_of(writer):
-    types = tuple(writer.lib(name) for name in ('BTreeMap', 'Declaration', 'Definition'))
-    return 'definitions: &mut %s<%s, %s>' % types
-
-
-def schema_head(writer, name, more, result):
-    parameters = ['alloc: %s' % writer.lib('Global')] + more
-    outcome = 'std::result::Result<%s, %s>' % (result, writer.lib('SchemaBuildError'))
-    return function_head(name, parameters, outcome, 4)
 
 
 def pairs(items):

@@ -175,6 +175,21 @@ def filled(words, indent, width=WIDTH):
 
 # ---- ghost terms
 
+# words that can't name a variable of a ghost term
+GHOST_WORDS = set('''data record deriving module where use mod pub package open as unfoldable abbrev axiom unfold
+    unfolding ruleset mutual infix infixl infixr elim let in do coe fcoe tcoe hcom com rw simp search grw cc omega
+    grind hlevel assumption first_of cap tt absurd left right fields refl'''.split())
+
+
+def ghost_name(name):
+    return '«%s»' % name if name in GHOST_WORDS else name
+
+
+def ghost_list(items):
+    """Items as a list."""
+    return ' ∷ '.join(items + ['[]'])
+
+
 class Term:
     """A ghost term: a tuple of names between two texts."""
 

@@ -157,13 +157,16 @@ def joined(tokens):
     return text
 
 
-def heads(tree):
-    """The names that have to be known where the type is written, each once, in order."""
+def heads(tree, phantom=True):
+    """The names that have to be known where the type is written, each once, in order; without `phantom` those alone that
+    aren't within a `PhantomData`."""
     found = []
 
     def visit(node):
         if isinstance(node, Path):
             add(node.head())
+            if node.segments[-1][0] == 'PhantomData' and not phantom:
+                return
             for _, arguments in node.segments:
                 for argument in arguments:
                     visit(argument)

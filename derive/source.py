@@ -78,9 +78,14 @@ class Marked:
         """The fields of the struct, or those of each variant."""
         return [self.fields] if self.variants is None else [variant.fields for variant in self.variants]
 
-    def names(self):
+    def names(self, phantom=True):
         """The names that the types of its encoded fields are made of, its parameters among them."""
-        return [name for group in self.groups() for field in group.encoded() for name in heads(field.type)]
+        return [name for group in self.groups() for field in group.encoded() for name in heads(field.type, phantom)]
+
+    def encoded_parameters(self):
+        """The type parameters whose values are encoded: those of a `PhantomData` or of a skipped field aren't."""
+        names = self.names(phantom=False)
+        return [parameter for parameter in self.parameters if not parameter.constant and parameter.name in names]
 
     def heads(self):
         """The names from elsewhere that its encoded fields and its bounds are made of."""
@@ -394,9 +399,9 @@ def check_key(marked, attributes):
 
 
 def check_schema(marked):
-    """A schema is written for a struct without parameters."""
-    if 'schema' in marked.options and (marked.variants is not None or marked.parameters):
-        reason = ('a schema is written for structs without parameters alone: implement `BorshSchema` of this type '
+    """A schema is written for structs, and for enums without parameters that are encoded."""
+    if 'schema' in marked.options and marked.variants is not None and marked.encoded_parameters():
+        reason = ('a schema is written for enums without parameters alone: implement `BorshSchema` of this type '
                   'by hand')
         raise Refusal(marked.line, reason)
 

@@ -159,6 +159,20 @@ class Taken(Cases):
         text = self.written('// derive: borsh, schema\npub struct P;\n', 'types_p')
         self.assertIn('add_unit(alloc, "P", definitions)', text)
 
+    def test_schemas_of_enums(self):
+        text = self.written('// derive: borsh, schema\npub enum E {\n    A,\n    // tag: 7\n    B(u8),\n    C { x: u8, y: u16 },\n}\n', 'types_e')
+        self.assertIn('type VariantList = Fork<Fork<Case<0, ()>, Case<7, (u8, ())>>, Case<8, (u8, (u16, ()))>>;', text)
+        self.assertIn('∷ (codes "C", codes "x" ∷ codes "y" ∷ [])', text)
+        self.assertIn('(case_described (λ v. (v.0, (v.1, tt)))\n        ⟦<(u8, (u16, ())) as FieldTypes>⟧.described refl refl)', text)
+        self.assertIn('&[("A", &[]), ("B", &[]), ("C", &["x", "y"])]', text)
+
+    def test_schemas_with_parameters(self):
+        text = self.written('// derive: borsh, schema\npub struct P<A, B, N> {\n    pub a: Vec<A>,\n    pub b: (u8, Option<B>),\n    pub n: PhantomData<N>,\n}\n', 'types_p')
+        self.assertIn('name_with (codes "P") A.name (B.name ∷ [])', text)
+        self.assertIn('declared_with::<A, (B, ())>(alloc, "P")', text)
+        self.assertIn('impl<A: BorshSchema, B: BorshSchema, N> BorshSchema for P<A, B, N> {', text)
+        self.assertIn('(describes_contramap (λ v. v.items) (describes_elements h.1.0.0 (A.describes C h.1.0.1.0)))', text)
+
     def test_parameters_that_are_keys(self):
         text = self.written('use borsh::BorshKey;\n\n// derive: borsh\npub struct Book<K: BorshKey + Ord, V> {\n    pub map: Map<K, V>,\n}\n', 'types_book')
         self.assertIn('let k_key : IsKey K.ordered K.cmp K.eq K.codec =', text)
@@ -259,8 +273,8 @@ class Refused(Cases):
         self.refused('// derive:\npub struct A;\n', 1, '`` is no option')
 
     def test_schemas(self):
-        self.refused('// derive: borsh, schema\npub enum A {\n    B,\n}\n', 2, 'a schema is written for structs')
-        self.refused('// derive: borsh, schema\npub struct A<T>(pub T);\n', 2, 'a schema is written for structs')
+        self.refused('// derive: borsh, schema\npub enum A<T> {\n    B(Box<T>),\n}\n', 2, 'a schema is written for enums without')
+        self.refused('// derive: borsh, schema\npub struct A<T> {\n    pub a: Other<T>,\n}\n', 3, 'a schema of a type with parameters')
 
     def test_keys(self):
         self.refused('// derive: borsh, key\n#[derive(Drop, PartialEq, Eq)]\npub struct A(pub u8);\n', 3, 'lacks `PartialOrd`, `Ord`')

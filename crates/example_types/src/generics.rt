@@ -3,7 +3,7 @@ use borsh::BorshKey;
 use std::collections::BTreeMap;
 
 /// Two values.
-// derive: borsh
+// derive: borsh, schema
 #[derive(Drop)]
 pub struct Pair<A, B> {
     pub first: A,
@@ -11,7 +11,7 @@ pub struct Pair<A, B> {
 }
 
 /// Parameters within the types of the library.
-// derive: borsh
+// derive: borsh, schema
 #[derive(Drop)]
 pub struct Table<T>
 where

@@ -1,12 +1,20 @@
 // Written by borsh_derive.py from generics.rt: edit that file, and run the program again.
 ghost use Rattle.borsh.specs.Laws.OfParts.{contramap, contramap-lawful, from, key_facts};
+ghost use Rattle.borsh.specs.Schema.Laws.Members.{all_more, all_one, describes_contramap, describes_parts};
+ghost use Rattle.borsh.specs.Schema.Laws.Quoted.{struct_described, struct_parts};
+ghost use Rattle.borsh.specs.Schema.Variants.{name_with};
+ghost use Rattle.std.specs.Prelude.{codes, refl, ◌∷◌, []};
 
 use super::generics::Pair;
 use borsh::de::{FromParts, read_parts};
 use borsh::io::{Read, Result, Write};
+use borsh::schema::{
+    Declaration, Definition, FieldTypes, SchemaBuildError, add_named, declared_with,
+};
 use borsh::ser::write_two;
-use borsh::{BorshDeserialize, BorshSerialize, BorshType};
+use borsh::{BorshDeserialize, BorshSchema, BorshSerialize, BorshType};
 use std::alloc::Global;
+use std::collections::BTreeMap;
 
 /// The fields of [`Pair`], in order.
 type Fields<A, B> = (A, B);
@@ -50,4 +58,40 @@ impl<A: BorshDeserialize, B: BorshDeserialize> BorshDeserialize for Pair<A, B> {
     fn deserialize_reader<R: Read>(alloc: Global, reader: &mut R) -> Result<Pair<A, B>> {
         read_parts(alloc, reader)
     }
+}
+
+/// The fields of [`Pair`] as its schema goes through them.
+type FieldList<A, B> = (A, (B, ()));
+
+impl<A: BorshSchema, B: BorshSchema> BorshSchema for Pair<A, B> {
+    ghost name = { name_with (codes "Pair") A.name (B.name ∷ []) };
+
+    ghost parts = { struct_parts
+        (name_with (codes "Pair") A.name (B.name ∷ []))
+        (codes "first" ∷ codes "second" ∷ [])
+        ⟦<FieldList<A, B> as FieldTypes>⟧.described };
+
+    ghost described = { struct_described
+        (λ v. (v.first, (v.second, tt)))
+        ⟦<FieldList<A, B> as FieldTypes>⟧.described
+        refl };
+
+    fn declaration(alloc: Global) -> std::result::Result<Declaration, SchemaBuildError> {
+        declared_with::<A, (B, ())>(alloc, "Pair")
+    }
+
+    fn add_definitions_recursively(
+        alloc: Global,
+        definitions: &mut BTreeMap<Declaration, Definition>,
+    ) -> std::result::Result<(), SchemaBuildError> {
+        add_named::<FieldList<A, B>>(
+            alloc,
+            Self::declaration(alloc)?.as_str(),
+            &["first", "second"],
+            definitions,
+        )
+    }
+
+    ghost describes = { λ C h. describes_contramap (λ v. (v.first, v.second))
+        (describes_parts h.0 (all_more (A.describes C h.1.0) (all_one (B.describes C h.1.1.0)))) };
 }

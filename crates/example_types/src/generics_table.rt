@@ -1,11 +1,20 @@
 // Written by borsh_derive.py from generics.rt: edit that file, and run the program again.
 ghost use Rattle.borsh.specs.Laws.OfParts.{contramap, contramap-lawful, from, key_facts};
+ghost use Rattle.borsh.specs.Types.Sums.{option_view};
+ghost use Rattle.borsh.specs.Schema.Container.{first_variant, later_variant};
+ghost use Rattle.borsh.specs.Schema.Laws.Members.{all_more, all_one, choice_more, choice_none, describes_choice, describes_contramap, describes_elements, describes_ordered, describes_parts, describes_refused_if, describes_unit};
+ghost use Rattle.borsh.specs.Schema.Laws.Quoted.{struct_described, struct_parts};
+ghost use Rattle.borsh.specs.Schema.Variants.{name_with};
+ghost use Rattle.std.specs.Prelude.{codes, refl, ◌∷◌, []};
 
 use super::generics::Table;
 use borsh::de::{FromParts, read_parts};
 use borsh::io::{Read, Result, Write};
+use borsh::schema::{
+    Declaration, Definition, FieldTypes, SchemaBuildError, add_named, declared_with,
+};
 use borsh::ser::write_two;
-use borsh::{BorshDeserialize, BorshSerialize, BorshType};
+use borsh::{BorshDeserialize, BorshSchema, BorshSerialize, BorshType};
 use std::alloc::Global;
 use std::collections::BTreeMap;
 
@@ -63,4 +72,43 @@ where
     fn deserialize_reader<R: Read>(alloc: Global, reader: &mut R) -> Result<Table<T>> {
         read_parts(alloc, reader)
     }
+}
+
+/// The fields of [`Table`] as its schema goes through them.
+type FieldList<T> = (Vec<T>, (BTreeMap<u32, Option<T>>, ()));
+
+impl<T: BorshSchema> BorshSchema for Table<T>
+where
+    T: Clone,
+{
+    ghost name = { name_with (codes "Table") T.name [] };
+
+    ghost parts = { struct_parts
+        (name_with (codes "Table") T.name [])
+        (codes "rows" ∷ codes "by_number" ∷ [])
+        ⟦<FieldList<T> as FieldTypes>⟧.described };
+
+    ghost described = { struct_described
+        (λ v. (v.rows, (v.by_number, tt)))
+        ⟦<FieldList<T> as FieldTypes>⟧.described
+        refl };
+
+    fn declaration(alloc: Global) -> std::result::Result<Declaration, SchemaBuildError> {
+        declared_with::<T, ()>(alloc, "Table")
+    }
+
+    fn add_definitions_recursively(
+        alloc: Global,
+        definitions: &mut BTreeMap<Declaration, Definition>,
+    ) -> std::result::Result<(), SchemaBuildError> {
+        add_named::<FieldList<T>>(
+            alloc,
+            Self::declaration(alloc)?.as_str(),
+            &["rows", "by_number"],
+            definitions,
+        )
+    }
+
+    ghost describes = { λ C h. describes_contramap (λ v. (v.rows, v.by_number))
+        (describes_parts h.0 (all_more (describes_contramap (λ v. v.items) (describes_elements h.1.0.0 (T.describes C h.1.0.1.0))) (all_one (describes_contramap (λ m. m.entries) (describes_refused_if ⟦<u32 as BorshType>⟧.codec.is_zero_width (describes_ordered ⟦<u32 as Ord>⟧.cmp h.1.1.0.0 (describes_parts h.1.1.0.1.0.0 (all_more (⟦<u32 as BorshSchema>⟧.described.describes C h.1.1.0.1.0.1.0) (all_one (describes_contramap option_view (describes_choice h.1.1.0.1.0.1.1.0.0 (choice_more first_variant refl (describes_unit h.1.1.0.1.0.1.1.0.1.1.0.0) (choice_more (later_variant first_variant) refl (T.describes C h.1.1.0.1.0.1.1.0.1.0) choice_none))))))))))))) };
 }

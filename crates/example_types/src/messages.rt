@@ -3,7 +3,7 @@ use super::records::{Account, Name};
 use std::collections::HashMap;
 
 /// Variants of each kind. Their tags count from 0.
-// derive: borsh
+// derive: borsh, schema
 #[derive(Drop)]
 pub enum Message {
     /// Nothing but its tag.
@@ -15,7 +15,7 @@ pub enum Message {
 }
 
 /// Discriminants are tags.
-// derive: borsh
+// derive: borsh, schema
 #[derive(Drop)]
 pub enum Level {
     Low = 1,
@@ -24,7 +24,7 @@ pub enum Level {
 }
 
 /// Tags by comments, for variants with fields.
-// derive: borsh
+// derive: borsh, schema
 #[derive(Drop)]
 pub enum Request {
     // tag: 7
@@ -44,7 +44,7 @@ pub struct Envelope {
 }
 
 /// One variant.
-// derive: borsh
+// derive: borsh, schema
 #[derive(Drop)]
 pub enum Version {
     V1 { number: u32 },

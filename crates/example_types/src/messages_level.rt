@@ -2,15 +2,20 @@
 ghost use Rattle.borsh.specs.Laws.OfParts.{contramap, key_facts};
 ghost use Rattle.borsh.specs.Cases.{fields, left, right};
 ghost use Rattle.borsh.specs.CaseLaws.{enum_lawful_if};
-ghost use Rattle.std.specs.Prelude.{refl};
+ghost use Rattle.borsh.specs.Schema.Cases.{case_described, enum_described, fork_described};
+ghost use Rattle.borsh.specs.Schema.Laws.Quoted.{no_fields_described};
+ghost use Rattle.borsh.specs.Schema.Variants.{enum_definitions};
+ghost use Rattle.std.specs.Prelude.{codes, refl, ◌∷◌, []};
 ghost use Rattle.example_types.specs.declared.messages.Level.{Level};
 
 use super::messages::Level;
 use borsh::de::{Case, Cases, Fork, FromCases, read_enum, read_variant};
 use borsh::io::{Read, Result, Write};
+use borsh::schema::{Declaration, Definition, SchemaBuildError, VariantTypes, add_enum, declared};
 use borsh::ser::write_bytes;
-use borsh::{BorshDeserialize, BorshSerialize, BorshType, EnumExt};
+use borsh::{BorshDeserialize, BorshSchema, BorshSerialize, BorshType, EnumExt};
 use std::alloc::Global;
+use std::collections::BTreeMap;
 
 /// The variants of [`Level`]: each has a tag and its fields, in order.
 type Variants = Fork<Fork<Case<1, ()>, Case<9, ()>>, Case<10, ()>>;
@@ -74,4 +79,45 @@ impl EnumExt for Level {
     fn deserialize_variant<R: Read>(alloc: Global, reader: &mut R, tag: u8) -> Result<Level> {
         read_variant(alloc, reader, tag)
     }
+}
+
+/// The variants of [`Level`] as its schema goes through them.
+type VariantList = Fork<Fork<Case<1, ()>, Case<9, ()>>, Case<10, ()>>;
+
+impl BorshSchema for Level {
+    ghost name = { codes "Level" };
+
+    ghost parts = { enum_definitions
+        (codes "Level")
+        ((codes "Low", [])
+        ∷ (codes "High", [])
+        ∷ (codes "Top", [])
+        ∷ [])
+        ⟦<VariantList as VariantTypes>⟧.read };
+
+    ghost described = { enum_described
+        ⟦<Level as FromCases>⟧.view
+        (fork_described
+        (fork_described
+        (case_described (λ _. tt) no_fields_described refl refl)
+        (case_described (λ _. tt) no_fields_described refl refl))
+        (case_described (λ _. tt) no_fields_described refl refl)) };
+
+    fn declaration(alloc: Global) -> std::result::Result<Declaration, SchemaBuildError> {
+        declared(alloc, "Level")
+    }
+
+    fn add_definitions_recursively(
+        alloc: Global,
+        definitions: &mut BTreeMap<Declaration, Definition>,
+    ) -> std::result::Result<(), SchemaBuildError> {
+        add_enum::<VariantList>(
+            alloc,
+            "Level",
+            &[("Low", &[]), ("High", &[]), ("Top", &[])],
+            definitions,
+        )
+    }
+
+    ghost describes = { Self.described.describes };
 }

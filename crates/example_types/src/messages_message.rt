@@ -2,17 +2,23 @@
 ghost use Rattle.borsh.specs.Laws.OfParts.{contramap, key_facts};
 ghost use Rattle.borsh.specs.Cases.{fields, left, right};
 ghost use Rattle.borsh.specs.CaseLaws.{enum_lawful_if};
-ghost use Rattle.std.specs.Prelude.{refl};
+ghost use Rattle.borsh.specs.Schema.Cases.{case_described, enum_described, fork_described};
+ghost use Rattle.borsh.specs.Schema.Laws.Quoted.{no_fields_described};
+ghost use Rattle.borsh.specs.Schema.Variants.{enum_definitions};
+ghost use Rattle.std.specs.Prelude.{codes, refl, ◌∷◌, []};
 ghost use Rattle.example_types.specs.declared.messages.Message.{Message};
 
 use super::messages::Message;
 use super::records::Account;
 use borsh::de::{Case, Cases, Fork, FromCases, read_enum, read_variant};
 use borsh::io::{Read, Result, Write};
+use borsh::schema::{
+    Declaration, Definition, FieldTypes, SchemaBuildError, VariantTypes, add_enum, declared,
+};
 use borsh::ser::{Tag, write_bytes, write_three, write_two};
-use borsh::{BorshDeserialize, BorshSerialize, BorshType, EnumExt};
+use borsh::{BorshDeserialize, BorshSchema, BorshSerialize, BorshType, EnumExt};
 use std::alloc::Global;
-use std::collections::HashMap;
+use std::collections::{BTreeMap, HashMap};
 
 /// The variants of [`Message`]: each has a tag and its fields, in order.
 type Variants = Fork<
@@ -91,4 +97,63 @@ impl EnumExt for Message {
     fn deserialize_variant<R: Read>(alloc: Global, reader: &mut R, tag: u8) -> Result<Message> {
         read_variant(alloc, reader, tag)
     }
+}
+
+/// The variants of [`Message`] as its schema goes through them.
+type VariantList = Fork<
+    Fork<Fork<Case<0, ()>, Case<1, (String, ())>>, Case<2, (i32, (i32, ()))>>,
+    Fork<Case<3, (u8, (Account, ()))>, Case<4, (HashMap<u8, u16>, ())>>,
+>;
+
+impl BorshSchema for Message {
+    ghost name = { codes "Message" };
+
+    ghost parts = { enum_definitions
+        (codes "Message")
+        ((codes "Ping", [])
+        ∷ (codes "Text", [])
+        ∷ (codes "Move", codes "x" ∷ codes "y" ∷ [])
+        ∷ (codes "Open", [])
+        ∷ (codes "Index", [])
+        ∷ [])
+        ⟦<VariantList as VariantTypes>⟧.read };
+
+    ghost described = { enum_described
+        ⟦<Message as FromCases>⟧.view
+        (fork_described
+        (fork_described
+        (fork_described
+        (case_described (λ _. tt) no_fields_described refl refl)
+        (case_described (λ v. (v, tt)) ⟦<(String, ()) as FieldTypes>⟧.described refl refl))
+        (case_described (λ v. (v.0, (v.1, tt)))
+        ⟦<(i32, (i32, ())) as FieldTypes>⟧.described refl refl))
+        (fork_described
+        (case_described (λ v. (v.0, (v.1, tt)))
+        ⟦<(u8, (Account, ())) as FieldTypes>⟧.described refl refl)
+        (case_described (λ v. (v, tt))
+        ⟦<(HashMap<u8, u16>, ()) as FieldTypes>⟧.described refl refl))) };
+
+    fn declaration(alloc: Global) -> std::result::Result<Declaration, SchemaBuildError> {
+        declared(alloc, "Message")
+    }
+
+    fn add_definitions_recursively(
+        alloc: Global,
+        definitions: &mut BTreeMap<Declaration, Definition>,
+    ) -> std::result::Result<(), SchemaBuildError> {
+        add_enum::<VariantList>(
+            alloc,
+            "Message",
+            &[
+                ("Ping", &[]),
+                ("Text", &[]),
+                ("Move", &["x", "y"]),
+                ("Open", &[]),
+                ("Index", &[]),
+            ],
+            definitions,
+        )
+    }
+
+    ghost describes = { Self.described.describes };
 }

@@ -2,15 +2,22 @@
 ghost use Rattle.borsh.specs.Laws.OfParts.{contramap, key_facts};
 ghost use Rattle.borsh.specs.Cases.{fields, left, right};
 ghost use Rattle.borsh.specs.CaseLaws.{enum_lawful_if};
-ghost use Rattle.std.specs.Prelude.{refl};
+ghost use Rattle.borsh.specs.Schema.Cases.{case_described, enum_described, fork_described};
+ghost use Rattle.borsh.specs.Schema.Laws.Quoted.{no_fields_described};
+ghost use Rattle.borsh.specs.Schema.Variants.{enum_definitions};
+ghost use Rattle.std.specs.Prelude.{codes, refl, ◌∷◌, []};
 ghost use Rattle.example_types.specs.declared.messages.Request.{Request};
 
 use super::messages::Request;
 use borsh::de::{Case, Cases, Fork, FromCases, read_enum, read_variant};
 use borsh::io::{Read, Result, Write};
+use borsh::schema::{
+    Declaration, Definition, FieldTypes, SchemaBuildError, VariantTypes, add_enum, declared,
+};
 use borsh::ser::{Tag, write_bytes, write_three, write_two};
-use borsh::{BorshDeserialize, BorshSerialize, BorshType, EnumExt};
+use borsh::{BorshDeserialize, BorshSchema, BorshSerialize, BorshType, EnumExt};
 use std::alloc::Global;
+use std::collections::BTreeMap;
 
 /// The variants of [`Request`]: each has a tag and its fields, in order.
 type Variants = Fork<Fork<Case<7, u64>, Case<8, (u64, Vec<u8>)>>, Case<32, ()>>;
@@ -77,4 +84,46 @@ impl EnumExt for Request {
     fn deserialize_variant<R: Read>(alloc: Global, reader: &mut R, tag: u8) -> Result<Request> {
         read_variant(alloc, reader, tag)
     }
+}
+
+/// The variants of [`Request`] as its schema goes through them.
+type VariantList = Fork<Fork<Case<7, (u64, ())>, Case<8, (u64, (Vec<u8>, ()))>>, Case<32, ()>>;
+
+impl BorshSchema for Request {
+    ghost name = { codes "Request" };
+
+    ghost parts = { enum_definitions
+        (codes "Request")
+        ((codes "Get", [])
+        ∷ (codes "Put", codes "key" ∷ codes "value" ∷ [])
+        ∷ (codes "Stop", [])
+        ∷ [])
+        ⟦<VariantList as VariantTypes>⟧.read };
+
+    ghost described = { enum_described
+        ⟦<Request as FromCases>⟧.view
+        (fork_described
+        (fork_described
+        (case_described (λ v. (v, tt)) ⟦<(u64, ()) as FieldTypes>⟧.described refl refl)
+        (case_described (λ v. (v.0, (v.1, tt)))
+        ⟦<(u64, (Vec<u8>, ())) as FieldTypes>⟧.described refl refl))
+        (case_described (λ _. tt) no_fields_described refl refl)) };
+
+    fn declaration(alloc: Global) -> std::result::Result<Declaration, SchemaBuildError> {
+        declared(alloc, "Request")
+    }
+
+    fn add_definitions_recursively(
+        alloc: Global,
+        definitions: &mut BTreeMap<Declaration, Definition>,
+    ) -> std::result::Result<(), SchemaBuildError> {
+        add_enum::<VariantList>(
+            alloc,
+            "Request",
+            &[("Get", &[]), ("Put", &["key", "value"]), ("Stop", &[])],
+            definitions,
+        )
+    }
+
+    ghost describes = { Self.described.describes };
 }

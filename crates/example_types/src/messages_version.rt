@@ -2,15 +2,21 @@
 ghost use Rattle.borsh.specs.Laws.OfParts.{contramap, key_facts};
 ghost use Rattle.borsh.specs.Cases.{fields};
 ghost use Rattle.borsh.specs.CaseLaws.{enum_lawful_if};
-ghost use Rattle.std.specs.Prelude.{refl};
+ghost use Rattle.borsh.specs.Schema.Cases.{case_described, enum_described};
+ghost use Rattle.borsh.specs.Schema.Variants.{enum_definitions};
+ghost use Rattle.std.specs.Prelude.{codes, refl, ◌∷◌, []};
 ghost use Rattle.example_types.specs.declared.messages.Version.{Version};
 
 use super::messages::Version;
 use borsh::de::{Case, Cases, FromCases, read_enum, read_variant};
 use borsh::io::{Read, Result, Write};
+use borsh::schema::{
+    Declaration, Definition, FieldTypes, SchemaBuildError, VariantTypes, add_enum, declared,
+};
 use borsh::ser::{Tag, write_two};
-use borsh::{BorshDeserialize, BorshSerialize, BorshType, EnumExt};
+use borsh::{BorshDeserialize, BorshSchema, BorshSerialize, BorshType, EnumExt};
 use std::alloc::Global;
+use std::collections::BTreeMap;
 
 /// The variants of [`Version`]: each has a tag and its fields, in order.
 type Variants = Case<0, u32>;
@@ -66,4 +72,34 @@ impl EnumExt for Version {
     fn deserialize_variant<R: Read>(alloc: Global, reader: &mut R, tag: u8) -> Result<Version> {
         read_variant(alloc, reader, tag)
     }
+}
+
+/// The variants of [`Version`] as its schema goes through them.
+type VariantList = Case<0, (u32, ())>;
+
+impl BorshSchema for Version {
+    ghost name = { codes "Version" };
+
+    ghost parts = { enum_definitions
+        (codes "Version")
+        ((codes "V1", codes "number" ∷ [])
+        ∷ [])
+        ⟦<VariantList as VariantTypes>⟧.read };
+
+    ghost described = { enum_described
+        ⟦<Version as FromCases>⟧.view
+        (case_described (λ v. (v, tt)) ⟦<(u32, ()) as FieldTypes>⟧.described refl refl) };
+
+    fn declaration(alloc: Global) -> std::result::Result<Declaration, SchemaBuildError> {
+        declared(alloc, "Version")
+    }
+
+    fn add_definitions_recursively(
+        alloc: Global,
+        definitions: &mut BTreeMap<Declaration, Definition>,
+    ) -> std::result::Result<(), SchemaBuildError> {
+        add_enum::<VariantList>(alloc, "Version", &[("V1", &["number"])], definitions)
+    }
+
+    ghost describes = { Self.described.describes };
 }

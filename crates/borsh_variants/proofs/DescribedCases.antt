@@ -1,0 +1,70 @@
+-- The variants of an enum with what describes them, as the data of an implementation.
+use Rattle.std.proofs.Common.{◌≡◌, ℕ, ℤ, pos, nat_lt, true, List, [], ◌∷◌, Option, Some, refl, ◌∙◌, ap, inl, inr}
+use Rattle.std.specs.Prelude.{map}
+use Rattle.borsh_codec.specs.Codec.{Codec}
+use Rattle.borsh_codec.specs.Shapes.{contramap}
+use Rattle.borsh_codec.specs.Variants.{case_codec}
+use Rattle.borsh_enums.specs.Cases.{fork}
+use Rattle.borsh_enums.specs.declared.cases.Case.{Case}
+use Rattle.borsh_enums.specs.declared.cases.Fork.{Fork}
+use Rattle.borsh_enums.specs.declared.cases.Fork.TheVariants.{Left, Right}
+use Rattle.borsh_walks.specs.Container.{Shape, product, IsListedVariant, first_variant, later_variant}
+use Rattle.borsh_definitions.specs.Described.{NamedDefinition, shape, variants, DefinitionTree, none, defined, both}
+use Rattle.borsh_definitions.specs.Language.{Holds, DescribesChoice, IsVariant, DescribedCodec, DescribedFields}
+use Rattle.borsh_definitions.proofs.Laws.Members.{describes_contramap, describes_parts, describes_choice, choice_more, choice_none}
+
+-- a variant as a definition lists it: its tag, its name and the name of its type
+abbrev Row : Type 0
+Row = ℤ × List ℕ × List ℕ
+
+-- what the language sees of them
+abbrev pub listed : List Row → List (ℤ × List ℕ)
+listed vs = map (λ v. (v.0, v.2)) vs
+
+module _ {C : List ℕ → Option Shape} where
+  pub choice_contramap : {A B : Type 0} {vs : List (ℤ × List ℕ)} (view : B → A) {c : Codec A} → DescribesChoice A C c 1 vs → DescribesChoice B C (contramap view c) 1 vs
+  choice_contramap view d = record { one = λ b x e. d.one (view b) x e }
+
+  -- more variants may be listed
+  pub choice_among : {A : Type 0} {c : Codec A} {vs ws : List (ℤ × List ℕ)} → ((k : ℤ) (p : List ℕ) → IsListedVariant k p vs → IsListedVariant k p ws) → DescribesChoice A C c 1 vs → DescribesChoice A C c 1 ws
+  choice_among f d = record {
+    one = λ a x e. (let v = d.one a x e in record { discriminant = v.discriminant; variant = v.variant; part = v.part; listed = f v.discriminant v.variant v.listed; whole = v.whole; member = v.member });
+  }
+
+  module _ {A B : Type 0} {a : Codec A} {b : Codec B} {vs : List (ℤ × List ℕ)} (d : DescribesChoice A C a 1 vs) (e : DescribesChoice B C b 1 vs) where
+    fork_one : (v : Fork A B) (x : List ℕ) → (fork a b).encoding v ≡ Some x → IsVariant C 1 vs x
+    fork_one (Left v) x h = d.one v x h
+    fork_one (Right v) x h = e.one v x h
+
+    pub choice_fork : DescribesChoice (Fork A B) C (fork a b) 1 vs
+    choice_fork = record { one = fork_one }
+
+-- the first variants of a list, up to those in ws, with a codec and what describes it in every container with the parts
+pub record DescribedCases (A : Type 0) (vs ws : List Row) (ps : DefinitionTree) : Type 1 where
+  pub codec : Codec A
+  pub describes : (C : List ℕ → Option Shape) → Holds C ps → DescribesChoice A C codec 1 (listed vs)
+  pub behind : (k : ℤ) (p : List ℕ) → IsListedVariant k p (listed ws) → IsListedVariant k p (listed vs)
+
+-- a variant: its fields, seen through a view, behind a tag
+abbrev pub case_described : {A B : Type 0} {k : ℕ} {name n : List ℕ} {d : NamedDefinition} {vs : List Row} (view : B → A) (fields : DescribedFields A) → shape d ≡ product fields.names → nat_lt k 256 ≡ true
+    → DescribedCases (Case k B) ((pos k, name, n) ∷ vs) vs (defined n d fields.parts)
+case_described {k = k} view fields e t = record {
+  codec = case_codec (λ v. v.0) k (contramap view fields.codec);
+  describes = λ C h. choice_contramap (λ v. inl v.0) (choice_more first_variant t (describes_contramap view (describes_parts (h.0 ∙ ap Some e) (fields.describes C h.1))) choice_none);
+  behind = λ j p l. later_variant l;
+}
+
+-- some variants, and then others
+abbrev pub fork_described : {A B : Type 0} {us vs ws : List Row} {ps qs : DefinitionTree} → DescribedCases A us vs ps → DescribedCases B vs ws qs → DescribedCases (Fork A B) us ws (both ps qs)
+fork_described d e = record {
+  codec = fork d.codec e.codec;
+  describes = λ C h. choice_fork (d.describes C h.0) (choice_among d.behind (e.describes C h.1));
+  behind = λ j p l. d.behind j p (e.behind j p l);
+}
+
+-- an enum, whose variants these are
+abbrev pub enum_described : {S A : Type 0} {name : List ℕ} {vs : List Row} {ps : DefinitionTree} → (S → A) → DescribedCases A vs [] ps → DescribedCodec S name (defined name (variants 1 vs) ps)
+enum_described view d = record {
+  codec = contramap view d.codec;
+  describes = λ C h. describes_contramap view (describes_choice h.0 (d.describes C h.1));
+}

@@ -1,0 +1,2 @@
+pub mod DescribedCases
+mod Steps

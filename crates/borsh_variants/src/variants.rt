@@ -1,0 +1,179 @@
+// The variants of enums: the types of their fields, on the leaves of a tree.
+ghost use Rattle.std.specs.Prelude.{◌≡◌, ◌++◌, IfOk, IfErr, OnOk, map, string_bytes};
+ghost use Rattle.std.specs.Slice.Iter.{iter_rest};
+ghost use Rattle.borsh_schema.specs.declared.definitions.SchemaBuildError.TheVariants.{OutOfMemory};
+ghost use Rattle.borsh_definitions.specs.Described.{defined, named_fields, variant_bytes};
+ghost use Rattle.borsh_schema.specs.Joined.{AddsDefinitions};
+ghost use Rattle.borsh_definitions.specs.Names.{texts};
+ghost use Rattle.borsh_variants.specs.Variants.{ReadsVariants, enum_definitions, read_case, read_fork, variant_fields, variant_names, variant_type};
+
+use borsh_enums::{Case, Fork};
+use borsh_schema::{FieldTypes, SchemaBuildError, add_definition, add_with_parts, declared};
+use borsh_walks::{Declaration, Definition, DiscriminantValue, Fields, VariantName};
+use std::alloc::Global;
+use std::collections::BTreeMap;
+use std::slice::Iter;
+
+/// The variants of an enum in the form that its schema goes through: a [`Case`] of the types of the fields,
+/// as `(A, (B, ()))`, or a [`Fork`] of such types.
+pub trait VariantTypes {
+    ghost read: { ReadsVariants };
+
+    /// Puts the variants of the enum `name` at the end of the list. The names of each variant and of its
+    /// fields are taken from `names`.
+    fn push_variants(
+        alloc: Global,
+        name: &str,
+        names: &mut Iter<'_, (&str, &[&str])>,
+        list: &mut Vec<(DiscriminantValue, VariantName, Declaration)>,
+    ) -> Result<(), SchemaBuildError>
+        ensures rows { OnOk result (map variant_bytes list.new.items
+            ≡ map variant_bytes list.old.items
+            ++ (read name.now (variant_names (iter_rest names.old))).rows) }
+        ensures rest { OnOk result (variant_names (iter_rest names.new)
+            ≡ (read name.now (variant_names (iter_rest names.old))).rest) }
+        ensures err { IfErr result (λ e. e ≡ OutOfMemory) };
+
+    /// Adds the definition of each variant's fields, under the name of the enum, two underscores and the
+    /// variant's name, and those of their types. The answers are those of
+    /// [`BorshSchema::add_definitions_recursively`](borsh_schema::BorshSchema::add_definitions_recursively).
+    fn add_variants(
+        alloc: Global,
+        name: &str,
+        names: &mut Iter<'_, (&str, &[&str])>,
+        definitions: &mut BTreeMap<Declaration, Definition>,
+    ) -> Result<(), SchemaBuildError>
+        ensures outcome { AddsDefinitions definitions.old definitions.new
+            (read name.now (variant_names (iter_rest names.old))).parts result }
+        ensures rest { OnOk result (variant_names (iter_rest names.new)
+            ≡ (read name.now (variant_names (iter_rest names.old))).rest) };
+}
+
+impl<const TAG: u8, P: FieldTypes> VariantTypes for Case<TAG, P> {
+    ghost read = { read_case TAG P.names P.all_parts };
+
+    fn push_variants(
+        alloc: Global,
+        name: &str,
+        names: &mut Iter<'_, (&str, &[&str])>,
+        list: &mut Vec<(DiscriminantValue, VariantName, Declaration)>,
+    ) -> Result<(), SchemaBuildError> {
+        if let Some(first) = names.next() {
+            let variant = declared(alloc, first.0)?;
+            let declaration = type_of(alloc, name, first.0)?;
+            list.push((i64::from(TAG), variant, declaration))?;
+        }
+        Ok(())
+    }
+
+    fn add_variants(
+        alloc: Global,
+        name: &str,
+        names: &mut Iter<'_, (&str, &[&str])>,
+        definitions: &mut BTreeMap<Declaration, Definition>,
+    ) -> Result<(), SchemaBuildError> {
+        match names.next() {
+            Some(first) => add_variant::<P>(alloc, name, first.0, first.1, definitions),
+            None => Ok(()),
+        }
+    }
+}
+
+impl<A: VariantTypes, B: VariantTypes> VariantTypes for Fork<A, B> {
+    ghost read = { read_fork A.read B.read };
+
+    fn push_variants(
+        alloc: Global,
+        name: &str,
+        names: &mut Iter<'_, (&str, &[&str])>,
+        list: &mut Vec<(DiscriminantValue, VariantName, Declaration)>,
+    ) -> Result<(), SchemaBuildError> {
+        A::push_variants(alloc, name, names, list)?;
+        B::push_variants(alloc, name, names, list)
+    }
+
+    fn add_variants(
+        alloc: Global,
+        name: &str,
+        names: &mut Iter<'_, (&str, &[&str])>,
+        definitions: &mut BTreeMap<Declaration, Definition>,
+    ) -> Result<(), SchemaBuildError> {
+        A::add_variants(alloc, name, names, definitions)?;
+        B::add_variants(alloc, name, names, definitions)
+    }
+}
+
+// Fields of these names, or without names where there are none, and of the types `P`.
+fn fields_of<P: FieldTypes>(alloc: Global, names: &[&str]) -> Result<Fields, SchemaBuildError>
+    ensures ok { IfOk result (λ f. named_fields f ≡ variant_fields (texts names.now) P.names) }
+    ensures err { IfErr result (λ e. e ≡ OutOfMemory) }
+{
+    if names.is_empty() {
+        let mut types = Vec::with_capacity(alloc, P::count())?;
+        P::push_types(alloc, &mut types)?;
+        if types.is_empty() {
+            return Ok(Fields::Empty);
+        }
+        return Ok(Fields::UnnamedFields(types));
+    }
+    let mut list = Vec::new(alloc);
+    P::push_fields(alloc, names, &mut list)?;
+    Ok(Fields::NamedFields(list))
+}
+
+// The name of the definition of a variant's fields.
+fn type_of(alloc: Global, name: &str, variant: &str) -> Result<Declaration, SchemaBuildError>
+    ensures ok { IfOk result (λ d. string_bytes d ≡ variant_type name.now variant.now) }
+    ensures err { IfErr result (λ e. e ≡ OutOfMemory) }
+{
+    Ok(format!(in alloc; "{name}__{variant}")?)
+}
+
+// Adds the definition of a variant's fields, and those of their types.
+fn add_variant<P: FieldTypes>(
+    alloc: Global,
+    name: &str,
+    variant: &str,
+    fields: &[&str],
+    definitions: &mut BTreeMap<Declaration, Definition>,
+) -> Result<(), SchemaBuildError>
+    ensures { AddsDefinitions definitions.old definitions.new
+        (defined (variant_type name.now variant.now)
+            (variant_fields (texts fields.now) P.names) P.all_parts) result }
+{
+    let fields = fields_of::<P>(alloc, fields)?;
+    let declaration = type_of(alloc, name, variant)?;
+    add_with_parts::<P>(
+        alloc,
+        declaration,
+        Definition::Struct { fields },
+        definitions,
+    )
+}
+
+/// Adds an enum with the variants `V`, whose names and names of fields are given, and the definitions of
+/// their fields. The answers are those of
+/// [`BorshSchema::add_definitions_recursively`](borsh_schema::BorshSchema::add_definitions_recursively).
+///
+/// ```
+/// type Variants = Fork<Case<0, ()>, Case<1, (u64, (u8, ()))>>;
+/// add_enum::<Variants>(alloc, "Order", &[("Stop", &[]), ("Go", &["to", "speed"])], definitions)?;
+/// ```
+pub fn add_enum<V: VariantTypes>(
+    alloc: Global,
+    name: &str,
+    names: &[(&str, &[&str])],
+    definitions: &mut BTreeMap<Declaration, Definition>,
+) -> Result<(), SchemaBuildError>
+    ensures { AddsDefinitions definitions.old definitions.new
+        (enum_definitions name.now (variant_names names.now) V.read) result }
+{
+    let mut variants = Vec::with_capacity(alloc, names.len())?;
+    V::push_variants(alloc, name, &mut names.iter(), &mut variants)?;
+    let definition = Definition::Enum {
+        tag_width: 1,
+        variants,
+    };
+    add_definition(declared(alloc, name)?, definition, definitions)?;
+    V::add_variants(alloc, name, &mut names.iter(), definitions)
+}

@@ -1,0 +1,88 @@
+// Written by borsh_derive.py from originals.rt: edit that file, and run the program again.
+ghost use Rattle.borsh.specs.Laws.OfParts.{contramap, contramap-lawful, from, key_facts};
+ghost use Rattle.borsh.specs.Schema.Laws.Quoted.{struct_described, struct_parts};
+ghost use Rattle.std.specs.Prelude.{codes, refl, ◌∷◌, []};
+
+use super::originals::Boxed;
+use borsh::de::{FromParts, read_parts};
+use borsh::io::{Read, Result, Write};
+use borsh::schema::{Declaration, Definition, FieldTypes, SchemaBuildError, add_named, declared};
+use borsh::ser::write_three;
+use borsh::{BorshDeserialize, BorshSchema, BorshSerialize, BorshType};
+use std::alloc::Global;
+use std::boxed::{BoxedSlice, BoxedStr};
+use std::collections::BTreeMap;
+
+/// The fields of [`Boxed`], in order.
+type Fields = (Box<u64>, BoxedStr, BoxedSlice<u8>);
+
+impl BorshType for Boxed {
+    ghost codec = { contramap ⟦<Boxed as FromParts>⟧.view ⟦<Fields as BorshType>⟧.codec };
+
+    ghost lawful_if = { from
+        (contramap-lawful ⟦<Boxed as FromParts>⟧.view)
+        ⟦<Fields as BorshType>⟧.lawful_if };
+
+    ghost premises = { Prim.search key_facts };
+
+    fn encodes_empty() -> bool {
+        <Fields>::encodes_empty()
+    }
+
+    fn element_size() -> usize {
+        <Fields>::element_size()
+    }
+}
+
+impl BorshSerialize for Boxed {
+    fn serialize<W: Write>(&self, alloc: Global, writer: &mut W) -> Result<()> {
+        write_three(&self.f1, &self.f2, &self.f3, alloc, writer)
+    }
+}
+
+impl FromParts for Boxed {
+    type Parts = Fields;
+
+    ghost view = { λ v. (v.f1, v.f2, v.f3) };
+
+    fn from_parts(fields: Fields) -> Boxed {
+        let (f1, f2, f3) = fields;
+        Boxed { f1, f2, f3 }
+    }
+}
+
+impl BorshDeserialize for Boxed {
+    fn deserialize_reader<R: Read>(alloc: Global, reader: &mut R) -> Result<Boxed> {
+        read_parts(alloc, reader)
+    }
+}
+
+/// The fields of [`Boxed`] as its schema goes through them.
+type FieldList = (Box<u64>, (BoxedStr, (BoxedSlice<u8>, ())));
+
+impl BorshSchema for Boxed {
+    ghost name = { codes "Boxed" };
+
+    ghost parts = { struct_parts
+        (codes "Boxed")
+        (codes "f1" ∷ codes "f2" ∷ codes "f3" ∷ [])
+        ⟦<FieldList as FieldTypes>⟧.described };
+
+    ghost described = { struct_described
+        (λ v. (v.f1, (v.f2, (v.f3, tt))))
+        ⟦<FieldList as FieldTypes>⟧.described
+        refl };
+
+    fn declaration(alloc: Global) -> std::result::Result<Declaration, SchemaBuildError> {
+        declared(alloc, "Boxed")
+    }
+
+    fn add_definitions_recursively(
+        alloc: Global,
+        definitions: &mut BTreeMap<Declaration, Definition>,
+    ) -> std::result::Result<(), SchemaBuildError> {
+        add_named::<FieldList>(alloc, "Boxed", &["f1", "f2", "f3"], definitions)
+    }
+
+    ghost describes = { Self.described.describes };
+}

@@ -1,0 +1,69 @@
+// Written by borsh_derive.py from originals.rt: edit that file, and run the program again.
+ghost use Rattle.borsh.specs.Laws.OfParts.{contramap, contramap-lawful, from, key_facts};
+
+use super::originals::{B, Generic};
+use borsh::de::{FromParts, read_parts};
+use borsh::io::{Read, Write};
+use borsh::ser::write_six;
+use borsh::{BorshDeserialize, BorshSerialize, BorshType};
+use std::alloc::Global;
+use std::marker::PhantomData;
+
+/// The fields of [`Generic`], in order.
+type Fields<T, F, G> = (
+    Vec<T>,
+    String,
+    B<F, G>,
+    PhantomData<T>,
+    Result<T, G>,
+    [u64; 5],
+);
+
+impl<T: BorshType, F: BorshType, G: BorshType> BorshType for Generic<T, F, G> {
+    ghost codec = { contramap
+        (λ v. (v.x, v.y, v.b, v.pd, v.c, v.d))
+        ⟦<Fields<T, F, G> as BorshType>⟧.codec };
+
+    ghost lawful_if = { from
+        (contramap-lawful (λ v. (v.x, v.y, v.b, v.pd, v.c, v.d)))
+        ⟦<Fields<T, F, G> as BorshType>⟧.lawful_if };
+
+    ghost premises = { Prim.search (key_facts, T.premises, F.premises, G.premises) };
+
+    fn encodes_empty() -> bool {
+        <Fields<T, F, G>>::encodes_empty()
+    }
+
+    fn element_size() -> usize {
+        <Fields<T, F, G>>::element_size()
+    }
+}
+
+impl<T: BorshSerialize, F: BorshSerialize, G: BorshSerialize> BorshSerialize for Generic<T, F, G> {
+    fn serialize<W: Write>(&self, alloc: Global, writer: &mut W) -> borsh::io::Result<()> {
+        write_six(
+            &self.x, &self.y, &self.b, &self.pd, &self.c, &self.d, alloc, writer,
+        )
+    }
+}
+
+impl<T: BorshDeserialize, F: BorshDeserialize, G: BorshDeserialize> FromParts for Generic<T, F, G> {
+    type Parts = Fields<T, F, G>;
+
+    ghost view = { λ v. (v.x, v.y, v.b, v.pd, v.c, v.d) };
+
+    fn from_parts(fields: Fields<T, F, G>) -> Generic<T, F, G> {
+        let (x, y, b, pd, c, d) = fields;
+        Generic { x, y, b, pd, c, d }
+    }
+}
+
+impl<T: BorshDeserialize, F: BorshDeserialize, G: BorshDeserialize> BorshDeserialize
+    for Generic<T, F, G> {
+    fn deserialize_reader<R: Read>(
+        alloc: Global,
+        reader: &mut R,
+    ) -> borsh::io::Result<Generic<T, F, G>> {
+        read_parts(alloc, reader)
+    }
+}

@@ -1,0 +1,125 @@
+// Written by borsh_derive.py from originals.rt: edit that file, and run the program again.
+ghost use Rattle.borsh.specs.Laws.OfParts.{contramap, key_facts};
+ghost use Rattle.borsh.specs.Cases.{fields, left, right};
+ghost use Rattle.borsh.specs.CaseLaws.{enum_lawful_if};
+ghost use Rattle.borsh.specs.Schema.Cases.{case_described, enum_described, fork_described};
+ghost use Rattle.borsh.specs.Schema.Laws.Quoted.{no_fields_described};
+ghost use Rattle.borsh.specs.Schema.Variants.{enum_definitions};
+ghost use Rattle.std.specs.Prelude.{codes, refl, ◌∷◌, []};
+ghost use Rattle.example_types.specs.declared.originals.MyEnum.{MyEnum};
+
+use super::originals::MyEnum;
+use borsh::de::{Case, Cases, Fork, FromCases, read_enum, read_variant};
+use borsh::io::{Read, Result, Write};
+use borsh::schema::{
+    Declaration, Definition, FieldTypes, SchemaBuildError, VariantTypes, add_enum, declared,
+};
+use borsh::ser::{Tag, write_bytes, write_two};
+use borsh::{BorshDeserialize, BorshSchema, BorshSerialize, BorshType, EnumExt};
+use std::alloc::Global;
+use std::collections::BTreeMap;
+
+/// The variants of [`MyEnum`]: each has a tag and its fields, in order.
+type Variants = Fork<Fork<Case<0, ()>, Case<1, u8>>, Case<2, Vec<u8>>>;
+
+impl FromCases for MyEnum {
+    type Cases = Variants;
+
+    ghost view = { elim [
+      | MyEnum.Zero ↦ left (left (fields tt))
+      | MyEnum.One part0 ↦ left (right (fields part0))
+      | MyEnum.Many part0 ↦ right (fields part0)
+    ] };
+
+    fn from_cases(cases: Variants) -> MyEnum {
+        match cases {
+            Fork::Left(Fork::Left(Case(()))) => MyEnum::Zero,
+            Fork::Left(Fork::Right(Case(part0))) => MyEnum::One(part0),
+            Fork::Right(Case(part0)) => MyEnum::Many(part0),
+        }
+    }
+
+    ghost distinct_tags = { refl };
+}
+
+impl BorshType for MyEnum {
+    ghost codec = { contramap ⟦<MyEnum as FromCases>⟧.view ⟦<Variants as Cases>⟧.codec };
+
+    ghost lawful_if = { enum_lawful_if
+        ⟦<MyEnum as FromCases>⟧.view
+        ⟦<Variants as Cases>⟧.variants
+        refl };
+
+    ghost premises = { Prim.search key_facts };
+
+    fn encodes_empty() -> bool {
+        false
+    }
+
+    fn element_size() -> usize {
+        <Variants>::element_size()
+    }
+}
+
+impl BorshSerialize for MyEnum {
+    fn serialize<W: Write>(&self, alloc: Global, writer: &mut W) -> Result<()> {
+        match self {
+            MyEnum::Zero => write_bytes(&[0], writer),
+            MyEnum::One(part0) => write_two(&Tag(1), part0, alloc, writer),
+            MyEnum::Many(part0) => write_two(&Tag(2), part0, alloc, writer),
+        }
+    }
+}
+
+impl BorshDeserialize for MyEnum {
+    fn deserialize_reader<R: Read>(alloc: Global, reader: &mut R) -> Result<MyEnum> {
+        read_enum(alloc, reader)
+    }
+}
+
+impl EnumExt for MyEnum {
+    fn deserialize_variant<R: Read>(alloc: Global, reader: &mut R, tag: u8) -> Result<MyEnum> {
+        read_variant(alloc, reader, tag)
+    }
+}
+
+/// The variants of [`MyEnum`] as its schema goes through them.
+type VariantList = Fork<Fork<Case<0, ()>, Case<1, (u8, ())>>, Case<2, (Vec<u8>, ())>>;
+
+impl BorshSchema for MyEnum {
+    ghost name = { codes "MyEnum" };
+
+    ghost parts = { enum_definitions
+        (codes "MyEnum")
+        ((codes "Zero", [])
+        ∷ (codes "One", [])
+        ∷ (codes "Many", [])
+        ∷ [])
+        ⟦<VariantList as VariantTypes>⟧.read };
+
+    ghost described = { enum_described
+        ⟦<MyEnum as FromCases>⟧.view
+        (fork_described
+        (fork_described
+        (case_described (λ _. tt) no_fields_described refl refl)
+        (case_described (λ v. (v, tt)) ⟦<(u8, ()) as FieldTypes>⟧.described refl refl))
+        (case_described (λ v. (v, tt)) ⟦<(Vec<u8>, ()) as FieldTypes>⟧.described refl refl)) };
+
+    fn declaration(alloc: Global) -> std::result::Result<Declaration, SchemaBuildError> {
+        declared(alloc, "MyEnum")
+    }
+
+    fn add_definitions_recursively(
+        alloc: Global,
+        definitions: &mut BTreeMap<Declaration, Definition>,
+    ) -> std::result::Result<(), SchemaBuildError> {
+        add_enum::<VariantList>(
+            alloc,
+            "MyEnum",
+            &[("Zero", &[]), ("One", &[]), ("Many", &[])],
+            definitions,
+        )
+    }
+
+    ghost describes = { Self.described.describes };
+}

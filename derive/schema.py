@@ -1,0 +1,199 @@
+"""What is written for a type's schema: its name, its definitions, and why they describe its encodings."""
+
+from describe import describes_fields
+from emit import TUPLE, generic_group, quote, tree
+from layout import (Group, Term, call, flat, function_head, ghost_list, ghost_member, ghost_name, statement, tuple_type,
+                    type_layout)
+
+
+# the widest term in a line of its own
+WIDEST = 90
+
+
+def with_schema(writer, blocks):
+    """The blocks of a type, and those of its schema where the mark asks for one."""
+    if 'schema' in writer.marked.options:
+        blocks = blocks + (struct_schema(writer) if writer.marked.variants is None else enum_schema(writer))
+    return blocks
+
+
+def schema(writer, data, adding, describes):
+    """`impl BorshSchema`: the members that say what the schema is, the call that adds the definitions, and a proof."""
+    parameters = named_parameters(writer)
+    own = 'declared(alloc, "%s")' % writer.marked.name
+    if parameters:
+        own = 'declared_with::<%s, %s>(alloc, "%s")' % (parameters[0], chain(parameters[1:], '()'), writer.marked.name)
+    writer.lib(own.split('(')[0].split(':')[0])
+    rows = ['    ghost name = { %s };' % ghost_own_name(writer), ''] + data + ['']
+    rows += [head(writer, 'declaration', [], writer.lib('Declaration')), '        ' + own, '    }', '',
+             head(writer, 'add_definitions_recursively', [definitions_of(writer)], '()'),
+             statement('', adding, '', 8), '    }', '', describes]
+    return writer.block('BorshSchema', 'BorshSchema', rows)
+
+
+def named_parameters(writer):
+    """The type parameters that are in the name of the type."""
+    return [parameter.name for parameter in writer.marked.encoded_parameters()]
+
+
+def ghost_own_name(writer):
+    parameters = named_parameters(writer)
+    own = 'codes "%s"' % writer.marked.name
+    if not parameters:
+        return own
+    others = ' ∷ '.join(['%s.name' % name for name in parameters[1:]] + ['[]'])
+    others = '(%s)' % others if len(parameters) > 1 else others
+    return 'name_with (%s) %s.name %s' % (own, parameters[0], others)
+
+
+def head(writer, name, more, result):
+    parameters = ['alloc: %s' % writer.lib('Global')] + more
+    outcome = 'std::result::Result<%s, %s>' % (result, writer.lib('SchemaBuildError'))
+    return function_head(name, parameters, outcome, 4)
+
+
+def definitions_of(writer):
+    types = tuple(writer.lib(name) for name in ('BTreeMap', 'Declaration', 'Definition'))
+    return 'definitions: &mut %s<%s, %s>' % types
+
+
+def text_of_name(writer):
+    """The name of the type as an argument."""
+    return 'Self::declaration(alloc)?.as_str()' if named_parameters(writer) else '"%s"' % writer.marked.name
+
+
+def chain(items, end):
+    """`(a, (b, end))`."""
+    return '(%s, %s)' % (items[0], chain(items[1:], end)) if items else end
+
+
+def chain_type(fields):
+    """The types of fields one after another."""
+    node = '()'
+    for field in reversed(fields):
+        node = tuple_type([type_layout(field.type), node])
+    return node
+
+
+def fields_view(names):
+    """The function from a value to its fields one after another."""
+    return Term('(λ %s. ' % ('v' if names else '_'), [chain(names, 'tt')], ')')
+
+
+def fields_described(writer, type_of_fields, fields):
+    """What describes fields one after another."""
+    if not fields:
+        return Term('', ['no_fields_described'])
+    return quote(writer, type_of_fields, 'FieldTypes', '.described')
+
+
+# ---- structs
+
+def struct_schema(writer):
+    fields = writer.marked.fields.encoded()
+    kind = writer.marked.fields.kind if fields else 'unit'
+    described = fields_described(writer, writer.list_use(), fields)
+    view = fields_view(['v.' + ghost_name(field.name) for field in fields])
+    data = [struct_parts(writer, kind, described), '',
+            ghost_member('described', 'struct_described', [view, described, Term('', ['refl'])], 4)]
+    describes = '    ghost describes = { Self.described.describes };'
+    if named_parameters(writer):
+        describes = describes_fields(writer, fields)
+    block = schema(writer, data, struct_call(writer, kind), describes)
+    if not fields:
+        return [block]
+    doc = '/// The fields of [`%s`] as its schema goes through them.' % writer.marked.name
+    return ['%s\n%s' % (doc, statement('type %s = ' % writer.list_head(), chain_type(fields), ';', 0)), block]
+
+
+def struct_parts(writer, kind, described):
+    """The definitions that the name leads to."""
+    name = Term('', ['(%s)' % ghost_own_name(writer)])
+    if kind == 'unit':
+        return ghost_member('parts', 'unit_struct', [name], 4)
+    if kind == 'tuple':
+        members = [described.within('', one) for one in ('.names', '.parts')]
+        return ghost_member('parts', 'unnamed_struct', [name] + members, 4)
+    names = ghost_list(['codes "%s"' % field.name for field in writer.marked.fields.encoded()])
+    return ghost_member('parts', 'struct_parts', [name, Term('', ['(%s)' % names]), described], 4)
+
+
+def struct_call(writer, kind):
+    """The call that adds these definitions."""
+    name = text_of_name(writer)
+    if kind == 'unit':
+        return call(writer.lib('add_unit'), ['alloc', name, 'definitions'])
+    if kind == 'tuple':
+        return call('%s::<%s>' % (writer.lib('add_unnamed'), writer.list_use()), ['alloc', name, 'definitions'])
+    names = '&[%s]' % ', '.join('"%s"' % field.name for field in writer.marked.fields.encoded())
+    return call('%s::<%s>' % (writer.lib('add_named'), writer.list_use()), ['alloc', name, names, 'definitions'])
+
+
+# ---- enums
+
+def enum_schema(writer):
+    variants = writer.marked.variants
+    case, fork = writer.lib('Case'), writer.lib('Fork') if len(variants) > 1 else None
+    types = tree(variants,
+                 lambda v: generic_group(case, [str(v.tag), chain_type(v.fields.encoded())]),
+                 lambda a, b: generic_group(fork, [a, b]))
+    doc = '/// The variants of [`%s`] as its schema goes through them.' % writer.marked.name
+    alias = '%s\n%s' % (doc, statement('type %s = ' % writer.list_head(), types, ';', 0))
+    data = enum_parts(writer) + [''] + enum_described(writer)
+    describes = '    ghost describes = { Self.described.describes };'
+    return [alias, schema(writer, data, enum_call(writer), describes)]
+
+
+def enum_parts(writer):
+    """The definitions that the name leads to: the enum's, and one of the fields of each variant."""
+    read = quote(writer, writer.list_use(), 'VariantTypes', '.read')
+    rows = ['    ghost parts = { enum_definitions', '        (codes "%s")' % writer.marked.name]
+    names = ['(codes "%s", %s)' % (variant.name, ghost_list(field_texts(variant))) for variant in writer.marked.variants]
+    rows += ['        %s%s' % ('∷ ' if index else '(', name) for index, name in enumerate(names)]
+    return rows + ['        ∷ [])', '        %s };' % read.flat()]
+
+
+def field_texts(variant):
+    if variant.fields.kind != 'named':
+        return []
+    return ['codes "%s"' % field.name for field in variant.fields.encoded()]
+
+
+def enum_described(writer):
+    """What describes each variant, in the form of the tree."""
+    view = quote(writer, writer.own(), 'FromCases', '.view')
+    rows = ['    ghost described = { enum_described', '        %s' % view.flat()]
+    cases = tree(writer.marked.variants, lambda v: described_case(writer, v), fork_described)
+    return rows + ['        %s' % row for row in cases[:-1]] + ['        %s };' % cases[-1]]
+
+
+def described_case(writer, variant):
+    """What describes a variant: its fields one after another, in place of a tuple."""
+    fields = variant.fields.encoded()
+    names = ['v'] if len(fields) == 1 else [place_of(index, len(fields)) for index in range(len(fields))]
+    described = fields_described(writer, flat(chain_type(fields)), fields).flat()
+    row = '(case_described %s %s refl refl)' % (fields_view(names).flat(), described)
+    if len(row) <= WIDEST:
+        return [row]
+    return ['(case_described %s' % fields_view(names).flat(), described + ' refl refl)']
+
+
+def place_of(index, count):
+    """A place of a tuple; past twelve, the last ones are a tuple within."""
+    if count > TUPLE and index >= TUPLE - 1:
+        return 'v.%d%s' % (TUPLE - 1, place_of(index - TUPLE + 1, count - TUPLE + 1)[1:])
+    return 'v.%d' % index
+
+
+def fork_described(first, second):
+    return ['(fork_described'] + first + second[:-1] + [second[-1] + ')']
+
+
+def enum_call(writer):
+    rows = []
+    for variant in writer.marked.variants:
+        fields = ', '.join('"%s"' % field.name for field in variant.fields.encoded() if variant.fields.kind == 'named')
+        rows.append('("%s", &[%s])' % (variant.name, fields))
+    names = Group('', '&[', rows, ']', 60)
+    arguments = ['alloc', '"%s"' % writer.marked.name, names, 'definitions']
+    return call('%s::<%s>' % (writer.lib('add_enum'), writer.list_use()), arguments)
