@@ -1,5 +1,5 @@
 -- What `decode` answers.
-use Rattle.std.specs.Prelude.{◌≡◌, ℕ, List, [], ◌∷◌, Option, Result, IfOk, ⊤}
+use Rattle.std.specs.Prelude.{◌≡◌, ◌≤◌, ℕ, List, [], length, ◌∷◌, Option, Result, IfOk, ⊤}
 use Rattle.borsh_walks.specs.Container.{Shape, Member, IsValid}
 use Rattle.borsh_values.specs.Unambiguous.{IsUnambiguous}
 use Rattle.borsh_values.specs.Membership.{IsUndecided}
@@ -7,6 +7,12 @@ use Rattle.borsh_values.specs.Faults.{IsFault}
 use Rattle.borsh_values.specs.Nodes.{NodeView, Nodes, views, joined_bytes}
 use Rattle.borsh_values.specs.declared.members.Decoded.{Decoded}
 use Rattle.borsh_values.specs.declared.members.Decoded.TheVariants.{Nodes as IsNodes, NoMember, Ambiguous}
+
+-- there are at most n nodes
+abbrev pub HasAtMost : ℕ → Decoded → Type 0
+HasAtMost n (IsNodes ns) = length ns.items ≤ n
+HasAtMost n (NoMember f) = ⊤
+HasAtMost n (Ambiguous x) = ⊤
 
 module _ (C : List ℕ → Option Shape) (root bytes : List ℕ) where
   -- each answer is right

@@ -1,7 +1,7 @@
 -- What `is_member` answers.
-use Rattle.std.specs.Prelude.{◌≡◌, ◌⊎◌, ⊤, ℕ, ◌-◌, List, [], length, Option, Some, None, MatchOption, Result, IfOk, String}
+use Rattle.std.specs.Prelude.{◌≡◌, ◌⊎◌, ⊤, ℕ, suc, ◌-◌, ◌*◌, List, [], length, Option, Some, None, MatchOption, Result, IfOk, String}
 use Rattle.std.specs.Borrow.{Bor}
-use Rattle.std.specs.BTreeMap.{BTreeMap, get_by_text}
+use Rattle.std.specs.BTreeMap.{BTreeMap, btree_map_len, get_by_text}
 use Rattle.borsh_walks.specs.Definitions.{definitions_in}
 use Rattle.borsh_walks.specs.declared.definition.Definition.{Definition}
 use Rattle.borsh_walks.specs.Container.{Shape, Member, Reached, IsValid}
@@ -29,6 +29,10 @@ abbrev pub IsAnswerAtEnd : List ℕ → ℕ → List ℕ → Membership → Type
 IsAnswerAtEnd root all left IsMember = left ≡ []
 IsAnswerAtEnd root all left (NoMember f) = (left ≡ [] → ⊥) × (f.offset ≡ all - length left) × (f.name.now ≡ root) × (f.reason ≡ BytesLeft)
 IsAnswerAtEnd root all left (Ambiguous x) = ⊥
+
+-- how many definitions are opened at most: as many as there are, and one more, for each byte and for the end
+abbrev pub most_opened : {A : Type 0} → List ℕ → BTreeMap (String A) Definition → ℕ
+most_opened bytes m = suc (length bytes) * suc (btree_map_len m)
 
 -- yes or no
 abbrev pub IsDecided : Membership → Type 0

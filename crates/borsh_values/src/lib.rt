@@ -17,7 +17,7 @@ pub mod tags;
 pub mod unambiguous;
 
 pub use faults::{Fault, Path, PathStep, Reason};
-pub use members::{Decoded, Membership, decode, is_member};
+pub use members::{Decoded, Membership, decode, is_member, is_member_counted};
 pub use nodes::{Node, encode, variant_of};
 pub use unambiguous::find_ambiguous;
 

@@ -1,13 +1,13 @@
 // Whether bytes are a member of a name.
-ghost use Rattle.borsh_values.specs.Membership.{AnswersMembership, IsAnswer, IsAnswerAtEnd};
+ghost use Rattle.borsh_values.specs.Membership.{AnswersMembership, IsAnswer, IsAnswerAtEnd, most_opened};
 ghost use Rattle.borsh_values.specs.Steps.{KnownAs};
 ghost use Rattle.borsh_walks.specs.Tables.{mark_of};
 ghost use Rattle.borsh_walks.specs.Definitions.{definitions_in};
 ghost use Rattle.borsh_values.specs.Nodes.{Nodes, views};
-ghost use Rattle.borsh_values.specs.Decoding.{DecodesValue};
+ghost use Rattle.borsh_values.specs.Decoding.{DecodesValue, HasAtMost};
 ghost use Rattle.borsh_values.specs.declared.members.Membership.TheVariants.{Member as IsMember};
 ghost use Rattle.borsh_walks.specs.ZeroAnswer.{ZeroTable};
-ghost use Rattle.std.specs.Prelude.{IfOk, ◌≤◌, ◌≡◌, ◌∷◌, [], length, drop, take, true};
+ghost use Rattle.std.specs.Prelude.{IfOk, ◌+◌, ◌≤◌, ◌≡◌, ◌∷◌, [], length, drop, take, true};
 
 use crate::faults::{Fault, Path, Question, Reason, no_member};
 use crate::frames::{Frame, Opened, Rest, after_copies, next_part};
@@ -81,6 +81,12 @@ fn after(bytes: &[u8], taken: usize) -> &[u8]
     &bytes[taken..]
 }
 
+fn count_one(count: &mut u64)
+    ensures { count.new ≤ count.old + 1 }
+{
+    *count = count.saturating_add(1);
+}
+
 // The answer where all names are read.
 fn at_end<'a>(alloc: Global, root: &'a str, bytes: &[u8], left: &[u8]) -> Membership<'a>
     requires { length left.now ≤ length bytes.now }
@@ -115,9 +121,27 @@ pub fn is_member<'a>(
 ) -> Result<Membership<'a>, AllocError>
     ensures { AnswersMembership (definitions_in map.now) root.now bytes.now result }
 {
+    let mut opened = 0;
+    is_member_counted(alloc, root, map, bytes, &mut opened)
+}
+
+/// As [`is_member`], and adds to `opened` how many definitions were opened: at most `(n + 1) * (d + 1)` for `n` bytes and
+/// `d` definitions. At its greatest value the count stays.
+pub fn is_member_counted<'a>(
+    alloc: Global,
+    root: &'a str,
+    map: &'a BTreeMap<String, Definition>,
+    bytes: &'a [u8],
+    opened: &mut u64,
+) -> Result<Membership<'a>, AllocError>
+    ensures answer { AnswersMembership (definitions_in map.now) root.now bytes.now result }
+    ensures few { opened.new ≤ opened.old + most_opened bytes.now map.now }
+{
     let mut zeros: BTreeMap<&'a str, bool> = BTreeMap::new(alloc);
     let mut nodes: Vec<Node<'a>> = Vec::new(alloc);
-    decide(alloc, root, map, bytes, false, &mut zeros, &mut nodes)
+    decide(
+        alloc, root, map, bytes, false, &mut zeros, &mut nodes, opened,
+    )
 }
 
 /// The nodes of a value, where bytes are a member.
@@ -142,11 +166,22 @@ pub fn decode<'a>(
     map: &'a BTreeMap<String, Definition>,
     bytes: &'a [u8],
 ) -> Result<Decoded<'a>, AllocError>
-    ensures { DecodesValue (definitions_in map.now) root.now bytes.now result }
+    ensures value { DecodesValue (definitions_in map.now) root.now bytes.now result }
+    ensures few { IfOk result (λ a. HasAtMost (most_opened bytes.now map.now) a) }
 {
     let mut zeros: BTreeMap<&'a str, bool> = BTreeMap::new(alloc);
     let mut nodes: Vec<Node<'a>> = Vec::new(alloc);
-    match decide(alloc, root, map, bytes, true, &mut zeros, &mut nodes)? {
+    let mut opened = 0;
+    match decide(
+        alloc,
+        root,
+        map,
+        bytes,
+        true,
+        &mut zeros,
+        &mut nodes,
+        &mut opened,
+    )? {
         Membership::Member => Ok(Decoded::Nodes(nodes)),
         Membership::NoMember(fault) => Ok(Decoded::NoMember(fault)),
         Membership::Ambiguous(name) => Ok(Decoded::Ambiguous(name)),
@@ -163,12 +198,15 @@ fn decide<'a>(
     wanted: bool,
     zeros: &mut BTreeMap<&'a str, bool>,
     nodes: &mut Vec<Node<'a>>,
+    opened: &mut u64,
 ) -> Result<Membership<'a>, AllocError>
     requires table { ZeroTable (definitions_in map.now) zeros.old }
     requires empty { nodes.old.items ≡ [] }
     ensures answer { IfOk result (λ a. IsAnswer (definitions_in map.now) root.now bytes.now a) }
     ensures listed { wanted ≡ true → IfOk result (λ a. a ≡ IsMember →
         Nodes (definitions_in map.now) (root.now ∷ []) bytes.now (views nodes.new.items)) }
+    ensures few { opened.new ≤ opened.old + most_opened bytes.now map.now }
+    ensures few_nodes { wanted ≡ true → IfOk result (λ a. length nodes.new.items ≤ most_opened bytes.now map.now) }
 {
     let mut table: BTreeMap<&'a str, Mark> = BTreeMap::new(alloc);
     let mut stack: Vec<Frame<'a>> = Vec::new(alloc);
@@ -188,29 +226,46 @@ fn decide<'a>(
     };
     loop {
         match next_part(frame.rest) {
-            Some(step) => match look_up(&table, step.part, left.len()) {
-                Known::Empty => frame.rest = after_copies(frame.rest, step),
-                Known::Recursive => {
-                    let why = Reason::Recursive;
+            Some(step) => {
+                let Some(definition) = map.get(step.part) else {
+                    let why = Reason::MissingDefinition;
                     return no_member(asked, &stack, frame, step, left.len(), why);
-                }
-                Known::New => {
-                    let Some(definition) = map.get(step.part) else {
-                        let why = Reason::MissingDefinition;
+                };
+                match open_definition(map, definition, left) {
+                    Opened::Undecided => return Ok(Membership::Ambiguous(step.part)),
+                    Opened::Refused(why) => {
                         return no_member(asked, &stack, frame, step, left.len(), why);
-                    };
-                    match open_definition(map, definition, left) {
-                        Opened::Undecided => return Ok(Membership::Ambiguous(step.part)),
-                        Opened::Refused(why) => {
-                            return no_member(asked, &stack, frame, step, left.len(), why);
-                        }
-                        Opened::Taken(taken, rest) => {
-                            let node = Node {
-                                name: step.part,
-                                definition,
-                                bytes: front(left, taken),
-                            };
+                    }
+                    Opened::Taken(taken, rest) => {
+                        let node = Node {
+                            name: step.part,
+                            definition,
+                            bytes: front(left, taken),
+                        };
+                        if taken == 0 {
+                            match look_up(&table, step.part, left.len()) {
+                                Known::Empty => frame.rest = after_copies(frame.rest, step),
+                                Known::Recursive => {
+                                    let why = Reason::Recursive;
+                                    return no_member(asked, &stack, frame, step, left.len(), why);
+                                }
+                                Known::New => {
+                                    list_node(alloc, wanted, map, zeros, nodes, node)?;
+                                    count_one(opened);
+                                    frame.rest = step.others;
+                                    stack.push(frame)?;
+                                    frame = Frame {
+                                        name: step.part,
+                                        start: left.len(),
+                                        rest,
+                                    };
+                                    table.insert(step.part, Mark::Open(left.len()))?;
+                                    idle += 1;
+                                }
+                            }
+                        } else {
                             list_node(alloc, wanted, map, zeros, nodes, node)?;
+                            count_one(opened);
                             frame.rest = step.others;
                             stack.push(frame)?;
                             frame = Frame {
@@ -218,17 +273,12 @@ fn decide<'a>(
                                 start: left.len(),
                                 rest,
                             };
-                            if taken == 0 {
-                                table.insert(step.part, Mark::Open(left.len()))?;
-                                idle += 1;
-                            } else {
-                                idle = 0;
-                                left = after(left, taken);
-                            }
+                            idle = 0;
+                            left = after(left, taken);
                         }
                     }
                 }
-            },
+            }
             None => match stack.pop() {
                 Some(above) => {
                     if frame.start == left.len() {
