@@ -6,4 +6,5 @@ pub mod Keys
 pub mod Nodes
 pub mod Faults
 pub mod Decoding
+pub mod Encoded
 pub mod Steps
