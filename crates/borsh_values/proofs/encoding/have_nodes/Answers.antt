@@ -1,4 +1,4 @@
-use Rattle.std.proofs.Common.{◌≡◌, true, sym, subst}
+use Rattle.std.proofs.Common.{◌≡◌, true, subst}
 use Rattle.borsh_walks.specs.Definitions.{definitions_in}
 use Rattle.borsh_values.specs.Decoding.{IsDecoded, AreTheNodes, IsYesOrNo}
 use Rattle.borsh_values.specs.Nodes.{views}

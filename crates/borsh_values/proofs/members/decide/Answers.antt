@@ -23,7 +23,7 @@ use Rattle.borsh_values.proofs.NodesLaws.{nodes_skip}
 use Rattle.borsh_values.proofs.Listing.{list_more, all_views}
 use Rattle.borsh_values.specs.Steps.{pending, remaining}
 use Rattle.borsh_values.proofs.Walk.{Walk, walk_start, walk_skip, walk_still, walk_on, walk_up, walk_up_empty, walk_end, undefined_none, denied, leads_back, with_rest, part_reached}
-use Rattle.borsh_values.proofs.Measure.{left, opens, opened_still, opened_on, few_still, few_on, listed_more, left_moved, left_up, left_still, left_on, work_found, some_step}
+use Rattle.borsh_values.proofs.Measure.{left, opened_still, opened_on, few_still, few_on, listed_more, left_moved, left_up, left_still, left_on, work_found, some_step}
 use Rattle.borsh_values.proofs.members.decide.Goals as goal
 
 pub loop-step-init : goal.loop-step-init
