@@ -1,6 +1,9 @@
 -- Variants found one after another.
-use Rattle.std.proofs.Common.{◌≡◌, ℕ, suc, zero, ◌+◌, List, [], ◌∷◌, ◌++◌, length, take, Some, refl, sym, ◌∙◌, ap, add-one, ◌⊎◌, inl, inr}
-use Rattle.std.specs.Prelude.{ℤ, pos, negsuc, slice_get}
+use Rattle.std.proofs.Common.{◌≡◌, ℕ, suc, zero, ◌+◌, ◌<◌, ◌≤◌, List, [], ◌∷◌, ◌++◌, length, take, map, get_or, Some, refl, sym, ◌∙◌, ap, arith, add-one, ◌⊎◌, inl, inr}
+use Rattle.std.specs.Prelude.{ℤ, pos, negsuc, slice_get, option_map, string_bytes, String}
+use Rattle.std.specs.Global.{Global}
+use Rattle.std.proofs.lemmas.Option.{slice_get_read, slice_get-map}
+use Rattle.std.proofs.lemmas.List.{length-map}
 use Rattle.std.specs.Borrow.{Bor}
 use Rattle.borsh_walks.specs.Container.{IsListedVariant, first_variant, later_variant, tag}
 use Rattle.borsh_values.specs.Unambiguous.{DistinctTags, no_tags, more_tags}
@@ -81,3 +84,27 @@ take_suc (x ∷ xs) (suc i) v e = ap (λ l. x ∷ l) (take_suc xs i v e)
 
 pub take_next : (xs : List (ℤ × List ℕ)) (i : ℕ) (v : ℤ × List ℕ) → slice_get xs i ≡ Some v → take (i + 1) xs ≡ take i xs ++ v ∷ []
 take_next xs i v e = ap (λ k. take k xs) (add-one i) ∙ take_suc xs i v e
+
+pub take_whole : {A : Type 0} (xs : List A) (i : ℕ) → length xs ≤ i → take i xs ≡ xs
+take_whole [] zero h = refl
+take_whole [] (suc i) h = refl
+take_whole (x ∷ xs) zero h = absurd (omega arith)
+take_whole (x ∷ xs) (suc i) h = ap (λ l. x ∷ l) (take_whole xs i (omega arith))
+
+-- ---- the variants of the code
+abbrev pub Listed : Type 0
+Listed = ℤ × String Global × String Global
+
+-- without their names
+abbrev pub unnamed : List Listed → List (ℤ × List ℕ)
+unnamed items = map {A = Listed} (λ v. (v.0, string_bytes v.2)) items
+
+-- what was got of the variants, seen as a slice
+pub got_within : (items xs : List Listed) (n : ℕ) → xs ≡ items → n < length xs → n < length items
+got_within items xs n d h = let e = ap (λ l. length l) d in omega (arith, h, e)
+
+pub got_variant : (items xs : List Listed) (n : ℕ) (f : Listed) → xs ≡ items → n < length xs → f ≡ get_or xs n f → slice_get (unnamed items) n ≡ Some (f.0, string_bytes f.2)
+got_variant items xs n f d h e = slice_get-map {A = Listed} (λ v. (v.0, string_bytes v.2)) items n ∙ ap (λ o. option_map (λ v. (v.0, string_bytes v.2)) o) (slice_get_read items (length items) n f refl (got_within items xs n d h) (e ∙ ap (λ l. get_or l n f) d))
+
+pub got_none : (items xs : List Listed) (n : ℕ) → xs ≡ items → length xs ≤ n → take n (unnamed items) ≡ unnamed items
+got_none items xs n d h = let e = ap (λ l. length l) d in let k = length-map {B = ℤ × List ℕ} items (λ v. (v.0, string_bytes v.2)) in take_whole (unnamed items) n (omega (arith, h, e, k))

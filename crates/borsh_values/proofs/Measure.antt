@@ -1,16 +1,18 @@
 -- How far the loop has to go.
-use Rattle.std.proofs.Common.{◌≡◌, ℕ, suc, zero, ◌+◌, ◌-◌, ◌*◌, ◌<◌, ◌≤◌, List, [], ◌∷◌, length, ap, arith, Some, true, false, Bool}
+use Rattle.std.proofs.Common.{◌≡◌, ℕ, suc, zero, ◌+◌, ◌-◌, ◌*◌, ◌<◌, ◌≤◌, List, [], ◌∷◌, length, ap, arith, Some, true, false, Bool, ◌∙◌, inl, inr, length-append}
 use Rattle.std.specs.Prelude.{String, Option, string_bytes, cond}
 use Rattle.std.specs.Map.{lookup}
 use Rattle.std.specs.Cmp.Lexicographic.{slice_cmp}
 use Rattle.std.specs.Ordering.{nat_cmp, is_eq}
 use Rattle.borsh_walks.specs.Definitions.{shape_of}
 use Rattle.std.specs.BTreeMap.{BTreeMap, btree_map_len}
-use Rattle.std.proofs.Math.Nat.{mul-le-mul_left}
+use Rattle.std.proofs.Math.Nat.{mul-le-mul_left, suc-mul}
 use Rattle.borsh_walks.specs.declared.definition.Definition.{Definition}
-use Rattle.borsh_walks.specs.Container.{references}
+use Rattle.borsh_walks.specs.Container.{Shape, references}
 use Rattle.borsh_walks.proofs.Measure.{work}
 use Rattle.borsh_values.specs.Steps.{step_count}
+use Rattle.borsh_values.specs.Nodes.{ListsNode}
+use Rattle.borsh_values.specs.declared.nodes.Node.{Node}
 use Rattle.borsh_values.specs.declared.frames.Frame.{Frame}
 use Rattle.borsh_values.specs.declared.frames.Rest.{Rest}
 use Rattle.borsh_values.specs.declared.frames.Rest.TheVariants.{Copies, Parts}
@@ -69,3 +71,26 @@ pub some_step : (r : Rest) → 0 < step_count r
 some_step (Copies e zero) = omega arith
 some_step (Copies e (suc k)) = omega arith
 some_step (Parts d n) = omega arith
+
+-- ---- how many definitions are opened
+pub opened_still : (D all old now count len idle : ℕ) → suc idle ≤ D → now + opens D len idle ≤ old + opens D all 0 → count ≤ now + 1 → count + opens D len (idle + 1) ≤ old + opens D all 0
+opened_still D all old now count len idle room h k = let l = opens_still D len idle room in omega (arith, l, h, k)
+
+pub opened_on : (D all old now count a b idle : ℕ) → a < b → now + opens D b idle ≤ old + opens D all 0 → count ≤ now + 1 → count + opens D a 0 ≤ old + opens D all 0
+opened_on D all old now count a b idle less h k = let l = opens_on D a b idle less in omega (arith, l, h, k)
+
+pub few_still : (D all now count len idle : ℕ) → suc idle ≤ D → now + opens D len idle ≤ opens D all 0 → count ≤ now + 1 → count + opens D len (idle + 1) ≤ opens D all 0
+few_still D all now count len idle room h k = let l = opens_still D len idle room in omega (arith, l, h, k)
+
+pub few_on : (D all now count a b idle : ℕ) → a < b → now + opens D b idle ≤ opens D all 0 → count ≤ now + 1 → count + opens D a 0 ≤ opens D all 0
+few_on D all now count a b idle less h k = let l = opens_on D a b idle less in omega (arith, l, h, k)
+
+pub few_most : (D all now len idle : ℕ) → now + opens D len idle ≤ opens D all 0 → now ≤ suc all * suc D
+few_most D all now len idle h = let p = suc-mul all (suc D) in omega (arith, p, h)
+
+pub opened_most : (D all old now len idle : ℕ) → now + opens D len idle ≤ old + opens D all 0 → now ≤ old + suc all * suc D
+opened_most D all old now len idle h = let p = suc-mul all (suc D) in omega (arith, p, h)
+
+-- a node is listed, or not
+pub listed_more : (C : List ℕ → Option Shape) (n : Node) (old new : List Node) → ListsNode C n old new → length new ≤ length old + 1
+listed_more C n old new h = elim h [ inl z ↦ (let e = ap (λ l. length l) z.2 in omega (arith, e)) | inr z ↦ (let e = ap (λ l. length l) z.1 ∙ length-append old (n ∷ []) in omega (arith, e)) ]

@@ -1,14 +1,15 @@
 // Whether bytes are a member of a name.
-ghost use Rattle.borsh_values.specs.Membership.{AnswersMembership, IsAnswer, IsAnswerAtEnd};
+ghost use Rattle.borsh_values.specs.Membership.{AnswersMembership, IsAnswer, IsAnswerAtEnd, most_opened};
 ghost use Rattle.borsh_values.specs.Steps.{KnownAs};
 ghost use Rattle.borsh_walks.specs.Tables.{mark_of};
 ghost use Rattle.borsh_walks.specs.Definitions.{definitions_in};
 ghost use Rattle.borsh_values.specs.Nodes.{Nodes, views};
-ghost use Rattle.borsh_values.specs.Decoding.{DecodesValue};
+ghost use Rattle.borsh_values.specs.Decoding.{DecodesValue, HasAtMost};
 ghost use Rattle.borsh_values.specs.declared.members.Membership.TheVariants.{Member as IsMember};
 ghost use Rattle.borsh_walks.specs.ZeroAnswer.{ZeroTable};
-ghost use Rattle.std.specs.Prelude.{IfOk, ◌≤◌, ◌≡◌, ◌∷◌, [], length, drop, take, true};
+ghost use Rattle.std.specs.Prelude.{IfOk, ◌+◌, ◌≤◌, ◌≡◌, ◌∷◌, [], length, drop, take, true};
 
+use crate::faults::{Fault, Path, Question, Reason, no_member};
 use crate::frames::{Frame, Opened, Rest, after_copies, next_part};
 use crate::nodes::{Node, list_node};
 use crate::opening::open_definition;
@@ -17,15 +18,15 @@ use std::alloc::{AllocError, Global};
 use std::collections::BTreeMap;
 
 /// Whether bytes are a member of a name.
-#[derive(Clone, Copy, Debug, PartialEq, Eq)]
-pub enum Membership {
+#[derive(Drop)]
+pub enum Membership<'a> {
     /// They are a member.
     Member,
-    /// They aren't.
-    NoMember,
-    /// A definition that was reached encodes two counts or two variants alike, or has counts of a width
-    /// that no valid container has.
-    Ambiguous,
+    /// They aren't: where they stop being one, and why.
+    NoMember(Fault<'a>),
+    /// The definition of this name encodes two counts or two variants alike, or has counts of a width that no
+    /// valid container has.
+    Ambiguous(&'a str),
 }
 
 /// What is known of a name.
@@ -80,33 +81,67 @@ fn after(bytes: &[u8], taken: usize) -> &[u8]
     &bytes[taken..]
 }
 
+fn count_one(count: &mut u64)
+    ensures { count.new ≤ count.old + 1 }
+{
+    *count = count.saturating_add(1);
+}
+
 // The answer where all names are read.
-fn at_end(left: &[u8]) -> Membership
-    ensures { IsAnswerAtEnd left.now result }
+fn at_end<'a>(alloc: Global, root: &'a str, bytes: &[u8], left: &[u8]) -> Membership<'a>
+    requires { length left.now ≤ length bytes.now }
+    ensures { IsAnswerAtEnd root.now (length bytes.now) left.now result }
 {
     if left.is_empty() {
-        Membership::Member
-    } else {
-        Membership::NoMember
+        return Membership::Member;
     }
+    Membership::NoMember(Fault {
+        offset: bytes.len() - left.len(),
+        name: root,
+        reason: Reason::BytesLeft,
+        path: Path {
+            root,
+            steps: Vec::new(alloc),
+        },
+    })
 }
 
 /// Whether all of `bytes` is a member of `root`, by the definitions of `map` alone.
 ///
 /// The definitions may be any: a name without a definition has no member, and neither has one that leads back
-/// to itself before any byte. The answer is never [`Membership::Ambiguous`] where the definitions that are
-/// reached are valid, as [`borsh_walks::check_rules`] says, and unambiguous. An error is a refused allocation.
+/// to itself before any byte. If they are no member, the answer says where: no member of [`Fault::name`] begins at
+/// [`Fault::offset`], or bytes are left behind a whole value. The answer is never [`Membership::Ambiguous`] where the
+/// definitions that are reached are valid, as [`borsh_walks::check_rules`] says, and unambiguous. An error is a
+/// refused allocation.
 pub fn is_member<'a>(
     alloc: Global,
     root: &'a str,
     map: &'a BTreeMap<String, Definition>,
     bytes: &'a [u8],
-) -> Result<Membership, AllocError>
+) -> Result<Membership<'a>, AllocError>
     ensures { AnswersMembership (definitions_in map.now) root.now bytes.now result }
+{
+    let mut opened = 0;
+    is_member_counted(alloc, root, map, bytes, &mut opened)
+}
+
+/// As [`is_member`], and adds to `opened` how many definitions were opened: at most `(n + 1) * (d + 1)` for `n` bytes and
+/// `d` definitions. At its greatest value the count stays.
+pub fn is_member_counted<'a>(
+    alloc: Global,
+    root: &'a str,
+    map: &'a BTreeMap<String, Definition>,
+    bytes: &'a [u8],
+    opened: &mut u64,
+) -> Result<Membership<'a>, AllocError>
+    ensures answer { AnswersMembership (definitions_in map.now) root.now bytes.now result }
+    ensures few { opened.new ≤ opened.old + most_opened bytes.now map.now }
 {
     let mut zeros: BTreeMap<&'a str, bool> = BTreeMap::new(alloc);
     let mut nodes: Vec<Node<'a>> = Vec::new(alloc);
-    decide(alloc, root, map, bytes, false, &mut zeros, &mut nodes)
+    decide(
+        alloc, root, map, bytes, false, &mut zeros, &mut nodes, opened,
+    )
 }
 
 /// The nodes of a value, where bytes are a member.
@@ -114,10 +149,10 @@ pub fn is_member<'a>(
 pub enum Decoded<'a> {
     /// The bytes are a member, and these are its nodes in preorder. A value of a name of zero size has none.
     Nodes(Vec<Node<'a>>),
-    /// The bytes are no member.
-    NoMember,
+    /// The bytes are no member, as [`Membership::NoMember`].
+    NoMember(Fault<'a>),
     /// As [`Membership::Ambiguous`].
-    Ambiguous,
+    Ambiguous(&'a str),
 }
 
 /// The nodes of the value of `root` that all of `bytes` is, by the definitions of `map` alone.
@@ -131,14 +166,25 @@ pub fn decode<'a>(
     map: &'a BTreeMap<String, Definition>,
     bytes: &'a [u8],
 ) -> Result<Decoded<'a>, AllocError>
-    ensures { DecodesValue (definitions_in map.now) root.now bytes.now result }
+    ensures value { DecodesValue (definitions_in map.now) root.now bytes.now result }
+    ensures few { IfOk result (λ a. HasAtMost (most_opened bytes.now map.now) a) }
 {
     let mut zeros: BTreeMap<&'a str, bool> = BTreeMap::new(alloc);
     let mut nodes: Vec<Node<'a>> = Vec::new(alloc);
-    match decide(alloc, root, map, bytes, true, &mut zeros, &mut nodes)? {
+    let mut opened = 0;
+    match decide(
+        alloc,
+        root,
+        map,
+        bytes,
+        true,
+        &mut zeros,
+        &mut nodes,
+        &mut opened,
+    )? {
         Membership::Member => Ok(Decoded::Nodes(nodes)),
-        Membership::NoMember => Ok(Decoded::NoMember),
-        Membership::Ambiguous => Ok(Decoded::Ambiguous),
+        Membership::NoMember(fault) => Ok(Decoded::NoMember(fault)),
+        Membership::Ambiguous(name) => Ok(Decoded::Ambiguous(name)),
     }
 }
 
@@ -152,16 +198,25 @@ fn decide<'a>(
     wanted: bool,
     zeros: &mut BTreeMap<&'a str, bool>,
     nodes: &mut Vec<Node<'a>>,
-) -> Result<Membership, AllocError>
+    opened: &mut u64,
+) -> Result<Membership<'a>, AllocError>
     requires table { ZeroTable (definitions_in map.now) zeros.old }
     requires empty { nodes.old.items ≡ [] }
     ensures answer { IfOk result (λ a. IsAnswer (definitions_in map.now) root.now bytes.now a) }
     ensures listed { wanted ≡ true → IfOk result (λ a. a ≡ IsMember →
         Nodes (definitions_in map.now) (root.now ∷ []) bytes.now (views nodes.new.items)) }
+    ensures few { opened.new ≤ opened.old + most_opened bytes.now map.now }
+    ensures few_nodes { wanted ≡ true → IfOk result (λ a. length nodes.new.items ≤ most_opened bytes.now map.now) }
 {
     let mut table: BTreeMap<&'a str, Mark> = BTreeMap::new(alloc);
     let mut stack: Vec<Frame<'a>> = Vec::new(alloc);
     let _definitions = map.len();
+    let asked = Question {
+        alloc,
+        root,
+        map,
+        bytes,
+    };
     let mut left = bytes;
     let mut idle: usize = 0;
     let mut frame = Frame {
@@ -171,23 +226,46 @@ fn decide<'a>(
     };
     loop {
         match next_part(frame.rest) {
-            Some(step) => match look_up(&table, step.part, left.len()) {
-                Known::Empty => frame.rest = after_copies(frame.rest, step),
-                Known::Recursive => return Ok(Membership::NoMember),
-                Known::New => {
-                    let Some(definition) = map.get(step.part) else {
-                        return Ok(Membership::NoMember);
-                    };
-                    match open_definition(definition, left) {
-                        Opened::Undecided => return Ok(Membership::Ambiguous),
-                        Opened::Refused => return Ok(Membership::NoMember),
-                        Opened::Taken(taken, rest) => {
-                            let node = Node {
-                                name: step.part,
-                                definition,
-                                bytes: front(left, taken),
-                            };
+            Some(step) => {
+                let Some(definition) = map.get(step.part) else {
+                    let why = Reason::MissingDefinition;
+                    return no_member(asked, &stack, frame, step, left.len(), why);
+                };
+                match open_definition(map, definition, left) {
+                    Opened::Undecided => return Ok(Membership::Ambiguous(step.part)),
+                    Opened::Refused(why) => {
+                        return no_member(asked, &stack, frame, step, left.len(), why);
+                    }
+                    Opened::Taken(taken, rest) => {
+                        let node = Node {
+                            name: step.part,
+                            definition,
+                            bytes: front(left, taken),
+                        };
+                        if taken == 0 {
+                            match look_up(&table, step.part, left.len()) {
+                                Known::Empty => frame.rest = after_copies(frame.rest, step),
+                                Known::Recursive => {
+                                    let why = Reason::Recursive;
+                                    return no_member(asked, &stack, frame, step, left.len(), why);
+                                }
+                                Known::New => {
+                                    list_node(alloc, wanted, map, zeros, nodes, node)?;
+                                    count_one(opened);
+                                    frame.rest = step.others;
+                                    stack.push(frame)?;
+                                    frame = Frame {
+                                        name: step.part,
+                                        start: left.len(),
+                                        rest,
+                                    };
+                                    table.insert(step.part, Mark::Open(left.len()))?;
+                                    idle += 1;
+                                }
+                            }
+                        } else {
                             list_node(alloc, wanted, map, zeros, nodes, node)?;
+                            count_one(opened);
                             frame.rest = step.others;
                             stack.push(frame)?;
                             frame = Frame {
@@ -195,17 +273,12 @@ fn decide<'a>(
                                 start: left.len(),
                                 rest,
                             };
-                            if taken == 0 {
-                                table.insert(step.part, Mark::Open(left.len()))?;
-                                idle += 1;
-                            } else {
-                                idle = 0;
-                                left = after(left, taken);
-                            }
+                            idle = 0;
+                            left = after(left, taken);
                         }
                     }
                 }
-            },
+            }
             None => match stack.pop() {
                 Some(above) => {
                     if frame.start == left.len() {
@@ -213,7 +286,7 @@ fn decide<'a>(
                     }
                     frame = above;
                 }
-                None => return Ok(at_end(left)),
+                None => return Ok(at_end(alloc, root, bytes, left)),
             },
         }
     }

@@ -11,7 +11,8 @@ use std::alloc::{AllocError, Global};
 use std::collections::BTreeMap;
 
 /// A part of a value, or the value itself, with the bytes that it encodes before its own parts: a primitive all
-/// its bytes, a sequence its count, an enum its tag, a struct and a tuple none.
+/// its bytes, a sequence its count, an enum its tag, a struct and a tuple none. The elements of a sequence that are
+/// primitives of some bytes are no parts: their bytes follow the count, in the node of the sequence.
 #[derive(Clone, Copy)]
 pub struct Node<'a> {
     pub name: &'a str,
@@ -63,8 +64,7 @@ pub fn list_node<'a>(
 
 /// The bytes of the value that has these nodes: the own bytes of each, one after another.
 ///
-/// Whether they are a value at all isn't asked; [`crate::is_member`] says so of the bytes. An error is a refused
-/// allocation.
+/// Whether they are a value at all isn't asked: [`crate::encode_value`] does. An error is a refused allocation.
 pub fn encode(alloc: Global, nodes: &[Node<'_>]) -> Result<Vec<u8>, AllocError>
     ensures { IfOk result (λ bytes. bytes.items ≡ joined_bytes (views nodes.now)) }
 {

@@ -11,8 +11,8 @@ use Rattle.borsh_values.proofs.members.decode.Goals as goal
 pub decide-requires-clause-table : goal.decide-requires-clause-table
 decide-requires-clause-table c = empty_table (definitions_in c.args.map.now) c.new-zeros.result c.new-zeros.ensures.empty
 
-pub returns-in-Member : goal.returns-in-Member
-returns-in-Member c =
+pub returns-in-Member-clause-value : goal.returns-in-Member-clause-value
+returns-in-Member-clause-value c =
     let C = definitions_in c.args.map.now in
     let root = c.args.root.now in
     let member = subst (λ a. IsAnswer C root c.args.bytes.now a) c.in-Member.is c.in_ok-decide.ensures.answer in
@@ -20,12 +20,12 @@ returns-in-Member c =
     record {
       answer = (nodes, member, nodes_bytes C nodes);
       determined = λ one es h. one_reading C root one [] [] (λ y a. subst (λ z. Reached C root z) (sym (among_one a)) stays) h nodes refl;
-      decided = λ v u e. cc;
+      decided = λ v u. tt;
     }
 
-pub returns : goal.returns
-returns c =
+pub returns-clause-value : goal.returns-clause-value
+returns-clause-value c =
     let C = definitions_in c.args.map.now in
     let root = c.args.root.now in
     let fault = subst (λ a. IsAnswer C root c.args.bytes.now a) c.in-Ambiguous.is c.in_ok-decide.ensures.answer in
-    record { answer = fault; determined = λ _. tt; decided = λ v u _. none_ambiguous C v u fault }
+    record { answer = fault; determined = λ _. tt; decided = λ v u. none_ambiguous C c.in-Ambiguous.name.now v u fault }

@@ -1,15 +1,12 @@
-use Rattle.std.proofs.Common.{◌≡◌, ℕ, suc, zero, ◌+◌, length, take, drop, map, List, refl, sym, ◌∙◌, ap, subst, arith, ◌<◌, ◌≤◌, ◌∷◌, [], ◌++◌, get_or, ℤ, true, false, Bool}
-use Rattle.std.specs.Prelude.{string_bytes, String, option_map, not}
+use Rattle.std.proofs.Common.{◌≡◌, ℕ, suc, zero, ◌+◌, length, take, drop, List, refl, sym, ap, subst, arith, ◌<◌, ◌∷◌, [], ◌++◌, ℤ, true, false, Bool}
+use Rattle.std.specs.Prelude.{string_bytes, not}
 use Rattle.std.specs.Ordering.{nat_cmp, is_eq}
 use Rattle.std.specs.List.{list_any}
 use Rattle.std.specs.BTreeSet.{BTreeSet, contains}
 use Rattle.std.specs.BTreeMap.{is_at}
-use Rattle.std.specs.Global.{Global}
 use Rattle.std.proofs.lemmas.Bool.Decides.{nat_tests}
-use Rattle.std.proofs.lemmas.Option.{slice_get_read, slice_get-map}
-use Rattle.std.proofs.lemmas.List.{length-map}
 use Rattle.borsh_values.specs.Unambiguous.{DistinctTags}
-use Rattle.borsh_values.proofs.FoundLaws.{take_next, distinct_left}
+use Rattle.borsh_values.proofs.FoundLaws.{unnamed, got_within, got_variant, got_none, take_next, distinct_left}
 use Rattle.borsh_values.proofs.DistinctLaws.{Keyed, keyed_none, keyed_more, keyed_twice}
 use Rattle.borsh_values.proofs.unambiguous.has_distinct_tags.Goals as goal
 
@@ -38,13 +35,13 @@ other_key m n f = grind (arith, nat_tests)
 pub loop-discriminant-preserved : goal.loop-discriminant-preserved
 loop-discriminant-preserved c =
     let items = c.args.variants.now.items in
-    let vs : List (ℤ × List ℕ) = map {A = ℤ × String Global × String Global} (λ v. (v.0, string_bytes v.2)) items in
+    let vs = unnamed items in
     let n = c.loop-discriminant.index in
     let f = c.in-Some.field-0.now in
     let l = c.in-Some.ensures.lookup in
     let d = c.deref.ensures.value in
-    let lt : n < length items = (let a = l.3.0 in let b = ap (λ xs. length xs) d in omega (arith, a, b)) in
-    let e = slice_get-map {A = ℤ × String Global × String Global} (λ v. (v.0, string_bytes v.2)) items n ∙ ap (λ o. option_map (λ v. (v.0, string_bytes v.2)) o) (slice_get_read items (length items) n f refl lt (l.1 ∙ ap (λ xs. get_or xs n f) d)) in
+    let lt : n < length items = got_within items _ n d l.3.0 in
+    let e = got_variant items _ n f d l.3.0 l.1 in
     let t = take_next vs n (f.0, string_bytes f.2) e in
     let key = c.tag_key-key.result in
     let old = c.loop-discriminant.keys in
@@ -61,13 +58,13 @@ loop-discriminant-preserved c =
 pub returns-then-not-branch : goal.returns-then-not-branch
 returns-then-not-branch c =
     let items = c.args.variants.now.items in
-    let vs : List (ℤ × List ℕ) = map {A = ℤ × String Global × String Global} (λ v. (v.0, string_bytes v.2)) items in
+    let vs = unnamed items in
     let n = c.loop-discriminant.index in
     let f = c.in-Some.field-0.now in
     let l = c.in-Some.ensures.lookup in
     let d = c.deref.ensures.value in
-    let lt : n < length items = (let a = l.3.0 in let b = ap (λ xs. length xs) d in omega (arith, a, b)) in
-    let e = slice_get-map {A = ℤ × String Global × String Global} (λ v. (v.0, string_bytes v.2)) items n ∙ ap (λ o. option_map (λ v. (v.0, string_bytes v.2)) o) (slice_get_read items (length items) n f refl lt (l.1 ∙ ap (λ xs. get_or xs n f) d)) in
+    let lt : n < length items = got_within items _ n d l.3.0 in
+    let e = got_variant items _ n f d l.3.0 l.1 in
     let t = take_next vs n (f.0, string_bytes f.2) e in
     let key = c.tag_key-key.result in
     let old = c.loop-discriminant.keys in
@@ -77,16 +74,10 @@ returns-then-not-branch c =
           (subst (λ l. DistinctTags c.args.width l) t (distinct_left c.args.width (take (n + 1) vs) (drop (n + 1) vs) (subst (λ l. DistinctTags c.args.width l) (sym (take_drop vs (n + 1))) h)))),
     )
 
-take_whole : {A : Type 0} (xs : List A) (i : ℕ) → length xs ≤ i → take i xs ≡ xs
-take_whole [] zero h = refl
-take_whole [] (suc i) h = refl
-take_whole (x ∷ xs) zero h = absurd (omega arith)
-take_whole (x ∷ xs) (suc i) h = ap (λ l. x ∷ l) (take_whole xs i (omega arith))
-
 pub returns : goal.returns
 returns c =
     let items = c.args.variants.now.items in
-    let vs : List (ℤ × List ℕ) = map {A = ℤ × String Global × String Global} (λ v. (v.0, string_bytes v.2)) items in
+    let vs = unnamed items in
     let l = c.in_default.ensures.lookup in
-    let low : length vs ≤ c.loop-discriminant.index = (let a = l.3 in let b = ap (λ xs. length xs) c.deref.ensures.value in let k = length-map {B = ℤ × List ℕ} items (λ v. (v.0, string_bytes v.2)) in omega (arith, a, b, k)) in
-    ((λ _. subst (λ l. DistinctTags c.args.width l) (take_whole vs c.loop-discriminant.index low) c.loop-discriminant.invariant.keyed.distinct), λ _. refl)
+    let whole = got_none items _ c.loop-discriminant.index c.deref.ensures.value l.3 in
+    ((λ _. subst (λ l. DistinctTags c.args.width l) whole c.loop-discriminant.invariant.keyed.distinct), λ _. refl)
