@@ -1,5 +1,5 @@
 -- What a call that reads takes from its reader, and why it is refused.
-use Rattle.std.specs.Prelude.{◌≡◌, ◌≢◌, ℕ, Bool, true, false, List, [], ◌∷◌, ◌++◌, Some, IfSome, OnSome, ◌⊎◌, Option, Result, IfOk, IfErr, IsErrAnd, MatchBool, MatchOption, MatchResult, Vec, length}
+use Rattle.std.specs.Prelude.{◌≡◌, ◌≢◌, ℕ, Bool, true, false, List, [], ◌∷◌, ◌++◌, Some, IfSome, OnSome, ◌⊎◌, Option, Result, IfOk, IfErr, IsErrAnd, MatchOption, MatchResult, Vec, length}
 use Rattle.std.specs.Global.{Global}
 use Rattle.std.specs.Io.KnownBytes.{IsAtEnd}
 use Rattle.borsh_io.specs.declared.error.Error.{Error}
@@ -8,7 +8,7 @@ use Rattle.borsh_io.specs.declared.error.ErrorKind.TheVariants.{InvalidData, Out
 use Rattle.borsh_io.specs.Errors.{error_kind}
 use Rattle.borsh_io.specs.Stream.{ReaderState, CountedUp, Consumed, ConsumedSome}
 use Rattle.borsh_codec.specs.Codec.{Codec, IsDecodable}
-use Rattle.borsh_codec.specs.Shapes.{by_encoding, array, allocated_array}
+use Rattle.borsh_codec.specs.Shapes.{by_encoding, allocated_array}
 use Rattle.borsh_codec.specs.Untouched.{Untouched}
 
 -- a front with P was taken, and no fault came
@@ -113,11 +113,6 @@ pub record DecodesAs {A B R : Type 0} (view : B → A) (c : Codec A) (state : R 
 abbrev pub DecodesVec : {A R : Type 0} → Codec (List A) → (R → ReaderState) → R → R → Result (Vec A Global) Error → Type 0
 DecodesVec {A = A} c state old new result = DecodesAs (λ (v : Vec A Global). v.items) c state old new result
 
--- the outcome of a call that may decode a value: with `None` it did nothing
-pub record MayDecode {A R : Type 0} (c : Codec A) (state : R → ReaderState) (old new : R) (result : Result (Option A) Error) : Type 0 where
-  pub ok : IfOk result (λ o. MatchOption o (new ≡ old) (λ v. Decoded A c (state old) (state new) v))
-  pub err : IfErr result (λ e. NotDecoded A c (state old) (state new) (error_kind e))
-
 -- the same where one byte, the tag, was taken before
 pub record DecodesAfterTag {A R : Type 0} (tag : ℕ) (c : Codec A) (state : R → ReaderState) (old new : R) (result : Result A Error) : Type 0 where
   -- `Ok`: the tag and a prefix of the bytes to come decode to the value, and the rest is left
@@ -129,11 +124,6 @@ pub record DecodesAfterTag {A R : Type 0} (tag : ℕ) (c : Codec A) (state : R �
 pub record DecodesAtOnce {A R : Type 0} (n : ℕ) (c : Codec A) (state : R → ReaderState) (old new : R) (result : Result (Option (Vec A Global)) Error) : Type 0 where
   pub ok : IfOk result (λ o. MatchOption o (new ≡ old) (λ v. Decoded (List A) (allocated_array n c) (state old) (state new) v.items))
   pub err : IfErr result (λ e. NotDecoded (List A) (allocated_array n c) (state old) (state new) (error_kind e))
-
--- the outcome of a call that may decode values over those of a slice: with `false` it did nothing
-pub record DecodesOver {A R : Type 0} (c : Codec A) (state : R → ReaderState) (old new : R) (before after : List A) (result : Result Bool Error) : Type 0 where
-  pub ok : IfOk result (λ done. MatchBool done (Decoded (List A) (array (length before) c) (state old) (state new) after) (new ≡ old))
-  pub err : IfErr result (λ e. NotDecoded (List A) (array (length before) c) (state old) (state new) (error_kind e))
 
 -- the outcome of a call that is to decode all that a reader has
 pub record DecodesReader {A R : Type 0} (c : Codec A) (state : R → ReaderState) (old new : R) (result : Result A Error) : Type 0 where

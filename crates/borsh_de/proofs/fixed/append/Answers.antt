@@ -1,4 +1,4 @@
-use Rattle.std.proofs.Common.{rules, of_calls, ◌≡◌, ◌∙◌, List, ℕ, length, ap, OnOk, subst}
+use Rattle.std.proofs.Common.{rules, of_calls, ◌≡◌, ◌∙◌, length, ap, OnOk, subst}
 use Rattle.std.specs.Iterator.Adapters.{map_source}
 use Rattle.std.specs.Slice.Iter.{chunks_exact_rest, chunks_exact_size}
 use Rattle.borsh_de.specs.FixedWidth.{AppendsDecoded}

@@ -1,4 +1,4 @@
-use Rattle.std.proofs.Common.{arith, rules, ◌≡◌, ◌*◌, ◌≤◌, length, take, refl, sym, ◌∙◌, ap, length-append}
+use Rattle.std.proofs.Common.{arith, rules, ◌≡◌, ◌*◌, ◌≤◌, length, refl, sym, ◌∙◌, ap, length-append}
 use Rattle.std.proofs.lemmas.List.{length-take-le}
 use Rattle.borsh_codec.proofs.DecodeViews.{as_err, as_memory}
 use Rattle.borsh_codec.proofs.ReadSteps.{took_then}
