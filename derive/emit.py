@@ -26,6 +26,7 @@ BORSH = {
     'BorshSchema': 'borsh', 'Declaration': 'borsh::schema', 'Definition': 'borsh::schema',
     'FieldTypes': 'borsh::schema', 'SchemaBuildError': 'borsh::schema', 'VariantTypes': 'borsh::schema',
     'declared': 'borsh::schema', 'declared_with': 'borsh::schema', 'add_enum': 'borsh::schema',
+    'add_named_with': 'borsh::schema', 'add_unnamed_with': 'borsh::schema',
     'add_named': 'borsh::schema', 'add_unnamed': 'borsh::schema', 'add_unit': 'borsh::schema',
     'BTreeMap': 'std::collections', 'Global': 'std::alloc',
 }

@@ -57,11 +57,6 @@ def definitions_of(writer):
     return 'definitions: &mut %s<%s, %s>' % types
 
 
-def text_of_name(writer):
-    """The name of the type as an argument."""
-    return 'Self::declaration(alloc)?.as_str()' if named_parameters(writer) else '"%s"' % writer.marked.name
-
-
 def chain(items, end):
     """`(a, (b, end))`."""
     return '(%s, %s)' % (items[0], chain(items[1:], end)) if items else end
@@ -120,13 +115,19 @@ def struct_parts(writer, kind, described):
 
 def struct_call(writer, kind):
     """The call that adds these definitions."""
-    name = text_of_name(writer)
+    parameters = named_parameters(writer)
+    name = '"%s"' % writer.marked.name
     if kind == 'unit':
         return call(writer.lib('add_unit'), ['alloc', name, 'definitions'])
-    if kind == 'tuple':
-        return call('%s::<%s>' % (writer.lib('add_unnamed'), writer.list_use()), ['alloc', name, 'definitions'])
-    names = '&[%s]' % ', '.join('"%s"' % field.name for field in writer.marked.fields.encoded())
-    return call('%s::<%s>' % (writer.lib('add_named'), writer.list_use()), ['alloc', name, names, 'definitions'])
+    arguments = ['alloc', name, 'definitions']
+    if kind == 'named':
+        arguments.insert(2, '&[%s]' % ', '.join('"%s"' % field.name for field in writer.marked.fields.encoded()))
+    function = 'add_named' if kind == 'named' else 'add_unnamed'
+    types = [writer.list_use()]
+    if parameters:
+        function += '_with'
+        types = [parameters[0], chain(parameters[1:], '()')] + types
+    return call('%s::<%s>' % (writer.lib(function), ', '.join(types)), arguments)
 
 
 # ---- enums

@@ -10,8 +10,8 @@ use super::my_enum::MyEnum;
 use super::readme::A;
 use borsh::BorshSchema;
 use borsh::schema::{
-    Both, Declaration, Definition, FieldTypes, SchemaBuildError, SchemaParts, add_enum, add_named,
-    add_unit, add_unnamed, declared,
+    Both, Declaration, Definition, FieldTypes, SchemaBuildError, SchemaParts, add_named,
+    add_tagged_enum, add_unit, add_unnamed, declared,
 };
 use std::alloc::Global;
 use std::collections::BTreeMap;
@@ -113,7 +113,7 @@ impl BorshSchema for MyEnum {
         alloc: Global,
         definitions: &mut BTreeMap<Declaration, Definition>,
     ) -> Result<(), SchemaBuildError> {
-        add_enum::<Both<ZeroPart, Both<OnePart, ManyPart>>>(
+        add_tagged_enum::<Both<ZeroPart, Both<OnePart, ManyPart>>>(
             alloc,
             "MyEnum",
             &[0, 1, 2],

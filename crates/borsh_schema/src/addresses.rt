@@ -8,7 +8,7 @@ ghost use Rattle.borsh_definitions.proofs.Laws.Members.{describes_contramap, des
 ghost use Rattle.borsh_definitions.proofs.Laws.Quoted.{struct_described};
 
 use super::definitions::SchemaBuildError;
-use super::fields::{FieldTypes, add_enum, add_named, add_unnamed};
+use super::fields::{FieldTypes, add_named, add_tagged_enum, add_unnamed};
 use super::parts::{Both, SchemaParts, declared};
 use super::schema::BorshSchema;
 use borsh_walks::{Declaration, Definition};
@@ -120,7 +120,7 @@ impl BorshSchema for IpAddr {
         alloc: Global,
         definitions: &mut BTreeMap<Declaration, Definition>,
     ) -> Result<(), SchemaBuildError> {
-        add_enum::<Both<V4Variant, V6Variant>>(
+        add_tagged_enum::<Both<V4Variant, V6Variant>>(
             alloc,
             "IpAddr",
             &[0, 1],

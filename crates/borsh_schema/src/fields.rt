@@ -202,7 +202,7 @@ fn push_variants(
 
 /// Adds an enum whose variants have these tags, names and types, and the definitions of the types, `P`.
 /// The answers are those of [`BorshSchema::add_definitions_recursively`].
-pub fn add_enum<P: SchemaParts>(
+pub fn add_tagged_enum<P: SchemaParts>(
     alloc: Global,
     name: &str,
     tags: &[u8],

@@ -25,6 +25,6 @@ pub mod units;
 
 pub use container::{BorshSchemaContainer, Definitions};
 pub use definitions::{SchemaBuildError, add_definition};
-pub use fields::{FieldTypes, add_enum, add_named, add_unit, add_unnamed};
+pub use fields::{FieldTypes, add_named, add_tagged_enum, add_unit, add_unnamed};
 pub use parts::{Both, SchemaParts, add_with_parts, declared, field, named_variant, variant};
 pub use schema::BorshSchema;

@@ -8,7 +8,7 @@ ghost use Rattle.borsh_definitions.specs.Own.{length_range_name, length_range_de
 
 use super::container::BorshSchemaContainer;
 use super::definitions::SchemaBuildError;
-use super::fields::{add_enum, add_named, add_unit, add_unnamed};
+use super::fields::{add_named, add_tagged_enum, add_unit, add_unnamed};
 use super::parts::{Both, SchemaParts, add_with_parts, declared, field};
 use super::schema::BorshSchema;
 use borsh_walks::{
@@ -108,7 +108,7 @@ impl BorshSchema for Fields {
         alloc: Global,
         definitions: &mut BTreeMap<Declaration, Definition>,
     ) -> Result<(), SchemaBuildError> {
-        add_enum::<Both<NamedFieldsVariant, Both<UnnamedFieldsVariant, EmptyVariant>>>(
+        add_tagged_enum::<Both<NamedFieldsVariant, Both<UnnamedFieldsVariant, EmptyVariant>>>(
             alloc,
             "Fields",
             &[0, 1, 2],
@@ -220,7 +220,7 @@ impl BorshSchema for Definition {
         alloc: Global,
         definitions: &mut BTreeMap<Declaration, Definition>,
     ) -> Result<(), SchemaBuildError> {
-        add_enum::<
+        add_tagged_enum::<
             Both<
                 PrimitiveVariant,
                 Both<SequenceVariant, Both<TupleVariant, Both<EnumVariant, StructVariant>>>,

@@ -1,11 +1,15 @@
 // The names of types with parameters.
 ghost use Rattle.std.specs.Prelude.{◌≡◌, IfOk, IfErr, string_bytes};
 ghost use Rattle.borsh_schema.specs.declared.definitions.SchemaBuildError.TheVariants.{OutOfMemory};
+ghost use Rattle.borsh_schema.specs.Joined.{AddsDefinitions};
+ghost use Rattle.borsh_schema.specs.Names.{texts};
+ghost use Rattle.borsh_schema.specs.Types.{named_struct, unnamed_struct};
 ghost use Rattle.borsh_variants.specs.Variants.{name_with};
 
-use borsh_schema::{BorshSchema, FieldTypes, SchemaBuildError};
-use borsh_walks::Declaration;
+use borsh_schema::{BorshSchema, FieldTypes, SchemaBuildError, add_named, add_unnamed};
+use borsh_walks::{Declaration, Definition};
 use std::alloc::Global;
+use std::collections::BTreeMap;
 
 /// The name of a type with its parameters, which are `T` and those of `R`, as `Pair<u8, String>`. The error
 /// is always `OutOfMemory`.
@@ -25,4 +29,33 @@ pub fn declared_with<T: BorshSchema, R: FieldTypes>(
     R::push_names(alloc, &mut text)?;
     text.push_str(">")?;
     Ok(text)
+}
+
+/// Adds a struct whose parameters are `T` and those of `R`, with these names of fields, and the definitions of
+/// their types, `P`. The answers are those of
+/// [`BorshSchema::add_definitions_recursively`](borsh_schema::BorshSchema::add_definitions_recursively).
+pub fn add_named_with<T: BorshSchema, R: FieldTypes, P: FieldTypes>(
+    alloc: Global,
+    name: &str,
+    fields: &[&str],
+    definitions: &mut BTreeMap<Declaration, Definition>,
+) -> Result<(), SchemaBuildError>
+    ensures { AddsDefinitions definitions.old definitions.new
+        (named_struct (name_with name.now T.name R.names) (texts fields.now) P.names P.all_parts) result }
+{
+    let declaration = declared_with::<T, R>(alloc, name)?;
+    add_named::<P>(alloc, declaration.as_str(), fields, definitions)
+}
+
+/// The same of a struct whose fields have no names.
+pub fn add_unnamed_with<T: BorshSchema, R: FieldTypes, P: FieldTypes>(
+    alloc: Global,
+    name: &str,
+    definitions: &mut BTreeMap<Declaration, Definition>,
+) -> Result<(), SchemaBuildError>
+    ensures { AddsDefinitions definitions.old definitions.new
+        (unnamed_struct (name_with name.now T.name R.names) P.names P.all_parts) result }
+{
+    let declaration = declared_with::<T, R>(alloc, name)?;
+    add_unnamed::<P>(alloc, declaration.as_str(), definitions)
 }

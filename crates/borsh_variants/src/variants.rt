@@ -139,7 +139,7 @@ fn add_variant<P: FieldTypes>(
 ) -> Result<(), SchemaBuildError>
     ensures { AddsDefinitions definitions.old definitions.new
         (defined (variant_type name.now variant.now)
-            (variant_fields (texts fields.now) P.names) P.all_parts) result }
+        (variant_fields (texts fields.now) P.names) P.all_parts) result }
 {
     let fields = fields_of::<P>(alloc, fields)?;
     let declaration = type_of(alloc, name, variant)?;

@@ -9,7 +9,7 @@ use super::generics::Pair;
 use borsh::de::{FromParts, read_parts};
 use borsh::io::{Read, Result, Write};
 use borsh::schema::{
-    Declaration, Definition, FieldTypes, SchemaBuildError, add_named, declared_with,
+    Declaration, Definition, FieldTypes, SchemaBuildError, add_named_with, declared_with,
 };
 use borsh::ser::write_two;
 use borsh::{BorshDeserialize, BorshSchema, BorshSerialize, BorshType};
@@ -84,9 +84,9 @@ impl<A: BorshSchema, B: BorshSchema> BorshSchema for Pair<A, B> {
         alloc: Global,
         definitions: &mut BTreeMap<Declaration, Definition>,
     ) -> std::result::Result<(), SchemaBuildError> {
-        add_named::<FieldList<A, B>>(
+        add_named_with::<A, (B, ()), FieldList<A, B>>(
             alloc,
-            Self::declaration(alloc)?.as_str(),
+            "Pair",
             &["first", "second"],
             definitions,
         )

@@ -11,7 +11,7 @@ use super::generics::Table;
 use borsh::de::{FromParts, read_parts};
 use borsh::io::{Read, Result, Write};
 use borsh::schema::{
-    Declaration, Definition, FieldTypes, SchemaBuildError, add_named, declared_with,
+    Declaration, Definition, FieldTypes, SchemaBuildError, add_named_with, declared_with,
 };
 use borsh::ser::write_two;
 use borsh::{BorshDeserialize, BorshSchema, BorshSerialize, BorshType};
@@ -101,12 +101,7 @@ where
         alloc: Global,
         definitions: &mut BTreeMap<Declaration, Definition>,
     ) -> std::result::Result<(), SchemaBuildError> {
-        add_named::<FieldList<T>>(
-            alloc,
-            Self::declaration(alloc)?.as_str(),
-            &["rows", "by_number"],
-            definitions,
-        )
+        add_named_with::<T, (), FieldList<T>>(alloc, "Table", &["rows", "by_number"], definitions)
     }
 
     ghost describes = { λ C h. describes_contramap (λ v. (v.rows, v.by_number))

@@ -1,7 +1,6 @@
 // Types as the tests of the original crate have them.
 use borsh::BorshKey;
-use std::boxed::BoxedSlice;
-use std::boxed::BoxedStr;
+use std::boxed::{BoxedSlice, BoxedStr};
 use std::collections::HashMap;
 use std::hash::Hash;
 use std::marker::PhantomData;
@@ -37,37 +36,6 @@ pub enum XY {
     F(u64),
 }
 
-/// The same variants with the tags that they have by their places.
-// derive: borsh, schema
-#[derive(Drop)]
-pub enum XYNoDiscriminant {
-    A,
-    B,
-    C,
-    D(u32, u32),
-    E,
-    F(u64),
-}
-
-/// Discriminants in another order than the variants.
-// derive: borsh
-#[derive(Drop)]
-pub enum X {
-    A,
-    B = 20,
-    C,
-    D,
-    E = 10,
-    F,
-}
-
-/// One variant, whose tag isn't 0.
-// derive: borsh, schema
-#[derive(Drop)]
-pub enum MyDiscriminantEnum {
-    A = 20,
-}
-
 /// Variants of each kind.
 // derive: borsh
 #[derive(Drop)]
@@ -77,11 +45,6 @@ pub enum MixedWithUnitVariants {
     C { x: i32, y: i32 },
     D,
 }
-
-/// Fields without names.
-// derive: borsh, schema
-#[derive(Drop)]
-pub struct Unnamed(pub u64, pub String);
 
 /// Values on the heap: the schema is that of what they hold.
 // derive: borsh, schema

@@ -9,7 +9,7 @@ use super::originals::Parametrized;
 use borsh::de::{FromParts, read_parts};
 use borsh::io::{Read, Result, Write};
 use borsh::schema::{
-    Declaration, Definition, FieldTypes, SchemaBuildError, add_named, declared_with,
+    Declaration, Definition, FieldTypes, SchemaBuildError, add_named_with, declared_with,
 };
 use borsh::ser::write_two;
 use borsh::{BorshDeserialize, BorshSchema, BorshSerialize, BorshType};
@@ -85,9 +85,9 @@ impl<K: BorshSchema, V> BorshSchema for Parametrized<K, V> {
         alloc: Global,
         definitions: &mut BTreeMap<Declaration, Definition>,
     ) -> std::result::Result<(), SchemaBuildError> {
-        add_named::<FieldList<K, V>>(
+        add_named_with::<K, (), FieldList<K, V>>(
             alloc,
-            Self::declaration(alloc)?.as_str(),
+            "Parametrized",
             &["field", "another"],
             definitions,
         )

@@ -1,14 +1,19 @@
 // The encodings of the types, worked out by the rules of the format, and what is refused.
 use super::generics::{Grid, Ledger, Listed, Pair, Table};
 use super::messages::{Envelope, Level, Message, Request, Version};
+use super::originals::{
+    A, B, Boxed, C, Generic, Markers, MixedWithUnitVariants, MyEnum, Parametrized, XY,
+};
 use super::records::{Account, Block, Cached, Directory, Marker, Name, Point, Settings, UserId};
 use super::shapes::Shape;
 use borsh::io::{ErrorKind, Result as IoResult};
 use borsh::{
-    BorshDeserialize, BorshSchema, BorshSerialize, from_slice, max_serialized_size, to_vec,
+    BorshDeserialize, BorshSchema, BorshSerialize, from_slice, max_serialized_size,
+    schema_container_of, to_vec,
 };
 use std::alloc::{AllocError, Global};
 use std::collections::{BTreeMap, BTreeSet, HashMap};
+use std::marker::PhantomData;
 use std::net::Ipv4Addr;
 use std::test::Fail;
 
@@ -282,6 +287,110 @@ fn schemas_give_sizes(rt: HostRuntime) -> Result<(), Fail> {
     assert!(rt; is_greatest_size::<Marker>(alloc, 0));
     assert!(rt; is_greatest_size::<Option<(Point, Marker)>>(alloc, 9));
     assert!(rt; is_greatest_size::<Name>(alloc, 4294967299));
+    Ok(())
+}
+
+/// Whether the type's schema container has this encoding.
+fn has_schema<T: BorshSchema>(alloc: Global, bytes: &[u8]) -> Result<bool, Fail> {
+    let container = schema_container_of::<T>(alloc)?;
+    Ok(to_vec(alloc, &container)?.as_slice() == bytes)
+}
+
+#[test]
+fn schemas_are_those_of_the_original(rt: HostRuntime) -> Result<(), Fail> {
+    let alloc = rt.alloc();
+    let bytes =
+        b"\x01\0\0\0A\x04\0\0\0\x01\0\0\0A\x04\0\x02\0\0\0\x01\0\0\0x\x03\0\0\0u64\x01\0\0\0y\x06\
+          \0\0\0String\x06\0\0\0String\x01\x04\0\0\0\0\0\0\0\0\xff\xff\xff\xff\0\0\0\0\x02\0\0\0u8\
+          \x03\0\0\0u64\0\x08\x02\0\0\0u8\0\x01";
+    assert!(rt; has_schema::<A>(alloc, bytes)?);
+    let bytes =
+        b"\x06\0\0\0MyEnum\x06\0\0\0\x06\0\0\0MyEnum\x03\x01\x03\0\0\0\0\0\0\0\0\0\0\0\x04\0\0\0Ze\
+          ro\x0c\0\0\0MyEnum__Zero\x01\0\0\0\0\0\0\0\x03\0\0\0One\x0b\0\0\0MyEnum__One\x02\0\0\0\0\
+          \0\0\0\x04\0\0\0Many\x0c\0\0\0MyEnum__Many\x0c\0\0\0MyEnum__Many\x04\x01\x01\0\0\0\x07\0\
+          \0\0Vec<u8>\x0b\0\0\0MyEnum__One\x04\x01\x01\0\0\0\x02\0\0\0u8\x0c\0\0\0MyEnum__Zero\x04\
+          \x02\x07\0\0\0Vec<u8>\x01\x04\0\0\0\0\0\0\0\0\xff\xff\xff\xff\0\0\0\0\x02\0\0\0u8\x02\0\
+          \0\0u8\0\x01";
+    assert!(rt; has_schema::<MyEnum>(alloc, bytes)?);
+    let bytes =
+        b"\x02\0\0\0XY\x09\0\0\0\x02\0\0\0XY\x03\x01\x06\0\0\0\0\0\0\0\0\0\0\0\x01\0\0\0A\x05\0\0\
+          \0XY__A\x14\0\0\0\0\0\0\0\x01\0\0\0B\x05\0\0\0XY__B\x15\0\0\0\0\0\0\0\x01\0\0\0C\x05\0\0\
+          \0XY__C\x16\0\0\0\0\0\0\0\x01\0\0\0D\x05\0\0\0XY__D\x0a\0\0\0\0\0\0\0\x01\0\0\0E\x05\0\0\
+          \0XY__E\x0b\0\0\0\0\0\0\0\x01\0\0\0F\x05\0\0\0XY__F\x05\0\0\0XY__A\x04\x02\x05\0\0\0XY__\
+          B\x04\x02\x05\0\0\0XY__C\x04\x02\x05\0\0\0XY__D\x04\x01\x02\0\0\0\x03\0\0\0u32\x03\0\0\0\
+          u32\x05\0\0\0XY__E\x04\x02\x05\0\0\0XY__F\x04\x01\x01\0\0\0\x03\0\0\0u64\x03\0\0\0u32\0\
+          \x04\x03\0\0\0u64\0\x08";
+    assert!(rt; has_schema::<XY>(alloc, bytes)?);
+    let bytes =
+        b"\x14\0\0\0Parametrized<String>\x04\0\0\0\x02\0\0\0()\0\0\x14\0\0\0Parametrized<String>\
+          \x04\0\x02\0\0\0\x05\0\0\0field\x06\0\0\0String\x07\0\0\0another\x02\0\0\0()\x06\0\0\0St\
+          ring\x01\x04\0\0\0\0\0\0\0\0\xff\xff\xff\xff\0\0\0\0\x02\0\0\0u8\x02\0\0\0u8\0\x01";
+    assert!(rt; has_schema::<Parametrized<String, u32>>(alloc, bytes)?);
+    let bytes =
+        b"\x07\0\0\0Markers\x04\0\0\0\x02\0\0\0()\0\0\x07\0\0\0Markers\x03\x01\x02\0\0\0\0\0\0\0\0\
+          \0\0\0\x04\0\0\0Item\x0d\0\0\0Markers__Item\x01\0\0\0\0\0\0\0\x05\0\0\0Other\x0e\0\0\0Ma\
+          rkers__Other\x0d\0\0\0Markers__Item\x04\x01\x01\0\0\0\x02\0\0\0()\x0e\0\0\0Markers__Othe\
+          r\x04\x01\x01\0\0\0\x02\0\0\0()";
+    assert!(rt; has_schema::<Markers<u8, u16>>(alloc, bytes)?);
+    let bytes =
+        b"\x05\0\0\0Boxed\x05\0\0\0\x05\0\0\0Boxed\x04\0\x03\0\0\0\x02\0\0\0f1\x03\0\0\0u64\x02\0\
+          \0\0f2\x06\0\0\0String\x02\0\0\0f3\x07\0\0\0Vec<u8>\x06\0\0\0String\x01\x04\0\0\0\0\0\0\
+          \0\0\xff\xff\xff\xff\0\0\0\0\x02\0\0\0u8\x07\0\0\0Vec<u8>\x01\x04\0\0\0\0\0\0\0\0\xff\
+          \xff\xff\xff\0\0\0\0\x02\0\0\0u8\x03\0\0\0u64\0\x08\x02\0\0\0u8\0\x01";
+    assert!(rt; has_schema::<Boxed>(alloc, bytes)?);
+    let bytes =
+        b"\x16\0\0\0Pair<u8,\x20Option<bool>>\x05\0\0\0\x02\0\0\0()\0\0\x0c\0\0\0Option<bool>\x03\
+          \x01\x02\0\0\0\0\0\0\0\0\0\0\0\x04\0\0\0None\x02\0\0\0()\x01\0\0\0\0\0\0\0\x04\0\0\0Some\
+          \x04\0\0\0bool\x16\0\0\0Pair<u8,\x20Option<bool>>\x04\0\x02\0\0\0\x05\0\0\0first\x02\0\0\
+          \0u8\x06\0\0\0second\x0c\0\0\0Option<bool>\x04\0\0\0bool\0\x01\x02\0\0\0u8\0\x01";
+    assert!(rt; has_schema::<Pair<u8, Option<bool>>>(alloc, bytes)?);
+    Ok(())
+}
+
+#[test]
+fn types_of_the_original_s_tests_have_its_encodings(rt: HostRuntime) -> Result<(), Fail> {
+    let alloc = rt.alloc();
+    let a = A {
+        x: 3301,
+        y: text(alloc, "liber primus")?,
+    };
+    assert!(rt; is_encoding(alloc, &a, b"\xe5\x0c\0\0\0\0\0\0\x0c\0\0\0liber primus")?);
+    let many = MyEnum::Many(vec![in alloc; 1u8, 2u8]?);
+    assert!(rt; is_encoding(alloc, &many, b"\x02\x02\0\0\0\x01\x02")?);
+    assert!(rt; is_encoding(alloc, &XY::A, b"\0")?);
+    assert!(rt; is_encoding(alloc, &XY::B, b"\x14")?);
+    assert!(rt; is_encoding(alloc, &XY::C, b"\x15")?);
+    assert!(rt; is_encoding(alloc, &XY::D(12, 14), b"\x16\x0c\0\0\0\x0e\0\0\0")?);
+    assert!(rt; is_encoding(alloc, &XY::E, b"\x0a")?);
+    assert!(rt; is_encoding(alloc, &XY::F(35325423), b"\x0b\xef\x05\x1b\x02\0\0\0\0")?);
+    assert!(rt; is_encoding(alloc, &MixedWithUnitVariants::A(13), b"\0\x0d\0")?);
+    let mixed = MixedWithUnitVariants::C { x: 132, y: -17 };
+    assert!(rt; is_encoding(alloc, &mixed, b"\x02\x84\0\0\0\xef\xff\xff\xff")?);
+    assert!(rt; is_encoding(alloc, &MixedWithUnitVariants::D, b"\x03")?);
+    let b: B<u64, String> = B::X {
+        f: vec![in alloc; 1u64, 2u64]?,
+    };
+    let generic = Generic {
+        x: vec![in alloc; text(alloc, "foo")?, text(alloc, "bar")?]?,
+        y: text(alloc, "world")?,
+        b,
+        pd: PhantomData,
+        c: Err(text(alloc, "error")?),
+        d: [0, 1, 2, 3, 4],
+    };
+    let bytes =
+        b"\x02\0\0\0\x03\0\0\0foo\x03\0\0\0bar\x05\0\0\0world\0\x02\0\0\0\x01\0\0\0\0\0\0\0\x02\0\0\0\0\0\0\0\0\
+          \x05\0\0\0error\0\0\0\0\0\0\0\0\x01\0\0\0\0\0\0\0\x02\0\0\0\0\0\0\0\x03\0\0\0\0\0\0\0\x04\0\0\0\0\0\0\0";
+    assert!(rt; is_encoding(alloc, &generic, bytes)?);
+    let mut map = HashMap::new(alloc);
+    map.insert(34u32, text(alloc, "another")?)?;
+    map.insert(14, text(alloc, "value")?)?;
+    let hashed = C {
+        a: text(alloc, "field")?,
+        b: map,
+    };
+    let bytes = b"\x05\0\0\0field\x02\0\0\0\x0e\0\0\0\x05\0\0\0value\x22\0\0\0\x07\0\0\0another";
+    assert!(rt; is_encoding(alloc, &hashed, bytes)?);
     Ok(())
 }
 

@@ -1,0 +1,97 @@
+// Written by borsh_derive.py from types.rt: edit that file, and run the program again.
+ghost use Rattle.borsh.specs.Laws.OfParts.{contramap, contramap-lawful, from, key_facts};
+ghost use Rattle.borsh.specs.Schema.Laws.Members.{all_more, all_one, describes_contramap, describes_parts};
+ghost use Rattle.borsh.specs.Schema.Laws.Quoted.{struct_described, struct_parts};
+ghost use Rattle.borsh.specs.Schema.Variants.{name_with};
+ghost use Rattle.std.specs.Prelude.{codes, refl, ◌∷◌, []};
+
+use super::types::Pair;
+use borsh::de::{FromParts, read_parts};
+use borsh::io::{Read, Result, Write};
+use borsh::schema::{
+    Declaration, Definition, FieldTypes, SchemaBuildError, add_named_with, declared_with,
+};
+use borsh::ser::write_two;
+use borsh::{BorshDeserialize, BorshSchema, BorshSerialize, BorshType};
+use std::alloc::Global;
+use std::collections::BTreeMap;
+
+/// The fields of [`Pair`], in order.
+type Fields<A, B> = (A, B);
+
+impl<A: BorshType, B: BorshType> BorshType for Pair<A, B> {
+    ghost codec = { contramap (λ v. (v.first, v.second)) ⟦<Fields<A, B> as BorshType>⟧.codec };
+
+    ghost lawful_if = { from
+        (contramap-lawful (λ v. (v.first, v.second)))
+        ⟦<Fields<A, B> as BorshType>⟧.lawful_if };
+
+    ghost premises = { Prim.search (key_facts, A.premises, B.premises) };
+
+    fn encodes_empty() -> bool {
+        <Fields<A, B>>::encodes_empty()
+    }
+
+    fn element_size() -> usize {
+        <Fields<A, B>>::element_size()
+    }
+}
+
+impl<A: BorshSerialize, B: BorshSerialize> BorshSerialize for Pair<A, B> {
+    fn serialize<W: Write>(&self, alloc: Global, writer: &mut W) -> Result<()> {
+        write_two(&self.first, &self.second, alloc, writer)
+    }
+}
+
+impl<A: BorshDeserialize, B: BorshDeserialize> FromParts for Pair<A, B> {
+    type Parts = Fields<A, B>;
+
+    ghost view = { λ v. (v.first, v.second) };
+
+    fn from_parts(fields: Fields<A, B>) -> Pair<A, B> {
+        let (first, second) = fields;
+        Pair { first, second }
+    }
+}
+
+impl<A: BorshDeserialize, B: BorshDeserialize> BorshDeserialize for Pair<A, B> {
+    fn deserialize_reader<R: Read>(alloc: Global, reader: &mut R) -> Result<Pair<A, B>> {
+        read_parts(alloc, reader)
+    }
+}
+
+/// The fields of [`Pair`] as its schema goes through them.
+type FieldList<A, B> = (A, (B, ()));
+
+impl<A: BorshSchema, B: BorshSchema> BorshSchema for Pair<A, B> {
+    ghost name = { name_with (codes "Pair") A.name (B.name ∷ []) };
+
+    ghost parts = { struct_parts
+        (name_with (codes "Pair") A.name (B.name ∷ []))
+        (codes "first" ∷ codes "second" ∷ [])
+        ⟦<FieldList<A, B> as FieldTypes>⟧.described };
+
+    ghost described = { struct_described
+        (λ v. (v.first, (v.second, tt)))
+        ⟦<FieldList<A, B> as FieldTypes>⟧.described
+        refl };
+
+    fn declaration(alloc: Global) -> std::result::Result<Declaration, SchemaBuildError> {
+        declared_with::<A, (B, ())>(alloc, "Pair")
+    }
+
+    fn add_definitions_recursively(
+        alloc: Global,
+        definitions: &mut BTreeMap<Declaration, Definition>,
+    ) -> std::result::Result<(), SchemaBuildError> {
+        add_named_with::<A, (B, ()), FieldList<A, B>>(
+            alloc,
+            "Pair",
+            &["first", "second"],
+            definitions,
+        )
+    }
+
+    ghost describes = { λ C h. describes_contramap (λ v. (v.first, v.second))
+        (describes_parts h.0 (all_more (A.describes C h.1.0) (all_one (B.describes C h.1.1.0)))) };
+}

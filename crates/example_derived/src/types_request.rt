@@ -1,0 +1,133 @@
+// Written by borsh_derive.py from types.rt: edit that file, and run the program again.
+ghost use Rattle.borsh.specs.Laws.OfParts.{contramap, key_facts};
+ghost use Rattle.borsh.specs.Cases.{fields, left, right};
+ghost use Rattle.borsh.specs.CaseLaws.{enum_lawful_if};
+ghost use Rattle.borsh.specs.Schema.Cases.{case_described, enum_described, fork_described};
+ghost use Rattle.borsh.specs.Schema.Laws.Quoted.{no_fields_described};
+ghost use Rattle.borsh.specs.Schema.Variants.{enum_definitions};
+ghost use Rattle.std.specs.Prelude.{codes, refl, ◌∷◌, []};
+ghost use Rattle.example_derived.specs.declared.types.Request.{Request};
+
+use super::types::Request;
+use borsh::de::{Case, Cases, Fork, FromCases, read_enum, read_variant};
+use borsh::io::{Read, Result, Write};
+use borsh::schema::{
+    Declaration, Definition, FieldTypes, SchemaBuildError, VariantTypes, add_enum, declared,
+};
+use borsh::ser::{Tag, write_bytes, write_three, write_two};
+use borsh::{BorshDeserialize, BorshSchema, BorshSerialize, BorshType, EnumExt};
+use std::alloc::Global;
+use std::collections::BTreeMap;
+
+/// The variants of [`Request`]: each has a tag and its fields, in order.
+type Variants = Fork<Fork<Case<0, ()>, Case<1, (String, u32)>>, Case<2, u64>>;
+
+impl FromCases for Request {
+    type Cases = Variants;
+
+    ghost view = { elim [
+      | Request.List ↦ left (left (fields tt))
+      | Request.Buy name pieces ↦ left (right (fields (name, pieces)))
+      | Request.Cancel number ↦ right (fields number)
+    ] };
+
+    fn from_cases(cases: Variants) -> Request {
+        match cases {
+            Fork::Left(Fork::Left(Case(()))) => Request::List,
+            Fork::Left(Fork::Right(Case(fields))) => {
+                let (name, pieces) = fields;
+                Request::Buy { name, pieces }
+            }
+            Fork::Right(Case(number)) => Request::Cancel { number },
+        }
+    }
+
+    ghost distinct_tags = { refl };
+}
+
+impl BorshType for Request {
+    ghost codec = { contramap ⟦<Request as FromCases>⟧.view ⟦<Variants as Cases>⟧.codec };
+
+    ghost lawful_if = { enum_lawful_if
+        ⟦<Request as FromCases>⟧.view
+        ⟦<Variants as Cases>⟧.variants
+        refl };
+
+    ghost premises = { Prim.search key_facts };
+
+    fn encodes_empty() -> bool {
+        false
+    }
+
+    fn element_size() -> usize {
+        <Variants>::element_size()
+    }
+}
+
+impl BorshSerialize for Request {
+    fn serialize<W: Write>(&self, alloc: Global, writer: &mut W) -> Result<()> {
+        match self {
+            Request::List => write_bytes(&[0], writer),
+            Request::Buy { name, pieces } => write_three(&Tag(1), name, pieces, alloc, writer),
+            Request::Cancel { number } => write_two(&Tag(2), number, alloc, writer),
+        }
+    }
+}
+
+impl BorshDeserialize for Request {
+    fn deserialize_reader<R: Read>(alloc: Global, reader: &mut R) -> Result<Request> {
+        read_enum(alloc, reader)
+    }
+}
+
+impl EnumExt for Request {
+    fn deserialize_variant<R: Read>(alloc: Global, reader: &mut R, tag: u8) -> Result<Request> {
+        read_variant(alloc, reader, tag)
+    }
+}
+
+/// The variants of [`Request`] as its schema goes through them.
+type VariantList = Fork<Fork<Case<0, ()>, Case<1, (String, (u32, ()))>>, Case<2, (u64, ())>>;
+
+impl BorshSchema for Request {
+    ghost name = { codes "Request" };
+
+    ghost parts = { enum_definitions
+        (codes "Request")
+        ((codes "List", [])
+        ∷ (codes "Buy", codes "name" ∷ codes "pieces" ∷ [])
+        ∷ (codes "Cancel", codes "number" ∷ [])
+        ∷ [])
+        ⟦<VariantList as VariantTypes>⟧.read };
+
+    ghost described = { enum_described
+        ⟦<Request as FromCases>⟧.view
+        (fork_described
+        (fork_described
+        (case_described (λ _. tt) no_fields_described refl refl)
+        (case_described (λ v. (v.0, (v.1, tt)))
+        ⟦<(String, (u32, ())) as FieldTypes>⟧.described refl refl))
+        (case_described (λ v. (v, tt)) ⟦<(u64, ()) as FieldTypes>⟧.described refl refl)) };
+
+    fn declaration(alloc: Global) -> std::result::Result<Declaration, SchemaBuildError> {
+        declared(alloc, "Request")
+    }
+
+    fn add_definitions_recursively(
+        alloc: Global,
+        definitions: &mut BTreeMap<Declaration, Definition>,
+    ) -> std::result::Result<(), SchemaBuildError> {
+        add_enum::<VariantList>(
+            alloc,
+            "Request",
+            &[
+                ("List", &[]),
+                ("Buy", &["name", "pieces"]),
+                ("Cancel", &["number"]),
+            ],
+            definitions,
+        )
+    }
+
+    ghost describes = { Self.described.describes };
+}

@@ -1,0 +1,87 @@
+// Written by borsh_derive.py from types.rt: edit that file, and run the program again.
+ghost use Rattle.borsh.specs.Laws.OfParts.{contramap, contramap-lawful, from, key_facts};
+ghost use Rattle.borsh.specs.Schema.Laws.Quoted.{struct_described, struct_parts};
+ghost use Rattle.std.specs.Prelude.{codes, refl, ◌∷◌, []};
+
+use super::types::Stock;
+use borsh::de::{FromParts, read_parts};
+use borsh::io::{Read, Result, Write};
+use borsh::schema::{Declaration, Definition, FieldTypes, SchemaBuildError, add_named, declared};
+use borsh::ser::write_two;
+use borsh::{BorshDeserialize, BorshSchema, BorshSerialize, BorshType};
+use std::alloc::Global;
+use std::collections::BTreeMap;
+
+/// The fields of [`Stock`], in order.
+type Fields = (BTreeMap<String, u32>, Option<String>);
+
+impl BorshType for Stock {
+    ghost codec = { contramap ⟦<Stock as FromParts>⟧.view ⟦<Fields as BorshType>⟧.codec };
+
+    ghost lawful_if = { from
+        (contramap-lawful ⟦<Stock as FromParts>⟧.view)
+        ⟦<Fields as BorshType>⟧.lawful_if };
+
+    ghost premises = { Prim.search key_facts };
+
+    fn encodes_empty() -> bool {
+        <Fields>::encodes_empty()
+    }
+
+    fn element_size() -> usize {
+        <Fields>::element_size()
+    }
+}
+
+impl BorshSerialize for Stock {
+    fn serialize<W: Write>(&self, alloc: Global, writer: &mut W) -> Result<()> {
+        write_two(&self.pieces, &self.note, alloc, writer)
+    }
+}
+
+impl FromParts for Stock {
+    type Parts = Fields;
+
+    ghost view = { λ v. (v.pieces, v.note) };
+
+    fn from_parts(fields: Fields) -> Stock {
+        let (pieces, note) = fields;
+        Stock { pieces, note }
+    }
+}
+
+impl BorshDeserialize for Stock {
+    fn deserialize_reader<R: Read>(alloc: Global, reader: &mut R) -> Result<Stock> {
+        read_parts(alloc, reader)
+    }
+}
+
+/// The fields of [`Stock`] as its schema goes through them.
+type FieldList = (BTreeMap<String, u32>, (Option<String>, ()));
+
+impl BorshSchema for Stock {
+    ghost name = { codes "Stock" };
+
+    ghost parts = { struct_parts
+        (codes "Stock")
+        (codes "pieces" ∷ codes "note" ∷ [])
+        ⟦<FieldList as FieldTypes>⟧.described };
+
+    ghost described = { struct_described
+        (λ v. (v.pieces, (v.note, tt)))
+        ⟦<FieldList as FieldTypes>⟧.described
+        refl };
+
+    fn declaration(alloc: Global) -> std::result::Result<Declaration, SchemaBuildError> {
+        declared(alloc, "Stock")
+    }
+
+    fn add_definitions_recursively(
+        alloc: Global,
+        definitions: &mut BTreeMap<Declaration, Definition>,
+    ) -> std::result::Result<(), SchemaBuildError> {
+        add_named::<FieldList>(alloc, "Stock", &["pieces", "note"], definitions)
+    }
+
+    ghost describes = { Self.described.describes };
+}
