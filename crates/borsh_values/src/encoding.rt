@@ -53,7 +53,8 @@ fn have_nodes(
     nodes: &[Node<'_>],
 ) -> Result<bool, AllocError>
     requires { bytes.now ≡ joined_bytes (views nodes.now) }
-    ensures { IfOk result (λ b. HaveNodes (definitions_in map.now) root.now (views nodes.now) bytes.now b) }
+    ensures { let ns = views nodes.now in
+        IfOk result (λ b. HaveNodes (definitions_in map.now) root.now ns bytes.now b) }
 {
     match decode(alloc, root, map, bytes)? {
         Decoded::Nodes(read) => Ok(are_same(read.as_slice(), nodes)),
@@ -74,7 +75,8 @@ pub fn encode_value(
     map: &BTreeMap<String, Definition>,
     nodes: &[Node<'_>],
 ) -> Result<Option<Vec<u8>>, AllocError>
-    ensures { IfOk result (λ found. EncodesNodes (definitions_in map.now) root.now (views nodes.now) found) }
+    ensures { let ns = views nodes.now in
+        IfOk result (λ found. EncodesNodes (definitions_in map.now) root.now ns found) }
 {
     let bytes = encode(alloc, nodes)?;
     if have_nodes(alloc, root, map, bytes.as_slice(), nodes)? {

@@ -206,7 +206,8 @@ fn decide<'a>(
     ensures listed { wanted ≡ true → IfOk result (λ a. a ≡ IsMember →
         Nodes (definitions_in map.now) (root.now ∷ []) bytes.now (views nodes.new.items)) }
     ensures few { opened.new ≤ opened.old + most_opened bytes.now map.now }
-    ensures few_nodes { wanted ≡ true → IfOk result (λ a. length nodes.new.items ≤ most_opened bytes.now map.now) }
+    ensures few_nodes { wanted ≡ true →
+        IfOk result (λ a. length nodes.new.items ≤ most_opened bytes.now map.now) }
 {
     let mut table: BTreeMap<&'a str, Mark> = BTreeMap::new(alloc);
     let mut stack: Vec<Frame<'a>> = Vec::new(alloc);

@@ -71,7 +71,8 @@ fn open_sequence<'a>(
     element: &'a str,
     bytes: &[u8],
 ) -> Opened<'a>
-    ensures { OpensAs (definitions_in map.now) (sequence width start end element.now) bytes.now result }
+    ensures { let d = sequence width start end element.now in
+        OpensAs (definitions_in map.now) d bytes.now result }
 {
     if width == 0 {
         if end < start {

@@ -2,8 +2,8 @@
 ghost use Rattle.std.specs.Prelude.{◌≡◌, IfOk, IfErr, string_bytes};
 ghost use Rattle.borsh_schema.specs.declared.definitions.SchemaBuildError.TheVariants.{OutOfMemory};
 ghost use Rattle.borsh_schema.specs.Joined.{AddsDefinitions};
-ghost use Rattle.borsh_schema.specs.Names.{texts};
-ghost use Rattle.borsh_schema.specs.Types.{named_struct, unnamed_struct};
+ghost use Rattle.borsh_definitions.specs.Names.{texts};
+ghost use Rattle.borsh_definitions.specs.Types.{named_struct, unnamed_struct};
 ghost use Rattle.borsh_variants.specs.Variants.{name_with};
 
 use borsh_schema::{BorshSchema, FieldTypes, SchemaBuildError, add_named, add_unnamed};
