@@ -1,5 +1,8 @@
 pub mod Places
 pub mod PrefixFree
+pub mod Packed
+pub mod Bytes
+pub mod Answers
 pub mod Required
 pub mod Walk
 pub mod Measure

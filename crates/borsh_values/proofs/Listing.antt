@@ -21,7 +21,7 @@ all_views [] = refl
 all_views (x ∷ xs) = ap (λ l. x ∷ l) (all_views xs)
 
 -- a name was opened, and its node listed
-pub list_more : (C : List ℕ → Option Shape) (G : List NodeView → Type 0) (n : Node) (old new : List Node) (k : ℕ) (left : List ℕ) (ns qs : List (List ℕ)) → C n.name.now ≡ Some (shape_of n.definition.now) → n.bytes.now ≡ take k left → Opens (shape_of n.definition.now) (take k left) ns → ListsNode C n old new → ((es : List NodeView) → Nodes C (n.name.now ∷ qs) left es → G (views old ++ es)) → (es : List NodeView) → Nodes C (ns ++ qs) (drop k left) es → G (views new ++ es)
+pub list_more : (C : List ℕ → Option Shape) (G : List NodeView → Type 0) (n : Node) (old new : List Node) (k : ℕ) (left : List ℕ) (ns qs : List (List ℕ)) → C n.name.now ≡ Some (shape_of n.definition.now) → n.bytes.now ≡ take k left → Opens C (shape_of n.definition.now) (take k left) ns → ListsNode C n old new → ((es : List NodeView) → Nodes C (n.name.now ∷ qs) left es → G (views old ++ es)) → (es : List NodeView) → Nodes C (ns ++ qs) (drop k left) es → G (views new ++ es)
 list_more C G n old new k left ns qs c b o lists f es h =
     let x = n.name.now in
     let d = shape_of n.definition.now in

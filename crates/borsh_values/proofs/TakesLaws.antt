@@ -1,13 +1,20 @@
 -- What an opened definition takes.
-use Rattle.std.proofs.Common.{◌≡◌, ℕ, suc, zero, ◌+◌, ◌-◌, ◌<◌, ◌≤◌, ◌^◌, List, [], ◌∷◌, ◌++◌, length, take, drop, replicate, Some, refl, sym, ◌∙◌, ap, subst, arith, append_assoc, length-append, ◌⊎◌, inl, inr}
+use Rattle.std.proofs.Common.{◌≡◌, ℕ, suc, zero, ◌+◌, ◌-◌, ◌*◌, ◌<◌, ◌≤◌, ◌^◌, List, [], ◌∷◌, ◌++◌, length, take, drop, replicate, Some, refl, sym, ◌∙◌, ap, subst, arith, append_assoc, length-append, length-drop, append-nil, take-add, drop-drop, ◌⊎◌, inl, inr}
 use Rattle.std.specs.Prelude.{Option, All, ℤ, pos, negsuc}
 use Rattle.borsh_walks.specs.Container.{Shape, primitive, sequence, product, choice, IsIn, first, later, IsListedVariant, low_bytes, tag, variant_names, Member, of_primitive, of_sequence, of_parts, of_choice, Members, no_members, more_members, IsZeroSize, zeroed}
+use Rattle.std.proofs.Math.Nat.{suc-mul}
+use Rattle.std.proofs.lemmas.List.Elements.{All-take, All-drop}
 use Rattle.borsh_walks.proofs.Names.{among_one}
 use Rattle.borsh_walks.proofs.Laws.{length-tag, among-replicate, variant-listed}
 use Rattle.borsh_values.specs.Unambiguous.{DistinctTags}
 use Rattle.std.specs.Borrow.{Bor}
 use Rattle.borsh_values.specs.declared.tags.Found.TheVariants.{Nothing, One}
-use Rattle.borsh_values.specs.Steps.{required_by, OnlyEmpty, AllOnlyEmpty, Takes, FoundAs}
+use Rattle.borsh_values.specs.declared.frames.Opened.{Opened}
+use Rattle.borsh_values.specs.declared.frames.Opened.TheVariants.{Undecided, Refused, Taken}
+use Rattle.borsh_values.specs.Nodes.{packed_size, OpensElements}
+use Rattle.borsh_values.specs.Faults.{BeginsWith}
+use Rattle.borsh_values.specs.Steps.{remaining, required_by, OnlyEmpty, AllOnlyEmpty, Takes, FoundAs, TakesElements, OpensAs}
+use Rattle.borsh_values.proofs.Packed.{packed_is, copies_of, copies_are}
 use Rattle.borsh_values.proofs.PrefixFree.{same_front, one_count, member_as}
 use Rattle.borsh_values.proofs.Required.{members_head, only_empty_members}
 
@@ -85,23 +92,23 @@ module _ (C : List ℕ → Option Shape) where
   primitive_only_empty : {x : List ℕ} {n : ℕ} → n ≡ 0 → All (λ b. b < 256) [] → C x ≡ Some (primitive n) → OnlyEmpty C x
   primitive_only_empty {n = n} z small c = (of_primitive (c ∙ ap (λ k. Some (primitive k)) z) small, zeroed (primitive 0) [] (c ∙ ap (λ k. Some (primitive k)) z) refl (λ p a. elim a [ ]))
 
-pub takes_parts : (qs : List (List ℕ)) (bytes : List ℕ) → Takes (product qs) bytes 0 qs
-takes_parts qs bytes = record {
+pub takes_parts : (C : List ℕ → Option Shape) (qs : List (List ℕ)) (bytes : List ℕ) → Takes C (product qs) bytes 0 qs
+takes_parts C qs bytes = record {
   within = omega arith;
-  forth = λ C x ps c m. parts_forth C c m;
-  back = λ C x ps c m. parts_back C c m;
-  only_empty = λ _ C x c a. parts_only_empty C c a;
+  forth = λ x ps c m. parts_forth C c m;
+  back = λ x ps c m. parts_back C c m;
+  only_empty = λ _ x c a. parts_only_empty C c a;
   opens = (refl, refl);
   mentioned = λ p a. a;
   needs = λ _ p a. a;
 }
 
-pub takes_primitive : (n : ℕ) (bytes : List ℕ) → n ≤ length bytes → All (λ b. b < 256) (take n bytes) → All (λ b. b < 256) [] → Takes (primitive n) bytes n []
-takes_primitive n bytes low small none = record {
+pub takes_primitive : (C : List ℕ → Option Shape) (n : ℕ) (bytes : List ℕ) → n ≤ length bytes → All (λ b. b < 256) (take n bytes) → All (λ b. b < 256) [] → Takes C (primitive n) bytes n []
+takes_primitive C n bytes low small none = record {
   within = low;
-  forth = λ C x ps c m. primitive_forth C c m;
-  back = λ C x ps c m. primitive_back C low small c m;
-  only_empty = λ z C x c a. primitive_only_empty C z none c;
+  forth = λ x ps c m. primitive_forth C c m;
+  back = λ x ps c m. primitive_back C low small c m;
+  only_empty = λ z x c a. primitive_only_empty C z none c;
   opens = (length_take n bytes low, small, refl);
   mentioned = λ p a. elim a [ ];
   needs = λ _ p a. elim a [ ];
@@ -160,38 +167,34 @@ module _ (C : List ℕ → Option Shape) where
       choice_zero C w k p vs z (single z) c h.1,
     )
 
-  pub short_sequence : {x : List ℕ} {w lo hi : ℕ} {e : List ℕ} {ps : List (List ℕ)} {bytes : List ℕ} → length bytes < w → C x ≡ Some (sequence w lo hi e) → Members C (x ∷ ps) bytes → ⊥
+  pub short_sequence : {x : List ℕ} {w lo hi : ℕ} {e : List ℕ} {bytes : List ℕ} → length bytes < w → C x ≡ Some (sequence w lo hi e) → BeginsWith C x bytes → ⊥
   short_sequence {w = w} {lo = lo} {hi = hi} {e = e} h c m =
-      let s = members_head C m in
-      let b = member_as C (sequence w lo hi e) c s.2 in
-      let l = ap (λ l. length l) (s.4 ∙ ap (λ l. l ++ s.1) b.5) in
+      let b = member_as C (sequence w lo hi e) c m.2 in
+      let l = ap (λ l. length l) (m.3 ∙ ap (λ l. l ++ m.1) b.5) in
       let t = length-tag w (pos b.0) in
-      let n : length ((tag w (pos b.0) ++ b.1) ++ s.1) ≡ w + length b.1 + length s.1 = simp (length-append, length-tag) in
+      let n : length ((tag w (pos b.0) ++ b.1) ++ m.1) ≡ w + length b.1 + length m.1 = simp (length-append, length-tag) in
       absurd (omega (arith, l, n))
 
-  pub short_choice : {x : List ℕ} {w : ℕ} {vs : List (ℤ × List ℕ)} {ps : List (List ℕ)} {bytes : List ℕ} → length bytes < w → C x ≡ Some (choice w vs) → Members C (x ∷ ps) bytes → ⊥
+  pub short_choice : {x : List ℕ} {w : ℕ} {vs : List (ℤ × List ℕ)} {bytes : List ℕ} → length bytes < w → C x ≡ Some (choice w vs) → BeginsWith C x bytes → ⊥
   short_choice {w = w} {vs = vs} h c m =
-      let s = members_head C m in
-      let b = member_as C (choice w vs) c s.2 in
-      let l = ap (λ l. length l) (s.4 ∙ ap (λ l. l ++ s.1) b.5) in
-      let n : length ((tag w b.0 ++ b.2) ++ s.1) ≡ w + length b.2 + length s.1 = simp (length-append, length-tag) in
+      let b = member_as C (choice w vs) c m.2 in
+      let l = ap (λ l. length l) (m.3 ∙ ap (λ l. l ++ m.1) b.5) in
+      let n : length ((tag w b.0 ++ b.2) ++ m.1) ≡ w + length b.2 + length m.1 = simp (length-append, length-tag) in
       absurd (omega (arith, l, n))
 
   -- the number that is tag_byte is not a count
-  pub no_count : {x : List ℕ} {w lo hi : ℕ} {e : List ℕ} {ps : List (List ℕ)} {bytes : List ℕ} (n : ℕ) → hi < 256 ^ w → n < 256 ^ w → tag w (pos n) ≡ take w bytes → (n < lo) ⊎ (hi < n) → C x ≡ Some (sequence w lo hi e) → Members C (x ∷ ps) bytes → ⊥
+  pub no_count : {x : List ℕ} {w lo hi : ℕ} {e : List ℕ} {bytes : List ℕ} (n : ℕ) → hi < 256 ^ w → n < 256 ^ w → tag w (pos n) ≡ take w bytes → (n < lo) ⊎ (hi < n) → C x ≡ Some (sequence w lo hi e) → BeginsWith C x bytes → ⊥
   no_count {w = w} {lo = lo} {hi = hi} {e = e} {bytes = bytes} n high small t off c m =
-      let s = members_head C m in
-      let b = member_as C (sequence w lo hi e) c s.2 in
-      let q = same_tag w (pos n) (pos b.0) bytes b.1 s.1 t (s.4 ∙ ap (λ l. l ++ s.1) b.5) in
+      let b = member_as C (sequence w lo hi e) c m.2 in
+      let q = same_tag w (pos n) (pos b.0) bytes b.1 m.1 t (m.3 ∙ ap (λ l. l ++ m.1) b.5) in
       let o : n ≡ b.0 = one_count w 0 (256 ^ w - 1) n b.0 (omega arith) (omega arith) (omega arith) (omega arith) (omega (arith, b.3)) q.0 in
       elim off [ inl h ↦ omega (arith, o, h, b.2) | inr h ↦ omega (arith, o, h, b.3) ]
 
-  pub no_variant : {x : List ℕ} {w : ℕ} {vs : List (ℤ × List ℕ)} {ps : List (List ℕ)} {bytes : List ℕ} → w ≤ length bytes → ((j : ℤ) (q : List ℕ) → IsListedVariant j q vs → tag w j ≡ take w bytes → ⊥) → C x ≡ Some (choice w vs) → Members C (x ∷ ps) bytes → ⊥
+  pub no_variant : {x : List ℕ} {w : ℕ} {vs : List (ℤ × List ℕ)} {bytes : List ℕ} → w ≤ length bytes → ((j : ℤ) (q : List ℕ) → IsListedVariant j q vs → tag w j ≡ take w bytes → ⊥) → C x ≡ Some (choice w vs) → BeginsWith C x bytes → ⊥
   no_variant {w = w} {vs = vs} {bytes = bytes} low off c m =
-      let s = members_head C m in
-      let b = member_as C (choice w vs) c s.2 in
-      let e : take w bytes ++ drop w bytes ≡ tag w b.0 ++ (b.2 ++ s.1) = take_drop w bytes ∙ s.4 ∙ ap (λ l. l ++ s.1) b.5 ∙ append_assoc (tag w b.0) b.2 s.1 in
-      let q = same_front (take w bytes) (tag w b.0) (drop w bytes) (b.2 ++ s.1) e (length_take w bytes low ∙ sym (length-tag w b.0)) in
+      let b = member_as C (choice w vs) c m.2 in
+      let e : take w bytes ++ drop w bytes ≡ tag w b.0 ++ (b.2 ++ m.1) = take_drop w bytes ∙ m.3 ∙ ap (λ l. l ++ m.1) b.5 ∙ append_assoc (tag w b.0) b.2 m.1 in
+      let q = same_front (take w bytes) (tag w b.0) (drop w bytes) (b.2 ++ m.1) e (length_take w bytes low ∙ sym (length-tag w b.0)) in
       off b.0 b.1 b.3 (sym q.0)
 
 sequence_needs : (w lo hi k : ℕ) (e : List ℕ) → hi < lo + 256 ^ w → lo ≤ k → k ≤ hi → w ≡ 0 → (p : List ℕ) → IsIn p (replicate k e) → IsIn p (required_by (sequence w lo hi e))
@@ -199,48 +202,130 @@ sequence_needs zero zero hi k e unambiguous low high z p a = let n : k ≡ 0 = o
 sequence_needs zero (suc lo) hi k e unambiguous low high z p a = subst (λ y. IsIn p (y ∷ [])) (sym (among-replicate k a)) first
 sequence_needs (suc w) lo hi k e unambiguous low high z p a = absurd (omega arith)
 
-pub takes_sequence : (w lo hi k : ℕ) (e bytes : List ℕ) → hi < lo + 256 ^ w → lo ≤ k → k ≤ hi → w ≤ length bytes → tag w (pos k) ≡ take w bytes → Takes (sequence w lo hi e) bytes w (replicate k e)
-takes_sequence w lo hi k e bytes unambiguous low high within t = record {
+pub takes_sequence : (C : List ℕ → Option Shape) (w lo hi k : ℕ) (e bytes : List ℕ) → packed_size (C e) ≡ 0 → hi < lo + 256 ^ w → lo ≤ k → k ≤ hi → w ≤ length bytes → tag w (pos k) ≡ take w bytes → Takes C (sequence w lo hi e) bytes w (replicate k e)
+takes_sequence C w lo hi k e bytes packed unambiguous low high within t = record {
   within = within;
-  forth = λ C x ps c m. sequence_forth C w lo hi k e unambiguous low high t c m;
-  back = λ C x ps c m. sequence_back C w lo hi k e unambiguous low high t c m;
-  only_empty = λ z C x c a. sequence_only_empty C w lo hi k e unambiguous low high z c a;
-  opens = (k, low, high, sym t, refl);
+  forth = λ x ps c m. sequence_forth C w lo hi k e unambiguous low high t c m;
+  back = λ x ps c m. sequence_back C w lo hi k e unambiguous low high t c m;
+  only_empty = λ z x c a. sequence_only_empty C w lo hi k e unambiguous low high z c a;
+  opens = (k, [], low, high, sym t ∙ sym (append-nil (tag w (pos k))), subst (λ i. OpensElements i e k [] (replicate k e)) (sym packed) (refl, refl));
   mentioned = λ p a. subst (λ y. IsIn p (y ∷ [])) (sym (among-replicate k a)) first;
   needs = sequence_needs w lo hi k e unambiguous low high;
 }
+
+no_copies : (w k n : ℕ) → w + k * suc n ≡ 0 → k ≡ 0
+no_copies w zero n z = refl
+no_copies w (suc k) n z = let p = suc-mul k (suc n) in absurd (omega (arith, z, p))
+
+-- sequences whose elements are listed with them
+module _ (C : List ℕ → Option Shape) (w lo hi k n : ℕ) (e : List ℕ) (packed : packed_size (C e) ≡ suc n) (unambiguous : hi < lo + 256 ^ w) (low : lo ≤ k) (high : k ≤ hi) where
+  packed_forth : {x : List ℕ} {ps : List (List ℕ)} {bytes : List ℕ} → tag w (pos k) ≡ take w bytes → C x ≡ Some (sequence w lo hi e) → Members C (x ∷ ps) bytes → Members C ps (drop (w + k * suc n) bytes)
+  packed_forth {ps = ps} {bytes = bytes} t c m =
+      let s = parted C (replicate k e) (sequence_forth C w lo hi k e unambiguous low high t c m) in
+      let l = copies_are C n k s.0 (packed_is n (C e) packed) s.2 in
+      let d : drop (w + k * suc n) bytes ≡ s.1 = sym (drop-drop (k * suc n) w bytes) ∙ ap (λ b. drop (k * suc n) b) s.4 ∙ drop_at (k * suc n) s.0 s.1 l.0 in
+      subst (λ b. Members C ps b) (sym d) s.3
+
+  module _ (bytes : List ℕ) (within : w + k * suc n ≤ length bytes) (small : All (λ b. b < 256) bytes) (t : tag w (pos k) ≡ take w bytes) where
+    fits : k * suc n ≤ length (drop w bytes)
+    fits = let d = length-drop w bytes in omega (arith, within, d)
+
+    elements_small : All (λ b. b < 256) (take (k * suc n) (drop w bytes))
+    elements_small = All-take (λ b. b < 256) (k * suc n) (drop w bytes) (All-drop (λ b. b < 256) w bytes small)
+
+    packed_back : {x : List ℕ} {ps : List (List ℕ)} → C x ≡ Some (sequence w lo hi e) → Members C ps (drop (w + k * suc n) bytes) → Members C (x ∷ ps) bytes
+    packed_back {x} {ps} c m =
+        let ms = copies_of C n k (take (k * suc n) (drop w bytes)) (packed_is n (C e) packed) (length_take (k * suc n) (drop w bytes) fits) elements_small in
+        let behind : Members C ps (drop (k * suc n) (drop w bytes)) = subst (λ b. Members C ps b) (sym (drop-drop (k * suc n) w bytes)) m in
+        sequence_back C w lo hi k e unambiguous low high t c (subst (λ b. Members C (replicate k e ++ ps) b) (take_drop (k * suc n) (drop w bytes)) (joined C ms behind))
+
+    packed_only_empty : {x : List ℕ} → w + k * suc n ≡ 0 → C x ≡ Some (sequence w lo hi e) → OnlyEmpty C x
+    packed_only_empty {x} z c = sequence_only_empty C w lo hi k e unambiguous low high (omega (arith, z)) c (subst (λ i. AllOnlyEmpty C (replicate i e)) (sym (no_copies w k n z)) tt)
+
+    takes_packed : Takes C (sequence w lo hi e) bytes (w + k * suc n) []
+    takes_packed = record {
+      within = within;
+      forth = λ x ps c m. packed_forth t c m;
+      back = λ x ps c m. packed_back c m;
+      only_empty = λ z x c a. packed_only_empty z c;
+      opens = (
+        k,
+        take (k * suc n) (drop w bytes),
+        low,
+        high,
+        take-add w (k * suc n) bytes ∙ ap (λ l. l ++ take (k * suc n) (drop w bytes)) (sym t),
+        subst (λ i. OpensElements i e k (take (k * suc n) (drop w bytes)) []) (sym packed) (length_take (k * suc n) (drop w bytes) fits, elements_small, refl),
+      );
+      mentioned = λ p a. elim a [ ];
+      needs = λ _ p a. elim a [ ];
+    }
+
+  no_packed : {x : List ℕ} {bytes : List ℕ} → length bytes < w + k * suc n → tag w (pos k) ≡ take w bytes → C x ≡ Some (sequence w lo hi e) → BeginsWith C x bytes → ⊥
+  no_packed {x} {bytes} short t c m =
+      let b = member_as C (sequence w lo hi e) c m.2 in
+      let q = same_tag w (pos k) (pos b.0) bytes b.1 m.1 t (m.3 ∙ ap (λ l. l ++ m.1) b.5) in
+      let o : k ≡ b.0 = one_count w lo hi k b.0 unambiguous low high b.2 b.3 q.0 in
+      let l = (copies_are C n k b.1 (packed_is n (C e) packed) (subst (λ i. Members C (replicate i e) b.1) (sym o) b.4)).0 in
+      let a = ap (λ l. length l) (m.3 ∙ ap (λ l. l ++ m.1) b.5) in
+      let s : length ((tag w (pos b.0) ++ b.1) ++ m.1) ≡ w + length b.1 + length m.1 = simp (length-append, length-tag) in
+      absurd (omega (arith, a, s, l, short))
+
+-- what was taken of k elements
+elements_opened : (C : List ℕ → Option Shape) (w lo hi k : ℕ) (e bytes : List ℕ) → hi < lo + 256 ^ w → lo ≤ k → k ≤ hi → w ≤ length bytes → tag w (pos k) ≡ take w bytes → All (λ b. b < 256) bytes → (m : ℕ) → packed_size (C e) ≡ m → (a : Opened) → TakesElements m e k w (length bytes) a → OpensAs C (sequence w lo hi e) bytes a
+elements_opened C w lo hi k e bytes u low high within t small zero p Undecided h = absurd h
+elements_opened C w lo hi k e bytes u low high within t small (suc n) p Undecided h = absurd h
+elements_opened C w lo hi k e bytes u low high within t small zero p (Refused r) h = let f = h.1 in absurd (omega (arith, f, within))
+elements_opened C w lo hi k e bytes u low high within t small (suc n) p (Refused r) h = (h.0, λ x c m. no_packed C w lo hi k n e p u low high h.1 t c m)
+elements_opened C w lo hi k e bytes u low high within t small zero p (Taken n r) h =
+    let a = takes_sequence C w lo hi k e bytes p u low high within t in
+    (subst (λ i. Takes C (sequence w lo hi e) bytes i (remaining r)) (sym h.0) (subst (λ ns. Takes C (sequence w lo hi e) bytes w ns) (sym h.1) a), h.2)
+elements_opened C w lo hi k e bytes u low high within t small (suc i) p (Taken n r) h =
+    let f : w + k * suc i ≤ length bytes = (let a = h.0 in let b = h.1 in omega (arith, a, b)) in
+    let a = takes_packed C w lo hi k i e p u low high bytes f small t in
+    (subst (λ i. Takes C (sequence w lo hi e) bytes i (remaining r)) (sym h.0) (subst (λ ns. Takes C (sequence w lo hi e) bytes (w + k * suc i) ns) (sym h.2) a), h.3)
+
+pub opened_at : (C : List ℕ → Option Shape) (w lo hi k size : ℕ) (e bytes : List ℕ) → size ≡ w → hi < lo + 256 ^ w → lo ≤ k → k ≤ hi → w ≤ length bytes → tag w (pos k) ≡ take w bytes → All (λ b. b < 256) bytes → (a : Opened) → TakesElements (packed_size (C e)) e k size (length bytes) a → OpensAs C (sequence w lo hi e) bytes a
+opened_at C w lo hi k size e bytes z u low high within t small a h = elements_opened C w lo hi k e bytes u low high within t small (packed_size (C e)) refl a (subst (λ i. TakesElements (packed_size (C e)) e k i (length bytes) a) z h)
 
 in_variants : {k : ℤ} {p q : List ℕ} {vs : List (ℤ × List ℕ)} → IsListedVariant k p vs → IsIn q (p ∷ []) → IsIn q (variant_names vs)
 in_variants listed first = variant-listed listed
 in_variants listed (later a) = elim a [ ]
 
-pub takes_choice : (w : ℕ) (k : ℤ) (p bytes : List ℕ) (vs : List (ℤ × List ℕ)) → IsListedVariant k p vs → ((j : ℤ) (q : List ℕ) → IsListedVariant j q vs → tag w j ≡ tag w k → q ≡ p) → (w ≡ 0 → (q : List ℕ) → IsIn q (p ∷ []) → IsIn q (required_by (choice w vs))) → (w ≡ 0 → vs ≡ (k, p) ∷ []) → w ≤ length bytes → tag w k ≡ take w bytes → Takes (choice w vs) bytes w (p ∷ [])
-takes_choice w k p bytes vs listed one needs single within t = record {
+pub takes_choice : (C : List ℕ → Option Shape) (w : ℕ) (k : ℤ) (p bytes : List ℕ) (vs : List (ℤ × List ℕ)) → IsListedVariant k p vs → ((j : ℤ) (q : List ℕ) → IsListedVariant j q vs → tag w j ≡ tag w k → q ≡ p) → (w ≡ 0 → (q : List ℕ) → IsIn q (p ∷ []) → IsIn q (required_by (choice w vs))) → (w ≡ 0 → vs ≡ (k, p) ∷ []) → w ≤ length bytes → tag w k ≡ take w bytes → Takes C (choice w vs) bytes w (p ∷ [])
+takes_choice C w k p bytes vs listed one needs single within t = record {
   within = within;
-  forth = λ C x ps c m. choice_forth C w k p vs listed one t c m;
-  back = λ C x ps c m. choice_back C w k p vs listed one t c m;
-  only_empty = λ z C x c a. choice_only_empty C w k p vs listed one single z c a.0;
+  forth = λ x ps c m. choice_forth C w k p vs listed one t c m;
+  back = λ x ps c m. choice_back C w k p vs listed one t c m;
+  only_empty = λ z x c a. choice_only_empty C w k p vs listed one single z c a.0;
   opens = (k, p, listed, sym t, refl);
   mentioned = λ q a. in_variants listed a;
   needs = needs;
 }
 
-pub zero_sequence : (w lo hi : ℕ) (e bytes : List ℕ) → w ≡ 0 → lo ≡ hi → Takes (sequence w lo hi e) bytes 0 (replicate lo e)
-zero_sequence zero lo hi e bytes z h = takes_sequence zero lo hi lo e bytes (omega arith) (omega arith) (omega arith) (omega arith) refl
-zero_sequence (suc w) lo hi e bytes z h = absurd (omega arith)
+no_width : (w k : ℕ) (bytes : List ℕ) → w ≡ 0 → tag w (pos k) ≡ take w bytes
+no_width zero k bytes z = refl
+no_width (suc w) k bytes z = absurd (omega arith)
+
+one_of_none : (w lo hi : ℕ) → w ≡ 0 → lo ≡ hi → hi < lo + 256 ^ w
+one_of_none zero lo hi z h = omega (arith, h)
+one_of_none (suc w) lo hi z h = absurd (omega arith)
+
+-- a sequence of one length, which isn't encoded
+pub array_opened : (C : List ℕ → Option Shape) (w lo hi : ℕ) (e bytes : List ℕ) → w ≡ 0 → lo ≡ hi → All (λ b. b < 256) bytes → (a : Opened) → TakesElements (packed_size (C e)) e lo 0 (length bytes) a → OpensAs C (sequence w lo hi e) bytes a
+array_opened C w lo hi e bytes z h small a t = opened_at C w lo hi lo 0 e bytes (sym z) (one_of_none w lo hi z h) (omega arith) (omega (arith, h)) (omega (arith, z)) (no_width w lo bytes z) small a t
 
 written_at : (w size k : ℕ) (bytes : List ℕ) → size ≡ w → size ≤ length bytes → low_bytes (length (take size bytes)) k ≡ take size bytes → tag w (pos k) ≡ take w bytes
 written_at w size k bytes z within t = ap (λ i. low_bytes i k) (sym z) ∙ ap (λ i. low_bytes i k) (sym (length_take size bytes within)) ∙ t ∙ ap (λ i. take i bytes) z
 
-pub plain_sequence : (w lo hi k size : ℕ) (e bytes : List ℕ) → hi < 256 ^ w → size ≡ w → lo ≤ k → k ≤ hi → size ≤ length bytes → low_bytes (length (take size bytes)) k ≡ take size bytes → Takes (sequence w lo hi e) bytes size (replicate k e)
-plain_sequence w lo hi k size e bytes fits z low high within t =
-    subst (λ i. Takes (sequence w lo hi e) bytes i (replicate k e)) (sym z) (takes_sequence w lo hi k e bytes (omega arith) low high (omega arith) (written_at w size k bytes z within t))
+-- a sequence whose count was read
+pub list_opened : (C : List ℕ → Option Shape) (w lo hi k size : ℕ) (e bytes : List ℕ) → hi < 256 ^ w → size ≡ w → lo ≤ k → k ≤ hi → size ≤ length bytes → low_bytes (length (take size bytes)) k ≡ take size bytes → All (λ b. b < 256) bytes → (a : Opened) → TakesElements (packed_size (C e)) e k size (length bytes) a → OpensAs C (sequence w lo hi e) bytes a
+list_opened C w lo hi k size e bytes fits z low high within t small a h = opened_at C w lo hi k size e bytes z (omega arith) low high (omega (arith, z)) (written_at w size k bytes z within t) small a h
 
 pub small_at : (w size k : ℕ) (bytes : List ℕ) → size ≡ w → size ≤ length bytes → k < 256 ^ length (take size bytes) → k < 256 ^ w
 small_at w size k bytes z within h = subst (λ i. k < 256 ^ i) (length_take size bytes within ∙ z) h
 
-pub count_off : (w lo hi k size : ℕ) (e bytes : List ℕ) → hi < 256 ^ w → size ≡ w → size ≤ length bytes → low_bytes (length (take size bytes)) k ≡ take size bytes → k < 256 ^ length (take size bytes) → (k < lo) ⊎ (hi < k) → (C : List ℕ → Option Shape) (x : List ℕ) (ps : List (List ℕ)) → C x ≡ Some (sequence w lo hi e) → Members C (x ∷ ps) bytes → ⊥
-count_off w lo hi k size e bytes fits z within t small off C x ps c m = no_count C k fits (small_at w size k bytes z within small) (written_at w size k bytes z within t) off c m
+pub count_off : (w lo hi k size : ℕ) (e bytes : List ℕ) → hi < 256 ^ w → size ≡ w → size ≤ length bytes → low_bytes (length (take size bytes)) k ≡ take size bytes → k < 256 ^ length (take size bytes) → (k < lo) ⊎ (hi < k) → (C : List ℕ → Option Shape) (x : List ℕ) → C x ≡ Some (sequence w lo hi e) → BeginsWith C x bytes → ⊥
+count_off w lo hi k size e bytes fits z within t small off C x c m = no_count C k fits (small_at w size k bytes z within small) (written_at w size k bytes z within t) off c m
 
 single_needs : (w : ℕ) (k : ℤ) (p : List ℕ) (vs : List (ℤ × List ℕ)) → vs ≡ (k, p) ∷ [] → w ≡ 0 → (q : List ℕ) → IsIn q (p ∷ []) → IsIn q (required_by (choice w vs))
 single_needs zero k p vs e z q a = subst (λ l. IsIn q (required_by (choice zero l))) (sym e) a
@@ -251,19 +336,19 @@ no_front zero bytes z = refl
 no_front (suc w) bytes z = absurd (omega arith)
 
 -- what was found by the front of the bytes
-pub found_choice : (w size : ℕ) (p : Bor (List ℕ)) (bytes : List ℕ) (vs : List (ℤ × List ℕ)) → size ≡ w → size ≤ length bytes → FoundAs vs (take size bytes) (One p) → Takes (choice w vs) bytes size (p.now ∷ [])
-found_choice w size p bytes vs z within f =
+pub found_choice : (C : List ℕ → Option Shape) (w size : ℕ) (p : Bor (List ℕ)) (bytes : List ℕ) (vs : List (ℤ × List ℕ)) → size ≡ w → size ≤ length bytes → FoundAs vs (take size bytes) (One p) → Takes C (choice w vs) bytes size (p.now ∷ [])
+found_choice C w size p bytes vs z within f =
     let l : length (take size bytes) ≡ w = length_take size bytes within ∙ z in
     let t : take size bytes ≡ take w bytes = ap (λ i. take i bytes) z in
     let k : tag w f.0 ≡ take w bytes = ap (λ i. tag i f.0) (sym l) ∙ f.2 ∙ t in
-    subst (λ i. Takes (choice w vs) bytes i (p.now ∷ [])) (sym z) (takes_choice w f.0 p.now bytes vs f.1
+    subst (λ i. Takes C (choice w vs) bytes i (p.now ∷ [])) (sym z) (takes_choice C w f.0 p.now bytes vs f.1
     (λ j q a b. f.3 j q a (ap (λ i. tag i j) l ∙ b ∙ k ∙ sym t))
     (λ zero_is q a. single_needs w f.0 p.now vs (f.4 (t ∙ no_front w bytes zero_is)) zero_is q a)
     (λ zero_is. f.4 (t ∙ no_front w bytes zero_is))
     (omega arith) k)
 
-pub found_none_choice : (w size : ℕ) (bytes : List ℕ) (vs : List (ℤ × List ℕ)) → size ≡ w → size ≤ length bytes → FoundAs vs (take size bytes) Nothing → (C : List ℕ → Option Shape) (x : List ℕ) (ps : List (List ℕ)) → C x ≡ Some (choice w vs) → Members C (x ∷ ps) bytes → ⊥
-found_none_choice w size bytes vs z within f C x ps c m =
+pub found_none_choice : (w size : ℕ) (bytes : List ℕ) (vs : List (ℤ × List ℕ)) → size ≡ w → size ≤ length bytes → FoundAs vs (take size bytes) Nothing → (C : List ℕ → Option Shape) (x : List ℕ) → C x ≡ Some (choice w vs) → BeginsWith C x bytes → ⊥
+found_none_choice w size bytes vs z within f C x c m =
     let l : length (take size bytes) ≡ w = length_take size bytes within ∙ z in
     let t : take size bytes ≡ take w bytes = ap (λ i. take i bytes) z in
     no_variant C (omega arith) (λ j q a b. f.0 j q a (ap (λ i. tag i j) l ∙ b ∙ sym t)) c m

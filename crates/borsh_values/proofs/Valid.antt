@@ -5,7 +5,7 @@ use Rattle.std.proofs.lemmas.Bool.{cases_lt}
 use Rattle.borsh_walks.specs.Container.{Shape, primitive, sequence, product, choice, Rule, tag_too_wide, tag_too_narrow, tag_not_power_of_two, empty_length_range, Breaks, is_empty, is_not_power, is_too_wide, is_too_narrow, is_wide_choice, IsValid}
 use Rattle.borsh_walks.specs.RulesAnswer.{KeepsWidths, IsWidth}
 use Rattle.borsh_values.specs.Unambiguous.{IsUnambiguous}
-use Rattle.borsh_values.specs.Membership.{HasAmbiguous, IsAnswer, AnswersMembership}
+use Rattle.borsh_values.specs.Membership.{IsUndecided, IsDecided, IsAnswer, AnswersMembership}
 use Rattle.borsh_values.specs.declared.members.Membership.{Membership}
 use Rattle.borsh_values.specs.declared.members.Membership.TheVariants.{Member as IsMember, NoMember, Ambiguous}
 
@@ -32,17 +32,17 @@ module _ (C : List ℕ → Option Shape) where
   shape_kept (product ps) c kept f = f tt
   shape_kept (choice w vs) c kept f = elim (cases_lt 8 w) [ inl h ↦ kept tag_too_wide (is_wide_choice c h) | inr h ↦ f h ]
 
-  pub none_ambiguous : {root : List ℕ} → IsValid C root → IsUnambiguous C root → HasAmbiguous C root → ⊥
-  none_ambiguous valid one h = shape_kept h.1 h.3 (valid h.0 h.2) (h.4 (one h.0 h.1 h.2 h.3))
+  pub none_ambiguous : {root : List ℕ} (x : List ℕ) → IsValid C root → IsUnambiguous C root → IsUndecided C root x → ⊥
+  none_ambiguous x valid one h = shape_kept h.0 h.2 (valid x h.1) (h.3 (one x h.0 h.1 h.2))
 
   pub answers : {root bytes : List ℕ} {E : Type 0} (result : Result Membership E) → IfOk result (λ a. IsAnswer C root bytes a) → AnswersMembership C root bytes result
   answers {root} {bytes} result h = record { answer = h; decided = λ v u. decided bytes v u result h }
     where
-      never : {root : List ℕ} (bytes : List ℕ) (a : Membership) → IsValid C root → IsUnambiguous C root → IsAnswer C root bytes a → a ≡ Ambiguous → ⊥
-      never bytes IsMember v u h e = cc
-      never bytes NoMember v u h e = cc
-      never bytes Ambiguous v u h e = none_ambiguous v u h
+      never : {root : List ℕ} (bytes : List ℕ) (a : Membership) → IsValid C root → IsUnambiguous C root → IsAnswer C root bytes a → IsDecided a
+      never bytes IsMember v u h = tt
+      never bytes (NoMember f) v u h = tt
+      never bytes (Ambiguous x) v u h = none_ambiguous x.now v u h
 
-      decided : {root : List ℕ} (bytes : List ℕ) {E : Type 0} → IsValid C root → IsUnambiguous C root → (result : Result Membership E) → IfOk result (λ a. IsAnswer C root bytes a) → IfOk result (λ a. a ≡ Ambiguous → ⊥)
+      decided : {root : List ℕ} (bytes : List ℕ) {E : Type 0} → IsValid C root → IsUnambiguous C root → (result : Result Membership E) → IfOk result (λ a. IsAnswer C root bytes a) → IfOk result (λ a. IsDecided a)
       decided bytes v u (Ok a) h = never bytes a v u h
       decided bytes v u (Err e) h = tt

@@ -4,6 +4,7 @@ use Rattle.std.specs.Prelude.{Option, ⊤}
 use Rattle.borsh_walks.specs.Container.{Shape, IsIn, first, later, Member, of_primitive, of_sequence, of_parts, of_choice, Members, no_members, references, Reached, Reaches, stays, onward}
 use Rattle.borsh_walks.specs.SizeAnswer.{Distinct, distinct_none, distinct_more}
 use Rattle.borsh_walks.specs.Tables.{IsDefined}
+use Rattle.borsh_values.specs.Faults.{BeginsWith}
 use Rattle.borsh_values.specs.Steps.{remaining, pending, required_by, OnlyEmpty, AllOnlyEmpty, Takes}
 use Rattle.borsh_values.specs.declared.frames.Frame.{Frame}
 use Rattle.borsh_values.specs.declared.frames.Rest.{Rest}
@@ -110,7 +111,7 @@ module _ (C : List ℕ → Option Shape) where
       among_right [] a = a
       among_right (y ∷ xs) a = later (among_right xs a)
 
-  undefined_none : {x bs : List ℕ} → C x ≡ None → Member C x bs → ⊥
+  pub undefined_none : {x bs : List ℕ} → C x ≡ None → Member C x bs → ⊥
   undefined_none e (of_primitive p small) = cc
   undefined_none e (of_sequence k p low high ms) = cc
   undefined_none e (of_parts p ms) = cc
@@ -206,19 +207,19 @@ module _ (C : List ℕ → Option Shape) where
     part_reached = next_reached
 
     -- without a byte
-    pub walk_still : {U : List ℕ → Option Mark} {d : Shape} {n : ℕ} (g : Frame) → n ≡ 0 → C p ≡ Some d → Takes d rest n (remaining g.rest) → (T p ≡ Some Empty → ⊥) → (T p ≡ Some (Open (length rest)) → ⊥) → Updated T U p (Open (length rest)) → g.name.now ≡ p → g.start ≡ length rest → Walk root bytes U (with_rest f r ∷ fs) g rest (p ∷ L)
+    pub walk_still : {U : List ℕ → Option Mark} {d : Shape} {n : ℕ} (g : Frame) → n ≡ 0 → C p ≡ Some d → Takes C d rest n (remaining g.rest) → (T p ≡ Some Empty → ⊥) → (T p ≡ Some (Open (length rest)) → ⊥) → Updated T U p (Open (length rest)) → g.name.now ≡ p → g.start ≡ length rest → Walk root bytes U (with_rest f r ∷ fs) g rest (p ∷ L)
     walk_still {U} {d} {n} g zero_is c t not_empty not_open u name start =
         let at : drop n rest ≡ rest = ap (λ i. drop i rest) zero_is in
         record {
-          forth = λ m. subst (λ b. Members C (remaining g.rest ++ (remaining r ++ pending fs)) b) at (t.forth C p (remaining r ++ pending fs) c (subst (λ l. Members C l rest) next_is (w.forth m)));
-          back = λ m. w.back (subst (λ l. Members C l rest) (sym next_is) (t.back C p (remaining r ++ pending fs) c (subst (λ b. Members C (remaining g.rest ++ (remaining r ++ pending fs)) b) (sym at) m)));
+          forth = λ m. subst (λ b. Members C (remaining g.rest ++ (remaining r ++ pending fs)) b) at (t.forth p (remaining r ++ pending fs) c (subst (λ l. Members C l rest) next_is (w.forth m)));
+          back = λ m. w.back (subst (λ l. Members C l rest) (sym next_is) (t.back p (remaining r ++ pending fs) c (subst (λ b. Members C (remaining g.rest ++ (remaining r ++ pending fs)) b) (sym at) m)));
           reached = reached_more g c t.mentioned;
           empty = λ x h. elim (name_cases x p) [ inl q ↦ (let a = u.here in let b = ap U q in cc) | inr q ↦ w.empty x (sym (u.others x q) ∙ h) ];
           here = λ x h. elim (name_cases x p) [ inl q ↦ inl (name ∙ sym q, start) | inr q ↦ inr (on_with f r fs (w.here x (sym (u.others x q) ∙ h))) ];
           past = λ x k h. elim (name_cases x p) [ inl q ↦ (let a = u.here in let b = ap U q in let z : k ≡ length rest = cc in omega (arith, z)) | inr q ↦ w.past x k (sym (u.others x q) ∙ h) ];
           top = record {
             low = omega (arith, start);
-            only_empty = λ _ a. subst (λ y. OnlyEmpty C y) (sym name) (t.only_empty zero_is C p c a);
+            only_empty = λ _ a. subst (λ y. OnlyEmpty C y) (sym name) (t.only_empty zero_is p c a);
             needs = λ _. (d, ap C name ∙ c, t.needs zero_is);
           };
           chain = (subst (λ y. Link (length rest) (with_rest f r) y g.start) (sym name) (above (λ _. start) w.top), w.chain);
@@ -242,12 +243,12 @@ module _ (C : List ℕ → Option Shape) where
             go (f x a) (name_cases x p)
 
     -- with some bytes: no frame has taken none since
-    pub walk_on : {d : Shape} {n : ℕ} (g : Frame) → 0 < n → C p ≡ Some d → Takes d rest n (remaining g.rest) → g.name.now ≡ p → g.start ≡ length rest → Walk root bytes T (with_rest f r ∷ fs) g (drop n rest) []
+    pub walk_on : {d : Shape} {n : ℕ} (g : Frame) → 0 < n → C p ≡ Some d → Takes C d rest n (remaining g.rest) → g.name.now ≡ p → g.start ≡ length rest → Walk root bytes T (with_rest f r ∷ fs) g (drop n rest) []
     walk_on {d} {n} g more c t name start =
         let less : length (drop n rest) < length rest = (let i = t.within in let k = length-drop n rest in omega (arith, i, k)) in
         record {
-          forth = λ m. t.forth C p (remaining r ++ pending fs) c (subst (λ l. Members C l rest) next_is (w.forth m));
-          back = λ m. w.back (subst (λ l. Members C l rest) (sym next_is) (t.back C p (remaining r ++ pending fs) c m));
+          forth = λ m. t.forth p (remaining r ++ pending fs) c (subst (λ l. Members C l rest) next_is (w.forth m));
+          back = λ m. w.back (subst (λ l. Members C l rest) (sym next_is) (t.back p (remaining r ++ pending fs) c m));
           reached = reached_more g c t.mentioned;
           empty = w.empty;
           here = λ x h. let k = w.past x (length (drop n rest)) h in absurd (omega (arith, k, less));
@@ -267,21 +268,15 @@ module _ (C : List ℕ → Option Shape) where
         far_chain (f ∷ fs) y s h c = (far_link f y s (let k = c.0.low in omega (arith, k)), far_chain fs f.name.now f.start h c.1)
 
     -- ---- answers
-    pub no_definition : C p ≡ None → Member C root bytes → ⊥
-    no_definition c m = none_of (members_head C (subst (λ l. Members C l rest) next_is (w.forth m))).2
-      where
-        none_of : {bs : List ℕ} → Member C p bs → ⊥
-        none_of m = undefined_none c m
+    -- where no member of the next name begins, the bytes are no member
+    pub denied : (BeginsWith C p rest → ⊥) → Member C root bytes → ⊥
+    denied deny m = let s = members_head C (subst (λ l. Members C l rest) next_is (w.forth m)) in deny (s.0, s.1, s.2, s.4)
 
-    pub refused : {d : Shape} → C p ≡ Some d → ((D : List ℕ → Option Shape) (x : List ℕ) (ps : List (List ℕ)) → D x ≡ Some d → Members D (x ∷ ps) rest → ⊥) → Member C root bytes → ⊥
-    refused c deny m = deny C p (remaining r ++ pending fs) c (subst (λ l. Members C l rest) next_is (w.forth m))
-
-    pub leads_back : T p ≡ Some (Open (length rest)) → Member C root bytes → ⊥
+    pub leads_back : T p ≡ Some (Open (length rest)) → BeginsWith C p rest → ⊥
     leads_back h m =
-        let s = members_head C (subst (λ l. Members C l rest) next_is (w.forth m)) in
         let l = on_leads (length rest) fs f w.chain (w.here p h) in
         let n = w.top.needs l.0 in
-        not_required C s.2 (f.name.now, n.0, l.1, n.1, n.2 p (subst (λ l. IsIn p l) (sym e) first))
+        not_required C m.2 (f.name.now, n.0, l.1, n.1, n.2 p (subst (λ l. IsIn p l) (sym e) first))
       where
         on_leads : {x : List ℕ} (o : ℕ) (fs : List Frame) (f : Frame) → Chain o fs f.name.now f.start → On x o (f ∷ fs) → (f.start ≡ o) × Reaches C required_by x f.name.now
         on_leads o fs f c (inl h) = (h.1, subst (λ y. Reaches C required_by y f.name.now) h.0 stays)

@@ -2,7 +2,8 @@
 use Rattle.std.specs.Prelude.{◌≡◌, ℕ, List, [], ◌∷◌, Option, Result, IfOk, ⊤}
 use Rattle.borsh_walks.specs.Container.{Shape, Member, IsValid}
 use Rattle.borsh_values.specs.Unambiguous.{IsUnambiguous}
-use Rattle.borsh_values.specs.Membership.{HasAmbiguous}
+use Rattle.borsh_values.specs.Membership.{IsUndecided}
+use Rattle.borsh_values.specs.Faults.{IsFault}
 use Rattle.borsh_values.specs.Nodes.{NodeView, Nodes, views, joined_bytes}
 use Rattle.borsh_values.specs.declared.members.Decoded.{Decoded}
 use Rattle.borsh_values.specs.declared.members.Decoded.TheVariants.{Nodes as IsNodes, NoMember, Ambiguous}
@@ -11,14 +12,20 @@ module _ (C : List ℕ → Option Shape) (root bytes : List ℕ) where
   -- each answer is right
   abbrev pub IsDecoded : Decoded → Type 0
   IsDecoded (IsNodes ns) = Nodes C (root ∷ []) bytes (views ns.items) × Member C root bytes × (bytes ≡ joined_bytes (views ns.items))
-  IsDecoded NoMember = Member C root bytes → ⊥
-  IsDecoded Ambiguous = HasAmbiguous C root
+  IsDecoded (NoMember f) = (Member C root bytes → ⊥) × IsFault C root bytes f
+  IsDecoded (Ambiguous x) = IsUndecided C root x.now
 
   -- the bytes have no other nodes
   abbrev pub AreTheNodes : Decoded → Type 0
   AreTheNodes (IsNodes ns) = (es : List NodeView) → Nodes C (root ∷ []) bytes es → es ≡ views ns.items
-  AreTheNodes NoMember = ⊤
-  AreTheNodes Ambiguous = ⊤
+  AreTheNodes (NoMember f) = ⊤
+  AreTheNodes (Ambiguous x) = ⊤
+
+  -- nodes or no
+  abbrev pub IsYesOrNo : Decoded → Type 0
+  IsYesOrNo (IsNodes ns) = ⊤
+  IsYesOrNo (NoMember f) = ⊤
+  IsYesOrNo (Ambiguous x) = ⊥
 
   -- the answer is right, and is the only one where the definitions allow no other
   pub record DecodesValue {E : Type 0} (result : Result Decoded E) : Type 0 where
@@ -27,4 +34,4 @@ module _ (C : List ℕ → Option Shape) (root bytes : List ℕ) where
     -- where the container is unambiguous, the bytes determine the nodes
     pub determined : IsUnambiguous C root → IfOk result (λ a. AreTheNodes a)
     -- a container that is valid and unambiguous gets nodes or no
-    pub decided : IsValid C root → IsUnambiguous C root → IfOk result (λ a. a ≡ Ambiguous → ⊥)
+    pub decided : IsValid C root → IsUnambiguous C root → IfOk result (λ a. IsYesOrNo a)

@@ -4,5 +4,6 @@ pub mod Numbers
 pub mod Tags
 pub mod Keys
 pub mod Nodes
+pub mod Faults
 pub mod Decoding
 pub mod Steps

@@ -1,5 +1,5 @@
 -- What `is_member` answers.
-use Rattle.std.specs.Prelude.{◌≡◌, ◌⊎◌, ℕ, List, [], Option, Some, None, MatchOption, Result, IfOk, String}
+use Rattle.std.specs.Prelude.{◌≡◌, ◌⊎◌, ⊤, ℕ, ◌-◌, List, [], length, Option, Some, None, MatchOption, Result, IfOk, String}
 use Rattle.std.specs.Borrow.{Bor}
 use Rattle.std.specs.BTreeMap.{BTreeMap, get_by_text}
 use Rattle.borsh_walks.specs.Definitions.{definitions_in}
@@ -7,12 +7,14 @@ use Rattle.borsh_walks.specs.declared.definition.Definition.{Definition}
 use Rattle.borsh_walks.specs.Container.{Shape, Member, Reached, IsValid}
 use Rattle.borsh_walks.specs.RulesAnswer.{KeepsWidths}
 use Rattle.borsh_values.specs.Unambiguous.{UnambiguousShape, IsUnambiguous}
+use Rattle.borsh_values.specs.Faults.{IsFault}
+use Rattle.borsh_values.specs.declared.faults.Reason.TheVariants.{BytesLeft}
 use Rattle.borsh_values.specs.declared.members.Membership.{Membership}
 use Rattle.borsh_values.specs.declared.members.Membership.TheVariants.{Member as IsMember, NoMember, Ambiguous}
 
--- a definition that is reached is ambiguous, or breaks a rule of widths
-abbrev pub HasAmbiguous : (List ℕ → Option Shape) → List ℕ → Type 0
-HasAmbiguous C root = (x : List ℕ) × (d : Shape) × Reached C root x × (C x ≡ Some d) × (UnambiguousShape d → KeepsWidths d → ⊥)
+-- a name that is reached, and whose definition is ambiguous or breaks a rule of widths
+abbrev pub IsUndecided : (List ℕ → Option Shape) → List ℕ → List ℕ → Type 0
+IsUndecided C root x = (d : Shape) × Reached C root x × (C x ≡ Some d) × (UnambiguousShape d → KeepsWidths d → ⊥)
 
 -- a name that is reached, and whose definition is ambiguous
 abbrev pub IsAmbiguousName : (List ℕ → Option Shape) → List ℕ → List ℕ → Type 0
@@ -22,22 +24,28 @@ IsAmbiguousName C root x = (d : Shape) × Reached C root x × (C x ≡ Some d) �
 abbrev pub IsUnseen : {A M : Type 0} → BTreeMap (String A) Definition → (List ℕ → Option M) → List ℕ → Option (Bor Definition) → Type 0
 IsUnseen m T x found = MatchOption found ((T x ≡ None → ⊥) ⊎ (definitions_in m x ≡ None)) (λ d. (T x ≡ None) × (get_by_text m x ≡ Some d.now))
 
--- where no name is left to read, the bytes that are left decide
-abbrev pub IsAnswerAtEnd : List ℕ → Membership → Type 0
-IsAnswerAtEnd left IsMember = left ≡ []
-IsAnswerAtEnd left NoMember = left ≡ [] → ⊥
-IsAnswerAtEnd left Ambiguous = ⊥
+-- where no name is left to read, the bytes that are left decide, of so many
+abbrev pub IsAnswerAtEnd : List ℕ → ℕ → List ℕ → Membership → Type 0
+IsAnswerAtEnd root all left IsMember = left ≡ []
+IsAnswerAtEnd root all left (NoMember f) = (left ≡ [] → ⊥) × (f.offset ≡ all - length left) × (f.name.now ≡ root) × (f.reason ≡ BytesLeft)
+IsAnswerAtEnd root all left (Ambiguous x) = ⊥
+
+-- yes or no
+abbrev pub IsDecided : Membership → Type 0
+IsDecided IsMember = ⊤
+IsDecided (NoMember f) = ⊤
+IsDecided (Ambiguous x) = ⊥
 
 module _ (C : List ℕ → Option Shape) (root bytes : List ℕ) where
   -- each answer is right
   abbrev pub IsAnswer : Membership → Type 0
   IsAnswer IsMember = Member C root bytes
-  IsAnswer NoMember = Member C root bytes → ⊥
-  IsAnswer Ambiguous = HasAmbiguous C root
+  IsAnswer (NoMember f) = (Member C root bytes → ⊥) × IsFault C root bytes f
+  IsAnswer (Ambiguous x) = IsUndecided C root x.now
 
   -- the answer is right, and is yes or no where the container is valid and unambiguous
   pub record AnswersMembership {E : Type 0} (result : Result Membership E) : Type 0 where
     -- an answer is right
     pub answer : IfOk result (λ a. IsAnswer a)
     -- a container that is valid and unambiguous gets yes or no
-    pub decided : IsValid C root → IsUnambiguous C root → IfOk result (λ a. a ≡ Ambiguous → ⊥)
+    pub decided : IsValid C root → IsUnambiguous C root → IfOk result (λ a. IsDecided a)

@@ -1,16 +1,27 @@
 -- The nodes of a value: its parts in preorder, each with the bytes that it encodes before its own parts.
-use Rattle.std.specs.Prelude.{◌≡◌, ◌⊎◌, ℕ, ◌<◌, ◌≤◌, ℤ, pos, List, [], ◌∷◌, ◌++◌, length, replicate, Option, Some, None, All}
+use Rattle.std.specs.Prelude.{◌≡◌, ◌⊎◌, ℕ, suc, zero, ◌*◌, ◌<◌, ◌≤◌, ℤ, pos, List, [], ◌∷◌, ◌++◌, length, replicate, Option, Some, None, All}
 use Rattle.borsh_values.specs.Tags.{IsVariantIndex}
 use Rattle.borsh_walks.specs.Definitions.{shape_of}
 use Rattle.borsh_values.specs.declared.nodes.Node.{Node}
 use Rattle.borsh_walks.specs.Container.{Shape, primitive, sequence, product, choice, IsListedVariant, tag, Member, IsZeroSize}
 
--- a value of the definition is these bytes, and then the parts: a primitive all its bytes, a sequence its count, a struct or tuple none, an enum its tag
-abbrev pub Opens : Shape → List ℕ → List (List ℕ) → Type 0
-Opens (primitive n) own ns = (length own ≡ n) × All (λ b. b < 256) own × (ns ≡ [])
-Opens (sequence w lo hi e) own ns = (k : ℕ) × (lo ≤ k) × (k ≤ hi) × (own ≡ tag w (pos k)) × (ns ≡ replicate k e)
-Opens (product ps) own ns = (own ≡ []) × (ns ≡ ps)
-Opens (choice w vs) own ns = (k : ℤ) × (p : List ℕ) × IsListedVariant k p vs × (own ≡ tag w k) × (ns ≡ p ∷ [])
+-- how many bytes an element has, by the definition of its name, if elements are listed with their sequence: primitives of some bytes; 0 for others
+abbrev pub packed_size : Option Shape → ℕ
+packed_size (Some (primitive n)) = n
+packed_size d = 0
+
+-- k elements of the name e: packed into these bytes, or the parts
+abbrev pub OpensElements : ℕ → List ℕ → ℕ → List ℕ → List (List ℕ) → Type 0
+OpensElements zero e k own ns = (own ≡ []) × (ns ≡ replicate k e)
+OpensElements (suc n) e k own ns = (length own ≡ k * suc n) × All (λ b. b < 256) own × (ns ≡ [])
+
+module _ (C : List ℕ → Option Shape) where
+  -- a value of the definition is these bytes, and then the parts: a primitive all its bytes, a sequence its count and packed elements, a struct or tuple none, an enum its tag
+  abbrev pub Opens : Shape → List ℕ → List (List ℕ) → Type 0
+  Opens (primitive n) own ns = (length own ≡ n) × All (λ b. b < 256) own × (ns ≡ [])
+  Opens (sequence w lo hi e) own ns = (k : ℕ) × (cs : List ℕ) × (lo ≤ k) × (k ≤ hi) × (own ≡ tag w (pos k) ++ cs) × OpensElements (packed_size (C e)) e k cs ns
+  Opens (product ps) own ns = (own ≡ []) × (ns ≡ ps)
+  Opens (choice w vs) own ns = (k : ℤ) × (p : List ℕ) × IsListedVariant k p vs × (own ≡ tag w k) × (ns ≡ p ∷ [])
 
 -- the place of the variant that own bytes encode; none of a definition of another kind
 abbrev pub IsVariantOf : Shape → List ℕ → Option ℕ → Type 0
@@ -45,4 +56,4 @@ module _ (C : List ℕ → Option Shape) where
   pub data Nodes : List (List ℕ) → List ℕ → List NodeView → Type 0 where
     nodes_none : Nodes [] [] []
     nodes_zero : {x bs : List ℕ} {ps : List (List ℕ)} {es : List NodeView} → IsZeroSize C x → Member C x [] → Nodes ps bs es → Nodes (x ∷ ps) bs es
-    nodes_more : {x own bs : List ℕ} {ps : List (List ℕ)} {es : List NodeView} (d : Shape) (ns : List (List ℕ)) → (IsZeroSize C x → ⊥) → C x ≡ Some d → Opens d own ns → Nodes (ns ++ ps) bs es → Nodes (x ∷ ps) (own ++ bs) ((x, d, own) ∷ es)
+    nodes_more : {x own bs : List ℕ} {ps : List (List ℕ)} {es : List NodeView} (d : Shape) (ns : List (List ℕ)) → (IsZeroSize C x → ⊥) → C x ≡ Some d → Opens C d own ns → Nodes (ns ++ ps) bs es → Nodes (x ∷ ps) (own ++ bs) ((x, d, own) ∷ es)

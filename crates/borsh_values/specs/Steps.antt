@@ -1,11 +1,13 @@
 -- What the loop over the bytes of a value works on.
-use Rattle.std.specs.Prelude.{◌≡◌, ℕ, Bool, true, false, suc, zero, ◌+◌, ◌≤◌, ◌<◌, ◌^◌, List, [], ◌∷◌, ◌++◌, length, take, drop, replicate, ℤ, Option, Some, ⊤}
+use Rattle.std.specs.Prelude.{◌≡◌, ℕ, Bool, true, false, suc, zero, ◌+◌, ◌*◌, ◌≤◌, ◌<◌, ◌^◌, List, [], ◌∷◌, ◌++◌, length, take, drop, replicate, ℤ, Option, Some, ⊤}
 use Rattle.std.specs.Borrow.{Bor}
 use Rattle.borsh_walks.specs.Container.{Shape, primitive, sequence, product, choice, IsIn, IsListedVariant, tag, Member, Members, references, IsZeroSize}
 use Rattle.borsh_walks.specs.Definitions.{shape_of}
 use Rattle.borsh_walks.specs.RulesAnswer.{KeepsWidths, IsWidth}
 use Rattle.borsh_values.specs.Unambiguous.{DistinctTags, UnambiguousShape}
 use Rattle.borsh_values.specs.Nodes.{Opens}
+use Rattle.borsh_values.specs.Faults.{BeginsWith}
+use Rattle.borsh_values.specs.declared.faults.Reason.TheVariants.{BytesLeft}
 use Rattle.borsh_values.specs.declared.frames.Rest.{Rest}
 use Rattle.borsh_values.specs.declared.frames.Rest.TheVariants.{Copies, Parts}
 use Rattle.borsh_values.specs.declared.frames.Frame.{Frame}
@@ -59,28 +61,35 @@ abbrev pub AllOnlyEmpty : (List ℕ → Option Shape) → List (List ℕ) → Ty
 AllOnlyEmpty C [] = ⊤
 AllOnlyEmpty C (p ∷ ps) = OnlyEmpty C p × AllOnlyEmpty C ps
 
--- a name with the definition d is read from bytes as n bytes and then the names ns, whatever the other definitions are
-pub record Takes (d : Shape) (bytes : List ℕ) (n : ℕ) (ns : List (List ℕ)) : Type 0 where
+-- a name with the definition d is read from bytes as n bytes and then the names ns
+pub record Takes (C : List ℕ → Option Shape) (d : Shape) (bytes : List ℕ) (n : ℕ) (ns : List (List ℕ)) : Type 0 where
   -- there are n bytes
   pub within : n ≤ length bytes
   -- members of the name begin with these n bytes, and members of ns follow
-  pub forth : (C : List ℕ → Option Shape) (x : List ℕ) (ps : List (List ℕ)) → C x ≡ Some d → Members C (x ∷ ps) bytes → Members C (ns ++ ps) (drop n bytes)
+  pub forth : (x : List ℕ) (ps : List (List ℕ)) → C x ≡ Some d → Members C (x ∷ ps) bytes → Members C (ns ++ ps) (drop n bytes)
   -- the n bytes and members of ns are a member of the name
-  pub back : (C : List ℕ → Option Shape) (x : List ℕ) (ps : List (List ℕ)) → C x ≡ Some d → Members C (ns ++ ps) (drop n bytes) → Members C (x ∷ ps) bytes
+  pub back : (x : List ℕ) (ps : List (List ℕ)) → C x ≡ Some d → Members C (ns ++ ps) (drop n bytes) → Members C (x ∷ ps) bytes
   -- where no byte is taken and none is in ns, the name has the empty member alone
-  pub only_empty : n ≡ 0 → (C : List ℕ → Option Shape) (x : List ℕ) → C x ≡ Some d → AllOnlyEmpty C ns → OnlyEmpty C x
+  pub only_empty : n ≡ 0 → (x : List ℕ) → C x ≡ Some d → AllOnlyEmpty C ns → OnlyEmpty C x
   -- the n bytes are those that the definition encodes before its parts ns
-  pub opens : Opens d (take n bytes) ns
+  pub opens : Opens C d (take n bytes) ns
   -- the names are written in the definition
   pub mentioned : (p : List ℕ) → IsIn p ns → IsIn p (references d)
   -- where no byte is taken, they are required
   pub needs : n ≡ 0 → (p : List ℕ) → IsIn p ns → IsIn p (required_by d)
 
 -- what an opened definition takes from the bytes, or that no member begins here, or that the definition is ambiguous or breaks a rule of widths
-abbrev pub OpensAs : Shape → List ℕ → Opened → Type 0
-OpensAs d bytes Undecided = UnambiguousShape d → KeepsWidths d → ⊥
-OpensAs d bytes Refused = (C : List ℕ → Option Shape) (x : List ℕ) (ps : List (List ℕ)) → C x ≡ Some d → Members C (x ∷ ps) bytes → ⊥
-OpensAs d bytes (Taken n r) = Takes d bytes n (remaining r) × (step_count r ≤ 2 + length (references d))
+abbrev pub OpensAs : (List ℕ → Option Shape) → Shape → List ℕ → Opened → Type 0
+OpensAs C d bytes Undecided = UnambiguousShape d → KeepsWidths d → ⊥
+OpensAs C d bytes (Refused r) = (r ≡ BytesLeft → ⊥) × ((x : List ℕ) → C x ≡ Some d → BeginsWith C x bytes → ⊥)
+OpensAs C d bytes (Taken n r) = Takes C d bytes n (remaining r) × (step_count r ≤ 2 + length (references d))
+
+-- what k elements e of a sequence take behind w bytes of all, where each has m bytes that are listed with it
+abbrev pub TakesElements : ℕ → List ℕ → ℕ → ℕ → ℕ → Opened → Type 0
+TakesElements m e k w all Undecided = ⊥
+TakesElements m e k w all (Refused r) = (r ≡ BytesLeft → ⊥) × (all < w + k * m)
+TakesElements zero e k w all (Taken n r) = (n ≡ w) × (remaining r ≡ replicate k e) × (step_count r ≤ 3)
+TakesElements (suc m) e k w all (Taken n r) = (n ≡ w + k * suc m) × (n ≤ all) × (remaining r ≡ []) × (step_count r ≤ 3)
 
 -- what was found with one variant more
 abbrev pub more_found : Found → Bor (List ℕ) → Found

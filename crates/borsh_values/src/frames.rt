@@ -2,6 +2,7 @@
 ghost use Rattle.borsh_values.specs.Steps.{StepsOn, remaining, step_count};
 ghost use Rattle.std.specs.Prelude.{◌≡◌, ◌∷◌, ◌++◌, ◌<◌, ◌≤◌, ℕ, suc, [], MatchOption, IfSome, replicate};
 
+use crate::faults::Reason;
 use borsh_walks::Definition;
 use borsh_walks::parts::mentioned_part;
 
@@ -26,7 +27,7 @@ pub enum Opened<'a> {
     /// The definition is ambiguous, or breaks a rule of widths.
     Undecided,
     /// No member begins here.
-    Refused,
+    Refused(Reason),
     /// So many bytes, and the names that follow.
     Taken(usize, Rest<'a>),
 }

@@ -7,6 +7,7 @@
 //! 18446744073709551615 elements without bytes. None recurses.
 #![tactic(auto)]
 
+pub mod faults;
 pub mod frames;
 pub mod members;
 pub mod nodes;
@@ -15,6 +16,7 @@ pub mod opening;
 pub mod tags;
 pub mod unambiguous;
 
+pub use faults::{Fault, Path, PathStep, Reason};
 pub use members::{Decoded, Membership, decode, is_member};
 pub use nodes::{Node, encode, variant_of};
 pub use unambiguous::find_ambiguous;

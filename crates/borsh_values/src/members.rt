@@ -9,6 +9,7 @@ ghost use Rattle.borsh_values.specs.declared.members.Membership.TheVariants.{Mem
 ghost use Rattle.borsh_walks.specs.ZeroAnswer.{ZeroTable};
 ghost use Rattle.std.specs.Prelude.{IfOk, ◌≤◌, ◌≡◌, ◌∷◌, [], length, drop, take, true};
 
+use crate::faults::{Fault, Path, Question, Reason, no_member};
 use crate::frames::{Frame, Opened, Rest, after_copies, next_part};
 use crate::nodes::{Node, list_node};
 use crate::opening::open_definition;
@@ -17,15 +18,15 @@ use std::alloc::{AllocError, Global};
 use std::collections::BTreeMap;
 
 /// Whether bytes are a member of a name.
-#[derive(Clone, Copy, Debug, PartialEq, Eq)]
-pub enum Membership {
+#[derive(Drop)]
+pub enum Membership<'a> {
     /// They are a member.
     Member,
-    /// They aren't.
-    NoMember,
-    /// A definition that was reached encodes two counts or two variants alike, or has counts of a width
-    /// that no valid container has.
-    Ambiguous,
+    /// They aren't: where they stop being one, and why.
+    NoMember(Fault<'a>),
+    /// The definition of this name encodes two counts or two variants alike, or has counts of a width that no
+    /// valid container has.
+    Ambiguous(&'a str),
 }
 
 /// What is known of a name.
@@ -81,27 +82,37 @@ fn after(bytes: &[u8], taken: usize) -> &[u8]
 }
 
 // The answer where all names are read.
-fn at_end(left: &[u8]) -> Membership
-    ensures { IsAnswerAtEnd left.now result }
+fn at_end<'a>(alloc: Global, root: &'a str, bytes: &[u8], left: &[u8]) -> Membership<'a>
+    requires { length left.now ≤ length bytes.now }
+    ensures { IsAnswerAtEnd root.now (length bytes.now) left.now result }
 {
     if left.is_empty() {
-        Membership::Member
-    } else {
-        Membership::NoMember
+        return Membership::Member;
     }
+    Membership::NoMember(Fault {
+        offset: bytes.len() - left.len(),
+        name: root,
+        reason: Reason::BytesLeft,
+        path: Path {
+            root,
+            steps: Vec::new(alloc),
+        },
+    })
 }
 
 /// Whether all of `bytes` is a member of `root`, by the definitions of `map` alone.
 ///
 /// The definitions may be any: a name without a definition has no member, and neither has one that leads back
-/// to itself before any byte. The answer is never [`Membership::Ambiguous`] where the definitions that are
-/// reached are valid, as [`borsh_walks::check_rules`] says, and unambiguous. An error is a refused allocation.
+/// to itself before any byte. If they are no member, the answer says where: no member of [`Fault::name`] begins at
+/// [`Fault::offset`], or bytes are left behind a whole value. The answer is never [`Membership::Ambiguous`] where the
+/// definitions that are reached are valid, as [`borsh_walks::check_rules`] says, and unambiguous. An error is a
+/// refused allocation.
 pub fn is_member<'a>(
     alloc: Global,
     root: &'a str,
     map: &'a BTreeMap<String, Definition>,
     bytes: &'a [u8],
-) -> Result<Membership, AllocError>
+) -> Result<Membership<'a>, AllocError>
     ensures { AnswersMembership (definitions_in map.now) root.now bytes.now result }
 {
     let mut zeros: BTreeMap<&'a str, bool> = BTreeMap::new(alloc);
@@ -114,10 +125,10 @@ pub fn is_member<'a>(
 pub enum Decoded<'a> {
     /// The bytes are a member, and these are its nodes in preorder. A value of a name of zero size has none.
     Nodes(Vec<Node<'a>>),
-    /// The bytes are no member.
-    NoMember,
+    /// The bytes are no member, as [`Membership::NoMember`].
+    NoMember(Fault<'a>),
     /// As [`Membership::Ambiguous`].
-    Ambiguous,
+    Ambiguous(&'a str),
 }
 
 /// The nodes of the value of `root` that all of `bytes` is, by the definitions of `map` alone.
@@ -137,8 +148,8 @@ pub fn decode<'a>(
     let mut nodes: Vec<Node<'a>> = Vec::new(alloc);
     match decide(alloc, root, map, bytes, true, &mut zeros, &mut nodes)? {
         Membership::Member => Ok(Decoded::Nodes(nodes)),
-        Membership::NoMember => Ok(Decoded::NoMember),
-        Membership::Ambiguous => Ok(Decoded::Ambiguous),
+        Membership::NoMember(fault) => Ok(Decoded::NoMember(fault)),
+        Membership::Ambiguous(name) => Ok(Decoded::Ambiguous(name)),
     }
 }
 
@@ -152,7 +163,7 @@ fn decide<'a>(
     wanted: bool,
     zeros: &mut BTreeMap<&'a str, bool>,
     nodes: &mut Vec<Node<'a>>,
-) -> Result<Membership, AllocError>
+) -> Result<Membership<'a>, AllocError>
     requires table { ZeroTable (definitions_in map.now) zeros.old }
     requires empty { nodes.old.items ≡ [] }
     ensures answer { IfOk result (λ a. IsAnswer (definitions_in map.now) root.now bytes.now a) }
@@ -162,6 +173,12 @@ fn decide<'a>(
     let mut table: BTreeMap<&'a str, Mark> = BTreeMap::new(alloc);
     let mut stack: Vec<Frame<'a>> = Vec::new(alloc);
     let _definitions = map.len();
+    let asked = Question {
+        alloc,
+        root,
+        map,
+        bytes,
+    };
     let mut left = bytes;
     let mut idle: usize = 0;
     let mut frame = Frame {
@@ -173,14 +190,20 @@ fn decide<'a>(
         match next_part(frame.rest) {
             Some(step) => match look_up(&table, step.part, left.len()) {
                 Known::Empty => frame.rest = after_copies(frame.rest, step),
-                Known::Recursive => return Ok(Membership::NoMember),
+                Known::Recursive => {
+                    let why = Reason::Recursive;
+                    return no_member(asked, &stack, frame, step, left.len(), why);
+                }
                 Known::New => {
                     let Some(definition) = map.get(step.part) else {
-                        return Ok(Membership::NoMember);
+                        let why = Reason::MissingDefinition;
+                        return no_member(asked, &stack, frame, step, left.len(), why);
                     };
-                    match open_definition(definition, left) {
-                        Opened::Undecided => return Ok(Membership::Ambiguous),
-                        Opened::Refused => return Ok(Membership::NoMember),
+                    match open_definition(map, definition, left) {
+                        Opened::Undecided => return Ok(Membership::Ambiguous(step.part)),
+                        Opened::Refused(why) => {
+                            return no_member(asked, &stack, frame, step, left.len(), why);
+                        }
                         Opened::Taken(taken, rest) => {
                             let node = Node {
                                 name: step.part,
@@ -213,7 +236,7 @@ fn decide<'a>(
                     }
                     frame = above;
                 }
-                None => return Ok(at_end(left)),
+                None => return Ok(at_end(alloc, root, bytes, left)),
             },
         }
     }

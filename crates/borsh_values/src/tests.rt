@@ -1,6 +1,5 @@
 // Worked examples: each kind of definition, and definitions that no type has.
 use super::*;
-use Membership::{Ambiguous, Member, NoMember};
 use borsh_walks::{Definition, Fields, LengthRange};
 use std::alloc::Global;
 use std::collections::BTreeMap;
@@ -201,74 +200,134 @@ fn definitions(alloc: Global) -> Result<Definitions, Fail> {
     Ok(map)
 }
 
+// An answer as `yes`, `no OFFSET PATH` or `ambiguous NAME`.
+fn told(alloc: Global, answer: &Membership<'_>) -> Result<String, Fail> {
+    Ok(match answer {
+        Membership::Member => text(alloc, "yes")?,
+        Membership::NoMember(fault) => format!(in alloc; "no {} {}", fault.offset, fault.path)?,
+        Membership::Ambiguous(name) => format!(in alloc; "ambiguous {name}")?,
+    })
+}
+
+// A fault as it is printed.
+#[test]
+fn why_bytes_are_no_member(rt: HostRuntime) -> Result<(), Fail> {
+    let alloc = rt.alloc();
+    let map = definitions(alloc)?;
+    let table: &[(&str, &[u8], &str)] = &[
+        (
+            "u8",
+            &[9, 9],
+            "u8 (`u8` at byte 1): the value ends, and bytes are left",
+        ),
+        (
+            "Pair",
+            &[7, 2, 0, 0, 0],
+            "Pair.bytes (`Vec<u8>` at byte 1): too few bytes are left",
+        ),
+        (
+            "u8 to 2 of u8",
+            &[3],
+            "u8 to 2 of u8 (`u8 to 2 of u8` at byte 0): the number of elements isn't allowed",
+        ),
+        (
+            "List",
+            &[1, 5, 2],
+            "List::variant.1 (`List` at byte 2): no variant has this tag",
+        ),
+        (
+            "misses",
+            &[1],
+            "misses.1 (`nowhere` at byte 1): it has no definition",
+        ),
+        (
+            "left",
+            &[],
+            "left.1 (`left` at byte 0): it leads back to itself before any byte",
+        ),
+    ];
+    for (root, bytes, expected) in table {
+        let Membership::NoMember(fault) = is_member(alloc, root, &map, bytes)? else {
+            return Err(Fail::from("no fault"));
+        };
+        assert_eq!(rt; format!(in alloc; "{fault}")?.as_str(), *expected);
+    }
+    Ok(())
+}
+
 #[test]
 fn members_of_each_kind_of_definition(rt: HostRuntime) -> Result<(), Fail> {
     let alloc = rt.alloc();
     let map = definitions(alloc)?;
-    let table: &[(&str, &[u8], Membership)] = &[
+    let table: &[(&str, &[u8], &str)] = &[
         // Primitives.
-        ("u8", &[9], Member),
-        ("u8", &[], NoMember),
-        ("u8", &[9, 9], NoMember),
-        ("u32", &[1, 2, 3, 4], Member),
-        ("u32", &[1, 2, 3], NoMember),
-        ("()", &[], Member),
-        ("()", &[0], NoMember),
+        ("u8", &[9], "yes"),
+        ("u8", &[], "no 0 u8"),
+        ("u8", &[9, 9], "no 1 u8"),
+        ("u32", &[1, 2, 3, 4], "yes"),
+        ("u32", &[1, 2, 3], "no 0 u32"),
+        ("()", &[], "yes"),
+        ("()", &[0], "no 0 ()"),
         // Arrays.
-        ("[u8; 3]", &[1, 2, 3], Member),
-        ("[u8; 3]", &[1, 2], NoMember),
-        ("[u8; 3]", &[1, 2, 3, 4], NoMember),
+        ("[u8; 3]", &[1, 2, 3], "yes"),
+        ("[u8; 3]", &[1, 2], "no 0 [u8; 3]"),
+        ("[u8; 3]", &[1, 2, 3, 4], "no 3 [u8; 3]"),
         // Sequences.
-        ("Vec<u8>", &[0, 0, 0, 0], Member),
-        ("Vec<u8>", &[3, 0, 0, 0, 1, 2, 3], Member),
-        ("Vec<u8>", &[3, 0, 0, 0, 1, 2], NoMember),
-        ("Vec<u8>", &[3, 0, 0, 0, 1, 2, 3, 4], NoMember),
-        ("Vec<u8>", &[0, 0, 0, 3, 1, 2, 3], NoMember),
-        ("Vec<u8>", &[3, 0, 0], NoMember),
-        ("u8 to 2 of u8", &[0], NoMember),
-        ("u8 to 2 of u8", &[1, 5], Member),
-        ("u8 to 2 of u8", &[2, 5, 6], Member),
-        ("u8 to 2 of u8", &[3, 5, 6, 7], NoMember),
-        ("many u32", &[1, 0, 0, 0, 0, 0, 0, 0, 1, 2, 3, 4], Member),
-        ("many u32", &[0, 0, 0, 0, 0, 0, 0, 1, 1, 2, 3, 4], NoMember),
+        ("Vec<u8>", &[0, 0, 0, 0], "yes"),
+        ("Vec<u8>", &[3, 0, 0, 0, 1, 2, 3], "yes"),
+        ("Vec<u8>", &[3, 0, 0, 0, 1, 2], "no 0 Vec<u8>"),
+        ("Vec<u8>", &[3, 0, 0, 0, 1, 2, 3, 4], "no 7 Vec<u8>"),
+        ("Vec<u8>", &[0, 0, 0, 3, 1, 2, 3], "no 0 Vec<u8>"),
+        ("Vec<u8>", &[3, 0, 0], "no 0 Vec<u8>"),
+        ("u8 to 2 of u8", &[0], "no 0 u8 to 2 of u8"),
+        ("u8 to 2 of u8", &[1, 5], "yes"),
+        ("u8 to 2 of u8", &[2, 5, 6], "yes"),
+        ("u8 to 2 of u8", &[3, 5, 6, 7], "no 0 u8 to 2 of u8"),
+        ("many u32", &[1, 0, 0, 0, 0, 0, 0, 0, 1, 2, 3, 4], "yes"),
+        (
+            "many u32",
+            &[0, 0, 0, 0, 0, 0, 0, 1, 1, 2, 3, 4],
+            "no 0 many u32",
+        ),
         // Tuples and structs.
-        ("(u8, u32)", &[1, 2, 3, 4, 5], Member),
-        ("(u8, u32)", &[1, 2, 3, 4], NoMember),
-        ("Pair", &[7, 1, 0, 0, 0, 8], Member),
-        ("Pair", &[1, 0, 0, 0, 8, 7], NoMember),
-        ("Unit", &[], Member),
-        ("Unit", &[0], NoMember),
+        ("(u8, u32)", &[1, 2, 3, 4, 5], "yes"),
+        ("(u8, u32)", &[1, 2, 3, 4], "no 1 (u8, u32).1"),
+        ("Pair", &[7, 1, 0, 0, 0, 8], "yes"),
+        ("Pair", &[1, 0, 0, 0, 8, 7], "no 1 Pair.bytes"),
+        ("Unit", &[], "yes"),
+        ("Unit", &[0], "no 0 Unit"),
         // Enums.
-        ("Option<u8>", &[0], Member),
-        ("Option<u8>", &[1, 5], Member),
-        ("Option<u8>", &[1], NoMember),
-        ("Option<u8>", &[0, 5], NoMember),
-        ("Option<u8>", &[2, 5], NoMember),
-        ("only", &[5], Member),
-        ("only", &[7, 5], NoMember),
-        ("never", &[0], NoMember),
-        ("never", &[], NoMember),
+        ("Option<u8>", &[0], "yes"),
+        ("Option<u8>", &[1, 5], "yes"),
+        ("Option<u8>", &[1], "no 1 Option<u8>::variant"),
+        ("Option<u8>", &[0, 5], "no 1 Option<u8>"),
+        ("Option<u8>", &[2, 5], "no 0 Option<u8>"),
+        ("only", &[5], "yes"),
+        ("only", &[7, 5], "no 1 only"),
+        ("never", &[0], "no 0 never"),
+        ("never", &[], "no 0 never"),
         // Negative tags, and tags past the eighth byte.
-        ("signed", &[254, 255], Member),
-        ("signed", &[255, 255, 7], Member),
-        ("signed", &[255, 0, 7], Member),
-        ("signed", &[255, 1, 7], NoMember),
-        ("signed", &[254, 0], NoMember),
+        ("signed", &[254, 255], "yes"),
+        ("signed", &[255, 255, 7], "yes"),
+        ("signed", &[255, 0, 7], "yes"),
+        ("signed", &[255, 1, 7], "no 0 signed"),
+        ("signed", &[254, 0], "no 0 signed"),
         (
             "wide",
             &[255, 255, 255, 255, 255, 255, 255, 255, 255],
-            Member,
+            "yes",
         ),
-        ("wide", &[1, 0, 0, 0, 0, 0, 0, 0, 0, 7], Member),
-        ("wide", &[1, 0, 0, 0, 0, 0, 0, 0, 1, 7], NoMember),
+        ("wide", &[1, 0, 0, 0, 0, 0, 0, 0, 0, 7], "yes"),
+        ("wide", &[1, 0, 0, 0, 0, 0, 0, 0, 1, 7], "no 0 wide"),
         // A list by an enum.
-        ("List", &[0], Member),
-        ("List", &[1, 5, 1, 6, 0], Member),
-        ("List", &[1, 5, 2, 6, 0], NoMember),
-        ("List", &[1, 5, 1, 6], NoMember),
+        ("List", &[0], "yes"),
+        ("List", &[1, 5, 1, 6, 0], "yes"),
+        ("List", &[1, 5, 2, 6, 0], "no 2 List::variant.1"),
+        ("List", &[1, 5, 1, 6], "no 4 List::variant.1::variant.1"),
     ];
     for (root, bytes, expected) in table {
-        assert_eq!(rt; is_member(alloc, root, &map, bytes)?, *expected);
+        let answer = is_member(alloc, root, &map, bytes)?;
+        assert_eq!(rt; told(alloc, &answer)?.as_str(), *expected);
     }
     Ok(())
 }
@@ -277,44 +336,49 @@ fn members_of_each_kind_of_definition(rt: HostRuntime) -> Result<(), Fail> {
 fn definitions_that_no_type_has(rt: HostRuntime) -> Result<(), Fail> {
     let alloc = rt.alloc();
     let map = definitions(alloc)?;
-    let table: &[(&str, &[u8], Membership)] = &[
+    let table: &[(&str, &[u8], &str)] = &[
         // 18446744073709551615 and 4294967295 elements without bytes.
-        ("most units", &[], Member),
-        ("most units", &[0], NoMember),
-        ("counted units", &[255, 255, 255, 255], Member),
-        ("counted units", &[255, 255, 255, 255, 0], NoMember),
+        ("most units", &[], "yes"),
+        ("most units", &[0], "no 0 most units"),
+        ("counted units", &[255, 255, 255, 255], "yes"),
+        (
+            "counted units",
+            &[255, 255, 255, 255, 0],
+            "no 4 counted units",
+        ),
         (
             "most Units",
             &[255, 255, 255, 255, 255, 255, 255, 255],
-            Member,
+            "yes",
         ),
         // Names that lead back to themselves.
-        ("left", &[], NoMember),
-        ("left", &[1, 2, 3], NoMember),
-        ("left array", &[], NoMember),
-        ("left enum", &[], NoMember),
-        ("right", &[1, 2, 3], NoMember),
-        ("loop to 0", &[0], Member),
-        ("loop to 0", &[2, 1, 0, 0], Member),
-        ("loop to 0", &[2, 1, 0], NoMember),
+        ("left", &[], "no 0 left.1"),
+        ("left", &[1, 2, 3], "no 0 left.1"),
+        ("left array", &[], "no 0 left array[0]"),
+        ("left enum", &[], "no 0 left enum::variant"),
+        ("right", &[1, 2, 3], "no 3 right.1.1.1.0"),
+        ("loop to 0", &[0], "yes"),
+        ("loop to 0", &[2, 1, 0, 0], "yes"),
+        ("loop to 0", &[2, 1, 0], "no 3 loop to 0[1]"),
         // Names without a definition.
-        ("nowhere", &[], NoMember),
-        ("misses", &[1], NoMember),
-        ("misses none", &[0], Member),
-        ("misses none", &[1], NoMember),
+        ("nowhere", &[], "no 0 nowhere"),
+        ("misses", &[1], "no 1 misses.1"),
+        ("misses none", &[0], "yes"),
+        ("misses none", &[1], "no 1 misses none[0]"),
         // Counts and tags that are encoded alike, and widths that no valid container has.
-        ("twice", &[0], Ambiguous),
-        ("twice", &[1], NoMember),
-        ("two of 0", &[], Ambiguous),
-        ("any array", &[1], Ambiguous),
-        ("no array", &[], NoMember),
-        ("three", &[0, 0, 0], Ambiguous),
-        ("narrow", &[0], Ambiguous),
-        ("behind", &[5, 0], Ambiguous),
-        ("behind", &[], NoMember),
+        ("twice", &[0], "ambiguous twice"),
+        ("twice", &[1], "no 0 twice"),
+        ("two of 0", &[], "ambiguous two of 0"),
+        ("any array", &[1], "ambiguous any array"),
+        ("no array", &[], "no 0 no array"),
+        ("three", &[0, 0, 0], "ambiguous three"),
+        ("narrow", &[0], "ambiguous narrow"),
+        ("behind", &[5, 0], "ambiguous twice"),
+        ("behind", &[], "no 0 behind.0"),
     ];
     for (root, bytes, expected) in table {
-        assert_eq!(rt; is_member(alloc, root, &map, bytes)?, *expected);
+        let answer = is_member(alloc, root, &map, bytes)?;
+        assert_eq!(rt; told(alloc, &answer)?.as_str(), *expected);
     }
     Ok(())
 }
@@ -429,12 +493,8 @@ fn nodes_in_preorder(rt: HostRuntime) -> Result<(), Fail> {
         ("Unit", &[], ""),
         ("most units", &[], ""),
         ("counted units", &[9, 0, 0, 0], "counted units 9 0 0 0;"),
-        ("[u8; 3]", &[1, 2, 3], "[u8; 3];u8 1;u8 2;u8 3;"),
-        (
-            "Pair",
-            &[7, 1, 0, 0, 0, 8],
-            "Pair;u8 7;Vec<u8> 1 0 0 0;u8 8;",
-        ),
+        ("[u8; 3]", &[1, 2, 3], "[u8; 3] 1 2 3;"),
+        ("Pair", &[7, 1, 0, 0, 0, 8], "Pair;u8 7;Vec<u8> 1 0 0 0 8;"),
         ("Option<u8>", &[0], "Option<u8> 0;"),
         ("Option<u8>", &[1, 5], "Option<u8> 1;u8 5;"),
         ("signed", &[255, 255, 7], "signed 255 255;u8 7;"),
@@ -455,9 +515,14 @@ fn nodes_in_preorder(rt: HostRuntime) -> Result<(), Fail> {
     };
     assert_eq!(rt; variant_of(first), Some(1));
     assert_eq!(rt; variant_of(second), None);
-    assert!(rt; matches!(decode(alloc, "u8", &map, &[])?, Decoded::NoMember));
-    assert!(rt; matches!(decode(alloc, "left", &map, &[])?, Decoded::NoMember));
-    assert!(rt; matches!(decode(alloc, "behind", &map, &[5, 0])?, Decoded::Ambiguous));
+    assert!(rt; matches!(decode(alloc, "u8", &map, &[])?, Decoded::NoMember(_)));
+    assert!(rt; matches!(decode(alloc, "left", &map, &[])?, Decoded::NoMember(_)));
+    assert!(rt;
+        matches!(
+            decode(alloc, "behind", &map, &[5, 0])?,
+            Decoded::Ambiguous(_)
+        )
+    );
     Ok(())
 }
 
@@ -473,8 +538,13 @@ fn tuples_of_tuples_without_bytes(rt: HostRuntime) -> Result<(), Fail> {
         put(alloc, &mut map, &name, tuple(alloc, &[&last, &last])?)?;
         last = name;
     }
-    assert_eq!(rt; is_member(alloc, &last, &map, &[])?, Member);
-    assert_eq!(rt; is_member(alloc, &last, &map, &[0])?, NoMember);
+    assert!(rt; matches!(is_member(alloc, &last, &map, &[])?, Membership::Member));
+    assert!(rt;
+        matches!(
+            is_member(alloc, &last, &map, &[0])?,
+            Membership::NoMember(_)
+        )
+    );
     Ok(())
 }
 
@@ -486,16 +556,31 @@ fn many_bytes(rt: HostRuntime) -> Result<(), Fail> {
     for _ in 0..65536u64 {
         bytes.push(7)?;
     }
-    assert_eq!(rt; is_member(alloc, "Vec<u8>", &map, &bytes)?, Member);
+    assert!(rt;
+        matches!(
+            is_member(alloc, "Vec<u8>", &map, &bytes)?,
+            Membership::Member
+        )
+    );
     bytes.push(7)?;
-    assert_eq!(rt; is_member(alloc, "Vec<u8>", &map, &bytes)?, NoMember);
+    assert!(rt;
+        matches!(
+            is_member(alloc, "Vec<u8>", &map, &bytes)?,
+            Membership::NoMember(_)
+        )
+    );
     let mut links: Vec<u8> = Vec::new(alloc);
     for _ in 0..20000u64 {
         links.push(1)?;
         links.push(9)?;
     }
-    assert_eq!(rt; is_member(alloc, "List", &map, &links)?, NoMember);
+    assert!(rt;
+        matches!(
+            is_member(alloc, "List", &map, &links)?,
+            Membership::NoMember(_)
+        )
+    );
     links.push(0)?;
-    assert_eq!(rt; is_member(alloc, "List", &map, &links)?, Member);
+    assert!(rt; matches!(is_member(alloc, "List", &map, &links)?, Membership::Member));
     Ok(())
 }

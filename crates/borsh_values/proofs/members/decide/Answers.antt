@@ -2,7 +2,7 @@ use Rattle.std.proofs.Common.{◌≡◌, ℕ, suc, ◌+◌, ◌<◌, ◌≤◌, 
 use Rattle.std.specs.Prelude.{Option}
 use Rattle.std.specs.BTreeMap.{btree_map_len}
 use Rattle.borsh_walks.specs.Definitions.{definitions_in, shape_of}
-use Rattle.borsh_walks.specs.Container.{Shape, Member}
+use Rattle.borsh_walks.specs.Container.{Shape, Member, stays}
 use Rattle.borsh_walks.specs.Tables.{mark_of}
 use Rattle.borsh_walks.proofs.Names.{names_within, found_shape, found_none}
 use Rattle.borsh_walks.proofs.Tables.{updated_by, marks_none, no_items}
@@ -12,13 +12,17 @@ use Rattle.borsh_values.specs.declared.frames.Rest.TheVariants.{Copies}
 use Rattle.borsh_values.specs.declared.members.Mark.TheVariants.{Empty, Open}
 use Rattle.borsh_values.specs.declared.members.Membership.{Membership}
 use Rattle.borsh_values.specs.declared.members.Membership.TheVariants.{Member as IsMember, NoMember, Ambiguous}
+use Rattle.borsh_values.specs.declared.faults.Reason.{Reason}
+use Rattle.borsh_values.specs.declared.faults.Reason.TheVariants.{MissingDefinition, Recursive}
+use Rattle.borsh_values.specs.Faults.{BeginsWith, IsNoMemberAt}
 use Rattle.borsh_values.specs.Membership.{IsAnswer, IsAnswerAtEnd}
+use Rattle.borsh_values.proofs.Answers.{suffix_start, suffix_on, some_left, at_fault, answers_no}
 use Rattle.borsh_values.specs.declared.nodes.Node.{Node}
 use Rattle.borsh_values.specs.Nodes.{Nodes, nodes_none, views}
 use Rattle.borsh_values.proofs.NodesLaws.{nodes_skip}
 use Rattle.borsh_values.proofs.Listing.{list_more, all_views}
 use Rattle.borsh_values.specs.Steps.{pending, remaining}
-use Rattle.borsh_values.proofs.Walk.{Walk, walk_start, walk_skip, walk_still, walk_on, walk_up, walk_up_empty, walk_end, no_definition, refused, leads_back, with_rest, part_reached}
+use Rattle.borsh_values.proofs.Walk.{Walk, walk_start, walk_skip, walk_still, walk_on, walk_up, walk_up_empty, walk_end, undefined_none, denied, leads_back, with_rest, part_reached}
 use Rattle.borsh_values.proofs.Measure.{left, left_moved, left_up, left_still, left_on, work_found, some_step}
 use Rattle.borsh_values.proofs.members.decide.Goals as goal
 
@@ -30,6 +34,8 @@ loop-step-init c =
       names = [];
       state = subst (λ l. Walk C c.args.root.now c.args.bytes.now (mark_of c.new-table.result) (reverse l) f c.args.bytes.now []) (sym c.new-stack.ensures.items) (walk_start C f (marks_none c.new-table.result c.new-table.ensures.empty) (omega arith) refl);
       count = refl;
+      within = omega arith;
+      suffix = suffix_start c.args.bytes.now;
       table = c.requires.table;
       listed = λ w es n. subst (λ l. Nodes C (c.args.root.now ∷ []) c.args.bytes.now (views l ++ es)) (sym c.requires.empty) (subst (λ l. Nodes C (c.args.root.now ∷ pending (reverse l)) c.args.bytes.now es) c.new-stack.ensures.items n);
     }
@@ -49,6 +55,8 @@ loop-step-preserved-in-Empty c =
       names = i.names;
       state = walk_skip C s.0 c.after_copies-frame.result i.state c.in-Empty.ensures s.1;
       count = i.count;
+      within = i.within;
+      suffix = i.suffix;
       table = i.table;
       listed = λ w es n. i.listed w es (subst (λ l. Nodes C l c.loop-step.left.now es) (sym same) (nodes_skip C (suc s.0) (i.state.empty p c.in-Empty.ensures) n));
     }
@@ -57,20 +65,27 @@ pub returns-in-Recursive-clause-answer : goal.returns-in-Recursive-clause-answer
 returns-in-Recursive-clause-answer c =
     let C = definitions_in c.args.map.now in
     let i = c.loop-step.invariant in
-    leads_back C i.state c.in-Some.step.others c.in-Some.ensures.parts c.in-Recursive.ensures
+    let l = part_reached C i.state c.in-Some.step.others c.in-Some.ensures.parts in
+    let deny = leads_back C i.state c.in-Some.step.others c.in-Some.ensures.parts c.in-Recursive.ensures in
+    answers_no C c.args.root.now c.args.bytes.now c.loop-step.left.now c.in-Some.step.part.now Recursive i.suffix l (λ e. cc) deny (denied C i.state c.in-Some.step.others c.in-Some.ensures.parts deny) c.no_member.result c.no_member.ensures
 
 pub returns-in_default-clause-answer : goal.returns-in_default-clause-answer
 returns-in_default-clause-answer c =
     let C = definitions_in c.args.map.now in
     let i = c.loop-step.invariant in
-    no_definition C i.state c.in-Some.step.others c.in-Some.ensures.parts (found_none c.args.map c.args.map c.in-Some.step.part.now refl c.in_default.ensures.value)
+    let l = part_reached C i.state c.in-Some.step.others c.in-Some.ensures.parts in
+    let none = found_none c.args.map c.args.map c.in-Some.step.part.now refl c.in_default.ensures.value in
+    let deny : BeginsWith C c.in-Some.step.part.now c.loop-step.left.now → ⊥ = λ m. undefined_none C none m.2 in
+    answers_no C c.args.root.now c.args.bytes.now c.loop-step.left.now c.in-Some.step.part.now MissingDefinition i.suffix l (λ e. cc) deny (denied C i.state c.in-Some.step.others c.in-Some.ensures.parts deny) c.no_member-in_default.result c.no_member-in_default.ensures
 
 pub returns-in-Refused-clause-answer : goal.returns-in-Refused-clause-answer
 returns-in-Refused-clause-answer c =
     let C = definitions_in c.args.map.now in
     let i = c.loop-step.invariant in
+    let l = part_reached C i.state c.in-Some.step.others c.in-Some.ensures.parts in
     let e = found_shape c.args.map c.args.map c.in-Some.step.part.now c.in-Some-get.definition.now refl c.in-Some-get.ensures.value in
-    refused C i.state c.in-Some.step.others c.in-Some.ensures.parts e c.in-Refused.ensures
+    let deny = c.in-Refused.ensures.1 c.in-Some.step.part.now e in
+    answers_no C c.args.root.now c.args.bytes.now c.loop-step.left.now c.in-Some.step.part.now c.in-Refused.why i.suffix l c.in-Refused.ensures.0 deny (denied C i.state c.in-Some.step.others c.in-Some.ensures.parts deny) c.no_member-in-Refused.result c.no_member-in-Refused.ensures
 
 pub overflow_add-idle : goal.overflow_add-idle
 overflow_add-idle c =
@@ -121,6 +136,8 @@ loop-step-preserved-then-taken-eq0 c =
       names = p ∷ i.names;
       state = subst (λ l. Walk C c.args.root.now c.args.bytes.now (mark_of c.insert.new.self) l g c.loop-step.left.now (p ∷ i.names)) (sym back) s;
       count = ap suc i.count ∙ sym (add-one c.loop-step.idle);
+      within = i.within;
+      suffix = i.suffix;
       table = c.in_ok-list_node-in-Taken.ensures.table;
       listed = λ w es n.
           let fs = reverse c.loop-step.stack.items in
@@ -159,12 +176,15 @@ loop-step-preserved-else-taken-eq0 c =
     let e = found_shape c.args.map c.args.map p c.in-Some-get.definition.now refl c.in-Some-get.ensures.value in
     let g : Frame = record { name = c.in-Some.step.part; start = length c.loop-step.left.now; rest = c.in-Taken.rest } in
     let h : Frame = with_rest c.loop-step.frame c.in-Some.step.others in
+    let ends = suffix_on c.in-Taken.taken c.args.bytes.now c.loop-step.left.now c.after-left.result.now i.within i.suffix c.after-left.ensures c.in-Taken.ensures.0.within in
     let s = walk_on C i.state c.in-Some.step.others c.in-Some.ensures.parts g (positive c.in-Taken.taken c.if-taken-eq0.false) e c.in-Taken.ensures.0 refl refl in
     let back = last_first c.loop-step.stack.items c.push.new.self.items h c.in_ok-push-in-Taken.ensures.items in
     record {
       names = [];
       state = subst (λ l. Walk C c.args.root.now c.args.bytes.now (mark_of c.loop-step.table) l g c.after-left.result.now []) (sym back) (subst (λ b. Walk C c.args.root.now c.args.bytes.now (mark_of c.loop-step.table) (h ∷ reverse c.loop-step.stack.items) g b []) (sym c.after-left.ensures) s);
       count = refl;
+      within = ends.0;
+      suffix = ends.1;
       table = c.in_ok-list_node-in-Taken.ensures.table;
       listed = λ w es n.
           let fs = reverse c.loop-step.stack.items in
@@ -190,7 +210,7 @@ loop-step-preserved-in_ok-insert-in-Some-pop c =
     let items = last_first c.pop.new.self.items c.loop-step.stack.items c.in-Some-pop.above c.in-Some-pop.ensures.items in
     let s = subst (λ l. Walk C c.args.root.now c.args.bytes.now (mark_of c.loop-step.table) l c.loop-step.frame c.loop-step.left.now i.names) items i.state in
     let u = updated_by c.loop-step.frame.name.now c.loop-step.table c.insert-then-frame-left.new.self Empty c.in_ok-insert-in-Some-pop.ensures.updates in
-    record { names = i.names; state = walk_up_empty C s c.in-None.ensures.parts c.if-frame-left.true u; count = i.count; table = i.table; listed = λ w es n. i.listed w es (subst (λ l. Nodes C l c.loop-step.left.now es) (sym (ap (λ l. l ++ pending (reverse c.loop-step.stack.items)) c.in-None.ensures.parts ∙ ap (λ l. pending l) items)) n) }
+    record { names = i.names; state = walk_up_empty C s c.in-None.ensures.parts c.if-frame-left.true u; count = i.count; within = i.within; suffix = i.suffix; table = i.table; listed = λ w es n. i.listed w es (subst (λ l. Nodes C l c.loop-step.left.now es) (sym (ap (λ l. l ++ pending (reverse c.loop-step.stack.items)) c.in-None.ensures.parts ∙ ap (λ l. pending l) items)) n) }
 
 pub loop-step-smaller : goal.loop-step-smaller
 loop-step-smaller c =
@@ -206,12 +226,15 @@ loop-step-preserved c =
     let i = c.loop-step.invariant in
     let items = last_first c.pop.new.self.items c.loop-step.stack.items c.in-Some-pop.above c.in-Some-pop.ensures.items in
     let s = subst (λ l. Walk C c.args.root.now c.args.bytes.now (mark_of c.loop-step.table) l c.loop-step.frame c.loop-step.left.now i.names) items i.state in
-    record { names = i.names; state = walk_up C s c.in-None.ensures.parts c.if-frame-left.false; count = i.count; table = i.table; listed = λ w es n. i.listed w es (subst (λ l. Nodes C l c.loop-step.left.now es) (sym (ap (λ l. l ++ pending (reverse c.loop-step.stack.items)) c.in-None.ensures.parts ∙ ap (λ l. pending l) items)) n) }
+    record { names = i.names; state = walk_up C s c.in-None.ensures.parts c.if-frame-left.false; count = i.count; within = i.within; suffix = i.suffix; table = i.table; listed = λ w es n. i.listed w es (subst (λ l. Nodes C l c.loop-step.left.now es) (sym (ap (λ l. l ++ pending (reverse c.loop-step.stack.items)) c.in-None.ensures.parts ∙ ap (λ l. pending l) items)) n) }
 
-end_answer : (C : List ℕ → Option Shape) (root bytes rest : List ℕ) (a : Membership) → IsAnswerAtEnd rest a → (Member C root bytes → rest ≡ []) × (rest ≡ [] → Member C root bytes) → IsAnswer C root bytes a
-end_answer C root bytes rest IsMember h w = w.1 h
-end_answer C root bytes rest NoMember h w = λ m. h (w.0 m)
-end_answer C root bytes rest Ambiguous h w = absurd h
+end_answer : (C : List ℕ → Option Shape) (root bytes rest : List ℕ) (a : Membership) → length rest ≤ length bytes → IsAnswerAtEnd root (length bytes) rest a → (Member C root bytes → rest ≡ []) × (rest ≡ [] → Member C root bytes) → IsAnswer C root bytes a
+end_answer C root bytes rest IsMember low h w = w.1 h
+end_answer C root bytes rest (NoMember f) low h w = (
+  (λ m. h.0 (w.0 m)),
+  at_fault C root bytes f h.1 h.2 h.3 (omega arith) stays (let k = some_left rest h.0 in omega (arith, low, k), refl),
+)
+end_answer C root bytes rest (Ambiguous x) low h w = absurd h
 
 pub returns-in-None-pop-clause-answer : goal.returns-in-None-pop-clause-answer
 returns-in-None-pop-clause-answer c =
@@ -219,26 +242,31 @@ returns-in-None-pop-clause-answer c =
     let i = c.loop-step.invariant in
     let none = no_items c.loop-step.stack.items (omega (arith, c.in-None-pop.ensures.cases.0, c.loop-step.stack.ok.0)) in
     let s = subst (λ l. Walk C c.args.root.now c.args.bytes.now (mark_of c.loop-step.table) (reverse l) c.loop-step.frame c.loop-step.left.now i.names) none i.state in
-    end_answer C c.args.root.now c.args.bytes.now c.loop-step.left.now c.at_end.result c.at_end.ensures (walk_end C s c.in-None.ensures.parts)
+    end_answer C c.args.root.now c.args.bytes.now c.loop-step.left.now c.at_end.result i.within c.at_end.ensures (walk_end C s c.in-None.ensures.parts)
 
 pub returns-in-Undecided-clause-answer : goal.returns-in-Undecided-clause-answer
 returns-in-Undecided-clause-answer c =
     let C = definitions_in c.args.map.now in
     let i = c.loop-step.invariant in
     let e = found_shape c.args.map c.args.map c.in-Some.step.part.now c.in-Some-get.definition.now refl c.in-Some-get.ensures.value in
-    (c.in-Some.step.part.now, shape_of c.in-Some-get.definition.now, part_reached C i.state c.in-Some.step.others c.in-Some.ensures.parts, e, c.in-Undecided.ensures)
+    (shape_of c.in-Some-get.definition.now, part_reached C i.state c.in-Some.step.others c.in-Some.ensures.parts, e, c.in-Undecided.ensures)
 
-at_end_empty : (rest : List ℕ) (a : Membership) → IsAnswerAtEnd rest a → a ≡ IsMember → rest ≡ []
-at_end_empty rest IsMember h e = h
-at_end_empty rest NoMember h e = cc
-at_end_empty rest Ambiguous h e = cc
+at_end_empty : (root : List ℕ) (all : ℕ) (rest : List ℕ) (a : Membership) → IsAnswerAtEnd root all rest a → a ≡ IsMember → rest ≡ []
+at_end_empty root all rest IsMember h e = h
+at_end_empty root all rest (NoMember f) h e = cc
+at_end_empty root all rest (Ambiguous x) h e = absurd h
+
+not_listed : (all left : ℕ) (name : List ℕ) (r : Reason) (a : Membership) → IsNoMemberAt all left name r a → a ≡ IsMember → ⊥
+not_listed all left name r IsMember h e = h
+not_listed all left name r (NoMember f) h e = cc
+not_listed all left name r (Ambiguous x) h e = h
 
 pub returns-in-None-pop-clause-listed : goal.returns-in-None-pop-clause-listed
 returns-in-None-pop-clause-listed c = λ w e.
     let C = definitions_in c.args.map.now in
     let i = c.loop-step.invariant in
     let none = no_items c.loop-step.stack.items (omega (arith, c.in-None-pop.ensures.cases.0, c.loop-step.stack.ok.0)) in
-    let left = at_end_empty c.loop-step.left.now c.at_end.result c.at_end.ensures e in
+    let left = at_end_empty c.args.root.now (length c.args.bytes.now) c.loop-step.left.now c.at_end.result c.at_end.ensures e in
     let same : pending (c.loop-step.frame ∷ reverse c.loop-step.stack.items) ≡ [] = ap (λ l. l ++ pending (reverse c.loop-step.stack.items)) c.in-None.ensures.parts ∙ ap (λ l. pending (reverse l)) none in
     let n = i.listed w [] (subst (λ l. Nodes C l c.loop-step.left.now []) (sym same) (subst (λ b. Nodes C [] b []) (sym left) nodes_none)) in
     subst (λ l. Nodes C (c.args.root.now ∷ []) c.args.bytes.now l) (all_views (views c.loop-step.nodes.items)) n

@@ -1,4 +1,4 @@
-use Rattle.std.proofs.Common.{◌≡◌, ℕ, List, [], ◌∷◌, ◌++◌, length, reverse, true}
+use Rattle.std.proofs.Common.{◌≡◌, ◌≤◌, ◌-◌, ℕ, List, [], ◌∷◌, ◌++◌, length, drop, reverse, true}
 use Rattle.borsh_walks.specs.Definitions.{definitions_in}
 use Rattle.borsh_walks.specs.Tables.{mark_of}
 use Rattle.borsh_walks.specs.ZeroAnswer.{ZeroTable}
@@ -13,6 +13,8 @@ invariant-loop-step l = record {
   names : List (List ℕ);
   state : Walk (definitions_in l.fn.map) l.fn.root l.fn.bytes (mark_of l.table) (reverse l.stack.items) l.frame l.left names;
   count : length names ≡ l.idle;
+  within : length l.left ≤ length l.fn.bytes;
+  suffix : l.left ≡ drop (length l.fn.bytes - length l.left) l.fn.bytes;
   table : ZeroTable (definitions_in l.fn.map) l.zeros;
   listed : l.wanted ≡ true → (es : List NodeView) → Nodes (definitions_in l.fn.map) (pending (l.frame ∷ reverse l.stack.items)) l.left es → Nodes (definitions_in l.fn.map) (l.fn.root ∷ []) l.fn.bytes (views l.nodes.items ++ es);
 }

@@ -20,7 +20,7 @@ returns-in-Member c =
     record {
       answer = (nodes, member, nodes_bytes C nodes);
       determined = λ one es h. one_reading C root one [] [] (λ y a. subst (λ z. Reached C root z) (sym (among_one a)) stays) h nodes refl;
-      decided = λ v u e. cc;
+      decided = λ v u. tt;
     }
 
 pub returns : goal.returns
@@ -28,4 +28,4 @@ returns c =
     let C = definitions_in c.args.map.now in
     let root = c.args.root.now in
     let fault = subst (λ a. IsAnswer C root c.args.bytes.now a) c.in-Ambiguous.is c.in_ok-decide.ensures.answer in
-    record { answer = fault; determined = λ _. tt; decided = λ v u _. none_ambiguous C v u fault }
+    record { answer = fault; determined = λ _. tt; decided = λ v u. none_ambiguous C c.in-Ambiguous.name.now v u fault }

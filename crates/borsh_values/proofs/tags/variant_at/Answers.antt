@@ -1,4 +1,4 @@
-use Rattle.std.proofs.Common.{◌≡◌, ℕ, suc, zero, ◌+◌, ◌-◌, length, take, map, List, refl, sym, ◌∙◌, ap, subst, arith, ◌<◌, ◌≤◌, ◌∷◌, [], ◌++◌, get_or, Some, ℤ, true, false, inl, inr}
+use Rattle.std.proofs.Common.{◌≡◌, ℕ, suc, zero, length, take, map, List, refl, sym, ◌∙◌, ap, subst, arith, ◌<◌, ◌≤◌, ◌∷◌, [], get_or, Some, ℤ, true, false, inl, inr}
 use Rattle.std.specs.Prelude.{string_bytes, String, option_map, slice_get}
 use Rattle.std.specs.Global.{Global}
 use Rattle.std.proofs.lemmas.Option.{slice_get_read, slice_get-map}
