@@ -1,12 +1,12 @@
 // Definitions, and what was found out about them.
 ghost use Rattle.borsh_walks.specs.Definitions.{definitions_in};
 ghost use Rattle.borsh_walks.specs.ZeroAnswer.{ZeroTable};
+ghost use Rattle.std.specs.Prelude.{OnOk};
 
 use borsh_walks::zero::is_zero;
 use borsh_walks::{Counted, Definition, Expansions, Fields};
 use std::alloc::{AllocError, Global};
 use std::collections::{BTreeMap, BTreeSet};
-use std::mem;
 
 /// Definitions by name, and what was found out about them.
 #[derive(Drop)]
@@ -14,16 +14,18 @@ pub struct Definitions<'a> {
     map: &'a BTreeMap<String, Definition>,
     zeros: BTreeMap<&'a str, bool>,
     distinct: BTreeSet<&'a str>,
-    ghost table: { ZeroTable (definitions_in map.now) zeros },
 }
 
 impl<'a> Definitions<'a> {
-    pub fn new(alloc: Global, map: &'a BTreeMap<String, Definition>) -> Definitions<'a> {
-        Definitions {
+    pub fn new(
+        alloc: Global,
+        map: &'a BTreeMap<String, Definition>,
+    ) -> Result<Definitions<'a>, AllocError> {
+        Ok(Definitions {
             map,
-            zeros: BTreeMap::new(alloc),
+            zeros: zero_sizes(alloc, map)?,
             distinct: BTreeSet::new(alloc),
-        }
+        })
     }
 
     pub fn get(&self, name: &str) -> Option<&'a Definition> {
@@ -31,17 +33,8 @@ impl<'a> Definitions<'a> {
     }
 
     /// Whether the values of the name have no bytes.
-    pub fn is_zero_size(&mut self, alloc: Global, name: &'a str) -> Result<bool, AllocError> {
-        let mut zeros = mem::replace(&mut self.zeros, BTreeMap::new(alloc));
-        let mut counts = Expansions {
-            size: 0,
-            zero: 0,
-            rules: 0,
-        };
-        let mut counted = Counted::new(self.map, &mut counts);
-        let answer = is_zero(alloc, name, &mut zeros, &mut counted)?;
-        self.zeros = zeros;
-        Ok(answer)
+    pub fn is_zero_size(&self, name: &str) -> bool {
+        matches!(self.zeros.get(name), Some(true))
     }
 
     /// A name that two fields or two variants of the definition have; none if they have names of their own.
@@ -60,6 +53,37 @@ impl<'a> Definitions<'a> {
         }
         Ok(found)
     }
+}
+
+/// Whether the values of each name have no bytes.
+fn zero_sizes<'a>(
+    alloc: Global,
+    map: &'a BTreeMap<String, Definition>,
+) -> Result<BTreeMap<&'a str, bool>, AllocError> {
+    let mut zeros: BTreeMap<&'a str, bool> = BTreeMap::new(alloc);
+    for (name, _) in map.iter() {
+        mark(alloc, map, name.as_str(), &mut zeros)?;
+    }
+    Ok(zeros)
+}
+
+fn mark<'a>(
+    alloc: Global,
+    map: &'a BTreeMap<String, Definition>,
+    name: &'a str,
+    zeros: &mut BTreeMap<&'a str, bool>,
+) -> Result<(), AllocError>
+    requires { ZeroTable (definitions_in map.now) zeros.old }
+    ensures { OnOk result (ZeroTable (definitions_in map.now) zeros.new) }
+{
+    let mut counts = Expansions {
+        size: 0,
+        zero: 0,
+        rules: 0,
+    };
+    let mut counted = Counted::new(map, &mut counts);
+    let _is_zero = is_zero(alloc, name, zeros, &mut counted)?;
+    Ok(())
 }
 
 fn repeated_name<'a>(

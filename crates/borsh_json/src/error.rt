@@ -1,25 +1,28 @@
 // Why a value has no JSON, or a text is no value.
+use borsh_values::{Fault, Path};
 use std::alloc::{AllocError, AllocFailed};
 use std::fmt;
 
 /// Why a value has no JSON, or a text is no value.
-#[derive(Debug, Drop)]
-pub enum JsonError {
+#[derive(Drop)]
+pub enum JsonError<'a> {
     /// An allocation failed.
     OutOfMemory,
-    /// The bytes, or the bytes that a text says, are no member of the root.
-    NoMember,
-    /// A definition that is reached is ambiguous, or breaks a rule of widths.
-    Ambiguous,
-    /// The text isn't JSON: it ends too early, or is wrong just before this byte.
+    /// The bytes are no member of the root: where, and why.
+    NoMember(Fault<'a>),
+    /// The root has no value that is written so.
+    NoValue,
+    /// The definition of this name is ambiguous, or breaks a rule of widths.
+    Ambiguous(&'a str),
+    /// The text isn't JSON: it is wrong near this byte, or ends too early.
     NotJson(usize),
     /// A part of the value, by its path, and what is wrong with it.
-    Refused(String, Fault),
+    Refused(Path<'a>, Refusal),
 }
 
 /// What is wrong with a part of a value.
 #[derive(Debug, Drop)]
-pub enum Fault {
+pub enum Refusal {
     /// Arrays and objects would nest more than 128 deep.
     TooDeep,
     /// Two fields, or two variants, have this name.
@@ -46,47 +49,54 @@ pub enum Fault {
     Undefined(String),
 }
 
-impl From<AllocError> for JsonError {
-    fn from(_: AllocError) -> JsonError {
+impl<'a> From<AllocError> for JsonError<'a> {
+    fn from(_: AllocError) -> JsonError<'a> {
         JsonError::OutOfMemory
     }
 }
 
-impl<T: Drop> From<AllocFailed<T>> for JsonError {
-    fn from(_: AllocFailed<T>) -> JsonError {
+impl<'a, T: Drop> From<AllocFailed<T>> for JsonError<'a> {
+    fn from(_: AllocFailed<T>) -> JsonError<'a> {
         JsonError::OutOfMemory
     }
 }
 
-impl fmt::Display for JsonError {
+impl<'a> fmt::Display for JsonError<'a> {
     fn fmt<W: fmt::Write>(&self, f: &mut fmt::Formatter<W>) -> fmt::Result {
         match self {
             JsonError::OutOfMemory => write!(f, "out of memory"),
-            JsonError::NoMember => write!(f, "not a member"),
-            JsonError::Ambiguous => write!(f, "the schema is ambiguous"),
+            JsonError::NoMember(fault) => write!(f, "{fault}"),
+            JsonError::NoValue => write!(f, "no value of the schema"),
+            JsonError::Ambiguous(name) => write!(f, "`{name}` is ambiguous"),
             JsonError::NotJson(offset) => write!(f, "not JSON, near byte {offset}"),
-            JsonError::Refused(path, fault) => write!(f, "{path}: {fault}"),
+            JsonError::Refused(path, refusal) => write!(f, "{path}: {refusal}"),
         }
     }
 }
 
-impl std::error::Error for JsonError {}
+impl<'a> fmt::Debug for JsonError<'a> {
+    fn fmt<W: fmt::Write>(&self, f: &mut fmt::Formatter<W>) -> fmt::Result {
+        write!(f, "{self}")
+    }
+}
 
-impl fmt::Display for Fault {
+impl<'a> std::error::Error for JsonError<'a> {}
+
+impl fmt::Display for Refusal {
     fn fmt<W: fmt::Write>(&self, f: &mut fmt::Formatter<W>) -> fmt::Result {
         match self {
-            Fault::TooDeep => write!(f, "nests more than 128 deep"),
-            Fault::RepeatedName(name) => write!(f, "two parts are named `{name}`"),
-            Fault::EmptyElements => write!(f, "a list whose elements have no bytes"),
-            Fault::NotBool => write!(f, "neither 0 nor 1"),
-            Fault::NotUtf8 => write!(f, "not UTF-8"),
-            Fault::Zero => write!(f, "zero"),
-            Fault::OtherNodes => write!(f, "other nodes than the schema's"),
-            Fault::Expected(wanted) => write!(f, "expected {wanted}"),
-            Fault::MissingField => write!(f, "missing"),
-            Fault::UnknownName(name) => write!(f, "`{name}` isn't in the schema"),
-            Fault::RepeatedKey(name) => write!(f, "`{name}` comes twice"),
-            Fault::Undefined(name) => write!(f, "`{name}` has no definition"),
+            Refusal::TooDeep => write!(f, "nests more than 128 deep"),
+            Refusal::RepeatedName(name) => write!(f, "two parts are named `{name}`"),
+            Refusal::EmptyElements => write!(f, "a list whose elements have no bytes"),
+            Refusal::NotBool => write!(f, "neither 0 nor 1"),
+            Refusal::NotUtf8 => write!(f, "not UTF-8"),
+            Refusal::Zero => write!(f, "zero"),
+            Refusal::OtherNodes => write!(f, "other nodes than the schema's"),
+            Refusal::Expected(wanted) => write!(f, "expected {wanted}"),
+            Refusal::MissingField => write!(f, "missing"),
+            Refusal::UnknownName(name) => write!(f, "`{name}` isn't in the schema"),
+            Refusal::RepeatedKey(name) => write!(f, "`{name}` comes twice"),
+            Refusal::Undefined(name) => write!(f, "`{name}` has no definition"),
         }
     }
 }

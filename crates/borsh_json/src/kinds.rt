@@ -16,7 +16,9 @@ pub enum Kind<'a> {
     Bytes(u8),
     /// `"0x0a1f"`, of any number of bytes; also taken from `[10, 31]`.
     ByteList(&'a str),
-    /// `[..]`, of elements of one name.
+    /// `[..]`, of elements of one name, which are primitives of so many bytes.
+    Numbers(&'a str, u8),
+    /// `[..]`, of other elements of one name.
     List(&'a str),
     /// `[..]`, of as many elements as the definition has parts.
     Row(usize),
@@ -50,7 +52,8 @@ pub fn kind_of<'a>(
     }
 }
 
-fn kind_of_primitive<'a>(name: &str, size: u8) -> Kind<'a> {
+/// How the values of a primitive of this name and size are written.
+pub fn kind_of_primitive<'a>(name: &str, size: u8) -> Kind<'a> {
     if name == "bool" && size == 1 {
         return Kind::Bool;
     }
@@ -61,11 +64,15 @@ fn kind_of_primitive<'a>(name: &str, size: u8) -> Kind<'a> {
 }
 
 fn kind_of_sequence<'a>(definitions: &Definitions<'a>, name: &str, element: &'a str) -> Kind<'a> {
-    let is_byte = element == "u8"
-        && matches!(definitions.get("u8"), Some(Definition::Primitive(1)));
-    match (is_byte, name) {
-        (false, _) => Kind::List(element),
-        (true, "String") => Kind::Text,
-        (true, _) => Kind::ByteList(element),
+    match definitions.get(element) {
+        Some(Definition::Primitive(1)) if element == "u8" => {
+            if name == "String" {
+                Kind::Text
+            } else {
+                Kind::ByteList(element)
+            }
+        }
+        Some(Definition::Primitive(size)) if *size != 0 => Kind::Numbers(element, *size),
+        _ => Kind::List(element),
     }
 }

@@ -1,4 +1,7 @@
 // The JSON text that is being written.
+ghost use Rattle.json.specs.Print.{IsPrintable};
+ghost use Rattle.json.specs.Reads.{token_of};
+
 use json::{Pretty, Token, Writer, is_number};
 use std::alloc::{AllocError, Global};
 
@@ -12,6 +15,9 @@ pub enum Layout {
 }
 
 /// The JSON text that is being written.
+ghost use Rattle.json.specs.Print.{IsPrintable};
+ghost use Rattle.json.specs.Reads.{token_of};
+
 #[derive(Drop)]
 pub enum Output {
     Compact(Writer),
@@ -74,7 +80,9 @@ impl Output {
         self.put(Token::Null)
     }
 
-    fn put(&mut self, token: Token<'_>) -> Result<(), AllocError> {
+    fn put(&mut self, token: Token<'_>) -> Result<(), AllocError>
+        requires { IsPrintable (token_of token) }
+    {
         match self {
             Output::Compact(writer) => writer.token(token),
             Output::Pretty(writer) => writer.token(token),

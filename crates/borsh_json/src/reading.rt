@@ -1,14 +1,14 @@
 // The bytes of a value that JSON says.
 ghost use Rattle.borsh_walks.specs.Container.{Member};
 ghost use Rattle.borsh_walks.specs.Definitions.{definitions_in};
-ghost use Rattle.std.specs.Prelude.{IfOk};
+ghost use Rattle.std.specs.Prelude.{IfOk, OnOk};
 
 use crate::definitions::Definitions;
-use crate::error::{Fault, JsonError};
+use crate::error::{JsonError, Refusal};
 use crate::kinds::{Kind, kind_of};
 use crate::numbers::Number;
-use crate::places::{Part, Parts, Place, path_of};
-use borsh_values::{Membership, is_member};
+use crate::position::{Part, Parts, Place, path_of};
+use borsh_values::{Membership, Path, is_member};
 use borsh_walks::{Declaration, Definition, DiscriminantValue, FieldName, VariantName};
 use hex::FromHexError;
 use json::{Element, Items, MAX_DEPTH, Reader, Scratch, Tape, Token};
@@ -26,14 +26,30 @@ pub fn from_json<'a>(
     root: &'a str,
     map: &'a BTreeMap<String, Definition>,
     text: &str,
-) -> Result<Vec<u8>, JsonError>
+) -> Result<Vec<u8>, JsonError<'a>>
     ensures { IfOk result (λ bytes. Member (definitions_in map.now) root.now bytes.items) }
 {
     let bytes = read_text(alloc, root, map, text)?;
-    match is_member(alloc, root, map, bytes.as_slice())? {
-        Membership::Member => Ok(bytes),
-        Membership::NoMember => Err(JsonError::NoMember),
-        Membership::Ambiguous => Err(JsonError::Ambiguous),
+    check_member(alloc, root, map, bytes.as_slice())?;
+    Ok(bytes)
+}
+
+/// Refuses bytes that are no member of the root.
+fn check_member<'a>(
+    alloc: Global,
+    root: &'a str,
+    map: &'a BTreeMap<String, Definition>,
+    bytes: &[u8],
+) -> Result<(), JsonError<'a>>
+    ensures { OnOk result (Member (definitions_in map.now) root.now bytes.now) }
+{
+    match is_member(alloc, root, map, bytes)? {
+        Membership::Member => Ok(()),
+        Membership::NoMember(_) => Err(JsonError::NoValue),
+        Membership::Ambiguous(name) => match map.get_key_value(name) {
+            Some((name, _)) => Err(JsonError::Ambiguous(name.as_str())),
+            None => Err(JsonError::NoValue),
+        },
     }
 }
 
@@ -42,7 +58,7 @@ fn read_text<'a>(
     root: &'a str,
     map: &'a BTreeMap<String, Definition>,
     text: &str,
-) -> Result<Vec<u8>, JsonError> {
+) -> Result<Vec<u8>, JsonError<'a>> {
     let mut scratch = Scratch::new(alloc);
     match Tape::parse(text, &mut scratch, Vec::new(alloc)) {
         Ok(tape) => read_value(alloc, root, map, tape.root()),
@@ -52,7 +68,7 @@ fn read_text<'a>(
 }
 
 /// Why a text isn't JSON that is read: it nests too deep, or is wrong somewhere.
-fn why_not_json(alloc: Global, root: &str, text: &str) -> JsonError {
+fn why_not_json<'a>(alloc: Global, root: &'a str, text: &str) -> JsonError<'a> {
     let mut scratch = Scratch::new(alloc);
     let Ok(mut reader) = Reader::new(text, &mut scratch) else {
         return JsonError::OutOfMemory;
@@ -66,10 +82,8 @@ fn why_not_json(alloc: Global, root: &str, text: &str) -> JsonError {
             _ => (),
         }
         if depth > MAX_DEPTH {
-            return match String::from_str(alloc, root) {
-                Ok(path) => JsonError::Refused(path, Fault::TooDeep),
-                Err(_) => JsonError::OutOfMemory,
-            };
+            let steps = Vec::new(alloc);
+            return JsonError::Refused(Path { root, steps }, Refusal::TooDeep);
         }
     }
     JsonError::NotJson(reader.offset())
@@ -80,9 +94,10 @@ fn read_value<'a>(
     root: &'a str,
     map: &'a BTreeMap<String, Definition>,
     element: Element<'_, '_>,
-) -> Result<Vec<u8>, JsonError> {
+) -> Result<Vec<u8>, JsonError<'a>> {
     let mut reading = Reading {
-        definitions: Definitions::new(alloc, map),
+        root,
+        definitions: Definitions::new(alloc, map)?,
         out: Vec::new(alloc),
         outer: Vec::new(alloc),
         outer_sources: Vec::new(alloc),
@@ -115,6 +130,7 @@ impl<'t, 's> Source<'t, 's> {
 /// The bytes so far, and the places that are being read with their JSON, the last in `place` and `source`.
 #[derive(Drop)]
 struct Reading<'a, 't, 's> {
+    root: &'a str,
     definitions: Definitions<'a>,
     out: Vec<u8>,
     outer: Vec<Place<'a>>,
@@ -124,12 +140,12 @@ struct Reading<'a, 't, 's> {
 }
 
 impl<'a, 't, 's> Reading<'a, 't, 's> {
-    fn read_all(&mut self, alloc: Global) -> Result<(), JsonError> {
+    fn read_all(&mut self, alloc: Global) -> Result<(), JsonError<'a>> {
         for _ in 0..u64::MAX {
             match self.place.next_part() {
                 Some(part) => {
                     let Some(element) = self.source.take(part.key) else {
-                        return Err(self.refused(alloc, Fault::MissingField));
+                        return Err(self.refused(alloc, Refusal::MissingField));
                     };
                     self.read_part(alloc, part, element)?;
                 }
@@ -143,7 +159,7 @@ impl<'a, 't, 's> Reading<'a, 't, 's> {
                 },
             }
         }
-        Err(self.refused(alloc, Fault::TooDeep))
+        Err(self.refused(alloc, Refusal::TooDeep))
     }
 
     fn read_part(
@@ -151,8 +167,8 @@ impl<'a, 't, 's> Reading<'a, 't, 's> {
         alloc: Global,
         part: Part<'a>,
         element: Element<'t, 's>,
-    ) -> Result<(), JsonError> {
-        if part.may_be_empty && self.definitions.is_zero_size(alloc, part.name)? {
+    ) -> Result<(), JsonError<'a>> {
+        if part.may_be_empty && self.definitions.is_zero_size(part.name) {
             if element.is_null() {
                 return Ok(());
             }
@@ -160,7 +176,7 @@ impl<'a, 't, 's> Reading<'a, 't, 's> {
         }
         let Some(definition) = self.definitions.get(part.name) else {
             let name = String::from_str(alloc, part.name)?;
-            return Err(self.refused(alloc, Fault::Undefined(name)));
+            return Err(self.refused(alloc, Refusal::Undefined(name)));
         };
         self.check_names(alloc, part.name, definition)?;
         match kind_of(&self.definitions, part.name, definition) {
@@ -181,7 +197,9 @@ impl<'a, 't, 's> Reading<'a, 't, 's> {
                 }
                 None => self.open_list(alloc, definition, name, &element),
             },
-            Kind::List(name) => self.open_list(alloc, definition, name, &element),
+            Kind::Numbers(name, _) | Kind::List(name) => self.open_list(
+                alloc, definition, name, &element,
+            ),
             Kind::Row(count) => self.open_row(alloc, definition, count, &element),
             Kind::Object(fields) => self.open_object(alloc, fields, &element),
             Kind::Choice(tag_width, variants) => {
@@ -195,7 +213,7 @@ impl<'a, 't, 's> Reading<'a, 't, 's> {
         alloc: Global,
         number: Number,
         element: &Element<'t, 's>,
-    ) -> Result<(), JsonError> {
+    ) -> Result<(), JsonError<'a>> {
         let text = if number.is_quoted() {
             element.as_str()
         } else {
@@ -210,7 +228,7 @@ impl<'a, 't, 's> Reading<'a, 't, 's> {
             }
             None => {
                 let wanted = number.wanted(alloc)?;
-                Err(self.refused(alloc, Fault::Expected(wanted)))
+                Err(self.refused(alloc, Refusal::Expected(wanted)))
             }
         }
     }
@@ -220,7 +238,7 @@ impl<'a, 't, 's> Reading<'a, 't, 's> {
         alloc: Global,
         size: u8,
         element: &Element<'t, 's>,
-    ) -> Result<(), JsonError> {
+    ) -> Result<(), JsonError<'a>> {
         if let Some(text) = element.as_str() {
             let bytes = self.hexadecimal(alloc, text)?;
             if bytes.len() == usize::from(size) {
@@ -228,11 +246,11 @@ impl<'a, 't, 's> Reading<'a, 't, 's> {
             }
         }
         let wanted = format!(in alloc; "\"0x..\" of {size} bytes")?;
-        Err(self.refused(alloc, Fault::Expected(wanted)))
+        Err(self.refused(alloc, Refusal::Expected(wanted)))
     }
 
     /// The bytes that `0x` and digits say.
-    fn hexadecimal(&self, alloc: Global, text: &str) -> Result<Vec<u8>, JsonError> {
+    fn hexadecimal(&self, alloc: Global, text: &str) -> Result<Vec<u8>, JsonError<'a>> {
         let Some(digits) = text.strip_prefix("0x") else {
             return Err(self.expected(alloc, "\"0x..\", hexadecimal digits"));
         };
@@ -249,7 +267,7 @@ impl<'a, 't, 's> Reading<'a, 't, 's> {
         alloc: Global,
         definition: &'a Definition,
         bytes: &[u8],
-    ) -> Result<(), JsonError> {
+    ) -> Result<(), JsonError<'a>> {
         self.put_count(alloc, definition, bytes.len())?;
         Ok(self.out.extend_from_slice(bytes)?)
     }
@@ -260,20 +278,20 @@ impl<'a, 't, 's> Reading<'a, 't, 's> {
         alloc: Global,
         definition: &'a Definition,
         count: usize,
-    ) -> Result<(), JsonError> {
+    ) -> Result<(), JsonError<'a>> {
         let Definition::Sequence {
             length_width,
             length_range,
             ..
         } = definition
         else {
-            return Err(self.refused(alloc, Fault::OtherNodes));
+            return Err(self.refused(alloc, Refusal::OtherNodes));
         };
         let count = count as u64;
         let (start, end) = (length_range.start, length_range.end);
         if count < start || end < count {
             let wanted = format!(in alloc; "{start} to {end} elements")?;
-            return Err(self.refused(alloc, Fault::Expected(wanted)));
+            return Err(self.refused(alloc, Refusal::Expected(wanted)));
         }
         Ok(self.put_wide(*length_width, count.to_le_bytes(), 0)?)
     }
@@ -292,9 +310,9 @@ impl<'a, 't, 's> Reading<'a, 't, 's> {
         alloc: Global,
         parts: Parts<'a>,
         source: Source<'t, 's>,
-    ) -> Result<(), JsonError> {
+    ) -> Result<(), JsonError<'a>> {
         if self.outer.len() >= MAX_DEPTH {
-            return Err(self.refused(alloc, Fault::TooDeep));
+            return Err(self.refused(alloc, Refusal::TooDeep));
         }
         self.outer.push(self.place)?;
         self.outer_sources
@@ -309,9 +327,9 @@ impl<'a, 't, 's> Reading<'a, 't, 's> {
         definition: &'a Definition,
         name: &'a str,
         element: &Element<'t, 's>,
-    ) -> Result<(), JsonError> {
-        if self.definitions.is_zero_size(alloc, name)? {
-            return Err(self.refused(alloc, Fault::EmptyElements));
+    ) -> Result<(), JsonError<'a>> {
+        if self.definitions.is_zero_size(name) {
+            return Err(self.refused(alloc, Refusal::EmptyElements));
         }
         let (Some(items), Some(count)) = (element.items(), count_items(element)) else {
             return Err(self.expected(alloc, "an array"));
@@ -326,14 +344,14 @@ impl<'a, 't, 's> Reading<'a, 't, 's> {
         definition: &'a Definition,
         count: usize,
         element: &Element<'t, 's>,
-    ) -> Result<(), JsonError> {
+    ) -> Result<(), JsonError<'a>> {
         match element.items() {
             Some(items) if count_items(element) == Some(count) => {
                 self.open(alloc, Parts::Row(definition), Source::Items(items))
             }
             _ => {
                 let wanted = format!(in alloc; "an array of {count}")?;
-                Err(self.refused(alloc, Fault::Expected(wanted)))
+                Err(self.refused(alloc, Refusal::Expected(wanted)))
             }
         }
     }
@@ -343,7 +361,7 @@ impl<'a, 't, 's> Reading<'a, 't, 's> {
         alloc: Global,
         fields: &'a Vec<(FieldName, Declaration)>,
         element: &Element<'t, 's>,
-    ) -> Result<(), JsonError> {
+    ) -> Result<(), JsonError<'a>> {
         let Some(mut members) = element.members() else {
             return Err(self.expected(alloc, "an object"));
         };
@@ -351,7 +369,7 @@ impl<'a, 't, 's> Reading<'a, 't, 's> {
         while let Some((key, member)) = members.next() {
             if found.insert(key, member)?.is_some() {
                 let name = String::from_str(alloc, key)?;
-                return Err(self.refused(alloc, Fault::RepeatedKey(name)));
+                return Err(self.refused(alloc, Refusal::RepeatedKey(name)));
             }
         }
         self.open(alloc, Parts::Object(fields), Source::Members(found))
@@ -363,15 +381,15 @@ impl<'a, 't, 's> Reading<'a, 't, 's> {
         tag_width: u8,
         variants: &'a Vec<(DiscriminantValue, VariantName, Declaration)>,
         element: &Element<'t, 's>,
-    ) -> Result<(), JsonError> {
+    ) -> Result<(), JsonError<'a>> {
         let Some((name, value)) = variant_in(element) else {
             return Err(self.expected(alloc, "a variant: \"Name\" or {\"Name\": value}"));
         };
         let Some((discriminant, variant, part)) = variant_named(variants, name) else {
             let name = String::from_str(alloc, name)?;
-            return Err(self.refused(alloc, Fault::UnknownName(name)));
+            return Err(self.refused(alloc, Refusal::UnknownName(name)));
         };
-        let is_empty = self.definitions.is_zero_size(alloc, part.as_str())?;
+        let is_empty = self.definitions.is_zero_size(part.as_str());
         self.put_tag(tag_width, discriminant)?;
         match value {
             None if is_empty => Ok(()),
@@ -392,14 +410,14 @@ impl<'a, 't, 's> Reading<'a, 't, 's> {
     }
 
     /// Refuses keys of an object that are no fields.
-    fn check_left(&self, alloc: Global, source: &Source<'t, 's>) -> Result<(), JsonError> {
+    fn check_left(&self, alloc: Global, source: &Source<'t, 's>) -> Result<(), JsonError<'a>> {
         let Source::Members(members) = source else {
             return Ok(());
         };
         match members.first_key_value() {
             Some((key, _)) => {
                 let name = String::from_str(alloc, key)?;
-                Err(self.refused(alloc, Fault::UnknownName(name)))
+                Err(self.refused(alloc, Refusal::UnknownName(name)))
             }
             None => Ok(()),
         }
@@ -411,27 +429,27 @@ impl<'a, 't, 's> Reading<'a, 't, 's> {
         alloc: Global,
         name: &'a str,
         definition: &'a Definition,
-    ) -> Result<(), JsonError> {
+    ) -> Result<(), JsonError<'a>> {
         match self.definitions.repeated(alloc, name, definition)? {
             Some(name) => {
                 let name = String::from_str(alloc, name)?;
-                Err(self.refused(alloc, Fault::RepeatedName(name)))
+                Err(self.refused(alloc, Refusal::RepeatedName(name)))
             }
             None => Ok(()),
         }
     }
 
-    fn expected(&self, alloc: Global, wanted: &str) -> JsonError {
+    fn expected(&self, alloc: Global, wanted: &str) -> JsonError<'a> {
         match String::from_str(alloc, wanted) {
-            Ok(wanted) => self.refused(alloc, Fault::Expected(wanted)),
+            Ok(wanted) => self.refused(alloc, Refusal::Expected(wanted)),
             Err(_) => JsonError::OutOfMemory,
         }
     }
 
     /// The error of the part that was begun last.
-    fn refused(&self, alloc: Global, fault: Fault) -> JsonError {
-        match path_of(alloc, self.outer.as_slice(), &self.place) {
-            Ok(path) => JsonError::Refused(path, fault),
+    fn refused(&self, alloc: Global, refusal: Refusal) -> JsonError<'a> {
+        match path_of(alloc, self.root, self.outer.as_slice(), &self.place) {
+            Ok(path) => JsonError::Refused(path, refusal),
             Err(_) => JsonError::OutOfMemory,
         }
     }

@@ -106,6 +106,7 @@ fn definitions(alloc: Global) -> Result<Definitions, Fail> {
         ("Vec<u8>", list(alloc, 4, 0, 4294967295, "u8")?),
         ("[u8; 3]", list(alloc, 0, 3, 3, "u8")?),
         ("Vec<u16>", list(alloc, 4, 0, 4294967295, "u16")?),
+        ("Vec<bool>", list(alloc, 4, 0, 4294967295, "bool")?),
         ("short", list(alloc, 1, 1, 2, "u16")?),
         ("[u16; 2]", list(alloc, 0, 2, 2, "u16")?),
         ("[u16; 0]", list(alloc, 0, 0, 0, "u16")?),
@@ -165,7 +166,7 @@ fn definitions(alloc: Global) -> Result<Definitions, Fail> {
 }
 
 // Values with their bytes, and their JSON.
-const VALUES: [(&str, &str, &str); 59] = [
+const VALUES: [(&str, &str, &str); 60] = [
     // Whole numbers.
     ("u8", "00", "0"),
     ("u8", "ff", "255"),
@@ -225,6 +226,7 @@ const VALUES: [(&str, &str, &str); 59] = [
     // Lists, tuples and maps.
     ("Vec<u16>", "00000000", "[]"),
     ("Vec<u16>", "0200000001000200", "[1,2]"),
+    ("Vec<bool>", "020000000100", "[true,false]"),
     ("short", "010700", "[7]"),
     ("[u16; 2]", "01000200", "[1,2]"),
     ("Vec<String>", "02000000010000006100000000", "[\"a\",\"\"]"),
@@ -271,7 +273,7 @@ fn writes_and_reads_values(rt: HostRuntime) -> Result<(), Fail> {
     Ok(())
 }
 
-fn error_of(alloc: Global, answer: Result<String, JsonError>) -> Result<String, Fail> {
+fn error_of(alloc: Global, answer: Result<String, JsonError<'_>>) -> Result<String, Fail> {
     match answer {
         Ok(text) => Ok(text),
         Err(error) => Ok(format!(in alloc; "! {error}")?),
@@ -283,13 +285,37 @@ fn refuses_bytes(rt: HostRuntime) -> Result<(), Fail> {
     let alloc = rt.alloc();
     let map = definitions(alloc)?;
     for (root, digits, expected) in [
-        ("u16", "00", "! not a member"),
-        ("u16", "000000", "! not a member"),
-        ("nowhere", "", "! not a member"),
-        ("misses", "00", "! not a member"),
-        ("Never", "00", "! not a member"),
-        ("Option<u8>", "02", "! not a member"),
-        ("ambiguous", "00", "! the schema is ambiguous"),
+        (
+            "u16",
+            "00",
+            "! u16 (`u16` at byte 0): too few bytes are left",
+        ),
+        (
+            "u16",
+            "000000",
+            "! u16 (`u16` at byte 2): the value ends, and bytes are left",
+        ),
+        (
+            "nowhere",
+            "",
+            "! nowhere (`nowhere` at byte 0): it has no definition",
+        ),
+        (
+            "misses",
+            "00",
+            "! misses.1 (`nowhere` at byte 1): it has no definition",
+        ),
+        (
+            "Never",
+            "00",
+            "! Never (`Never` at byte 0): no variant has this tag",
+        ),
+        (
+            "Option<u8>",
+            "02",
+            "! Option<u8> (`Option<u8>` at byte 0): no variant has this tag",
+        ),
+        ("ambiguous", "00", "! `ambiguous` is ambiguous"),
         ("bool", "02", "! bool: neither 0 nor 1"),
         ("String", "01000000ff", "! String: not UTF-8"),
         ("NonZeroI16", "0000", "! NonZeroI16: zero"),
@@ -299,7 +325,7 @@ fn refuses_bytes(rt: HostRuntime) -> Result<(), Fail> {
             "! Vec<String>[1]: not UTF-8",
         ),
         ("map", "01000000010000008007", "! map[0].0: not UTF-8"),
-        ("Signed", "ffff0902", "! Signed.Rest.1: neither 0 nor 1"),
+        ("Signed", "ffff0902", "! Signed::Rest.1: neither 0 nor 1"),
         (
             "Row",
             "01000000010000000000000001000000c3",
@@ -324,7 +350,12 @@ fn refuses_bytes(rt: HostRuntime) -> Result<(), Fail> {
     Ok(())
 }
 
-fn read_hex(alloc: Global, root: &str, map: &Definitions, text: &str) -> Result<String, JsonError> {
+fn read_hex<'a>(
+    alloc: Global,
+    root: &'a str,
+    map: &'a Definitions,
+    text: &str,
+) -> Result<String, JsonError<'a>> {
     let bytes = from_json(alloc, root, map, text)?;
     Ok(hex::encode(alloc, bytes.as_slice())?)
 }
@@ -504,7 +535,7 @@ fn reads_other_texts(rt: HostRuntime) -> Result<(), Fail> {
         (
             "Option<u8>",
             "{\"Some\": 256}",
-            "! Option<u8>.Some: expected a whole number of 8 bits, unsigned",
+            "! Option<u8>::Some: expected a whole number of 8 bits, unsigned",
         ),
         // Definitions.
         (
@@ -519,8 +550,8 @@ fn reads_other_texts(rt: HostRuntime) -> Result<(), Fail> {
         ),
         ("twice", "{\"x\": 1}", "! twice: two parts are named `x`"),
         ("alike", "\"V\"", "! alike: two parts are named `V`"),
-        ("ambiguous", "\"V\"", "! the schema is ambiguous"),
-        ("None", "null", "! not a member"),
+        ("ambiguous", "\"V\"", "! `ambiguous` is ambiguous"),
+        ("None", "null", "! no value of the schema"),
         // Texts that are no JSON.
         ("u8", "", "! not JSON, near byte 0"),
         ("u8", "1 2", "! not JSON, near byte 2"),
@@ -570,9 +601,9 @@ fn nests_so_deep(rt: HostRuntime) -> Result<(), Fail> {
     for depth in [129, 100000] {
         let (bytes, text) = nested(alloc, depth)?;
         let written = to_json(alloc, "List", &map, bytes.as_slice(), Layout::Compact);
-        assert!(rt; matches!(written, Err(JsonError::Refused(_, Fault::TooDeep))));
+        assert!(rt; matches!(written, Err(JsonError::Refused(_, Refusal::TooDeep))));
         let read = from_json(alloc, "List", &map, text.as_str());
-        assert!(rt; matches!(read, Err(JsonError::Refused(_, Fault::TooDeep))));
+        assert!(rt; matches!(read, Err(JsonError::Refused(_, Refusal::TooDeep))));
     }
     Ok(())
 }

@@ -22,7 +22,10 @@ const AFTER_ENCODE: &str =
     "Takes what `decode` prints, in any layout; fields may come in any order. With --hex the bytes are printed as\nhexadecimal digits and a line feed.";
 
 const AFTER_MEMBER: &str =
-    "Prints `member`, or `no member`: all bytes have to be one value of the container's root.";
+    "Prints `member`, or `no member`, the path where the bytes stop being a value of the container's root, and why.";
+
+const AFTER_SHOW: &str =
+    "A line for each number, text, count and tag: its offset, its bytes (the first 16), the path to it, its type, and what\nit says.";
 
 /// What is asked of a container, and where the container is.
 #[derive(Clone, Copy, Debug)]
@@ -43,6 +46,8 @@ pub enum Action {
     Encode,
     /// Whether bytes are one.
     Member,
+    /// What each of its bytes is.
+    Show,
 }
 
 /// What is asked of a value, and where its container and the value are.
@@ -85,6 +90,13 @@ pub fn command<'a>(alloc: Global) -> Result<Command<'a>, AllocError> {
     let member = on_value(alloc, "member", "Checks that bytes are a value", "VALUE")?.after_help(
         AFTER_MEMBER,
     );
+    let show = on_value(
+        alloc,
+        "show",
+        "Prints what each byte of a value is",
+        "VALUE",
+    )?
+    .after_help(AFTER_SHOW);
     Command::new(alloc, "borsh")
         .bin_name("borsh")?
         .about("Answers what a Borsh schema container says, and what bytes say by it")
@@ -95,7 +107,8 @@ pub fn command<'a>(alloc: Global) -> Result<Command<'a>, AllocError> {
         .subcommand(size)?
         .subcommand(decode)?
         .subcommand(encode)?
-        .subcommand(member)
+        .subcommand(member)?
+        .subcommand(show)
 }
 
 /// A command that reads a container.
@@ -180,6 +193,7 @@ fn action_named(name: &str) -> Option<(Action, &'static str)> {
         "decode" => Some((Action::Decode, "VALUE")),
         "encode" => Some((Action::Encode, "JSON")),
         "member" => Some((Action::Member, "VALUE")),
+        "show" => Some((Action::Show, "VALUE")),
         _ => None,
     }
 }

@@ -1,6 +1,5 @@
 // Why a command has no answer.
 use super::plain_text::PlainText;
-use borsh_json::JsonError;
 use hex::FromHexError;
 use std::alloc::{AllocError, Global};
 use std::{fmt, io};
@@ -17,7 +16,7 @@ pub enum Failure<'a> {
     /// The bytes aren't the encoding of a container.
     NotContainer(&'a str, borsh::io::Error),
     /// The value has no JSON, or the JSON says no value.
-    NotValue(&'a str, JsonError),
+    NotValue(&'a str, String),
     /// The text isn't UTF-8.
     NotText(&'a str),
     /// Both the container and the value are to come from standard input.

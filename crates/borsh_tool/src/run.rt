@@ -5,7 +5,7 @@ ghost use Rattle.borsh_tool.specs.Questions.{AnswersRequest};
 use super::answers::{Answer, answer_to, container_from};
 use super::command::{Action, Request, ValueRequest, command, request_from, value_request_from};
 use super::failure::{Failure, failure_line, usage_line};
-use super::values::{bytes_said, hex_line, json_text, member, own_schema, schema_from};
+use super::values::{bytes_said, hex_line, json_text, member, own_schema, schema_from, shown};
 use borsh::io::ErrorKind;
 use borsh_json::Layout;
 use clap::ArgMatches;
@@ -125,6 +125,12 @@ fn perform_on_value<'a, R: Files + Input + Print + AllocGlobal>(
             let Answer { is_yes, text } = member(alloc, &schema, request.value, bytes.as_slice())?;
             print_bytes(rt, text.as_bytes())?;
             Ok(is_yes)
+        }
+        Action::Show => {
+            let bytes = input(rt, request.value, request.is_hex)?;
+            let text = shown(alloc, &schema, request.value, bytes.as_slice())?;
+            print_bytes(rt, text.as_bytes())?;
+            Ok(true)
         }
     }
 }

@@ -9,7 +9,7 @@ use super::plain_text::PlainText;
 use borsh::io::ErrorKind;
 use borsh::schema::{BorshSchemaContainer, Definition};
 use borsh::{from_slice, schema_container_of, to_vec};
-use borsh_json::{JsonError, Layout, from_json, to_json};
+use borsh_json::{JsonError, Layout, Row, from_json, rows_of, to_json};
 use borsh_values::{Membership, is_member};
 use std::alloc::{AllocError, Global};
 use std::collections::BTreeMap;
@@ -66,7 +66,7 @@ pub fn json_text<'a>(
             out.end_line()?;
             Ok(out)
         }
-        Err(error) => Err(no_value(path, error)),
+        Err(error) => Err(no_value(alloc, path, error)),
     }
 }
 
@@ -85,11 +85,11 @@ pub fn bytes_said<'a>(
     };
     match from_json(alloc, schema.root.as_str(), &schema.definitions, text) {
         Ok(bytes) => Ok(bytes),
-        Err(error) => Err(no_value(path, error)),
+        Err(error) => Err(no_value(alloc, path, error)),
     }
 }
 
-/// `member` or `no member`.
+/// `member`, or `no member`, where the bytes stop being one, and why.
 pub fn member<'a>(
     alloc: Global,
     schema: &Schema,
@@ -106,16 +106,55 @@ pub fn member<'a>(
             text.end_line()?;
             Ok(Answer { is_yes: true, text })
         }
-        Membership::NoMember => {
-            text.push("no member")?;
+        Membership::NoMember(fault) => {
+            let why = format!(in alloc; "{fault}")?;
+            text.push("no member: ")?;
+            text.push(why.as_str())?;
             text.end_line()?;
             Ok(Answer {
                 is_yes: false,
                 text,
             })
         }
-        Membership::Ambiguous => Err(Failure::NotValue(path, JsonError::Ambiguous)),
+        Membership::Ambiguous(name) => Err(no_value(alloc, path, JsonError::Ambiguous(name))),
     }
+}
+
+/// What each byte of the value is, one line for each number, text, count and tag.
+pub fn shown<'a>(
+    alloc: Global,
+    schema: &Schema,
+    path: &'a str,
+    bytes: &[u8],
+) -> Result<PlainText, Failure<'a>> {
+    match rows_of(alloc, schema.root.as_str(), &schema.definitions, bytes) {
+        Ok(rows) => Ok(text_of_rows(alloc, rows.as_slice())?),
+        Err(error) => Err(no_value(alloc, path, error)),
+    }
+}
+
+fn text_of_rows(alloc: Global, rows: &[Row<'_>]) -> Result<PlainText, AllocError> {
+    let mut out = PlainText::new(alloc);
+    for row in rows {
+        push_row(alloc, row, &mut out)?;
+    }
+    Ok(out)
+}
+
+/// The offset, the first bytes, the path, the type and the value, as a line.
+fn push_row(alloc: Global, row: &Row<'_>, out: &mut PlainText) -> Result<(), AllocError> {
+    let offset = row.offset;
+    let digits = hex::encode(alloc, &row.bytes[..row.bytes.len().min(16)])?;
+    let more = if row.bytes.len() > 16 { ".." } else { "" };
+    let path = &row.path;
+    let text = format!(in alloc; "{offset:>8}  {digits}{more}  {path}  ")?;
+    out.push(text.as_str())?;
+    out.push_name(row.name)?;
+    if !row.value.is_empty() {
+        out.push("  ")?;
+        out.push(row.value.as_str())?;
+    }
+    out.end_line()
 }
 
 /// Bytes as hexadecimal digits, and a line feed.
@@ -127,9 +166,12 @@ pub fn hex_line(alloc: Global, bytes: &[u8]) -> Result<PlainText, AllocError> {
     Ok(out)
 }
 
-fn no_value<'a>(path: &'a str, error: JsonError) -> Failure<'a> {
-    match error {
-        JsonError::OutOfMemory => Failure::OutOfMemory,
-        error => Failure::NotValue(path, error),
+fn no_value<'a>(alloc: Global, path: &'a str, error: JsonError<'_>) -> Failure<'a> {
+    if matches!(error, JsonError::OutOfMemory) {
+        return Failure::OutOfMemory;
+    }
+    match format!(in alloc; "{error}") {
+        Ok(text) => Failure::NotValue(path, text),
+        Err(_) => Failure::OutOfMemory,
     }
 }

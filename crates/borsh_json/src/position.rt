@@ -1,4 +1,5 @@
 // Where in a value the reader or writer is.
+use borsh_values::{Path, PathStep};
 use borsh_walks::parts::mentioned_part;
 use borsh_walks::{Declaration, Definition, FieldName};
 use std::alloc::{AllocError, Global};
@@ -74,30 +75,15 @@ impl<'a> Place<'a> {
         }
     }
 
-    /// Adds the step from the value to the part that was begun last.
-    fn push_step(&self, alloc: Global, path: &mut String) -> Result<(), AllocError> {
+    /// The step to the part that was begun last.
+    fn step(&self) -> Option<PathStep<'a>> {
         let index = self.begun.saturating_sub(1);
         match self.parts {
-            Parts::Root(name) => path.push_str(name),
-            Parts::List(_, _) => {
-                let step = format!(in alloc; "[{index}]")?;
-                path.push_str(step.as_str())
-            }
-            Parts::Row(_) => {
-                let step = format!(in alloc; ".{index}")?;
-                path.push_str(step.as_str())
-            }
-            Parts::Object(fields) => {
-                if let Some((field, _)) = fields.get(index) {
-                    path.push_str(".")?;
-                    path.push_str(field.as_str())?;
-                }
-                Ok(())
-            }
-            Parts::Variant(variant, _) => {
-                path.push_str(".")?;
-                path.push_str(variant)
-            }
+            Parts::Root(_) => None,
+            Parts::List(_, _) => Some(PathStep::Element(index as u64)),
+            Parts::Row(_) => Some(PathStep::Place(index)),
+            Parts::Object(fields) => Some(PathStep::Field(fields.get(index)?.0.as_str())),
+            Parts::Variant(variant, _) => Some(PathStep::Variant(variant)),
         }
     }
 }
@@ -114,12 +100,21 @@ fn only_part<'a>(index: usize, name: &'a str, key: Option<&'a str>) -> Option<Pa
     }
 }
 
-/// The path of the part that was begun last: `A.y[3]`.
-pub fn path_of(alloc: Global, outer: &[Place<'_>], last: &Place<'_>) -> Result<String, AllocError> {
-    let mut path = String::new(alloc);
+/// The path of the part that was begun last.
+pub fn path_of<'a>(
+    alloc: Global,
+    root: &'a str,
+    outer: &[Place<'a>],
+    last: &Place<'a>,
+) -> Result<Path<'a>, AllocError> {
+    let mut steps: Vec<PathStep<'a>> = Vec::new(alloc);
     for place in outer {
-        place.push_step(alloc, &mut path)?;
+        if let Some(step) = place.step() {
+            steps.push(step)?;
+        }
     }
-    last.push_step(alloc, &mut path)?;
-    Ok(path)
+    if let Some(step) = last.step() {
+        steps.push(step)?;
+    }
+    Ok(Path { root, steps })
 }
