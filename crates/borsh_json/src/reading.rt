@@ -62,7 +62,8 @@ fn read_text<'a>(
     let mut scratch = Scratch::new(alloc);
     match Tape::parse(text, &mut scratch, Vec::new(alloc)) {
         Ok(tape) => read_value(alloc, root, map, tape.root()),
-        Err(json::Error::OutOfMemory) => Err(JsonError::OutOfMemory),
+        // A text of 4 GiB has more places than a tape can number.
+        Err(json::Error::OutOfMemory | json::Error::TooLong) => Err(JsonError::OutOfMemory),
         Err(_) => Err(why_not_json(alloc, root, text)),
     }
 }
@@ -74,7 +75,10 @@ fn why_not_json<'a>(alloc: Global, root: &'a str, text: &str) -> JsonError<'a> {
         return JsonError::OutOfMemory;
     };
     let mut depth: usize = 0;
-    while let Some(token) = reader.next() {
+    for _ in 0..u64::MAX {
+        let Some(token) = reader.next() else {
+            break;
+        };
         match token {
             Token::BeginArray | Token::BeginObject => depth = depth.saturating_add(1),
             Token::EndArray | Token::EndObject => depth = depth.saturating_sub(1),
@@ -366,7 +370,10 @@ impl<'a, 't, 's> Reading<'a, 't, 's> {
             return Err(self.expected(alloc, "an object"));
         };
         let mut found = BTreeMap::new(alloc);
-        while let Some((key, member)) = members.next() {
+        for _ in 0..u64::MAX {
+            let Some((key, member)) = members.next() else {
+                break;
+            };
             if found.insert(key, member)?.is_some() {
                 let name = String::from_str(alloc, key)?;
                 return Err(self.refused(alloc, Refusal::RepeatedKey(name)));
@@ -458,7 +465,10 @@ impl<'a, 't, 's> Reading<'a, 't, 's> {
 fn count_items(element: &Element<'_, '_>) -> Option<usize> {
     let mut items = element.items()?;
     let mut count: usize = 0;
-    while items.next().is_some() {
+    for _ in 0..u64::MAX {
+        if items.next().is_none() {
+            break;
+        }
         count = count.saturating_add(1);
     }
     Some(count)

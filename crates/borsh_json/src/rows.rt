@@ -119,10 +119,10 @@ fn parts_of<'a>(definitions: &Definitions<'a>, node: &Node<'a>) -> Option<Parts<
 }
 
 /// What the own bytes of a node say.
-fn value_of(
+fn value_of<'a>(
     alloc: Global,
-    definitions: &Definitions<'_>,
-    node: &Node<'_>,
+    definitions: &Definitions<'a>,
+    node: &Node<'a>,
 ) -> Result<String, AllocError> {
     match kind_of(definitions, node.name, node.definition) {
         Kind::Number(number) => number.decimal(alloc, node.bytes),

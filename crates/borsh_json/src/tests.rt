@@ -273,6 +273,57 @@ fn writes_and_reads_values(rt: HostRuntime) -> Result<(), Fail> {
     Ok(())
 }
 
+// The next of a row of numbers that look random (xorshift).
+fn next_number(state: &mut u64) -> u64 {
+    let mut number = *state;
+    number ^= number << 13;
+    number ^= number >> 7;
+    number ^= number << 17;
+    *state = number;
+    number
+}
+
+// Bytes of which most are small, so that many of them are counts and tags.
+fn some_bytes(alloc: Global, state: &mut u64, length: u64) -> Result<Vec<u8>, Fail> {
+    let mut bytes: Vec<u8> = Vec::new(alloc);
+    for _ in 0..length {
+        let number = next_number(state);
+        let byte = match number % 8 {
+            0 => (number / 8 % 256) as u8,
+            1 | 2 => 1,
+            3 => 2,
+            _ => 0,
+        };
+        bytes.push(byte)?;
+    }
+    Ok(bytes)
+}
+
+#[test]
+fn many_values_come_back(rt: HostRuntime) -> Result<(), Fail> {
+    let alloc = rt.alloc();
+    let map = definitions(alloc)?;
+    let mut state = 88172645463325252;
+    let mut written: u64 = 0;
+    for (root, digits, _) in VALUES {
+        for round in 0..200 {
+            let length = if round % 2 == 0 {
+                digits.len() as u64 / 2
+            } else {
+                round / 8
+            };
+            let bytes = some_bytes(alloc, &mut state, length)?;
+            if let Ok(text) = to_json(alloc, root, &map, bytes.as_slice(), Layout::Compact) {
+                let read = from_json(alloc, root, &map, text.as_str())?;
+                assert_eq!(rt; read.as_slice(), bytes.as_slice(), "{root} {text}");
+                written = written.saturating_add(1);
+            }
+        }
+    }
+    assert!(rt; written > 3000, "{written}");
+    Ok(())
+}
+
 fn error_of(alloc: Global, answer: Result<String, JsonError<'_>>) -> Result<String, Fail> {
     match answer {
         Ok(text) => Ok(text),

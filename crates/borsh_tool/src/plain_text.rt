@@ -89,7 +89,7 @@ impl PlainText {
             return self.end_line();
         }
         if 32 <= number && number < 127 {
-            return self.put((number % 128) as u8);
+            return self.put(number as u8);
         }
         if number < 65536 {
             return self.push_unit(number);
