@@ -15,7 +15,19 @@ const AFTER_SIZE: &str =
 const AFTER_SCHEMA: &str =
     "One definition a line: the root's first, the others by name. Names that aren't identifiers are quoted; bytes of\nnames that aren't printable ASCII are `\\x` and two digits.";
 
-/// What is asked, and where the container is.
+const AFTER_DECODE: &str =
+    "Whole numbers of up to 64 bits are JSON numbers, longer ones decimal strings; lists of u8 and other primitives are\nhexadecimal strings, \"0x..\"; a variant is \"Name\" or {\"Name\": value}; a value without bytes is null.";
+
+const AFTER_ENCODE: &str =
+    "Takes what `decode` prints, in any layout; fields may come in any order. With --hex the bytes are printed as\nhexadecimal digits and a line feed.";
+
+const AFTER_MEMBER: &str =
+    "Prints `member`, or `no member`, the path where the bytes stop being a value of the container's root, and why.";
+
+const AFTER_SHOW: &str =
+    "A line for each number, text, count and tag: its offset, its bytes (the first 16), the path to it, its type, and what\nit says.";
+
+/// What is asked of a container, and where the container is.
 #[derive(Clone, Copy, Debug)]
 pub struct Request<'a> {
     pub question: Question,
@@ -23,6 +35,35 @@ pub struct Request<'a> {
     pub path: &'a str,
     /// Whether the bytes are written as hexadecimal digits.
     pub is_hex: bool,
+}
+
+/// What may be asked of a value.
+#[derive(Clone, Copy, Debug, PartialEq, Eq)]
+pub enum Action {
+    /// Its JSON.
+    Decode,
+    /// Its bytes, from JSON.
+    Encode,
+    /// Whether bytes are one.
+    Member,
+    /// What each of its bytes is.
+    Show,
+}
+
+/// What is asked of a value, and where its container and the value are.
+#[derive(Clone, Copy, Debug)]
+pub struct ValueRequest<'a> {
+    pub action: Action,
+    /// A file, `-` for standard input, or `self` for the container of containers.
+    pub schema: &'a str,
+    /// A file, or `-` for standard input.
+    pub value: &'a str,
+    /// Whether the container is written as hexadecimal digits.
+    pub is_schema_hex: bool,
+    /// Whether the bytes of the value are.
+    pub is_hex: bool,
+    /// Whether JSON is printed without white space.
+    pub is_compact: bool,
 }
 
 /// The commands of the tool.
@@ -36,14 +77,38 @@ pub fn command<'a>(alloc: Global) -> Result<Command<'a>, AllocError> {
     let size = on_container(alloc, "size", "Prints the length of the longest encoding")?.after_help(
         AFTER_SIZE,
     );
+    let decode = on_value(alloc, "decode", "Prints a value as JSON", "VALUE")?
+        .after_help(AFTER_DECODE)
+        .arg(compact(alloc))?;
+    let encode = on_value(
+        alloc,
+        "encode",
+        "Prints the bytes of a value in JSON",
+        "JSON",
+    )?
+    .after_help(AFTER_ENCODE);
+    let member = on_value(alloc, "member", "Checks that bytes are a value", "VALUE")?.after_help(
+        AFTER_MEMBER,
+    );
+    let show = on_value(
+        alloc,
+        "show",
+        "Prints what each byte of a value is",
+        "VALUE",
+    )?
+    .after_help(AFTER_SHOW);
     Command::new(alloc, "borsh")
         .bin_name("borsh")?
-        .about("Answers what a Borsh schema container says")
+        .about("Answers what a Borsh schema container says, and what bytes say by it")
         .after_help(AFTER_HELP)
         .subcommand_required(true)
         .subcommand(schema)?
         .subcommand(check)?
-        .subcommand(size)
+        .subcommand(size)?
+        .subcommand(decode)?
+        .subcommand(encode)?
+        .subcommand(member)?
+        .subcommand(show)
 }
 
 /// A command that reads a container.
@@ -62,7 +127,43 @@ fn on_container<'a>(
     Command::new(alloc, name).about(about).arg(file)?.arg(hex)
 }
 
-/// What the words of a command line ask. `None` where they name no command.
+/// A command that reads a container and a value.
+fn on_value<'a>(
+    alloc: Global,
+    name: &'a str,
+    about: &'a str,
+    value: &'a str,
+) -> Result<Command<'a>, AllocError> {
+    let schema = Arg::new(alloc, "SCHEMA").required(true).help(
+        "The encoded container, `-` for standard input, or `self` for the container of containers",
+    );
+    let value = Arg::new(alloc, value)
+        .required(true)
+        .help("The value, or `-` for standard input");
+    let hex = Arg::new(alloc, "hex")
+        .long("hex")
+        .action(ArgAction::SetTrue)
+        .help("The bytes of the value are hexadecimal digits");
+    let schema_hex = Arg::new(alloc, "schema-hex")
+        .long("schema-hex")
+        .action(ArgAction::SetTrue)
+        .help("The container is hexadecimal digits");
+    Command::new(alloc, name)
+        .about(about)
+        .arg(schema)?
+        .arg(value)?
+        .arg(hex)?
+        .arg(schema_hex)
+}
+
+fn compact<'a>(alloc: Global) -> Arg<'a> {
+    Arg::new(alloc, "compact")
+        .long("compact")
+        .action(ArgAction::SetTrue)
+        .help("Prints one line, without white space")
+}
+
+/// What the words of a command line ask of a container. `None` where they name no command.
 pub fn request_from<'a>(matches: &ArgMatches<'a>) -> Option<Request<'a>> {
     let (name, inner) = matches.subcommand()?;
     Some(Request {
@@ -70,6 +171,31 @@ pub fn request_from<'a>(matches: &ArgMatches<'a>) -> Option<Request<'a>> {
         path: inner.get_str("FILE")?,
         is_hex: inner.get_flag("hex"),
     })
+}
+
+/// What the words of a command line ask of a value. `None` where they ask nothing of one.
+pub fn value_request_from<'a>(matches: &ArgMatches<'a>) -> Option<ValueRequest<'a>> {
+    let (name, inner) = matches.subcommand()?;
+    let (action, value) = action_named(name)?;
+    Some(ValueRequest {
+        action,
+        schema: inner.get_str("SCHEMA")?,
+        value: inner.get_str(value)?,
+        is_schema_hex: inner.get_flag("schema-hex"),
+        is_hex: inner.get_flag("hex"),
+        is_compact: inner.get_flag("compact"),
+    })
+}
+
+/// The action, and the name of its argument with the value.
+fn action_named(name: &str) -> Option<(Action, &'static str)> {
+    match name {
+        "decode" => Some((Action::Decode, "VALUE")),
+        "encode" => Some((Action::Encode, "JSON")),
+        "member" => Some((Action::Member, "VALUE")),
+        "show" => Some((Action::Show, "VALUE")),
+        _ => None,
+    }
 }
 
 fn question_named(name: &str) -> Option<Question> {

@@ -15,6 +15,12 @@ pub enum Failure<'a> {
     NotHexadecimal(&'a str, FromHexError),
     /// The bytes aren't the encoding of a container.
     NotContainer(&'a str, borsh::io::Error),
+    /// The value has no JSON, or the JSON says no value.
+    NotValue(&'a str, String),
+    /// The text isn't UTF-8.
+    NotText(&'a str),
+    /// Both the container and the value are to come from standard input.
+    TwoInputs,
     /// The answer can't be written.
     Unwritable(io::Error),
     /// An allocation failed.
@@ -22,10 +28,10 @@ pub enum Failure<'a> {
 }
 
 impl<'a> Failure<'a> {
-    /// The exit status: 1 for bytes that are no container, else 2.
+    /// The exit status: 1 for bytes that are no container, and for bytes and texts that are no value; else 2.
     pub fn status(&self) -> u8 {
         match self {
-            Failure::NotContainer(_, _) => 1,
+            Failure::NotContainer(_, _) | Failure::NotValue(_, _) | Failure::NotText(_) => 1,
             _ => 2,
         }
     }
@@ -46,6 +52,9 @@ impl<'a> fmt::Display for Failure<'a> {
             Failure::NotContainer(path, error) => {
                 write!(f, "{path}: not a schema container: {error}")
             }
+            Failure::NotValue(path, error) => write!(f, "{path}: {error}"),
+            Failure::NotText(path) => write!(f, "{path}: not UTF-8"),
+            Failure::TwoInputs => write!(f, "only one input can be standard input"),
             Failure::Unwritable(error) => write!(f, "{error}"),
             Failure::OutOfMemory => write!(f, "out of memory"),
         }

@@ -1,4 +1,4 @@
-//! The command-line tool `borsh`: what a schema container says.
+//! The command-line tool `borsh`: what a schema container says, and what bytes say by it.
 #![tactic(auto)]
 
 mod answers;
@@ -9,6 +9,7 @@ mod plain_text;
 mod run;
 #[cfg(test)]
 mod tests;
+mod values;
 
 use std::process::ExitCode;
 use std::{env, io};

@@ -74,6 +74,40 @@ impl PlainText {
         self.put(b'"')
     }
 
+    /// Adds JSON, in which a character that isn't printable ASCII, but for line feeds, appears as `\u` and four digits, or
+    /// as two of these. Only strings of JSON have such characters, and the texts say the same.
+    pub fn push_json(&mut self, json: &str) -> Result<(), AllocError> {
+        for character in json.chars() {
+            self.push_character(character)?;
+        }
+        Ok(())
+    }
+
+    fn push_character(&mut self, character: char) -> Result<(), AllocError> {
+        let number = u32::from(character);
+        if number == 10 {
+            return self.end_line();
+        }
+        if 32 <= number && number < 127 {
+            return self.put(number as u8);
+        }
+        if number < 65536 {
+            return self.push_unit(number);
+        }
+        self.push_unit(55296 + (number - 65536) / 1024)?;
+        self.push_unit(56320 + number % 1024)
+    }
+
+    /// `\u` and four digits.
+    fn push_unit(&mut self, unit: u32) -> Result<(), AllocError> {
+        self.put(b'\\')?;
+        self.put(b'u')?;
+        self.put(digit((unit / 4096 % 16) as u8))?;
+        self.put(digit((unit / 256 % 16) as u8))?;
+        self.put(digit((unit / 16 % 16) as u8))?;
+        self.put(digit((unit % 16) as u8))
+    }
+
     /// Adds the bytes of a name that is in quotation marks.
     fn push_quoted(&mut self, name: &[u8]) -> Result<(), AllocError>
         ensures { OnOk result

@@ -3,9 +3,11 @@ ghost use Rattle.std.specs.Prelude.{IfOk};
 ghost use Rattle.borsh_tool.specs.Questions.{AnswersRequest};
 
 use super::answers::{Answer, answer_to, container_from};
-use super::command::{Request, command, request_from};
+use super::command::{Action, Request, ValueRequest, command, request_from, value_request_from};
 use super::failure::{Failure, failure_line, usage_line};
+use super::values::{bytes_said, hex_line, json_text, member, own_schema, schema_from, shown};
 use borsh::io::ErrorKind;
+use borsh_json::Layout;
 use clap::ArgMatches;
 use hex::FromHexError;
 use std::alloc::{AllocError, Global};
@@ -68,13 +70,74 @@ fn perform<'a, R: Files + Input + Print + AllocGlobal>(
     rt: &R,
     matches: &ArgMatches<'a>,
 ) -> Result<bool, Failure<'a>> {
+    if let Some(request) = value_request_from(matches) {
+        return perform_on_value(rt, &request);
+    }
     let Some(request) = request_from(matches) else {
         return Err(Failure::NoCommand);
     };
-    let bytes = input(rt, &request)?;
+    let bytes = input(rt, request.path, request.is_hex)?;
     let Answer { is_yes, text } = answer_about(rt.alloc(), &request, bytes.as_slice())?;
-    match rt.write_all(text.as_bytes()) {
-        Ok(()) => Ok(is_yes),
+    print_bytes(rt, text.as_bytes())?;
+    Ok(is_yes)
+}
+
+/// The same of a request about a value.
+fn perform_on_value<'a, R: Files + Input + Print + AllocGlobal>(
+    rt: &R,
+    request: &ValueRequest<'a>,
+) -> Result<bool, Failure<'a>> {
+    if request.schema == "-" && request.value == "-" {
+        return Err(Failure::TwoInputs);
+    }
+    let alloc = rt.alloc();
+    let schema = if request.schema == "self" {
+        own_schema(alloc)?
+    } else {
+        let bytes = input(rt, request.schema, request.is_schema_hex)?;
+        schema_from(alloc, request.schema, bytes.as_slice())?
+    };
+    match request.action {
+        Action::Decode => {
+            let bytes = input(rt, request.value, request.is_hex)?;
+            let layout = if request.is_compact {
+                Layout::Compact
+            } else {
+                Layout::Pretty
+            };
+            let text = json_text(alloc, &schema, request.value, bytes.as_slice(), layout)?;
+            print_bytes(rt, text.as_bytes())?;
+            Ok(true)
+        }
+        Action::Encode => {
+            let json = input(rt, request.value, false)?;
+            let bytes = bytes_said(alloc, &schema, request.value, json.as_slice())?;
+            if request.is_hex {
+                let text = hex_line(alloc, bytes.as_slice())?;
+                print_bytes(rt, text.as_bytes())?;
+            } else {
+                print_bytes(rt, bytes.as_slice())?;
+            }
+            Ok(true)
+        }
+        Action::Member => {
+            let bytes = input(rt, request.value, request.is_hex)?;
+            let Answer { is_yes, text } = member(alloc, &schema, request.value, bytes.as_slice())?;
+            print_bytes(rt, text.as_bytes())?;
+            Ok(is_yes)
+        }
+        Action::Show => {
+            let bytes = input(rt, request.value, request.is_hex)?;
+            let text = shown(alloc, &schema, request.value, bytes.as_slice())?;
+            print_bytes(rt, text.as_bytes())?;
+            Ok(true)
+        }
+    }
+}
+
+fn print_bytes<'a, R: Print + AllocGlobal>(rt: &R, bytes: &[u8]) -> Result<(), Failure<'a>> {
+    match rt.write_all(bytes) {
+        Ok(()) => Ok(()),
         Err(error) => Err(Failure::Unwritable(error)),
     }
 }
@@ -95,23 +158,24 @@ pub fn answer_about<'a>(
     }
 }
 
-/// The bytes of the file that is asked about.
+/// The bytes of a file, or those that its digits say.
 fn input<'a, R: Files + Input + AllocGlobal>(
     rt: &R,
-    request: &Request<'a>,
+    path: &'a str,
+    is_hex: bool,
 ) -> Result<Vec<u8>, Failure<'a>> {
-    let mut bytes = match file(rt, request.path) {
+    let mut bytes = match file(rt, path) {
         Ok(bytes) => bytes,
-        Err(error) => return Err(Failure::Unreadable(request.path, error)),
+        Err(error) => return Err(Failure::Unreadable(path, error)),
     };
-    if !request.is_hex {
+    if !is_hex {
         return Ok(bytes);
     }
     bytes.retain(|byte| !byte.is_ascii_whitespace());
     match hex::decode(rt.alloc(), bytes.as_slice()) {
         Ok(decoded) => Ok(decoded),
         Err(FromHexError::OutOfMemory) => Err(Failure::OutOfMemory),
-        Err(error) => Err(Failure::NotHexadecimal(request.path, error)),
+        Err(error) => Err(Failure::NotHexadecimal(path, error)),
     }
 }
 

@@ -4,8 +4,10 @@ use super::command::Request;
 use super::definitions::schema_text;
 use super::failure::{failure_line, usage_line};
 use super::run::{answer_about, run};
+use super::values::{bytes_said, hex_line, json_text, member, own_schema, schema_from, shown};
 use borsh::schema::{BorshSchemaContainer, Definition, Fields, LengthRange};
 use borsh::{schema_container_of, to_vec};
+use borsh_json::Layout;
 use std::alloc::{AllocError, Global};
 use std::collections::BTreeMap;
 use std::process::Abort;
@@ -353,6 +355,88 @@ fn refuses_other_bytes(rt: HostRuntime) -> Result<(), Fail> {
 }
 
 #[test]
+fn answers_about_values(rt: HostRuntime) -> Result<(), Fail> {
+    let alloc = rt.alloc();
+    let container = to_vec(alloc, &schema_container_of::<(String, Option<u16>)>(alloc)?)?;
+    let schema = schema_from(alloc, "s", container.as_slice())?;
+    for (digits, json) in [
+        ("010000006100", "[\"a\",\"None\"]\n"),
+        ("02000000c3a9010700", "[\"\\u00e9\",{\"Some\":7}]\n"),
+        (
+            "0600000000225c7f0a0901ffff",
+            "[\"\\u0000\\\"\\\\\\u007f\\n\\t\",{\"Some\":65535}]\n",
+        ),
+        ("04000000f09f988000", "[\"\\ud83d\\ude00\",\"None\"]\n"),
+    ] {
+        let bytes = hex::decode(alloc, digits)?;
+        let text = json_text(alloc, &schema, "v", bytes.as_slice(), Layout::Compact)?;
+        assert!(rt; text.as_bytes() == json.as_bytes(), "{text}");
+        let read = bytes_said(alloc, &schema, "v", json.as_bytes())?;
+        assert_eq!(rt; read.as_slice(), bytes.as_slice(), "{json}");
+        let answer = member(alloc, &schema, "v", bytes.as_slice())?;
+        assert!(rt; answer.is_yes && answer.text.as_bytes() == b"member\n".as_slice());
+    }
+    let answer = member(alloc, &schema, "v", b"\x01\0\0\0a\x02".as_slice())?;
+    let text = &answer.text;
+    assert!(rt; !answer.is_yes);
+    let expected =
+        "no member: (String, Option<u16>).1 (`Option<u16>` at byte 5): no variant has this tag\n";
+    assert!(rt; text.as_bytes() == expected.as_bytes(), "{text}");
+    let line = hex_line(alloc, b"\x0a\xff".as_slice())?;
+    assert!(rt; line.as_bytes() == b"0aff\n".as_slice());
+    Ok(())
+}
+
+#[test]
+fn shows_each_byte(rt: HostRuntime) -> Result<(), Fail> {
+    let alloc = rt.alloc();
+    type Shown = (u16, String, Vec<Option<bool>>, (), [u32; 2], [u8; 17]);
+    let container = to_vec(alloc, &schema_container_of::<Shown>(alloc)?)?;
+    let schema = schema_from(alloc, "s", container.as_slice())?;
+    let digits = "000202000000610a02000000010100010000000200000000000000000000000000000000000000ff";
+    let bytes = hex::decode(alloc, digits)?;
+    let text = shown(alloc, &schema, "v", bytes.as_slice())?;
+    let root = "(u16, String, Vec<Option<bool>>, (), [u32; 2], [u8; 17])";
+    let mut expected = String::new(alloc);
+    for (row, rest) in [
+        ("       0  0002  ", ".0  u16  512\n"),
+        ("       2  02000000610a  ", ".1  String  \"a\\x0a\"\n"),
+        (
+            "       8  02000000  ",
+            ".2  \"Vec<Option<bool>>\"  2 elements\n",
+        ),
+        ("      12  01  ", ".2[0]  \"Option<bool>\"  Some\n"),
+        ("      13  01  ", ".2[0]::Some  bool  true\n"),
+        ("      14  00  ", ".2[1]  \"Option<bool>\"  None\n"),
+        (
+            "      15  0100000002000000  ",
+            ".4  \"[u32; 2]\"  2 elements\n",
+        ),
+        (
+            "      23  00000000000000000000000000000000..  ",
+            ".5  \"[u8; 17]\"  17 elements\n",
+        ),
+    ] {
+        expected.push_str(row)?;
+        expected.push_str(root)?;
+        expected.push_str(rest)?;
+    }
+    assert!(rt; text.as_bytes() == expected.as_bytes(), "{text}");
+    Ok(())
+}
+
+#[test]
+fn a_container_is_a_value_of_its_own_container(rt: HostRuntime) -> Result<(), Fail> {
+    let alloc = rt.alloc();
+    let bytes = to_vec(alloc, &schema_container_of::<BorshSchemaContainer>(alloc)?)?;
+    let schema = own_schema(alloc)?;
+    let text = json_text(alloc, &schema, "self", bytes.as_slice(), Layout::Pretty)?;
+    let read = bytes_said(alloc, &schema, "self", text.as_bytes())?;
+    assert_eq!(rt; read.as_slice(), bytes.as_slice());
+    Ok(())
+}
+
+#[test]
 fn tells_failures_in_one_line(rt: HostRuntime) -> Result<(), Fail> {
     let alloc = rt.alloc();
     let line = failure_line(alloc, "a\u{1b}b:\nno such file")?;
@@ -382,6 +466,21 @@ fn ends_with_a_status(rt: HostRuntime) -> Result<(), Fail> {
         (["borsh", "check", "--hex", "/dev/null"].as_slice(), 1),
         (["borsh", "check", "/nowhere/at all"].as_slice(), 2),
         (["borsh", "schema", "/"].as_slice(), 2),
+        (["borsh", "decode", "--help"].as_slice(), 0),
+        (["borsh", "decode", "self"].as_slice(), 2),
+        (["borsh", "decode", "-", "-"].as_slice(), 2),
+        (["borsh", "decode", "/dev/null", "/dev/null"].as_slice(), 1),
+        (["borsh", "decode", "self", "/dev/null"].as_slice(), 1),
+        (["borsh", "decode", "self", "/nowhere"].as_slice(), 2),
+        (
+            ["borsh", "encode", "--hex", "self", "/dev/null"].as_slice(),
+            1,
+        ),
+        (["borsh", "member", "self", "/dev/null"].as_slice(), 1),
+        (
+            ["borsh", "member", "--compact", "self", "/dev/null"].as_slice(),
+            2,
+        ),
     ] {
         let words = texts(rt.alloc(), words)?;
         assert_eq!(rt; run(&rt, words.as_slice()), status, "{words:?}");

@@ -1,0 +1,102 @@
+// Why a value has no JSON, or a text is no value.
+use borsh_values::{Fault, Path};
+use std::alloc::{AllocError, AllocFailed};
+use std::fmt;
+
+/// Why a value has no JSON, or a text is no value.
+#[derive(Drop)]
+pub enum JsonError<'a> {
+    /// An allocation failed.
+    OutOfMemory,
+    /// The bytes are no member of the root: where, and why.
+    NoMember(Fault<'a>),
+    /// The root has no value that is written so.
+    NoValue,
+    /// The definition of this name is ambiguous, or breaks a rule of widths.
+    Ambiguous(&'a str),
+    /// The text isn't JSON: it is wrong near this byte, or ends too early.
+    NotJson(usize),
+    /// A part of the value, by its path, and what is wrong with it.
+    Refused(Path<'a>, Refusal),
+}
+
+/// What is wrong with a part of a value.
+#[derive(Debug, Drop)]
+pub enum Refusal {
+    /// Arrays and objects would nest more than 128 deep.
+    TooDeep,
+    /// Two fields, or two variants, have this name.
+    RepeatedName(String),
+    /// The elements of a list with a length have no bytes: as JSON it could have any size.
+    EmptyElements,
+    /// A `bool` is neither 0 nor 1.
+    NotBool,
+    /// A `String` isn't UTF-8.
+    NotUtf8,
+    /// A non-zero number is 0.
+    Zero,
+    /// The nodes aren't those of the definitions.
+    OtherNodes,
+    /// The JSON isn't this.
+    Expected(String),
+    /// The field is missing.
+    MissingField,
+    /// There is no field, or no variant, of this name.
+    UnknownName(String),
+    /// The key comes twice in an object.
+    RepeatedKey(String),
+    /// The name has no definition.
+    Undefined(String),
+}
+
+impl<'a> From<AllocError> for JsonError<'a> {
+    fn from(_: AllocError) -> JsonError<'a> {
+        JsonError::OutOfMemory
+    }
+}
+
+impl<'a, T: Drop> From<AllocFailed<T>> for JsonError<'a> {
+    fn from(_: AllocFailed<T>) -> JsonError<'a> {
+        JsonError::OutOfMemory
+    }
+}
+
+impl<'a> fmt::Display for JsonError<'a> {
+    fn fmt<W: fmt::Write>(&self, f: &mut fmt::Formatter<W>) -> fmt::Result {
+        match self {
+            JsonError::OutOfMemory => write!(f, "out of memory"),
+            JsonError::NoMember(fault) => write!(f, "{fault}"),
+            JsonError::NoValue => write!(f, "no value of the schema"),
+            JsonError::Ambiguous(name) => write!(f, "`{name}` is ambiguous"),
+            JsonError::NotJson(offset) => write!(f, "not JSON, near byte {offset}"),
+            JsonError::Refused(path, refusal) => write!(f, "{path}: {refusal}"),
+        }
+    }
+}
+
+impl<'a> fmt::Debug for JsonError<'a> {
+    fn fmt<W: fmt::Write>(&self, f: &mut fmt::Formatter<W>) -> fmt::Result {
+        write!(f, "{self}")
+    }
+}
+
+impl<'a> std::error::Error for JsonError<'a> {}
+
+impl fmt::Display for Refusal {
+    fn fmt<W: fmt::Write>(&self, f: &mut fmt::Formatter<W>) -> fmt::Result {
+        match self {
+            Refusal::TooDeep => write!(f, "nests more than 128 deep"),
+            Refusal::RepeatedName(name) => write!(f, "two parts are named `{name}`"),
+            Refusal::EmptyElements => write!(f, "a list whose elements have no bytes"),
+            Refusal::NotBool => write!(f, "neither 0 nor 1"),
+            Refusal::NotUtf8 => write!(f, "not UTF-8"),
+            Refusal::Zero => write!(f, "zero"),
+            Refusal::OtherNodes => write!(f, "other nodes than the schema's"),
+            Refusal::Expected(wanted) => write!(f, "expected {wanted}"),
+            Refusal::MissingField => write!(f, "missing"),
+            Refusal::UnknownName(name) => write!(f, "`{name}` isn't in the schema"),
+            Refusal::RepeatedKey(name) => write!(f, "`{name}` comes twice"),
+            Refusal::Undefined(name) => write!(f, "`{name}` has no definition"),
+        }
+    }
+}

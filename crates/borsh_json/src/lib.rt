@@ -1,0 +1,24 @@
+//! Values as JSON, both ways, by their container alone.
+//!
+//! [`to_json`] writes the JSON text of the value that bytes are, and [`from_json`] gives the bytes of the value that a
+//! text says; [`rows_of`] says what each of the bytes is. Each takes any definitions, any bytes and any text, and none recurses.
+#![tactic(auto)]
+
+mod definitions;
+mod error;
+mod kinds;
+mod numbers;
+mod output;
+mod position;
+mod reading;
+mod rows;
+mod writing;
+
+pub use error::{JsonError, Refusal};
+pub use output::Layout;
+pub use reading::from_json;
+pub use rows::{Row, rows_of};
+pub use writing::to_json;
+
+#[cfg(test)]
+mod tests;

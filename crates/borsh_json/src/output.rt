@@ -1,0 +1,91 @@
+// The JSON text that is being written.
+ghost use Rattle.json.specs.Print.{IsPrintable};
+ghost use Rattle.json.specs.Reads.{token_of};
+
+use json::{Pretty, Token, Writer, is_number};
+use std::alloc::{AllocError, Global};
+
+/// How JSON is laid out.
+#[derive(Clone, Copy, Debug, PartialEq, Eq)]
+pub enum Layout {
+    /// Without white space.
+    Compact,
+    /// A line for each item and member.
+    Pretty,
+}
+
+/// The JSON text that is being written.
+ghost use Rattle.json.specs.Print.{IsPrintable};
+ghost use Rattle.json.specs.Reads.{token_of};
+
+#[derive(Drop)]
+pub enum Output {
+    Compact(Writer),
+    Pretty(Pretty),
+}
+
+impl Output {
+    pub fn new(alloc: Global, layout: Layout) -> Output {
+        match layout {
+            Layout::Compact => Output::Compact(Writer::new(Vec::new(alloc))),
+            Layout::Pretty => Output::Pretty(Pretty::new(alloc)),
+        }
+    }
+
+    pub fn into_bytes(self) -> Vec<u8> {
+        match self {
+            Output::Compact(writer) => writer.into_inner(),
+            Output::Pretty(writer) => writer.into_inner(),
+        }
+    }
+
+    pub fn begin_array(&mut self) -> Result<(), AllocError> {
+        self.put(Token::BeginArray)
+    }
+
+    pub fn end_array(&mut self) -> Result<(), AllocError> {
+        self.put(Token::EndArray)
+    }
+
+    pub fn begin_object(&mut self) -> Result<(), AllocError> {
+        self.put(Token::BeginObject)
+    }
+
+    pub fn end_object(&mut self) -> Result<(), AllocError> {
+        self.put(Token::EndObject)
+    }
+
+    pub fn key(&mut self, key: &str) -> Result<(), AllocError> {
+        self.put(Token::Key(key))
+    }
+
+    pub fn string(&mut self, text: &str) -> Result<(), AllocError> {
+        self.put(Token::String(text))
+    }
+
+    /// A number in decimal; a text that is no number is written as a string.
+    pub fn number(&mut self, text: &str) -> Result<(), AllocError> {
+        if is_number(text) {
+            self.put(Token::Number(text))
+        } else {
+            self.string(text)
+        }
+    }
+
+    pub fn boolean(&mut self, value: bool) -> Result<(), AllocError> {
+        self.put(Token::Bool(value))
+    }
+
+    pub fn null(&mut self) -> Result<(), AllocError> {
+        self.put(Token::Null)
+    }
+
+    fn put(&mut self, token: Token<'_>) -> Result<(), AllocError>
+        requires { IsPrintable (token_of token) }
+    {
+        match self {
+            Output::Compact(writer) => writer.token(token),
+            Output::Pretty(writer) => writer.token(token),
+        }
+    }
+}

@@ -1,0 +1,120 @@
+// Where in a value the reader or writer is.
+use borsh_values::{Path, PathStep};
+use borsh_walks::parts::mentioned_part;
+use borsh_walks::{Declaration, Definition, FieldName};
+use std::alloc::{AllocError, Global};
+
+/// The parts of a value.
+#[derive(Clone, Copy)]
+pub enum Parts<'a> {
+    /// The value itself, of this name.
+    Root(&'a str),
+    /// So many elements of one name.
+    List(&'a str, u64),
+    /// Those of a tuple, or of a struct without names.
+    Row(&'a Definition),
+    Object(&'a Vec<(FieldName, Declaration)>),
+    /// The variant, and the name of its value.
+    Variant(&'a str, &'a str),
+}
+
+/// The parts of a value, and how many of them were begun.
+#[derive(Clone, Copy)]
+pub struct Place<'a> {
+    pub parts: Parts<'a>,
+    pub begun: usize,
+}
+
+/// A part: the name of its type, its key in an object, and whether it may be without bytes.
+#[derive(Clone, Copy)]
+pub struct Part<'a> {
+    pub name: &'a str,
+    pub key: Option<&'a str>,
+    pub may_be_empty: bool,
+}
+
+impl<'a> Place<'a> {
+    pub fn new(parts: Parts<'a>) -> Place<'a> {
+        Place { parts, begun: 0 }
+    }
+
+    /// The next part, which is begun; none if there are no more.
+    pub fn next_part(&mut self) -> Option<Part<'a>> {
+        let part = self.part_at(self.begun)?;
+        self.begun = self.begun.saturating_add(1);
+        Some(part)
+    }
+
+    fn part_at(&self, index: usize) -> Option<Part<'a>> {
+        match self.parts {
+            Parts::Root(name) => only_part(index, name, None),
+            Parts::Variant(variant, name) => only_part(index, name, Some(variant)),
+            Parts::List(name, count) => {
+                if index as u64 >= count {
+                    return None;
+                }
+                Some(Part {
+                    name,
+                    key: None,
+                    may_be_empty: false,
+                })
+            }
+            Parts::Row(definition) => Some(Part {
+                name: mentioned_part(definition, index)?,
+                key: None,
+                may_be_empty: true,
+            }),
+            Parts::Object(fields) => {
+                let (field, name) = fields.get(index)?;
+                Some(Part {
+                    name: name.as_str(),
+                    key: Some(field.as_str()),
+                    may_be_empty: true,
+                })
+            }
+        }
+    }
+
+    /// The step to the part that was begun last.
+    fn step(&self) -> Option<PathStep<'a>> {
+        let index = self.begun.saturating_sub(1);
+        match self.parts {
+            Parts::Root(_) => None,
+            Parts::List(_, _) => Some(PathStep::Element(index as u64)),
+            Parts::Row(_) => Some(PathStep::Place(index)),
+            Parts::Object(fields) => Some(PathStep::Field(fields.get(index)?.0.as_str())),
+            Parts::Variant(variant, _) => Some(PathStep::Variant(variant)),
+        }
+    }
+}
+
+fn only_part<'a>(index: usize, name: &'a str, key: Option<&'a str>) -> Option<Part<'a>> {
+    if index == 0 {
+        Some(Part {
+            name,
+            key,
+            may_be_empty: key.is_none(),
+        })
+    } else {
+        None
+    }
+}
+
+/// The path of the part that was begun last.
+pub fn path_of<'a>(
+    alloc: Global,
+    root: &'a str,
+    outer: &[Place<'a>],
+    last: &Place<'a>,
+) -> Result<Path<'a>, AllocError> {
+    let mut steps: Vec<PathStep<'a>> = Vec::new(alloc);
+    for place in outer {
+        if let Some(step) = place.step() {
+            steps.push(step)?;
+        }
+    }
+    if let Some(step) = last.step() {
+        steps.push(step)?;
+    }
+    Ok(Path { root, steps })
+}
