@@ -106,7 +106,7 @@ module _ {B : Type 0} {name : List ℕ} {ps : DefinitionTree} {c : Codec B} {byt
         absurd (h.clash.apart (some_same _ _ (sym (given_in j h.clash.has_first) ∙ given_in j h.clash.has_second)))
     not_read_is_memory (unread_memory e) = e
 
-  -- one value stands behind the type's container
+  -- one value follows the type's container
   pub read_once : Lawful B c → {x y : B} → IsReadWithSchema name ps c bytes y → IsReadWithSchema name ps c bytes x → c.equivalent y x
   read_once l {x = x} {y = y} v w = ((pair-lawful container-lawful l).unambiguous true bytes (v.sent.own, y) (w.sent.own, x) (both_decode v) (both_decode w)).1
 

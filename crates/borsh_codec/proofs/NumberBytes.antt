@@ -117,6 +117,6 @@ signed_of w n x {b = b} whole low even e =
     ap (signed_encoding n) f ∙ signed_bits_high n x b e (omega (arith, h, low)) even)
     (cases_lt x (2 ^ hbits w))
 
--- the same, where the number is told
+-- the same, where the number is given
 pub signed_by_bits : (w : Width) (n : ℕ) (z : ℤ) {b : List ℕ} → 256 ^ n ≡ 2 ^ bits w → sign_bound n ≡ 2 ^ hbits w → 256 ^ n ≡ 2 * sign_bound n → SFits w z → unsigned_encoding n (of_z w z) ≡ Some b → signed_encoding n z ≡ Some b
 signed_by_bits w n z whole low even f e = ap (signed_encoding n) (sym (to_z-of_z w z f)) ∙ signed_of w n (of_z w z) whole low even e

@@ -74,7 +74,7 @@ front_within xs i m n h l = omega (arith, h, l, length-take m (drop i xs), lengt
 
 -- ---- parts in a loop that holds some back
 
--- of the encoding `whole` the bytes `held` and then the part `left` are still to be written, and what stands before them was
+-- of the encoding `whole` the bytes `held` and then the part `left` are still to be written, and all before them was
 pub record HeldSoFar {W : Type 0} (w : WriterModel W) (old now : W) (whole : Option (List ℕ)) (held : List ℕ) (left : Option (List ℕ)) : Type 0 where
   pub so_far : WritesSoFar w old now whole (append_encodings (Some held) left)
 

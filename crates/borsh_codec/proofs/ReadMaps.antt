@@ -36,7 +36,7 @@ denied_as d {s = s} g i f r = record { refused = refused_map g i (λ none front 
 module _ {K V : Type 0} {cmp : K → K → Ordering} {item : Codec (K × V)} (refused : Bool) where
   -- ---- the order
 
-  -- the entries stand in order, where that is wanted
+  -- the entries ascend, where that is wanted
   pub reads_entries : {s t : ReaderState} {es : List (K × V)} → (s.strict_order ≡ true → IsStrictlySortedBy cmp (keys_of es)) → Decoded (List (K × V)) (refused_if refused (length_prefixed item)) s t es → Decoded (List (K × V)) (refused_if refused (entries cmp item)) s t es
   reads_entries up r = record { took = took_weaker (λ x h. record { allowed = h.allowed; decodes = record { bytes = h.decodes; ascending = up } }) r.took }
 

@@ -37,7 +37,7 @@ denied_value view {c = c} {s = s} {t = t} {v = v} l p r none = record {
       none w.0 (l.unambiguous s.strict_order front (view w.0) v w.1 (subst (λ x. c.decodes s.strict_order x v) (sym f.0) p.took.holds)));
 }
 
--- ---- an encoding that is the only reading
+-- ---- values that are decoded from their encodings alone
 
 pub reads_exact : {A : Type 0} (f : A → Option (List ℕ)) (b : Bool) {s t : ReaderState} {v : A} {y : List ℕ} → f v ≡ Some y → TakesPrefix (λ x. x ≡ y) s t → Decoded A (by_encoding f b) s t v
 reads_exact f b e p = record { took = took_weaker (λ x h. e ∙ ap Some (sym h)) p }

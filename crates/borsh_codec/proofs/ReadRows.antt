@@ -50,7 +50,7 @@ next_in_order {c = c} l m (a ∷ xs) (b ∷ ys) x r y rest n p q e =
     let f = same_front (IsDecodable c m) (free_readings l m) p.first (p.second ++ r) q.first (q.second ++ rest) (a, p.left) (b, q.left) e' in
     next_in_order l m xs ys p.second r q.second rest (omega arith) p.right q.right f.1
 
--- lists that begin with a reading
+-- lists that begin with bytes that decode
 pub record Begins (A : Type 0) (c : Codec A) (m : Bool) (x : List ℕ) : Type 0 where
   pub front : List ℕ
   pub rest : List ℕ

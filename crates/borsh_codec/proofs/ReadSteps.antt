@@ -44,7 +44,7 @@ tail_after p r = record {
   strict_order = r.strict_order ∙ p.takes.strict_order;
 }
 
--- what is left where the bytes are told
+-- what is left where the bytes are known
 pub told_after : (o p : Option (List ℕ)) (xs f : List ℕ) → o ≡ Some xs → Consumes o p f → (ys : List ℕ) × (p ≡ Some ys) × (xs ≡ f ++ ys)
 told_after None p xs f e c = absurd (cc)
 told_after (Some zs) None xs f e c = absurd c

@@ -22,7 +22,7 @@ whole_read {c = c} {xs = xs} ys {v = v} e r =
     let w : xs ≡ r.took.front = r.took.takes.bytes ∙ ap (λ z. r.took.front ++ z) e ∙ append-nil r.took.front in
     subst (λ z. c.decodes true z v) (sym w) r.took.holds
 
--- and is no reading where something is left
+-- and decodes to nothing where something is left
 pub not_whole : {A : Type 0} {c : Codec A} {xs : List ℕ} (ys : List ℕ) {v : A} → Lawful A c → (ys ≡ [] → ⊥) → Decoded A c (slice_state xs) (slice_state ys) v → IsDecodable c true xs → ⊥
 not_whole {c = c} ys {v = v} l more r w =
     more (l.prefix_free true r.took.front ys v w.0 r.took.holds (subst (λ z. c.decodes true z w.0) r.took.takes.bytes w.1))
@@ -118,7 +118,7 @@ module _ {A : Type 0} {c : Codec A} {s t u : ReaderState} {v : A} (p : Decoded A
   })
   reads_all (inr r) = inr (record { mid = t; decoded = p; tail = tail; failed = Rose-after p.took.takes.faults r })
 
--- ---- a reader that tells its bytes and never fails
+-- ---- a reader whose bytes are known and that never fails
 
 never : (m n : ℕ) → m ≡ 0 → n ≡ 0 → CountedUp m n → ⊥
 never m n e f r = no_fault (subst (λ k. CountedUp 0 k) f (subst (λ k. CountedUp k n) e r))
@@ -136,13 +136,13 @@ module _ {A : Type 0} {c : Codec A} {s t : ReaderState} (xs : List ℕ) (told : 
   pub not_whole_of_all : {k : ErrorKind} → NotDecodedAll A c s t k → WhyNotDecoded c s.strict_order xs k
   not_whole_of_all r = why r.refused.why
 
--- ---- what a call over all of the bytes owes
+-- ---- what a call over all of the bytes must return
 
 owed : {A : Type 0} {c : Codec A} {m : Bool} {xs : List ℕ} {k : ErrorKind} → IsDecodable c m xs → WhyNotDecoded c m xs k → (k ≡ OutOfMemory) × (c.decoding_allocates ≡ true)
 owed p (not_reading r none) = absurd (none p)
 owed p (not_memory r m) = (r, m)
 
--- a reading is answered up to sameness, unless memory was refused
+-- a value that the bytes decode to is returned up to `equivalent`, unless memory was refused
 pub whole_owed : {A : Type 0} {c : Codec A} (m : Bool) (xs : List ℕ) → Lawful A c → (r : Result A Error) → IfOk r (λ v. c.decodes m xs v) → IfErr r (λ e. WhyNotDecoded c m xs (error_kind e))
     → (x : A) → c.decodes m xs x → MatchResult r (λ y. c.equivalent y x) (λ e. (error_kind e ≡ OutOfMemory) × (c.decoding_allocates ≡ true))
 whole_owed m xs l (Ok y) p q x w = l.unambiguous m xs y x p w

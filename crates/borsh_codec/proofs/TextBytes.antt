@@ -11,7 +11,7 @@ use Rattle.borsh_codec.proofs.Laws.Exact.{passed_is}
 pub text_encoding : (bytes string : List ℕ) → bytes ≡ string → IsUtf8 bytes → (length_prefixed (unsigned 1)).encoding bytes ≡ text.encoding string
 text_encoding bytes string e utf8 = sym (passed_is (is_utf8 string) (is_utf8-from_IsUtf8 string (subst IsUtf8 e utf8)) (sym (ap (length_prefixed (unsigned 1)).encoding e)))
 
--- bytes that are read as a text spell characters
+-- bytes that are decoded to a text are those of characters
 pub text_spells : (strict : Bool) (x bytes : List ℕ) → text.decodes strict x bytes → IsUtf8 bytes
 text_spells strict x bytes p = IsUtf8-from_is_utf8 bytes p.passed
 

@@ -34,7 +34,7 @@ writes_is {w = w} {a = a} {b = b} {i = i} {x = x} {r = r} e q = subst (λ s. Wri
 pub writes_own : {W : Type 0} {w : WriterModel W} {a b : W} {i j x : Bool} {o : Option (List ℕ)} {r : Result (Unit {0}) Error} → (i ≡ true → j ≡ true) → WritesEncoding w a b i x o r → WritesEncoding w a b j x o r
 writes_own {r = r} m q = record { ok = q.ok; err = IfErr-weaker r _ _ (λ e f. write_denied_own m f) q.err; untouched = q.untouched }
 
--- a part that refuses all values may stand in a type that doesn't
+-- a part that refuses all values may be in a type that doesn't
 pub writes_not_refused : {W : Type 0} {w : WriterModel W} {a b : W} {i x y : Bool} {o : Option (List ℕ)} {r : Result (Unit {0}) Error} → x ≡ false → WritesEncoding w a b i y o r → WritesEncoding w a b i x o r
 writes_not_refused n q = record { ok = q.ok; err = q.err; untouched = λ h. absurd (true≢false (sym h ∙ n)) }
 

@@ -15,6 +15,6 @@ pub all_joined-append : {A : Type 0} (f : A → Option (List ℕ)) (xs ys : List
 all_joined-append f [] ys = sym (joined_nil (concat_encodings f ys))
 all_joined-append f (a ∷ xs) ys = ap (append_encodings (f a)) (all_joined-append f xs ys) ∙ sym (joined_assoc (f a) (concat_encodings f xs) (concat_encodings f ys))
 
--- more elements than a count of four bytes tells
+-- more elements than a count of four bytes can say
 pub counted-long : {A : Type 0} (c : Codec A) (xs : List A) → 4294967296 ≤ length xs → (length_prefixed c).encoding xs ≡ None
 counted-long c xs h = joined_none (unsigned_encoding 4 (length xs)) (concat_encodings c.encoding xs) (inl (number_past 4 (length xs) h))

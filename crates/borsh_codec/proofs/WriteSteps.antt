@@ -117,7 +117,7 @@ module _ {W : Type 0} {w : WriterModel W} (laws : WriterLaws W w) where
 
 -- ---- parts in a loop
 
--- of the encoding `whole` the part `left` is still to be written, and what stands before it was
+-- of the encoding `whole` the part `left` is still to be written, and all before it was
 pub record WritesSoFar {W : Type 0} (w : WriterModel W) (old now : W) (whole left : Option (List ℕ)) : Type 0 where
   pub part : Option (List ℕ)
   pub written : Written w old now part

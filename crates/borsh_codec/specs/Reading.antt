@@ -59,7 +59,7 @@ pub record NotDecodedAfterTag (tag : ℕ) (A : Type 0) (c : Codec A) (old new : 
 
 -- ---- all of the bytes
 
--- the bytes are no reading, or memory was refused
+-- the bytes decode to no value, or memory was refused
 pub data WhyNotDecoded {A : Type 0} (c : Codec A) (strict : Bool) (xs : List ℕ) (kind : ErrorKind) : Type 0 where
   malformed : IsInvalidData c.texts_allocate kind → (IsDecodable c strict xs → ⊥) → WhyNotDecoded c strict xs kind
   no_memory : kind ≡ OutOfMemory → c.decoding_allocates ≡ true → WhyNotDecoded c strict xs kind
@@ -80,7 +80,7 @@ pub record DecodedThenFailed (A : Type 0) (c : Codec A) (old new : ReaderState) 
 abbrev pub DecodedAll : (A : Type 0) → Codec A → ReaderState → ReaderState → A → Type 0
 DecodedAll A c old new v = DecodedWhole A c old new v ⊎ DecodedThenFailed A c old new v
 
--- the bytes are a reading, and all that is to come
+-- the bytes decode to a value, and are all that is to come
 pub record IsWhole (A : Type 0) (c : Codec A) (s : ReaderState) (x : List ℕ) : Type 0 where
   pub decodes : IsDecodable c s.strict_order x
   pub all : s.bytes ≡ Some x

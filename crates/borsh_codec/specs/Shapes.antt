@@ -20,7 +20,7 @@ contramap view c = record {
   texts_allocate = c.texts_allocate;
 }
 
--- ---- an encoding that is the only reading
+-- ---- values that are decoded from their encodings alone
 
 -- equal values are the same, and the encoding alone is read
 abbrev pub by_encoding : {A : Type 0} → (A → Option (List ℕ)) → Bool → Codec A

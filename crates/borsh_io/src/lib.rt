@@ -2,7 +2,7 @@
 //!
 //! A read takes bytes from the beginning of those that are still to come, is interrupted, or fails. A
 //! write takes bytes from the beginning of a buffer, is interrupted, or fails. Contracts name the bytes,
-//! a count of faults, and how many interruptions may still come, so that a caller can tell an I/O error
+//! a count of faults, and how many interruptions may still come, so that a caller can distinguish an I/O error
 //! from malformed bytes.
 #![tactic(auto)]
 

@@ -1,4 +1,4 @@
--- The meaning of a narrower enum: a variant that is refused has no encoding and no reading.
+-- The meaning of a narrower enum: a variant that is refused has no encoding and is never decoded.
 use Rattle.std.specs.Prelude.{true}
 use Rattle.std.proofs.Common.{arith, refl}
 use Rattle.borsh_samples.specs.declared.one_or_zero.OneOrZero.{OneOrZero}

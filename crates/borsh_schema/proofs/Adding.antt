@@ -17,18 +17,18 @@ module _ (a : DefinitionMap) (n : List ℕ) (d : NamedDefinition) (h : a n ≡ S
   known_part m e (inl k) = ap a (sym k.0) ∙ h ∙ ap Some k.1
   known_part m e (inr k) = absurd k
 
-  -- the definition stands already
+  -- the definition is there already
   pub joined_known : IsUnion a (defined n d none) a
   joined_known = record { keeps = λ m e k. k; has = known_part; only = λ m e k. inl k }
 
--- another definition stands under the name
+-- the name has another definition
 pub not_joined_known : (a : DefinitionMap) {k d : NamedDefinition} (m : String Global) → a (string_bytes m) ≡ Some k → (k ≡ d → ⊥) → UnionFails a (defined (string_bytes m) d none) a (Redefinition m)
 not_joined_known a {k = k} {d = d} m h apart = record {
   partly = record { keeps = λ n e i. i; only = λ n e i. inl i };
   fault = record { first = k; second = d; has_first = inl h; has_second = inr (inl (refl, refl)); apart = apart };
 }
 
--- what a look-up by a text found stands under the text's bytes
+-- what a look-up by a text found is what the text's bytes have
 pub found_at : (m : BTreeMap (String Global) Definition) (bs cs : List ℕ) {o : Option Definition} → o ≡ get_by_text m bs → bs ≡ cs → definitions_by_name m cs ≡ option_map named_definition o
 found_at m bs cs e p = ap (definitions_by_name m) (sym p) ∙ ap (option_map named_definition) (sym e)
 
@@ -40,7 +40,7 @@ pub found_once : {k d : NamedDefinition} {o : Option NamedDefinition} → o ≡ 
 found_once f g = let e = sym f in let h = g in cc
 
 module _ (m n : BTreeMap (String Global) Definition) (bs : List ℕ) (v : Definition) (absent : get_by_text m bs ≡ None) (u : UpdatesBy string_cmp (λ k. slice_cmp nat_cmp bs (string_bytes k)) m n (Some v)) where
-  -- a name is the new one, or it stands as it did
+  -- a name is the new one, or it has what it had
   abbrev After : List ℕ → Type 0
   After q = ((bs ≡ q) × (definitions_by_name n q ≡ Some (named_definition v))) ⊎ ((bs ≡ q → ⊥) × (definitions_by_name n q ≡ definitions_by_name m q))
 

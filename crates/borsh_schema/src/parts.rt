@@ -12,7 +12,7 @@ use std::alloc::Global;
 use std::collections::BTreeMap;
 use std::marker::PhantomData;
 
-/// Several types whose definitions are added to a map: `(A, (B, (C, ())))` stands for `A`, `B` and `C`.
+/// Several types whose definitions are added to a map: `(A, (B, (C, ())))` are `A`, `B` and `C`.
 pub trait SchemaParts {
     ghost all_parts: { DefinitionTree };
 

@@ -27,7 +27,7 @@ module _ (parts : Shape → List (List ℕ)) where
   work_at x [] d h = cc
   work_at x (e ∷ es) d h = one_of (work es) e.1 d (lookup (λ k. is_eq (slice_cmp nat_cmp x (string_bytes k))) es) (is_eq (slice_cmp nat_cmp x (string_bytes e.0))) h (λ k. work_at x es d k)
 
-  -- the steps that the spots of the way have left
+  -- the steps that the spots on the stack have left
   unfoldable pub rests : List Spot → ℕ
   rests [] = 0
   rests (f ∷ fs) = suc (length (parts (spot_shape f))) - f.next + rests fs
@@ -49,7 +49,7 @@ module _ (parts : Shape → List (List ℕ)) where
       let t = ap (λ k. (btree_map_len m - k) * (2 + work m.entries)) same in
       omega (arith, e, t, low)
 
-  -- a new one comes, over a way that is no longer; k is m, as a look gives it back
+  -- a new one comes, over a stack that is no longer; k is m, as a look gives it back
   pub left_pushed : {A : Type 0} (m k : BTreeMap (String A) Definition) (x : List ℕ) (len n : ℕ) (g : Spot) (fs hs is : List Spot) → k ≡ m → n ≡ suc len → suc len ≤ btree_map_len m → get_by_text m x ≡ Some g.definition.now → g.next ≡ 0 → rests hs ≤ rests fs → is ≡ g ∷ hs → left k n is < left m len fs
   unfolding rests
   left_pushed m k x len n g fs hs is same grown room found at_start low pushed =

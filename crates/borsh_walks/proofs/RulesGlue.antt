@@ -79,7 +79,7 @@ module _ (C : List ℕ → Option Shape) (root : List ℕ) where
   pub rules_reached : {seen zeros : BTreeMap (Bor (List ℕ)) Bool} (fs : List Spot) (f : Spot) (p : List ℕ) {extra : List (List ℕ)} → RulesState C root extra seen (f ∷ fs) zeros → slice_get (references (spot_shape f)) f.next ≡ Some p → Reached C root p
   rules_reached fs f p s e = onward (spot_shape f) s.spots.0.1 s.spots.0.0 (among_get (references (spot_shape f)) f.next e)
 
-  -- a name whose mentions are all seen leaves the way
+  -- a name whose references are all seen leaves the stack
   pub rules_pop : {seen zeros : BTreeMap (Bor (List ℕ)) Bool} (fs : List Spot) (f : Spot) → RulesState C root [] seen (f ∷ fs) zeros → slice_get (references (spot_shape f)) f.next ≡ None → RulesState C root [] seen fs zeros
   rules_pop {seen} {zeros} fs f s e = record {
     names = s.names;
@@ -94,7 +94,7 @@ module _ (C : List ℕ → Option Shape) (root : List ℕ) where
       at_last : (y : List ℕ) → IsIn y (pending (f ∷ fs)) → IsIn y s.names ⊎ IsIn y [] ⊎ IsIn y (pending fs)
       at_last y c = elim (among_append (drop f.next (references (spot_shape f))) (pending fs) c) [ inl b ↦ inr (inl (subst (λ l. IsIn y l) (drop_none (references (spot_shape f)) f.next e) b)) | inr b ↦ inr (inr b) ]
 
-  -- its next mention is taken off the way
+  -- its next reference is taken off the stack
   pub rules_take : {seen zeros : BTreeMap (Bor (List ℕ)) Bool} (fs wn : List Spot) (f : Spot) (p : List ℕ) → RulesState C root [] seen (f ∷ fs) zeros → slice_get (references (spot_shape f)) f.next ≡ Some p → wn ≡ moved f ∷ fs → RulesState C root (p ∷ []) seen wn zeros
   rules_take {seen} {zeros} fs wn f p s e pushed = record {
     names = s.names;
@@ -121,7 +121,7 @@ module _ (C : List ℕ → Option Shape) (root : List ℕ) where
         | inr b ↦ inr (inr (among_right rest (pending fs) b))
       ]
 
-  -- a mention that was seen before
+  -- a reference that was seen before
   pub rules_seen : {seen zeros : BTreeMap (Bor (List ℕ)) Bool} {way : List Spot} (p : List ℕ) → RulesState C root (p ∷ []) seen way zeros → (mark_of seen p ≡ None → ⊥) → RulesState C root [] seen way zeros
   rules_seen {seen} {zeros} {way} p s f = record {
     names = s.names;

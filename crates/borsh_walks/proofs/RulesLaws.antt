@@ -102,7 +102,7 @@ module _ (C : List ℕ → Option Shape) where
   rules_fault root x r (EmptyLengthRange m) h l b = (subst (λ y. Reached C root y) (sym h.1) l, subst (λ y. Breaks C empty_length_range y) (sym h.1) (subst (λ k. Breaks C k x) h.0 b))
   rules_fault root x r OutOfMemory h l b = tt
 
--- the element that is checked is mentioned
+-- the element that is checked is referred to
 pub checked_mentioned : (d : Shape) (e : List ℕ) → checked_element d ≡ Some e → IsIn e (references d)
 checked_mentioned (primitive n) e h = cc
 checked_mentioned (sequence w lo hi el) e h = let k = element_fixed w lo hi el e h in subst (λ y. IsIn e (y ∷ [])) (sym k.0) first

@@ -1,4 +1,4 @@
--- Which answers are due, from what each answer stands for.
+-- Which answers must be given, from what each answer says.
 use Rattle.std.proofs.Common.{◌≡◌, ℕ, ◌<◌, ◌≤◌, ◌^◌, List, None, refl, arith, ◌⊎◌, inl, inr}
 use Rattle.std.specs.Prelude.{Option, Result, Ok, Err}
 use Rattle.borsh_walks.specs.Container.{Shape, MaxSize, sized}

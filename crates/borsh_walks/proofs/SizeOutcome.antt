@@ -1,4 +1,4 @@
--- The outcome of a walk for a size, from what each answer stands for.
+-- The outcome of a walk for a size, from what each answer says.
 use Rattle.std.proofs.Common.{◌≡◌, ℕ, ◌<◌, ◌^◌, List, refl}
 use Rattle.std.specs.Prelude.{Option, Result, Ok, Err, IfOk, length, ◌≤◌}
 use Rattle.borsh_walks.specs.Container.{Shape, Member, missing_definition, is_missing}

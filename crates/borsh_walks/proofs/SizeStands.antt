@@ -1,4 +1,4 @@
--- That a size stands where nothing that is needed is missing or leads back to itself.
+-- That there is a size where nothing that is needed is missing or leads back to itself.
 use Rattle.std.proofs.Common.{◌≡◌, ℕ, suc, zero, ◌+◌, ◌≤◌, List, [], ◌∷◌, length, Some, None, refl, arith}
 use Rattle.std.specs.Prelude.{Option, String}
 use Rattle.std.specs.BTreeMap.{BTreeMap, get_by_text}
@@ -13,7 +13,7 @@ defined None f = absurd (f refl)
 defined (Some d) f = (d, refl)
 
 module _ (C : List ℕ → Option Shape) where
-  -- z leads to x by one or more mentions
+  -- z leads to x by one or more references
   abbrev LeadsBelow : List ℕ → List ℕ → Type 0
   LeadsBelow z x = (y : List ℕ) × (d : Shape) × Reaches C size_references z y × (C y ≡ Some d) × IsIn x (size_references d)
 
@@ -33,11 +33,11 @@ module _ (C : List ℕ → Option Shape) where
   also_within a f (later b) = f _ b
 
   module _ (root : List ℕ) (all : List (List ℕ)) (is_all : (x : List ℕ) (d : Shape) → C x ≡ Some d → IsIn x all) (missing : (x : List ℕ) → SizeReaches C root x → C x ≡ None → ⊥) (back : IsRecursive C root → ⊥) where
-    -- a name that the names of the way lead to isn't among them
+    -- a name that the names of the chain lead to isn't among them
     longer : {way : List (List ℕ)} {x : List ℕ} → Distinct way → ((z : List ℕ) → IsIn z way → LeadsBelow z x) → SizeReaches C root x → Distinct (x ∷ way)
     longer {x = x} distinct below needed = distinct_more (λ a. back (x, needed, below x a)) distinct
 
-    -- below a way of names that lead to x; `left` bounds the names that are not on it
+    -- below a chain of names that lead to x; `left` bounds the names that are not on it
     size_below_way : (left : ℕ) (way : List (List ℕ)) (x : List ℕ) → Distinct way → ((z : List ℕ) → IsIn z way → IsIn z all) → ((z : List ℕ) → IsIn z way → LeadsBelow z x) → SizeReaches C root x → length all ≤ left + length way → (n : ℕ) × MaxSize C x n
     size_below_way zero way x distinct within below needed room =
         let d = defined (C x) (missing x needed) in

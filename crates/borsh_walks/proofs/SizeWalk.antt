@@ -123,7 +123,7 @@ module _ (C : List ℕ → Option Shape) where
   lead_trans l stays = l
   lead_trans l (onward d m p a) = onward d (lead_trans l m) p a
 
-  -- the finished parts of a frame do not lead back to the way
+  -- the finished parts of a frame do not lead back to the stack
   frame_apart : {f : Frame} (m : Made f) (way : List (List ℕ)) → C f.spot.name.now ≡ Some (shape f) → ((z : List ℕ) → IsIn z (f.spot.name.now ∷ way) → Reaches C size_references z f.spot.name.now) → (y : List ℕ) → IsIn y (take f.spot.next (size_references (shape f))) → (z : List ℕ) → Reaches C size_references y z → IsIn z (f.spot.name.now ∷ way) → ⊥
   frame_apart {f} m way defined ups y a z l b =
       let s = sizes_among C a m.are in
@@ -161,7 +161,7 @@ module _ (C : List ℕ → Option Shape) where
       let far = far_from apart in
       lifted S f.spot.name.now limit fs c.2 m.1 far.1 (frame_partial m.0 limit (names_of (spots_of fs)) y s.0 c.0.defined (λ z a. (path_leads C size_references S (spots_of fs) c.2 a).1) far.0 c.1 s.1 (omega (arith, large, s.2)))
 
-  -- ---- what the loop keeps: T marks the names, fs is the way down and f its last frame, L the names looked at
+  -- ---- what the loop keeps: T marks the names, fs is the stack and f its last frame, L the names looked at
   pub record State (root : List ℕ) (T : List ℕ → Option Mark) (fs : List Frame) (f : Frame) (L : List (List ℕ)) : Type 0 where
     pub chain : Chain C size_references (IsFinished T) root (spots_of fs) f.spot.name.now
     pub ok : SpotOk C size_references (IsFinished T) f.spot

@@ -1,4 +1,4 @@
--- The way down of a walk, its last spot first, where `parts` gives the parts of a definition.
+-- The stack of a walk, its last spot first, where `parts` gives the parts of a definition.
 use Rattle.std.proofs.Common.{◌≡◌, ℕ, suc, zero, ◌+◌, ◌≤◌, List, [], ◌∷◌, ◌++◌, length, reverse, take, Some, None, refl, sym, ◌∙◌, ap, subst, arith, add-one, ◌⊎◌, inl, inr}
 use Rattle.std.specs.Prelude.{Option, slice_get}
 use Rattle.std.proofs.lemmas.List.{reverse-append}
@@ -78,7 +78,7 @@ module _ (C : List ℕ → Option Shape) (parts : Shape → List (List ℕ)) whe
     chain_leads {root} [] c = subst (λ z. Reaches C parts root z) c stays
     chain_leads (f ∷ fs) c = onward (spot_shape f) (chain_leads fs c.2) c.0.defined (among_get (parts (spot_shape f)) f.next c.1)
 
-    -- each name of the way is reached from the root and leads to the end
+    -- each name on the stack is reached from the root and leads to the end
     way_leads : {root y z : List ℕ} (fs : List Spot) → Chain root fs y → IsIn z (names_of fs) → Reaches C parts root z × Reaches C parts z y
     way_leads [] c a = elim a [ ]
     way_leads (f ∷ fs) c a =

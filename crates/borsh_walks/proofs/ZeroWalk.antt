@@ -46,7 +46,7 @@ module _ (C : List ℕ → Option Shape) where
       ] in
       go (lead_out C l)
 
-  -- ---- what the loop keeps: T marks the names, fs is the way down from `name` and f its last, L the names looked at
+  -- ---- what the loop keeps: T marks the names, fs is the stack from `name` and f its last, L the names looked at
   pub record ZeroState (name : List ℕ) (T : List ℕ → Option Bool) (fs : List Spot) (f : Spot) (L : List (List ℕ)) : Type 0 where
     pub chain : Chain C asked (IsZeroSize C) name fs f.name.now
     pub ok : SpotOk C asked (IsZeroSize C) f
@@ -106,7 +106,7 @@ module _ (C : List ℕ → Option Shape) where
         marks = marks_again s.marks u (s.inside f.name.now first);
       }
 
-  -- all names on the way are not of zero size
+  -- no name on the stack is of zero size
   pub zero_settled : {name : List ℕ} {T : List ℕ → Option Bool} {fs : List Spot} {f : Spot} {L : List (List ℕ)} → ZeroState name T fs f L → (IsZeroSize C f.name.now → ⊥) → ((x : List ℕ) → T x ≡ Some false → IsZeroSize C x → ⊥) × (IsZeroSize C name → ⊥)
   zero_settled {fs = fs} s not_it = (
     (λ x h z. elim (s.false_is x h) [ inl n ↦ n z | inr a ↦ not_it (zero_reached (path_leads C asked (IsZeroSize C) fs s.chain a).1 z) ]),

@@ -15,7 +15,7 @@ use Rattle.borsh_walks.specs.declared.counted.Question.TheVariants.{Zero, Rules}
 use Rattle.borsh_walks.specs.declared.way.Spot.{Spot}
 use Rattle.borsh_walks.specs.declared.error.SchemaContainerValidateError.{SchemaContainerValidateError}
 
--- the mentions that wait on the stack, the top first
+-- the references that wait on the stack, the top first
 abbrev pub pending : List Spot → List (List ℕ)
 pending [] = []
 pending (f ∷ fs) = drop f.next (references (spot_shape f)) ++ pending fs
@@ -25,7 +25,7 @@ module _ (C : List ℕ → Option Shape) (root : List ℕ) where
   AllSpots [] = ⊤
   AllSpots (f ∷ fs) = ((C f.name.now ≡ Some (spot_shape f)) × Reached C root f.name.now × (f.next ≤ length (references (spot_shape f)))) × AllSpots fs
 
-  -- the names seen are reached and keep their rules, and what they mention is seen, waits on the stack, or is among `extra`
+  -- the names seen are reached and keep their rules, and what they refer to is seen, waits on the stack, or is among `extra`
   pub record RulesState (extra : List (List ℕ)) (seen : BTreeMap (Bor (List ℕ)) Bool) (way : List Spot) (zeros : BTreeMap (Bor (List ℕ)) Bool) : Type 0 where
     pub names : List (List ℕ)
     pub marks : Visited (λ x. Reached C root x × ((r : Rule) → Breaks C r x → ⊥) × IsDefined C x) (mark_of seen) names

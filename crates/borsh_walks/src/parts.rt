@@ -38,7 +38,7 @@ fn variant_at(
     }
 }
 
-/// The part at `index` that the definition mentions.
+/// The part at `index` of the definition.
 pub fn mentioned_part(definition: &Definition, index: usize) -> Option<&str>
     ensures part { IsPartAt (references (shape_of definition.now)) index result }
     ensures small { OnSome result (index < 18446744073709551615) }

@@ -146,7 +146,7 @@ fn error_of(alloc: Global, broken: Broken, name: &str) -> SchemaContainerValidat
     }
 }
 
-// The first visit of a reached name: its rules are checked, and the names that it mentions wait on the stack.
+// The first visit of a reached name: its rules are checked, and the names that it refers to wait on the stack.
 fn visit<'a>(
     alloc: Global,
     name: &'a str,
@@ -204,7 +204,7 @@ pub fn check_rules(
 }
 
 // The walk over the names that are reached. A name that was visited waits on the stack `way` until each
-// name that it mentions was visited.
+// name that it refers to was visited.
 fn walk_rules<'a>(
     alloc: Global,
     root: &'a str,

@@ -8,7 +8,7 @@ use Rattle.places.specs.Made.{MadeInOrder, IsMade, IsMadeBehind, IsGivenUp}
 pub take-put : {A : Type 0} (before after : List A) (i : ℕ) (x : A) → after ≡ set before i x → i < length before → take (i + 1) after ≡ take i before ++ x ∷ []
 take-put before after i x written inside = (λ k. take (add-one i k) (written k)) ∙ take-suc-set before i x inside
 
--- a value that was made after those of xs stands behind them
+-- a value that was made after those of xs is behind them
 MadeInOrder-append : {S A : Type 0} (makes : S → A → S → Type 0) (s t u : S) (xs : List A) (x : A) → MadeInOrder makes s xs t → makes t x u → MadeInOrder makes s (xs ++ x ∷ []) u
 MadeInOrder-append makes s t u [] x so_far new = (u, subst (λ r. makes r x u) (sym so_far) new, refl)
 MadeInOrder-append makes s t u (y ∷ xs) x so_far new = (so_far.0, so_far.1, MadeInOrder-append makes so_far.0 t u xs x so_far.2 new)

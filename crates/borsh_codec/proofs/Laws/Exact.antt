@@ -1,4 +1,4 @@
--- The laws of a value seen as another one, of an encoding that is the only reading, and of refused values.
+-- The laws of a value seen as another one, of values that are decoded from their encodings alone, and of refused values.
 use Rattle.std.proofs.Common.{◌≡◌, ℕ, zero, suc, Bool, true, false, cond, List, [], ◌++◌, length, Option, Some, None, refl, sym, ◌∙◌, ap, arith, true≢false, length-append}
 use Rattle.std.specs.Bool.{⊤}
 use Rattle.borsh_codec.specs.Codec.{Codec, Lawful}
@@ -18,7 +18,7 @@ contramap-lawful view l = record {
   refused = λ a. l.refused (view a);
 }
 
--- ---- an encoding that is the only reading
+-- ---- values that are decoded from their encodings alone
 
 pub zero_of : (n : ℕ) → is_zero n ≡ true → n ≡ 0
 zero_of zero e = refl

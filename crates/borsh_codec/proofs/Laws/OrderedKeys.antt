@@ -21,7 +21,7 @@ use Rattle.borsh_codec.proofs.Laws.Keys.{all_key, and_assoc, and_key, bare_key, 
 use Rattle.borsh_codec.proofs.Laws.AddressKeys.{segments_key}
 use Rattle.borsh_codec.proofs.Laws.Maps.Types.{MatchesEq}
 
--- a codec with an equality and an order that tell apart what it tells apart
+-- a codec with an equality and an order for which the same values differ
 pub record OrderedCodec (A : Type 0) : Type 1 where
   pub codec : Codec A
   pub eq : A → A → Bool

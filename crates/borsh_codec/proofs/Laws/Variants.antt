@@ -4,7 +4,7 @@ use Rattle.borsh_codec.specs.Codec.{Codec, Lawful}
 use Rattle.borsh_codec.specs.Shapes.{never, tagged, variant}
 use Rattle.borsh_codec.proofs.Laws.Lists.{and_true}
 
--- no reading begins with the tag
+-- nothing decodes that begins with the tag
 abbrev pub Avoids : {A : Type 0} → ℕ → Codec A → Type 0
 Avoids {A = A} tag c = (strict : Bool) (x : List ℕ) (a : A) → c.decodes strict (tag ∷ x) a → ⊥
 

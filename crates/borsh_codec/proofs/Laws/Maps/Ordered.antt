@@ -65,7 +65,7 @@ module _ {K V : Type 0} (cmp : K → K → Ordering) (S : V → V → Type 0) (i
   pub ascending_same : (es fs : List (K × V)) → AllZip item.equivalent es fs → IsStrictlySortedBy cmp (keys_of es) → IsStrictlySortedBy cmp (keys_of fs)
   ascending_same es fs z s = (ascends_is cmp (keys_of fs)).0 (sym (ascends_same keyed.order (keys_of es) (keys_of fs) (keys_same es fs z)) ∙ (ascends_is cmp (keys_of es)).1 s)
 
-  -- and the other way round
+  -- and the converse
   pub ascending_back : (es fs : List (K × V)) → AllZip item.equivalent es fs → IsStrictlySortedBy cmp (keys_of fs) → IsStrictlySortedBy cmp (keys_of es)
   ascending_back es fs z s = (ascends_is cmp (keys_of es)).0 (ascends_same keyed.order (keys_of es) (keys_of fs) (keys_same es fs z) ∙ (ascends_is cmp (keys_of fs)).1 s)
 

@@ -1,4 +1,4 @@
--- What stands before the element at hand was written.
+-- All before the element at hand was written.
 use Rattle.std.proofs.Common.{drop}
 use Rattle.borsh_codec.specs.Shapes.{concat_encodings}
 use Rattle.borsh_codec.proofs.WriteSteps.{WritesSoFar}
