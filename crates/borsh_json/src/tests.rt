@@ -306,7 +306,7 @@ fn many_values_come_back(rt: HostRuntime) -> Result<(), Fail> {
     let mut state = 88172645463325252;
     let mut written: u64 = 0;
     for (root, digits, _) in VALUES {
-        for round in 0..200 {
+        for round in 0..16 {
             let length = if round % 2 == 0 {
                 digits.len() as u64 / 2
             } else {
@@ -320,7 +320,7 @@ fn many_values_come_back(rt: HostRuntime) -> Result<(), Fail> {
             }
         }
     }
-    assert!(rt; written > 3000, "{written}");
+    assert!(rt; written > 100, "{written}");
     Ok(())
 }
 
