@@ -506,12 +506,6 @@ fn nodes_in_preorder(rt: HostRuntime) -> Result<(), Fail> {
         };
         assert_eq!(rt; text_of(alloc, &nodes)?.as_str(), *expected);
         assert_eq!(rt; &encode(alloc, &nodes)?[..], *bytes);
-        let Some(again) = encode_value(alloc, root, &map, &nodes)? else {
-            return Err(Fail::from("no bytes"));
-        };
-        assert_eq!(rt; again.as_slice(), *bytes);
-        // No value of another name has these nodes.
-        assert!(rt; encode_value(alloc, "never", &map, &nodes)?.is_none());
     }
     let Decoded::Nodes(nodes) = decode(alloc, "signed", &map, &[255, 255, 7])? else {
         return Err(Fail::from("no nodes"));
