@@ -19,6 +19,3 @@ pub use output::Layout;
 pub use reading::from_json;
 pub use rows::{Row, rows_of};
 pub use writing::to_json;
-
-#[cfg(test)]
-mod tests;

@@ -22,6 +22,3 @@ pub use faults::{Fault, Path, PathStep, Reason};
 pub use members::{Decoded, Membership, decode, is_member, is_member_counted};
 pub use nodes::{Node, encode, variant_of};
 pub use unambiguous::find_ambiguous;
-
-#[cfg(test)]
-mod tests;

@@ -36,5 +36,3 @@ mod records_settings;
 mod records_user_id;
 pub mod shapes;
 mod shapes_shape;
-#[cfg(test)]
-mod tests;

@@ -1,16 +1,18 @@
 // The encodings of the types, worked out by the rules of the format, and what is refused.
-use super::generics::{Grid, Ledger, Listed, Pair, Table};
-use super::messages::{Envelope, Level, Message, Request, Version};
-use super::originals::{
-    A, B, Boxed, C, Generic, Markers, MixedWithUnitVariants, MyEnum, Parametrized, XY,
-};
-use super::records::{Account, Block, Cached, Directory, Marker, Name, Point, Settings, UserId};
-use super::shapes::Shape;
 use borsh::io::{ErrorKind, Result as IoResult};
 use borsh::{
     BorshDeserialize, BorshSchema, BorshSerialize, from_slice, max_serialized_size,
     schema_container_of, to_vec,
 };
+use example_types::generics::{Grid, Ledger, Listed, Pair, Table};
+use example_types::messages::{Envelope, Level, Message, Request, Version};
+use example_types::originals::{
+    A, B, Boxed, C, Generic, Markers, MixedWithUnitVariants, MyEnum, Parametrized, XY,
+};
+use example_types::records::{
+    Account, Block, Cached, Directory, Marker, Name, Point, Settings, UserId,
+};
+use example_types::shapes::Shape;
 use std::alloc::{AllocError, Global};
 use std::collections::{BTreeMap, BTreeSet, HashMap};
 use std::marker::PhantomData;

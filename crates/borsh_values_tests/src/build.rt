@@ -87,3 +87,13 @@ pub(crate) fn simple(alloc: Global) -> Result<Definitions, Fail> {
     put(alloc, &mut definitions, "()", Definition::Primitive(0))?;
     Ok(definitions)
 }
+
+pub(crate) fn with_fields(alloc: Global, listed: &[(&str, &str)]) -> Result<Definition, Fail> {
+    let mut fields = Vec::new(alloc);
+    for (field, name) in listed {
+        fields.push((text(alloc, field)?, text(alloc, name)?))?;
+    }
+    Ok(Definition::Struct {
+        fields: Fields::NamedFields(fields),
+    })
+}

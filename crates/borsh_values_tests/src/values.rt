@@ -1,76 +1,10 @@
 // Worked examples: each kind of definition, and definitions that no type has.
-use super::*;
-use borsh_walks::{Definition, Fields, LengthRange};
+use super::build::{Definitions, choice, put, sequence, text, tuple, with_fields};
+use borsh_values::*;
+use borsh_walks::{Definition, Fields};
 use std::alloc::Global;
 use std::collections::BTreeMap;
 use std::test::Fail;
-
-type Definitions = BTreeMap<String, Definition>;
-
-fn text(alloc: Global, name: &str) -> Result<String, Fail> {
-    Ok(String::from_str(alloc, name)?)
-}
-
-fn tuple(alloc: Global, names: &[&str]) -> Result<Definition, Fail> {
-    let mut elements = Vec::new(alloc);
-    for name in names {
-        elements.push(text(alloc, name)?)?;
-    }
-    Ok(Definition::Tuple { elements })
-}
-
-fn named(alloc: Global, listed: &[(&str, &str)]) -> Result<Definition, Fail> {
-    let mut fields = Vec::new(alloc);
-    for (field, name) in listed {
-        let field = text(alloc, field)?;
-        let name = text(alloc, name)?;
-        fields.push((field, name))?;
-    }
-    Ok(Definition::Struct {
-        fields: Fields::NamedFields(fields),
-    })
-}
-
-fn sequence(
-    alloc: Global,
-    length_width: u8,
-    range: (u64, u64),
-    element: &str,
-) -> Result<Definition, Fail> {
-    let elements = text(alloc, element)?;
-    Ok(Definition::Sequence {
-        length_width,
-        length_range: LengthRange {
-            start: range.0,
-            end: range.1,
-        },
-        elements,
-    })
-}
-
-fn choice(alloc: Global, tag_width: u8, listed: &[(i64, &str)]) -> Result<Definition, Fail> {
-    let mut variants = Vec::new(alloc);
-    for (discriminant, variant) in listed {
-        let name = text(alloc, "variant")?;
-        let declaration = text(alloc, variant)?;
-        variants.push((*discriminant, name, declaration))?;
-    }
-    Ok(Definition::Enum {
-        tag_width,
-        variants,
-    })
-}
-
-fn put(
-    alloc: Global,
-    map: &mut Definitions,
-    name: &str,
-    definition: Definition,
-) -> Result<(), Fail> {
-    let name = text(alloc, name)?;
-    map.insert(name, definition)?;
-    Ok(())
-}
 
 // The definitions of the examples.
 fn definitions(alloc: Global) -> Result<Definitions, Fail> {
@@ -98,7 +32,7 @@ fn definitions(alloc: Global) -> Result<Definitions, Fail> {
         alloc,
         m,
         "Pair",
-        named(alloc, &[("small", "u8"), ("bytes", "Vec<u8>")])?,
+        with_fields(alloc, &[("small", "u8"), ("bytes", "Vec<u8>")])?,
     )?;
     put(
         alloc,

@@ -1,12 +1,11 @@
 //! Worked examples: each row of the rules of JSON, values that are refused, and round trips.
-use super::*;
-use borsh_walks::{Definition, Fields, LengthRange};
+use super::build::{Definitions, sequence, text, texts, tuple, with_fields};
+use borsh_json::*;
+use borsh_walks::{Definition, Fields};
 use std::alloc::Global;
 use std::collections::BTreeMap;
 use std::process::Abort;
 use std::test::Fail;
-
-type Definitions = BTreeMap<String, Definition>;
 
 const NUMBERS: [(&str, u8); 26] = [
     ("()", 0),
@@ -37,47 +36,6 @@ const NUMBERS: [(&str, u8); 26] = [
     ("most", 255),
 ];
 
-fn text(alloc: Global, name: &str) -> Result<String, Fail> {
-    Ok(String::from_str(alloc, name)?)
-}
-
-fn texts(alloc: Global, names: &[&str]) -> Result<Vec<String>, Fail> {
-    let mut all = Vec::new(alloc);
-    for name in names {
-        all.push(text(alloc, name)?)?;
-    }
-    Ok(all)
-}
-
-fn tuple(alloc: Global, names: &[&str]) -> Result<Definition, Fail> {
-    let elements = texts(alloc, names)?;
-    Ok(Definition::Tuple { elements })
-}
-
-fn named(alloc: Global, listed: &[(&str, &str)]) -> Result<Definition, Fail> {
-    let mut fields = Vec::new(alloc);
-    for (field, name) in listed {
-        fields.push((text(alloc, field)?, text(alloc, name)?))?;
-    }
-    Ok(Definition::Struct {
-        fields: Fields::NamedFields(fields),
-    })
-}
-
-fn list(
-    alloc: Global,
-    length_width: u8,
-    start: u64,
-    end: u64,
-    element: &str,
-) -> Result<Definition, Fail> {
-    Ok(Definition::Sequence {
-        length_width,
-        length_range: LengthRange { start, end },
-        elements: text(alloc, element)?,
-    })
-}
-
 fn choice(alloc: Global, tag_width: u8, listed: &[(i64, &str, &str)]) -> Result<Definition, Fail> {
     let mut variants = Vec::new(alloc);
     for (discriminant, variant, name) in listed {
@@ -102,23 +60,26 @@ fn definitions(alloc: Global) -> Result<Definitions, Fail> {
         fields: Fields::UnnamedFields(texts(alloc, &["u8", "bool"])?),
     };
     for (name, definition) in [
-        ("String", list(alloc, 4, 0, 4294967295, "u8")?),
-        ("Vec<u8>", list(alloc, 4, 0, 4294967295, "u8")?),
-        ("[u8; 3]", list(alloc, 0, 3, 3, "u8")?),
-        ("Vec<u16>", list(alloc, 4, 0, 4294967295, "u16")?),
-        ("Vec<bool>", list(alloc, 4, 0, 4294967295, "bool")?),
-        ("short", list(alloc, 1, 1, 2, "u16")?),
-        ("[u16; 2]", list(alloc, 0, 2, 2, "u16")?),
-        ("[u16; 0]", list(alloc, 0, 0, 0, "u16")?),
-        ("Vec<String>", list(alloc, 4, 0, 4294967295, "String")?),
-        ("map", list(alloc, 4, 0, 4294967295, "(String, u8)")?),
+        ("String", sequence(alloc, 4, (0, 4294967295), "u8")?),
+        ("Vec<u8>", sequence(alloc, 4, (0, 4294967295), "u8")?),
+        ("[u8; 3]", sequence(alloc, 0, (3, 3), "u8")?),
+        ("Vec<u16>", sequence(alloc, 4, (0, 4294967295), "u16")?),
+        ("Vec<bool>", sequence(alloc, 4, (0, 4294967295), "bool")?),
+        ("short", sequence(alloc, 1, (1, 2), "u16")?),
+        ("[u16; 2]", sequence(alloc, 0, (2, 2), "u16")?),
+        ("[u16; 0]", sequence(alloc, 0, (0, 0), "u16")?),
+        (
+            "Vec<String>",
+            sequence(alloc, 4, (0, 4294967295), "String")?,
+        ),
+        ("map", sequence(alloc, 4, (0, 4294967295), "(String, u8)")?),
         ("(String, u8)", tuple(alloc, &["String", "u8"])?),
-        ("A", named(alloc, &[("x", "u64"), ("y", "String")])?),
+        ("A", with_fields(alloc, &[("x", "u64"), ("y", "String")])?),
         (
             "Row",
-            named(alloc, &[("b", "()"), ("a", "Vec<A>"), ("", "Unit")])?,
+            with_fields(alloc, &[("b", "()"), ("a", "Vec<A>"), ("", "Unit")])?,
         ),
-        ("Vec<A>", list(alloc, 4, 0, 4294967295, "A")?),
+        ("Vec<A>", sequence(alloc, 4, (0, 4294967295), "A")?),
         ("Unit", unit),
         ("Pair", pair),
         (
@@ -144,8 +105,8 @@ fn definitions(alloc: Global) -> Result<Definitions, Fail> {
         ("Only", choice(alloc, 0, &[(7, "Only", "u8")])?),
         ("Never", choice(alloc, 1, &[])?),
         ("None", choice(alloc, 0, &[])?),
-        ("units", list(alloc, 4, 0, 4294967295, "Unit")?),
-        ("twice", named(alloc, &[("x", "u8"), ("x", "u8")])?),
+        ("units", sequence(alloc, 4, (0, 4294967295), "Unit")?),
+        ("twice", with_fields(alloc, &[("x", "u8"), ("x", "u8")])?),
         (
             "alike",
             choice(alloc, 1, &[(0, "V", "()"), (1, "V", "u8")])?,
