@@ -16,5 +16,5 @@ pub mod DistinctLaws
 pub mod Reach
 pub mod NodesLaws
 pub mod Listing
-pub mod Spelled
+pub mod SameNodes
 pub mod ValueLaws

@@ -3,22 +3,22 @@ use Rattle.std.proofs.Common.{◌≡◌, ℕ, List, [], ◌∷◌, ◌++◌, ref
 use Rattle.std.specs.Prelude.{Option, Bool, true, false}
 use Rattle.borsh_walks.specs.Container.{Shape, Member, Members, no_members, more_members}
 use Rattle.borsh_values.specs.Nodes.{NodeView, views, Nodes, nodes_none, nodes_zero, nodes_more, joined_bytes}
-use Rattle.borsh_values.specs.Encoded.{spelled, IsValueOf, HaveNodes}
+use Rattle.borsh_values.specs.Encoded.{names_and_bytes, IsValueOf, HaveNodes}
 use Rattle.borsh_values.specs.Unambiguous.{IsUnambiguous}
 use Rattle.borsh_values.specs.declared.nodes.Node.{Node}
 use Rattle.borsh_values.proofs.NodesLaws.{nodes_bytes, opens_member}
 use Rattle.borsh_values.proofs.TakesLaws.{parted}
 use Rattle.borsh_values.proofs.Required.{unwhole}
 
-joined_spelled : (es fs : List NodeView) → spelled es ≡ spelled fs → joined_bytes es ≡ joined_bytes fs
-joined_spelled [] [] h = refl
-joined_spelled [] (f ∷ fs) h = cc
-joined_spelled (e ∷ es) [] h = cc
-joined_spelled (e ∷ es) (f ∷ fs) h =
+joined_same : (es fs : List NodeView) → names_and_bytes es ≡ names_and_bytes fs → joined_bytes es ≡ joined_bytes fs
+joined_same [] [] h = refl
+joined_same [] (f ∷ fs) h = cc
+joined_same (e ∷ es) [] h = cc
+joined_same (e ∷ es) (f ∷ fs) h =
     let p : ◌≡◌ {A = List ℕ × List ℕ} (e.0, e.2) (f.0, f.2) = cc in
     let a : e.2 ≡ f.2 = ap (λ q. q.1) p in
-    let b : spelled es ≡ spelled fs = cc in
-    ap (λ l. l ++ joined_bytes es) a ∙ ap (λ l. f.2 ++ l) (joined_spelled es fs b)
+    let b : names_and_bytes es ≡ names_and_bytes fs = cc in
+    ap (λ l. l ++ joined_bytes es) a ∙ ap (λ l. f.2 ++ l) (joined_same es fs b)
 
 module _ (C : List ℕ → Option Shape) where
   nodes_members : {ps : List (List ℕ)} {bs : List ℕ} {es : List NodeView} → Nodes C ps bs es → Members C ps bs
@@ -34,13 +34,13 @@ module _ (C : List ℕ → Option Shape) where
   -- bytes with these nodes are those of the nodes
   pub same_value : {root : List ℕ} (ns : List NodeView) (bytes bs : List ℕ) → bytes ≡ joined_bytes ns → IsValueOf C root ns bs → IsValueOf C root ns bytes
   same_value {root} ns bytes bs e h =
-      let n : bs ≡ bytes = nodes_bytes C h.1 ∙ joined_spelled h.0 ns h.2 ∙ sym e in
+      let n : bs ≡ bytes = nodes_bytes C h.1 ∙ joined_same h.0 ns h.2 ∙ sym e in
       (h.0, subst (λ b. Nodes C (root ∷ []) b h.0) n h.1, h.2)
 
   no_true : false ≡ true → ⊥
   no_true e = cc
 
   -- the nodes of the bytes were compared with ns
-  pub compared : {root : List ℕ} (ns : List NodeView) (bytes : List ℕ) (read : List Node) (b : Bool) → bytes ≡ joined_bytes ns → Nodes C (root ∷ []) bytes (views read) → Member C root bytes → (IsUnambiguous C root → (es : List NodeView) → Nodes C (root ∷ []) bytes es → es ≡ views read) → (b ≡ true → spelled (views read) ≡ spelled ns) × (spelled (views read) ≡ spelled ns → b ≡ true) → HaveNodes C root ns bytes b
+  pub compared : {root : List ℕ} (ns : List NodeView) (bytes : List ℕ) (read : List Node) (b : Bool) → bytes ≡ joined_bytes ns → Nodes C (root ∷ []) bytes (views read) → Member C root bytes → (IsUnambiguous C root → (es : List NodeView) → Nodes C (root ∷ []) bytes es → es ≡ views read) → (b ≡ true → names_and_bytes (views read) ≡ names_and_bytes ns) × (names_and_bytes (views read) ≡ names_and_bytes ns → b ≡ true) → HaveNodes C root ns bytes b
   compared ns bytes read true e n m d s = ((views read, n, s.0 refl), m)
-  compared ns bytes read false e n m d s = λ v u bs h. let t = same_value ns bytes bs e h in no_true (s.1 (sym (ap (λ l. spelled l) (d u t.0 t.1)) ∙ t.2))
+  compared ns bytes read false e n m d s = λ v u bs h. let t = same_value ns bytes bs e h in no_true (s.1 (sym (ap (λ l. names_and_bytes l) (d u t.0 t.1)) ∙ t.2))

@@ -8,18 +8,18 @@ use Rattle.borsh_values.specs.declared.nodes.Node.{Node}
 use Rattle.borsh_values.specs.Nodes.{NodeView, Nodes}
 
 -- the name and the own bytes of a node
-abbrev pub spelling : Node → List ℕ × List ℕ
-spelling n = (n.name.now, n.bytes.now)
+abbrev pub name_and_bytes : Node → List ℕ × List ℕ
+name_and_bytes n = (n.name.now, n.bytes.now)
 
 -- those of all nodes
-abbrev pub spelled : List NodeView → List (List ℕ × List ℕ)
-spelled [] = []
-spelled (e ∷ es) = (e.0, e.2) ∷ spelled es
+abbrev pub names_and_bytes : List NodeView → List (List ℕ × List ℕ)
+names_and_bytes [] = []
+names_and_bytes (e ∷ es) = (e.0, e.2) ∷ names_and_bytes es
 
 module _ (C : List ℕ → Option Shape) (root : List ℕ) where
   -- bytes are a value of the root whose nodes have the names and own bytes of ns
   abbrev pub IsValueOf : List NodeView → List ℕ → Type 0
-  IsValueOf ns bytes = (es : List NodeView) × Nodes C (root ∷ []) bytes es × (spelled es ≡ spelled ns)
+  IsValueOf ns bytes = (es : List NodeView) × Nodes C (root ∷ []) bytes es × (names_and_bytes es ≡ names_and_bytes ns)
 
   -- the bytes have the nodes; or no bytes have, if the container is valid and unambiguous
   abbrev pub HaveNodes : List NodeView → List ℕ → Bool → Type 0

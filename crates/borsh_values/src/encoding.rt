@@ -1,5 +1,5 @@
 // The bytes of a value, by its nodes.
-ghost use Rattle.borsh_values.specs.Encoded.{EncodesNodes, HaveNodes, spelled, spelling};
+ghost use Rattle.borsh_values.specs.Encoded.{EncodesNodes, HaveNodes, names_and_bytes, name_and_bytes};
 ghost use Rattle.borsh_values.specs.Nodes.{joined_bytes, views};
 ghost use Rattle.borsh_walks.specs.Definitions.{definitions_in};
 ghost use Rattle.std.specs.Prelude.{Decides, IfOk, ◌≡◌, slice_get};
@@ -18,14 +18,14 @@ fn node_at<'a>(nodes: &[Node<'a>], index: usize) -> Option<Node<'a>>
 
 // Whether two nodes have the same name and own bytes.
 fn is_same(a: &Node<'_>, b: &Node<'_>) -> bool
-    ensures { Decides result (spelling a.now ≡ spelling b.now) }
+    ensures { Decides result (name_and_bytes a.now ≡ name_and_bytes b.now) }
 {
     a.name == b.name && a.bytes == b.bytes
 }
 
 // Whether all nodes of two lists have the same names and own bytes.
 fn are_same(a: &[Node<'_>], b: &[Node<'_>]) -> bool
-    ensures { Decides result (spelled (views a.now) ≡ spelled (views b.now)) }
+    ensures { Decides result (names_and_bytes (views a.now) ≡ names_and_bytes (views b.now)) }
 {
     let _nodes = a.len();
     let mut index: usize = 0;

@@ -1,5 +1,5 @@
 use Rattle.std.proofs.Common.{refl, sym, arith}
-use Rattle.borsh_values.proofs.Spelled.{drop_more, drop_none, within_list, same_parts, same_join, same_ends, not_ends}
+use Rattle.borsh_values.proofs.SameNodes.{drop_more, drop_none, within_list, same_parts, same_join, same_ends, not_ends}
 use Rattle.borsh_values.proofs.encoding.are_same.Goals as goal
 
 pub returns-in_default-node_at : goal.returns-in_default-node_at

@@ -1,5 +1,5 @@
 use Rattle.std.proofs.Common.{◌-◌, length, drop}
-use Rattle.borsh_values.proofs.Spelled.{Same}
+use Rattle.borsh_values.proofs.SameNodes.{Same}
 use Rattle.borsh_values.proofs.encoding.are_same.Given as goal
 
 abbrev pub invariant-loop-node : goal.invariant-loop-node

@@ -3,7 +3,7 @@ use Rattle.std.proofs.Common.{◌≡◌, ℕ, suc, zero, ◌+◌, ◌<◌, List,
 use Rattle.std.specs.Prelude.{slice_get}
 use Rattle.borsh_values.specs.declared.nodes.Node.{Node}
 use Rattle.borsh_values.specs.Nodes.{views}
-use Rattle.borsh_values.specs.Encoded.{spelling, spelled}
+use Rattle.borsh_values.specs.Encoded.{name_and_bytes, names_and_bytes}
 
 drop_suc : {A : Type 0} {p : A} (xs : List A) (i : ℕ) → slice_get xs i ≡ Some p → drop i xs ≡ p ∷ drop (suc i) xs
 drop_suc [] i e = cc
@@ -26,18 +26,18 @@ within_list (x ∷ xs) (suc i) e = let h = within_list xs i e in omega (arith, h
 
 -- the same names and own bytes
 abbrev pub Same : List Node → List Node → Type 0
-Same xs ys = spelled (views xs) ≡ spelled (views ys)
+Same xs ys = names_and_bytes (views xs) ≡ names_and_bytes (views ys)
 
-pub same_parts : {us vs xs ys : List Node} (x y : Node) → us ≡ x ∷ xs → vs ≡ y ∷ ys → Same us vs → (spelling x ≡ spelling y) × Same xs ys
+pub same_parts : {us vs xs ys : List Node} (x y : Node) → us ≡ x ∷ xs → vs ≡ y ∷ ys → Same us vs → (name_and_bytes x ≡ name_and_bytes y) × Same xs ys
 same_parts {us} {vs} {xs} {ys} x y a b h =
-    let s : (spelling x) ∷ spelled (views xs) ≡ (spelling y) ∷ spelled (views ys) = sym (ap (λ l. spelled (views l)) a) ∙ h ∙ ap (λ l. spelled (views l)) b in
+    let s : (name_and_bytes x) ∷ names_and_bytes (views xs) ≡ (name_and_bytes y) ∷ names_and_bytes (views ys) = sym (ap (λ l. names_and_bytes (views l)) a) ∙ h ∙ ap (λ l. names_and_bytes (views l)) b in
     (cc, cc)
 
-pub same_join : {us vs xs ys : List Node} (x y : Node) → us ≡ x ∷ xs → vs ≡ y ∷ ys → spelling x ≡ spelling y → Same xs ys → Same us vs
-same_join {us} {vs} {xs} {ys} x y a b h k = ap (λ l. spelled (views l)) a ∙ ap (λ s. s ∷ spelled (views xs)) h ∙ ap (λ l. (spelling y) ∷ l) k ∙ sym (ap (λ l. spelled (views l)) b)
+pub same_join : {us vs xs ys : List Node} (x y : Node) → us ≡ x ∷ xs → vs ≡ y ∷ ys → name_and_bytes x ≡ name_and_bytes y → Same xs ys → Same us vs
+same_join {us} {vs} {xs} {ys} x y a b h k = ap (λ l. names_and_bytes (views l)) a ∙ ap (λ s. s ∷ names_and_bytes (views xs)) h ∙ ap (λ l. (name_and_bytes y) ∷ l) k ∙ sym (ap (λ l. names_and_bytes (views l)) b)
 
 pub same_ends : {us vs : List Node} → us ≡ [] → vs ≡ [] → Same us vs
-same_ends a b = ap (λ l. spelled (views l)) a ∙ sym (ap (λ l. spelled (views l)) b)
+same_ends a b = ap (λ l. names_and_bytes (views l)) a ∙ sym (ap (λ l. names_and_bytes (views l)) b)
 
 pub not_ends : {us vs ys : List Node} (y : Node) → us ≡ [] → vs ≡ y ∷ ys → Same us vs → ⊥
-not_ends {us} {vs} {ys} y a b h = let s : [] ≡ (spelling y) ∷ spelled (views ys) = sym (ap (λ l. spelled (views l)) a) ∙ h ∙ ap (λ l. spelled (views l)) b in cc
+not_ends {us} {vs} {ys} y a b h = let s : [] ≡ (name_and_bytes y) ∷ names_and_bytes (views ys) = sym (ap (λ l. names_and_bytes (views l)) a) ∙ h ∙ ap (λ l. names_and_bytes (views l)) b in cc
