@@ -14,8 +14,14 @@ pub struct Stock {
 #[derive(Drop)]
 pub enum Request {
     List,
-    Buy { name: String, pieces: u32 },
-    Cancel { number: u64 },
+    Buy {
+        name: String,
+        pieces: u32,
+        price: u32,
+    },
+    Cancel {
+        number: u64,
+    },
 }
 
 /// Two values.

@@ -14,20 +14,20 @@ use borsh::io::{Read, Result, Write};
 use borsh::schema::{
     Declaration, Definition, FieldTypes, SchemaBuildError, VariantTypes, add_enum, declared,
 };
-use borsh::ser::{Tag, write_bytes, write_three, write_two};
+use borsh::ser::{Tag, write_bytes, write_four, write_two};
 use borsh::{BorshDeserialize, BorshSchema, BorshSerialize, BorshType, EnumExt};
 use std::alloc::Global;
 use std::collections::BTreeMap;
 
 /// The variants of [`Request`]: each has a tag and its fields, in order.
-type Variants = Fork<Fork<Case<0, ()>, Case<1, (String, u32)>>, Case<2, u64>>;
+type Variants = Fork<Fork<Case<0, ()>, Case<1, (String, u32, u32)>>, Case<2, u64>>;
 
 impl FromCases for Request {
     type Cases = Variants;
 
     ghost view = { elim [
       | Request.List ↦ left (left (fields tt))
-      | Request.Buy name pieces ↦ left (right (fields (name, pieces)))
+      | Request.Buy name pieces price ↦ left (right (fields (name, pieces, price)))
       | Request.Cancel number ↦ right (fields number)
     ] };
 
@@ -35,8 +35,12 @@ impl FromCases for Request {
         match cases {
             Fork::Left(Fork::Left(Case(()))) => Request::List,
             Fork::Left(Fork::Right(Case(fields))) => {
-                let (name, pieces) = fields;
-                Request::Buy { name, pieces }
+                let (name, pieces, price) = fields;
+                Request::Buy {
+                    name,
+                    pieces,
+                    price,
+                }
             }
             Fork::Right(Case(number)) => Request::Cancel { number },
         }
@@ -68,7 +72,11 @@ impl BorshSerialize for Request {
     fn serialize<W: Write>(&self, alloc: Global, writer: &mut W) -> Result<()> {
         match self {
             Request::List => write_bytes(&[0], writer),
-            Request::Buy { name, pieces } => write_three(&Tag(1), name, pieces, alloc, writer),
+            Request::Buy {
+                name,
+                pieces,
+                price,
+            } => write_four(&Tag(1), name, pieces, price, alloc, writer),
             Request::Cancel { number } => write_two(&Tag(2), number, alloc, writer),
         }
     }
@@ -87,7 +95,7 @@ impl EnumExt for Request {
 }
 
 /// The variants of [`Request`] as its schema goes through them.
-type VariantList = Fork<Fork<Case<0, ()>, Case<1, (String, (u32, ()))>>, Case<2, (u64, ())>>;
+type VariantList = Fork<Fork<Case<0, ()>, Case<1, (String, (u32, (u32, ())))>>, Case<2, (u64, ())>>;
 
 impl BorshSchema for Request {
     ghost name = { codes "Request" };
@@ -95,7 +103,7 @@ impl BorshSchema for Request {
     ghost parts = { enum_definitions
         (codes "Request")
         ((codes "List", [])
-        ∷ (codes "Buy", codes "name" ∷ codes "pieces" ∷ [])
+        ∷ (codes "Buy", codes "name" ∷ codes "pieces" ∷ codes "price" ∷ [])
         ∷ (codes "Cancel", codes "number" ∷ [])
         ∷ [])
         ⟦<VariantList as VariantTypes>⟧.read };
@@ -105,8 +113,8 @@ impl BorshSchema for Request {
         (fork_described
         (fork_described
         (case_described (λ _. tt) no_fields_described refl refl)
-        (case_described (λ v. (v.0, (v.1, tt)))
-        ⟦<(String, (u32, ())) as FieldTypes>⟧.described refl refl))
+        (case_described (λ v. (v.0, (v.1, (v.2, tt))))
+        ⟦<(String, (u32, (u32, ()))) as FieldTypes>⟧.described refl refl))
         (case_described (λ v. (v, tt)) ⟦<(u64, ()) as FieldTypes>⟧.described refl refl)) };
 
     fn declaration(alloc: Global) -> std::result::Result<Declaration, SchemaBuildError> {
@@ -122,7 +130,7 @@ impl BorshSchema for Request {
             "Request",
             &[
                 ("List", &[]),
-                ("Buy", &["name", "pieces"]),
+                ("Buy", &["name", "pieces", "price"]),
                 ("Cancel", &["number"]),
             ],
             definitions,
