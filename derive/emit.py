@@ -2,9 +2,9 @@
 
 import re
 
-from layout import (GHOST_WORDS, Group, Term, arm, binding, call, function_head, ghost_cases, ghost_member, ghost_name,
-                    ghost_term, ghost_tuple, impl_head, import_lines, laid_out, pattern, statement, struct_of, tuple_of,
-                    tuple_type, type_layout, type_text)
+from layout import (GHOST_WORDS, Group, Term, arm, binding, call, flat, function_head, ghost_cases, ghost_member,
+                    ghost_name, ghost_term, ghost_tuple, impl_head, import_lines, laid_out, pattern, statement, struct_of,
+                    tuple_of, tuple_type, type_layout, type_text)
 from rust_types import Array
 
 NUMBERS = ('zero', 'one', 'two', 'three', 'four', 'five', 'six', 'seven', 'eight', 'nine', 'ten', 'eleven',
@@ -392,10 +392,15 @@ def struct_parts(writer):
     fields = writer.marked.fields
     names = local_names(fields.encoded(), ())
     parameter = {0: '_fields', 1: names[0] if names else ''}.get(len(names), 'fields')
+    if 1 < len(names) <= TUPLE:
+        parameter = flat(tuple_of(names))
     view = ghost_term(struct_view(writer).within('ghost view = { ', ' };'), 4)
     head = function_head('from_parts', ['%s: %s' % (parameter, writer.alias_use())], writer.own(), 4)
+    if '\n' in head:
+        parameter = 'fields'
+        head = function_head('from_parts', ['%s: %s' % (parameter, writer.alias_use())], writer.own(), 4)
     rows = ['    type Parts = %s;' % writer.alias_use(), '', view, '', head]
-    if len(names) > 1:
+    if parameter == 'fields':
         rows += taking_apart('fields', names, 8)
     rows += [statement('', made(writer.marked.name, fields, names), '', 8), '    }']
     return writer.block('FromParts', 'BorshDeserialize', rows)

@@ -6,8 +6,10 @@ from rust_types import Array, Constant, Tuple
 
 WIDTH = 100
 
-# the widest arguments of a call, places of a tuple's type, and fields of a struct, that stay in one line
+# the widest arguments of a call, elements of an array, places of a tuple's type, and fields of a struct, that stay in one
+# line
 CALL_WIDTH = 60
+ARRAY_WIDTH = 60
 TUPLE_WIDTH = 60
 STRUCT_WIDTH = 18
 
@@ -42,6 +44,10 @@ def tuple_type(items):
 
 def pattern(name, items):
     return Group(name, '(', items, ')')
+
+
+def array(items):
+    return Group('', '[', items, ']', ARRAY_WIDTH, fills=True)
 
 
 def struct_of(name, fields):
@@ -221,14 +227,16 @@ def ghost_term(node, indent):
 
 
 def ghost_member(name, function, arguments, indent):
-    """`ghost name = { function arguments };`, with each argument in a line of its own where it is too wide."""
-    flat_arguments = ' '.join(argument.flat() for argument in arguments)
-    line = '%sghost %s = { %s %s };' % (' ' * indent, name, function, flat_arguments)
-    if len(line) <= WIDTH:
-        return line
-    rows = ['%sghost %s = { %s' % (' ' * indent, name, function)]
-    rows += [ghost_term(argument, indent + 4) for argument in arguments]
-    return '\n'.join(rows) + ' };'
+    """`ghost name = { function arguments };`, over as many lines as the arguments need."""
+    lines = ['%sghost %s = { %s' % (' ' * indent, name, function)]
+    for index, argument in enumerate(arguments):
+        text = argument.flat() + (' };' if index + 1 == len(arguments) else '')
+        if len(lines[-1]) + 1 + len(text) <= WIDTH:
+            lines[-1] += ' ' + text
+        else:
+            end = text[len(argument.flat()):]
+            lines += (ghost_term(argument, indent + 4) + end).split('\n')
+    return '\n'.join(lines)
 
 
 def ghost_cases(name, arms, indent):

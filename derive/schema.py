@@ -2,7 +2,7 @@
 
 from describe import describes_fields
 from emit import TUPLE, generic_group, quote, tree
-from layout import (Group, Term, call, flat, function_head, ghost_list, ghost_member, ghost_name, statement, tuple_type,
+from layout import (Group, Term, array, call, flat, function_head, ghost_list, ghost_member, ghost_name, statement, tuple_type,
                     type_layout)
 
 
@@ -27,7 +27,7 @@ def schema(writer, data, adding, describes):
     rows = ['    ghost name = { %s };' % ghost_own_name(writer), ''] + data + ['']
     rows += [head(writer, 'declaration', [], writer.lib('Declaration')), '        ' + own, '    }', '',
              head(writer, 'add_definitions_recursively', [definitions_of(writer)], '()'),
-             statement('', adding, '', 8), '    }', '', describes]
+             adding, '    }', '', describes]
     return writer.block('BorshSchema', 'BorshSchema', rows)
 
 
@@ -114,20 +114,25 @@ def struct_parts(writer, kind, described):
 
 
 def struct_call(writer, kind):
-    """The call that adds these definitions."""
+    """The statements that add these definitions; names that don't fit into the call's line are bound before it."""
     parameters = named_parameters(writer)
     name = '"%s"' % writer.marked.name
     if kind == 'unit':
-        return call(writer.lib('add_unit'), ['alloc', name, 'definitions'])
-    arguments = ['alloc', name, 'definitions']
-    if kind == 'named':
-        arguments.insert(2, '&[%s]' % ', '.join('"%s"' % field.name for field in writer.marked.fields.encoded()))
+        return statement('', call(writer.lib('add_unit'), ['alloc', name, 'definitions']), '', 8)
     function = 'add_named' if kind == 'named' else 'add_unnamed'
     types = [writer.list_use()]
     if parameters:
         function += '_with'
         types = [parameters[0], chain(parameters[1:], '()')] + types
-    return call('%s::<%s>' % (writer.lib(function), ', '.join(types)), arguments)
+    function = '%s::<%s>' % (writer.lib(function), ', '.join(types))
+    if kind == 'tuple':
+        return statement('', call(function, ['alloc', name, 'definitions']), '', 8)
+    names = array(['"%s"' % field.name for field in writer.marked.fields.encoded()])
+    whole = statement('', call(function, ['alloc', name, '&' + flat(names), 'definitions']), '', 8)
+    if '\n' not in whole:
+        return whole
+    return '\n'.join([statement('let names = ', names, ';', 8),
+                      statement('', call(function, ['alloc', name, '&names', 'definitions']), '', 8)])
 
 
 # ---- enums
@@ -197,4 +202,4 @@ def enum_call(writer):
         rows.append('("%s", &[%s])' % (variant.name, fields))
     names = Group('', '&[', rows, ']', 60)
     arguments = ['alloc', '"%s"' % writer.marked.name, names, 'definitions']
-    return call('%s::<%s>' % (writer.lib('add_enum'), writer.list_use()), arguments)
+    return statement('', call('%s::<%s>' % (writer.lib('add_enum'), writer.list_use()), arguments), '', 8)

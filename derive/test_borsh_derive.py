@@ -75,7 +75,7 @@ class Taken(Cases):
         self.assertIn('type Fields = (u32, u32);', text)
         self.assertIn('ghost view = { λ v. (v.x, v.y) };', text)
         self.assertIn('write_two(&self.x, &self.y, alloc, writer)', text)
-        self.assertIn('        let (x, y) = fields;\n        Point { x, y }\n', text)
+        self.assertIn('    fn from_parts((x, y): Fields) -> Point {\n        Point { x, y }\n', text)
 
     def test_tuple_struct_of_one_field(self):
         text = self.written('// derive: borsh\npub struct Id(pub u64);\n', 'types_id')

@@ -52,9 +52,7 @@ impl FromCases for Request {
 impl BorshType for Request {
     ghost codec = { contramap ⟦<Request as FromCases>⟧.view ⟦<Variants as Cases>⟧.codec };
 
-    ghost lawful_if = { enum_lawful_if
-        ⟦<Request as FromCases>⟧.view
-        ⟦<Variants as Cases>⟧.variants
+    ghost lawful_if = { enum_lawful_if ⟦<Request as FromCases>⟧.view ⟦<Variants as Cases>⟧.variants
         refl };
 
     ghost premises = { Prim.search key_facts };

@@ -18,8 +18,7 @@ type Fields = (BTreeMap<String, u32>, Option<String>);
 impl BorshType for Stock {
     ghost codec = { contramap ⟦<Stock as FromParts>⟧.view ⟦<Fields as BorshType>⟧.codec };
 
-    ghost lawful_if = { from
-        (contramap-lawful ⟦<Stock as FromParts>⟧.view)
+    ghost lawful_if = { from (contramap-lawful ⟦<Stock as FromParts>⟧.view)
         ⟦<Fields as BorshType>⟧.lawful_if };
 
     ghost premises = { Prim.search key_facts };
@@ -44,8 +43,7 @@ impl FromParts for Stock {
 
     ghost view = { λ v. (v.pieces, v.note) };
 
-    fn from_parts(fields: Fields) -> Stock {
-        let (pieces, note) = fields;
+    fn from_parts((pieces, note): Fields) -> Stock {
         Stock { pieces, note }
     }
 }
@@ -62,15 +60,11 @@ type FieldList = (BTreeMap<String, u32>, (Option<String>, ()));
 impl BorshSchema for Stock {
     ghost name = { codes "Stock" };
 
-    ghost parts = { struct_parts
-        (codes "Stock")
-        (codes "pieces" ∷ codes "note" ∷ [])
+    ghost parts = { struct_parts (codes "Stock") (codes "pieces" ∷ codes "note" ∷ [])
         ⟦<FieldList as FieldTypes>⟧.described };
 
-    ghost described = { struct_described
-        (λ v. (v.pieces, (v.note, tt)))
-        ⟦<FieldList as FieldTypes>⟧.described
-        refl };
+    ghost described = { struct_described (λ v. (v.pieces, (v.note, tt)))
+        ⟦<FieldList as FieldTypes>⟧.described refl };
 
     fn declaration(alloc: Global) -> std::result::Result<Declaration, SchemaBuildError> {
         declared(alloc, "Stock")

@@ -14,8 +14,7 @@ type Fields<const N: usize> = ([u8; N], bool);
 impl<const N: usize> BorshType for Grid<N> {
     ghost codec = { contramap (λ v. (v.cells, v.turned)) ⟦<Fields<N> as BorshType>⟧.codec };
 
-    ghost lawful_if = { from
-        (contramap-lawful (λ v. (v.cells, v.turned)))
+    ghost lawful_if = { from (contramap-lawful (λ v. (v.cells, v.turned)))
         ⟦<Fields<N> as BorshType>⟧.lawful_if };
 
     ghost premises = { Prim.search key_facts };
@@ -40,8 +39,7 @@ impl<const N: usize> FromParts for Grid<N> {
 
     ghost view = { λ v. (v.cells, v.turned) };
 
-    fn from_parts(fields: Fields<N>) -> Grid<N> {
-        let (cells, turned) = fields;
+    fn from_parts((cells, turned): Fields<N>) -> Grid<N> {
         Grid { cells, turned }
     }
 }

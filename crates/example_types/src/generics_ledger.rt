@@ -15,8 +15,7 @@ type Fields<K, V> = (BTreeMap<K, V>, bool);
 impl<K: BorshKey + Ord + BorshType, V: BorshType> BorshType for Ledger<K, V> {
     ghost codec = { contramap (λ v. (v.entries, v.closed)) ⟦<Fields<K, V> as BorshType>⟧.codec };
 
-    ghost lawful_if = { from
-        (contramap-lawful (λ v. (v.entries, v.closed)))
+    ghost lawful_if = { from (contramap-lawful (λ v. (v.entries, v.closed)))
         ⟦<Fields<K, V> as BorshType>⟧.lawful_if };
 
     ghost premises = { let k_key : IsKey K.ordered K.cmp K.eq K.codec =
@@ -43,8 +42,7 @@ impl<K: BorshKey + Ord + BorshDeserialize, V: BorshDeserialize> FromParts for Le
 
     ghost view = { λ v. (v.entries, v.closed) };
 
-    fn from_parts(fields: Fields<K, V>) -> Ledger<K, V> {
-        let (entries, closed) = fields;
+    fn from_parts((entries, closed): Fields<K, V>) -> Ledger<K, V> {
         Ledger { entries, closed }
     }
 }

@@ -38,10 +38,8 @@ impl<T: BorshType> FromCases for Listed<T> {
 impl<T: BorshType> BorshType for Listed<T> {
     ghost codec = { contramap ⟦<Listed<T> as FromCases>⟧.view ⟦<Variants<T> as Cases>⟧.codec };
 
-    ghost lawful_if = { enum_lawful_if
-        ⟦<Listed<T> as FromCases>⟧.view
-        ⟦<Variants<T> as Cases>⟧.variants
-        refl };
+    ghost lawful_if = { enum_lawful_if ⟦<Listed<T> as FromCases>⟧.view
+        ⟦<Variants<T> as Cases>⟧.variants refl };
 
     ghost premises = { Prim.search (key_facts, T.premises) };
 

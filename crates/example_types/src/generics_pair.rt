@@ -22,8 +22,7 @@ type Fields<A, B> = (A, B);
 impl<A: BorshType, B: BorshType> BorshType for Pair<A, B> {
     ghost codec = { contramap (λ v. (v.first, v.second)) ⟦<Fields<A, B> as BorshType>⟧.codec };
 
-    ghost lawful_if = { from
-        (contramap-lawful (λ v. (v.first, v.second)))
+    ghost lawful_if = { from (contramap-lawful (λ v. (v.first, v.second)))
         ⟦<Fields<A, B> as BorshType>⟧.lawful_if };
 
     ghost premises = { Prim.search (key_facts, A.premises, B.premises) };
@@ -48,8 +47,7 @@ impl<A: BorshDeserialize, B: BorshDeserialize> FromParts for Pair<A, B> {
 
     ghost view = { λ v. (v.first, v.second) };
 
-    fn from_parts(fields: Fields<A, B>) -> Pair<A, B> {
-        let (first, second) = fields;
+    fn from_parts((first, second): Fields<A, B>) -> Pair<A, B> {
         Pair { first, second }
     }
 }
@@ -66,15 +64,11 @@ type FieldList<A, B> = (A, (B, ()));
 impl<A: BorshSchema, B: BorshSchema> BorshSchema for Pair<A, B> {
     ghost name = { name_with (codes "Pair") A.name (B.name ∷ []) };
 
-    ghost parts = { struct_parts
-        (name_with (codes "Pair") A.name (B.name ∷ []))
-        (codes "first" ∷ codes "second" ∷ [])
-        ⟦<FieldList<A, B> as FieldTypes>⟧.described };
+    ghost parts = { struct_parts (name_with (codes "Pair") A.name (B.name ∷ []))
+        (codes "first" ∷ codes "second" ∷ []) ⟦<FieldList<A, B> as FieldTypes>⟧.described };
 
-    ghost described = { struct_described
-        (λ v. (v.first, (v.second, tt)))
-        ⟦<FieldList<A, B> as FieldTypes>⟧.described
-        refl };
+    ghost described = { struct_described (λ v. (v.first, (v.second, tt)))
+        ⟦<FieldList<A, B> as FieldTypes>⟧.described refl };
 
     fn declaration(alloc: Global) -> std::result::Result<Declaration, SchemaBuildError> {
         declared_with::<A, (B, ())>(alloc, "Pair")
@@ -84,12 +78,8 @@ impl<A: BorshSchema, B: BorshSchema> BorshSchema for Pair<A, B> {
         alloc: Global,
         definitions: &mut BTreeMap<Declaration, Definition>,
     ) -> std::result::Result<(), SchemaBuildError> {
-        add_named_with::<A, (B, ()), FieldList<A, B>>(
-            alloc,
-            "Pair",
-            &["first", "second"],
-            definitions,
-        )
+        let names = ["first", "second"];
+        add_named_with::<A, (B, ()), FieldList<A, B>>(alloc, "Pair", &names, definitions)
     }
 
     ghost describes = { λ C h. describes_contramap (λ v. (v.first, v.second))

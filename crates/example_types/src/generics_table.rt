@@ -27,8 +27,7 @@ where
 {
     ghost codec = { contramap (λ v. (v.rows, v.by_number)) ⟦<Fields<T> as BorshType>⟧.codec };
 
-    ghost lawful_if = { from
-        (contramap-lawful (λ v. (v.rows, v.by_number)))
+    ghost lawful_if = { from (contramap-lawful (λ v. (v.rows, v.by_number)))
         ⟦<Fields<T> as BorshType>⟧.lawful_if };
 
     ghost premises = { Prim.search (key_facts, T.premises) };
@@ -59,8 +58,7 @@ where
 
     ghost view = { λ v. (v.rows, v.by_number) };
 
-    fn from_parts(fields: Fields<T>) -> Table<T> {
-        let (rows, by_number) = fields;
+    fn from_parts((rows, by_number): Fields<T>) -> Table<T> {
         Table { rows, by_number }
     }
 }
@@ -83,15 +81,11 @@ where
 {
     ghost name = { name_with (codes "Table") T.name [] };
 
-    ghost parts = { struct_parts
-        (name_with (codes "Table") T.name [])
-        (codes "rows" ∷ codes "by_number" ∷ [])
-        ⟦<FieldList<T> as FieldTypes>⟧.described };
+    ghost parts = { struct_parts (name_with (codes "Table") T.name [])
+        (codes "rows" ∷ codes "by_number" ∷ []) ⟦<FieldList<T> as FieldTypes>⟧.described };
 
-    ghost described = { struct_described
-        (λ v. (v.rows, (v.by_number, tt)))
-        ⟦<FieldList<T> as FieldTypes>⟧.described
-        refl };
+    ghost described = { struct_described (λ v. (v.rows, (v.by_number, tt)))
+        ⟦<FieldList<T> as FieldTypes>⟧.described refl };
 
     fn declaration(alloc: Global) -> std::result::Result<Declaration, SchemaBuildError> {
         declared_with::<T, ()>(alloc, "Table")

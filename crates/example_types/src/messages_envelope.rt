@@ -15,8 +15,7 @@ type Fields = (Name, Message, Level);
 impl BorshType for Envelope {
     ghost codec = { contramap ⟦<Envelope as FromParts>⟧.view ⟦<Fields as BorshType>⟧.codec };
 
-    ghost lawful_if = { from
-        (contramap-lawful ⟦<Envelope as FromParts>⟧.view)
+    ghost lawful_if = { from (contramap-lawful ⟦<Envelope as FromParts>⟧.view)
         ⟦<Fields as BorshType>⟧.lawful_if };
 
     ghost premises = { Prim.search key_facts };
@@ -41,8 +40,7 @@ impl FromParts for Envelope {
 
     ghost view = { λ v. (v.from, v.message, v.level) };
 
-    fn from_parts(fields: Fields) -> Envelope {
-        let (from, message, level) = fields;
+    fn from_parts((from, message, level): Fields) -> Envelope {
         Envelope {
             from,
             message,

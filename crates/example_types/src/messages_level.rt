@@ -43,9 +43,7 @@ impl FromCases for Level {
 impl BorshType for Level {
     ghost codec = { contramap ⟦<Level as FromCases>⟧.view ⟦<Variants as Cases>⟧.codec };
 
-    ghost lawful_if = { enum_lawful_if
-        ⟦<Level as FromCases>⟧.view
-        ⟦<Variants as Cases>⟧.variants
+    ghost lawful_if = { enum_lawful_if ⟦<Level as FromCases>⟧.view ⟦<Variants as Cases>⟧.variants
         refl };
 
     ghost premises = { Prim.search key_facts };

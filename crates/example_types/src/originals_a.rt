@@ -18,8 +18,7 @@ type Fields = (u64, String);
 impl BorshType for A {
     ghost codec = { contramap ⟦<A as FromParts>⟧.view ⟦<Fields as BorshType>⟧.codec };
 
-    ghost lawful_if = { from
-        (contramap-lawful ⟦<A as FromParts>⟧.view)
+    ghost lawful_if = { from (contramap-lawful ⟦<A as FromParts>⟧.view)
         ⟦<Fields as BorshType>⟧.lawful_if };
 
     ghost premises = { Prim.search key_facts };
@@ -44,8 +43,7 @@ impl FromParts for A {
 
     ghost view = { λ v. (v.x, v.y) };
 
-    fn from_parts(fields: Fields) -> A {
-        let (x, y) = fields;
+    fn from_parts((x, y): Fields) -> A {
         A { x, y }
     }
 }
@@ -62,15 +60,11 @@ type FieldList = (u64, (String, ()));
 impl BorshSchema for A {
     ghost name = { codes "A" };
 
-    ghost parts = { struct_parts
-        (codes "A")
-        (codes "x" ∷ codes "y" ∷ [])
+    ghost parts = { struct_parts (codes "A") (codes "x" ∷ codes "y" ∷ [])
         ⟦<FieldList as FieldTypes>⟧.described };
 
-    ghost described = { struct_described
-        (λ v. (v.x, (v.y, tt)))
-        ⟦<FieldList as FieldTypes>⟧.described
-        refl };
+    ghost described = { struct_described (λ v. (v.x, (v.y, tt)))
+        ⟦<FieldList as FieldTypes>⟧.described refl };
 
     fn declaration(alloc: Global) -> std::result::Result<Declaration, SchemaBuildError> {
         declared(alloc, "A")

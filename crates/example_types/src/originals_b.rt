@@ -33,10 +33,8 @@ impl<W: BorshType, G: BorshType> FromCases for B<W, G> {
 impl<W: BorshType, G: BorshType> BorshType for B<W, G> {
     ghost codec = { contramap ⟦<B<W, G> as FromCases>⟧.view ⟦<Variants<W, G> as Cases>⟧.codec };
 
-    ghost lawful_if = { enum_lawful_if
-        ⟦<B<W, G> as FromCases>⟧.view
-        ⟦<Variants<W, G> as Cases>⟧.variants
-        refl };
+    ghost lawful_if = { enum_lawful_if ⟦<B<W, G> as FromCases>⟧.view
+        ⟦<Variants<W, G> as Cases>⟧.variants refl };
 
     ghost premises = { Prim.search (key_facts, W.premises, G.premises) };
 

@@ -19,8 +19,7 @@ type Fields = (Box<u64>, BoxedStr, BoxedSlice<u8>);
 impl BorshType for Boxed {
     ghost codec = { contramap ⟦<Boxed as FromParts>⟧.view ⟦<Fields as BorshType>⟧.codec };
 
-    ghost lawful_if = { from
-        (contramap-lawful ⟦<Boxed as FromParts>⟧.view)
+    ghost lawful_if = { from (contramap-lawful ⟦<Boxed as FromParts>⟧.view)
         ⟦<Fields as BorshType>⟧.lawful_if };
 
     ghost premises = { Prim.search key_facts };
@@ -45,8 +44,7 @@ impl FromParts for Boxed {
 
     ghost view = { λ v. (v.f1, v.f2, v.f3) };
 
-    fn from_parts(fields: Fields) -> Boxed {
-        let (f1, f2, f3) = fields;
+    fn from_parts((f1, f2, f3): Fields) -> Boxed {
         Boxed { f1, f2, f3 }
     }
 }
@@ -63,15 +61,11 @@ type FieldList = (Box<u64>, (BoxedStr, (BoxedSlice<u8>, ())));
 impl BorshSchema for Boxed {
     ghost name = { codes "Boxed" };
 
-    ghost parts = { struct_parts
-        (codes "Boxed")
-        (codes "f1" ∷ codes "f2" ∷ codes "f3" ∷ [])
+    ghost parts = { struct_parts (codes "Boxed") (codes "f1" ∷ codes "f2" ∷ codes "f3" ∷ [])
         ⟦<FieldList as FieldTypes>⟧.described };
 
-    ghost described = { struct_described
-        (λ v. (v.f1, (v.f2, (v.f3, tt))))
-        ⟦<FieldList as FieldTypes>⟧.described
-        refl };
+    ghost described = { struct_described (λ v. (v.f1, (v.f2, (v.f3, tt))))
+        ⟦<FieldList as FieldTypes>⟧.described refl };
 
     fn declaration(alloc: Global) -> std::result::Result<Declaration, SchemaBuildError> {
         declared(alloc, "Boxed")

@@ -16,8 +16,7 @@ type Fields<T, U> = (String, HashMap<T, U>);
 impl<T: BorshKey + Ord + Hash + Eq + BorshType, U: BorshType> BorshType for C<T, U> {
     ghost codec = { contramap (λ v. (v.a, v.b)) ⟦<Fields<T, U> as BorshType>⟧.codec };
 
-    ghost lawful_if = { from
-        (contramap-lawful (λ v. (v.a, v.b)))
+    ghost lawful_if = { from (contramap-lawful (λ v. (v.a, v.b)))
         ⟦<Fields<T, U> as BorshType>⟧.lawful_if };
 
     ghost premises = { let t_key : IsKey T.ordered T.cmp T.eq T.codec =
@@ -44,8 +43,7 @@ impl<T: BorshKey + Ord + Hash + Eq + BorshDeserialize, U: BorshDeserialize> From
 
     ghost view = { λ v. (v.a, v.b) };
 
-    fn from_parts(fields: Fields<T, U>) -> C<T, U> {
-        let (a, b) = fields;
+    fn from_parts((a, b): Fields<T, U>) -> C<T, U> {
         C { a, b }
     }
 }

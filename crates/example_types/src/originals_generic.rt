@@ -20,12 +20,10 @@ type Fields<T, F, G> = (
 );
 
 impl<T: BorshType, F: BorshType, G: BorshType> BorshType for Generic<T, F, G> {
-    ghost codec = { contramap
-        (λ v. (v.x, v.y, v.b, v.pd, v.c, v.d))
+    ghost codec = { contramap (λ v. (v.x, v.y, v.b, v.pd, v.c, v.d))
         ⟦<Fields<T, F, G> as BorshType>⟧.codec };
 
-    ghost lawful_if = { from
-        (contramap-lawful (λ v. (v.x, v.y, v.b, v.pd, v.c, v.d)))
+    ghost lawful_if = { from (contramap-lawful (λ v. (v.x, v.y, v.b, v.pd, v.c, v.d)))
         ⟦<Fields<T, F, G> as BorshType>⟧.lawful_if };
 
     ghost premises = { Prim.search (key_facts, T.premises, F.premises, G.premises) };
@@ -52,8 +50,7 @@ impl<T: BorshDeserialize, F: BorshDeserialize, G: BorshDeserialize> FromParts fo
 
     ghost view = { λ v. (v.x, v.y, v.b, v.pd, v.c, v.d) };
 
-    fn from_parts(fields: Fields<T, F, G>) -> Generic<T, F, G> {
-        let (x, y, b, pd, c, d) = fields;
+    fn from_parts((x, y, b, pd, c, d): Fields<T, F, G>) -> Generic<T, F, G> {
         Generic { x, y, b, pd, c, d }
     }
 }

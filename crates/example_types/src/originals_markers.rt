@@ -41,14 +41,11 @@ impl<T, U> FromCases for Markers<T, U> {
 }
 
 impl<T, U> BorshType for Markers<T, U> {
-    ghost codec = { contramap
-        ⟦<Markers<T, U> as FromCases>⟧.view
+    ghost codec = { contramap ⟦<Markers<T, U> as FromCases>⟧.view
         ⟦<Variants<T, U> as Cases>⟧.codec };
 
-    ghost lawful_if = { enum_lawful_if
-        ⟦<Markers<T, U> as FromCases>⟧.view
-        ⟦<Variants<T, U> as Cases>⟧.variants
-        refl };
+    ghost lawful_if = { enum_lawful_if ⟦<Markers<T, U> as FromCases>⟧.view
+        ⟦<Variants<T, U> as Cases>⟧.variants refl };
 
     ghost premises = { Prim.search key_facts };
 

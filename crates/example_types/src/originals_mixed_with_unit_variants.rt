@@ -41,14 +41,11 @@ impl FromCases for MixedWithUnitVariants {
 }
 
 impl BorshType for MixedWithUnitVariants {
-    ghost codec = { contramap
-        ⟦<MixedWithUnitVariants as FromCases>⟧.view
+    ghost codec = { contramap ⟦<MixedWithUnitVariants as FromCases>⟧.view
         ⟦<Variants as Cases>⟧.codec };
 
-    ghost lawful_if = { enum_lawful_if
-        ⟦<MixedWithUnitVariants as FromCases>⟧.view
-        ⟦<Variants as Cases>⟧.variants
-        refl };
+    ghost lawful_if = { enum_lawful_if ⟦<MixedWithUnitVariants as FromCases>⟧.view
+        ⟦<Variants as Cases>⟧.variants refl };
 
     ghost premises = { Prim.search key_facts };
 

@@ -45,9 +45,7 @@ impl FromCases for MyEnum {
 impl BorshType for MyEnum {
     ghost codec = { contramap ⟦<MyEnum as FromCases>⟧.view ⟦<Variants as Cases>⟧.codec };
 
-    ghost lawful_if = { enum_lawful_if
-        ⟦<MyEnum as FromCases>⟧.view
-        ⟦<Variants as Cases>⟧.variants
+    ghost lawful_if = { enum_lawful_if ⟦<MyEnum as FromCases>⟧.view ⟦<Variants as Cases>⟧.variants
         refl };
 
     ghost premises = { Prim.search key_facts };

@@ -23,8 +23,7 @@ type Fields<K, V> = (K, PhantomData<V>);
 impl<K: BorshType, V> BorshType for Parametrized<K, V> {
     ghost codec = { contramap (λ v. (v.field, v.another)) ⟦<Fields<K, V> as BorshType>⟧.codec };
 
-    ghost lawful_if = { from
-        (contramap-lawful (λ v. (v.field, v.another)))
+    ghost lawful_if = { from (contramap-lawful (λ v. (v.field, v.another)))
         ⟦<Fields<K, V> as BorshType>⟧.lawful_if };
 
     ghost premises = { Prim.search (key_facts, K.premises) };
@@ -49,8 +48,7 @@ impl<K: BorshDeserialize, V> FromParts for Parametrized<K, V> {
 
     ghost view = { λ v. (v.field, v.another) };
 
-    fn from_parts(fields: Fields<K, V>) -> Parametrized<K, V> {
-        let (field, another) = fields;
+    fn from_parts((field, another): Fields<K, V>) -> Parametrized<K, V> {
         Parametrized { field, another }
     }
 }
@@ -67,15 +65,11 @@ type FieldList<K, V> = (K, (PhantomData<V>, ()));
 impl<K: BorshSchema, V> BorshSchema for Parametrized<K, V> {
     ghost name = { name_with (codes "Parametrized") K.name [] };
 
-    ghost parts = { struct_parts
-        (name_with (codes "Parametrized") K.name [])
-        (codes "field" ∷ codes "another" ∷ [])
-        ⟦<FieldList<K, V> as FieldTypes>⟧.described };
+    ghost parts = { struct_parts (name_with (codes "Parametrized") K.name [])
+        (codes "field" ∷ codes "another" ∷ []) ⟦<FieldList<K, V> as FieldTypes>⟧.described };
 
-    ghost described = { struct_described
-        (λ v. (v.field, (v.another, tt)))
-        ⟦<FieldList<K, V> as FieldTypes>⟧.described
-        refl };
+    ghost described = { struct_described (λ v. (v.field, (v.another, tt)))
+        ⟦<FieldList<K, V> as FieldTypes>⟧.described refl };
 
     fn declaration(alloc: Global) -> std::result::Result<Declaration, SchemaBuildError> {
         declared_with::<K, ()>(alloc, "Parametrized")
@@ -85,12 +79,8 @@ impl<K: BorshSchema, V> BorshSchema for Parametrized<K, V> {
         alloc: Global,
         definitions: &mut BTreeMap<Declaration, Definition>,
     ) -> std::result::Result<(), SchemaBuildError> {
-        add_named_with::<K, (), FieldList<K, V>>(
-            alloc,
-            "Parametrized",
-            &["field", "another"],
-            definitions,
-        )
+        let names = ["field", "another"];
+        add_named_with::<K, (), FieldList<K, V>>(alloc, "Parametrized", &names, definitions)
     }
 
     ghost describes = { λ C h. describes_contramap (λ v. (v.field, v.another))

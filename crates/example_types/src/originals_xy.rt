@@ -57,9 +57,7 @@ impl FromCases for XY {
 impl BorshType for XY {
     ghost codec = { contramap ⟦<XY as FromCases>⟧.view ⟦<Variants as Cases>⟧.codec };
 
-    ghost lawful_if = { enum_lawful_if
-        ⟦<XY as FromCases>⟧.view
-        ⟦<Variants as Cases>⟧.variants
+    ghost lawful_if = { enum_lawful_if ⟦<XY as FromCases>⟧.view ⟦<Variants as Cases>⟧.variants
         refl };
 
     ghost premises = { Prim.search key_facts };

@@ -18,8 +18,7 @@ type Fields = (u64, BTreeMap<String, u64>, Option<String>);
 impl BorshType for Account {
     ghost codec = { contramap ⟦<Account as FromParts>⟧.view ⟦<Fields as BorshType>⟧.codec };
 
-    ghost lawful_if = { from
-        (contramap-lawful ⟦<Account as FromParts>⟧.view)
+    ghost lawful_if = { from (contramap-lawful ⟦<Account as FromParts>⟧.view)
         ⟦<Fields as BorshType>⟧.lawful_if };
 
     ghost premises = { Prim.search key_facts };
@@ -44,8 +43,7 @@ impl FromParts for Account {
 
     ghost view = { λ v. (v.id, v.balances, v.note) };
 
-    fn from_parts(fields: Fields) -> Account {
-        let (id, balances, note) = fields;
+    fn from_parts((id, balances, note): Fields) -> Account {
         Account { id, balances, note }
     }
 }
@@ -62,15 +60,11 @@ type FieldList = (u64, (BTreeMap<String, u64>, (Option<String>, ())));
 impl BorshSchema for Account {
     ghost name = { codes "Account" };
 
-    ghost parts = { struct_parts
-        (codes "Account")
-        (codes "id" ∷ codes "balances" ∷ codes "note" ∷ [])
-        ⟦<FieldList as FieldTypes>⟧.described };
+    ghost parts = { struct_parts (codes "Account")
+        (codes "id" ∷ codes "balances" ∷ codes "note" ∷ []) ⟦<FieldList as FieldTypes>⟧.described };
 
-    ghost described = { struct_described
-        (λ v. (v.id, (v.balances, (v.note, tt))))
-        ⟦<FieldList as FieldTypes>⟧.described
-        refl };
+    ghost described = { struct_described (λ v. (v.id, (v.balances, (v.note, tt))))
+        ⟦<FieldList as FieldTypes>⟧.described refl };
 
     fn declaration(alloc: Global) -> std::result::Result<Declaration, SchemaBuildError> {
         declared(alloc, "Account")

@@ -14,8 +14,7 @@ type Fields = ([u8; 32], [[u16; 3]; 2], Vec<Name>, Option<(Point, Marker)>);
 impl BorshType for Block {
     ghost codec = { contramap ⟦<Block as FromParts>⟧.view ⟦<Fields as BorshType>⟧.codec };
 
-    ghost lawful_if = { from
-        (contramap-lawful ⟦<Block as FromParts>⟧.view)
+    ghost lawful_if = { from (contramap-lawful ⟦<Block as FromParts>⟧.view)
         ⟦<Fields as BorshType>⟧.lawful_if };
 
     ghost premises = { Prim.search key_facts };
@@ -47,8 +46,7 @@ impl FromParts for Block {
 
     ghost view = { λ v. (v.hash, v.rows, v.signers, v.origin) };
 
-    fn from_parts(fields: Fields) -> Block {
-        let (hash, rows, signers, origin) = fields;
+    fn from_parts((hash, rows, signers, origin): Fields) -> Block {
         Block {
             hash,
             rows,

@@ -16,8 +16,7 @@ type Fields = (u16, HashMap<u8, Ipv4Addr>);
 impl BorshType for Cached {
     ghost codec = { contramap ⟦<Cached as FromParts>⟧.view ⟦<Fields as BorshType>⟧.codec };
 
-    ghost lawful_if = { from
-        (contramap-lawful ⟦<Cached as FromParts>⟧.view)
+    ghost lawful_if = { from (contramap-lawful ⟦<Cached as FromParts>⟧.view)
         ⟦<Fields as BorshType>⟧.lawful_if };
 
     ghost premises = { Prim.search key_facts };
@@ -42,8 +41,7 @@ impl FromParts for Cached {
 
     ghost view = { λ v. (v.key, v.hosts) };
 
-    fn from_parts(fields: Fields) -> Cached {
-        let (key, hosts) = fields;
+    fn from_parts((key, hosts): Fields) -> Cached {
         Cached {
             key,
             hits: Default::default(),

@@ -15,8 +15,7 @@ type Fields = (BTreeMap<UserId, Name>, BTreeSet<UserId>);
 impl BorshType for Directory {
     ghost codec = { contramap ⟦<Directory as FromParts>⟧.view ⟦<Fields as BorshType>⟧.codec };
 
-    ghost lawful_if = { from
-        (contramap-lawful ⟦<Directory as FromParts>⟧.view)
+    ghost lawful_if = { from (contramap-lawful ⟦<Directory as FromParts>⟧.view)
         ⟦<Fields as BorshType>⟧.lawful_if };
 
     ghost premises = { Prim.search key_facts };
@@ -41,8 +40,7 @@ impl FromParts for Directory {
 
     ghost view = { λ v. (v.users, v.blocked) };
 
-    fn from_parts(fields: Fields) -> Directory {
-        let (users, blocked) = fields;
+    fn from_parts((users, blocked): Fields) -> Directory {
         Directory { users, blocked }
     }
 }

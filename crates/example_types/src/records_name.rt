@@ -17,8 +17,7 @@ type Fields = String;
 impl BorshType for Name {
     ghost codec = { contramap ⟦<Name as FromParts>⟧.view ⟦<Fields as BorshType>⟧.codec };
 
-    ghost lawful_if = { from
-        (contramap-lawful ⟦<Name as FromParts>⟧.view)
+    ghost lawful_if = { from (contramap-lawful ⟦<Name as FromParts>⟧.view)
         ⟦<Fields as BorshType>⟧.lawful_if };
 
     ghost premises = { Prim.search key_facts };
@@ -60,14 +59,10 @@ type FieldList = (String, ());
 impl BorshSchema for Name {
     ghost name = { codes "Name" };
 
-    ghost parts = { struct_parts
-        (codes "Name")
-        (codes "text" ∷ [])
+    ghost parts = { struct_parts (codes "Name") (codes "text" ∷ [])
         ⟦<FieldList as FieldTypes>⟧.described };
 
-    ghost described = { struct_described
-        (λ v. (v.text, tt))
-        ⟦<FieldList as FieldTypes>⟧.described
+    ghost described = { struct_described (λ v. (v.text, tt)) ⟦<FieldList as FieldTypes>⟧.described
         refl };
 
     fn declaration(alloc: Global) -> std::result::Result<Declaration, SchemaBuildError> {

@@ -19,8 +19,7 @@ type Fields = (u32, i32);
 impl BorshType for Point {
     ghost codec = { contramap ⟦<Point as FromParts>⟧.view ⟦<Fields as BorshType>⟧.codec };
 
-    ghost lawful_if = { from
-        (contramap-lawful ⟦<Point as FromParts>⟧.view)
+    ghost lawful_if = { from (contramap-lawful ⟦<Point as FromParts>⟧.view)
         ⟦<Fields as BorshType>⟧.lawful_if };
 
     ghost premises = { Prim.search key_facts };
@@ -45,8 +44,7 @@ impl FromParts for Point {
 
     ghost view = { λ v. (v.0, v.1) };
 
-    fn from_parts(fields: Fields) -> Point {
-        let (part0, part1) = fields;
+    fn from_parts((part0, part1): Fields) -> Point {
         Point(part0, part1)
     }
 }
@@ -63,15 +61,11 @@ type FieldList = (u32, (i32, ()));
 impl BorshSchema for Point {
     ghost name = { codes "Point" };
 
-    ghost parts = { unnamed_struct
-        (codes "Point")
-        ⟦<FieldList as FieldTypes>⟧.described.names
+    ghost parts = { unnamed_struct (codes "Point") ⟦<FieldList as FieldTypes>⟧.described.names
         ⟦<FieldList as FieldTypes>⟧.described.parts };
 
-    ghost described = { struct_described
-        (λ v. (v.0, (v.1, tt)))
-        ⟦<FieldList as FieldTypes>⟧.described
-        refl };
+    ghost described = { struct_described (λ v. (v.0, (v.1, tt)))
+        ⟦<FieldList as FieldTypes>⟧.described refl };
 
     fn declaration(alloc: Global) -> std::result::Result<Declaration, SchemaBuildError> {
         declared(alloc, "Point")

@@ -27,8 +27,7 @@ type Fields = (
 impl BorshType for Settings {
     ghost codec = { contramap ⟦<Settings as FromParts>⟧.view ⟦<Fields as BorshType>⟧.codec };
 
-    ghost lawful_if = { from
-        (contramap-lawful ⟦<Settings as FromParts>⟧.view)
+    ghost lawful_if = { from (contramap-lawful ⟦<Settings as FromParts>⟧.view)
         ⟦<Fields as BorshType>⟧.lawful_if };
 
     ghost premises = { Prim.search key_facts };

@@ -14,8 +14,7 @@ type Fields = (u8, String);
 impl BorshType for UserId {
     ghost codec = { contramap ⟦<UserId as FromParts>⟧.view ⟦<Fields as BorshType>⟧.codec };
 
-    ghost lawful_if = { from
-        (contramap-lawful ⟦<UserId as FromParts>⟧.view)
+    ghost lawful_if = { from (contramap-lawful ⟦<UserId as FromParts>⟧.view)
         ⟦<Fields as BorshType>⟧.lawful_if };
 
     ghost premises = { Prim.search key_facts };
@@ -40,8 +39,7 @@ impl FromParts for UserId {
 
     ghost view = { λ v. (v.realm, v.name) };
 
-    fn from_parts(fields: Fields) -> UserId {
-        let (realm, name) = fields;
+    fn from_parts((realm, name): Fields) -> UserId {
         UserId { realm, name }
     }
 }
@@ -53,8 +51,7 @@ impl BorshDeserialize for UserId {
 }
 
 impl BorshKey for UserId {
-    ghost ordered = { contramap_ordered
-        (λ v. (v.realm, v.name))
+    ghost ordered = { contramap_ordered (λ v. (v.realm, v.name))
         ⟦<(u8, String) as BorshKey>⟧.ordered };
 
     ghost key = { Self.ordered.key };

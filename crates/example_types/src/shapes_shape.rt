@@ -97,9 +97,7 @@ impl FromCases for Shape {
 impl BorshType for Shape {
     ghost codec = { contramap ⟦<Shape as FromCases>⟧.view ⟦<Variants as Cases>⟧.codec };
 
-    ghost lawful_if = { enum_lawful_if
-        ⟦<Shape as FromCases>⟧.view
-        ⟦<Variants as Cases>⟧.variants
+    ghost lawful_if = { enum_lawful_if ⟦<Shape as FromCases>⟧.view ⟦<Variants as Cases>⟧.variants
         refl };
 
     ghost premises = { Prim.search key_facts };
