@@ -1,11 +1,13 @@
-//! Tests of what is done with definitions alone: rules, sizes, and values by their container.
+//! Tests of what is done with definitions alone: rules, sizes, values by their container, and their JSON.
 //!
-//! They are a crate of their own, since `borsh_walks` and `borsh_values` would be proved a second time for tests
-//! among them.
+//! They are a crate of their own, since `borsh_walks`, `borsh_values` and `borsh_json` would be proved a second time
+//! for tests among them.
 #![tactic(auto)]
 
 #[cfg(test)]
 mod build;
+#[cfg(test)]
+mod json;
 #[cfg(test)]
 mod values;
 #[cfg(test)]

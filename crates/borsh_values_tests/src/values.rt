@@ -460,6 +460,40 @@ fn nodes_in_preorder(rt: HostRuntime) -> Result<(), Fail> {
     Ok(())
 }
 
+// Whether the nodes that the bytes decode to have these bytes, and without the last node, or as `other`, have none.
+fn are_nodes_of_one_value(
+    alloc: Global,
+    map: &Definitions,
+    root: &str,
+    other: &str,
+    bytes: &[u8],
+) -> Result<bool, Fail> {
+    let Decoded::Nodes(nodes) = decode(alloc, root, map, bytes)? else {
+        return Err(Fail::from("no nodes"));
+    };
+    let Some(encoded) = encode_value(alloc, root, map, &nodes)? else {
+        return Ok(false);
+    };
+    let as_other = encode_value(alloc, other, map, &nodes)?;
+    let Some((_, fewer)) = nodes.split_last() else {
+        return Err(Fail::from("no node"));
+    };
+    let without_last = encode_value(alloc, root, map, fewer)?;
+    Ok(encoded.as_slice() == bytes && as_other.is_none() && without_last.is_none())
+}
+
+#[test]
+fn nodes_have_the_bytes_of_their_value_only(rt: HostRuntime) -> Result<(), Fail> {
+    let alloc = rt.alloc();
+    let map = definitions(alloc)?;
+    assert!(rt; are_nodes_of_one_value(alloc, &map, "u32", "Unit", &[1, 2, 3, 4])?);
+    assert!(rt; are_nodes_of_one_value(alloc, &map, "[u8; 3]", "Unit", &[1, 2, 3])?);
+    assert!(rt; are_nodes_of_one_value(alloc, &map, "Pair", "Unit", &[7, 1, 0, 0, 0, 8])?);
+    assert!(rt; are_nodes_of_one_value(alloc, &map, "Option<u8>", "Unit", &[1, 5])?);
+    assert!(rt; are_nodes_of_one_value(alloc, &map, "List", "Unit", &[1, 5, 0])?);
+    Ok(())
+}
+
 // Tuples of the one before, twice, 60 deep: 2^60 values without bytes.
 #[test]
 fn tuples_of_tuples_without_bytes(rt: HostRuntime) -> Result<(), Fail> {
