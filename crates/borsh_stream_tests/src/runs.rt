@@ -31,9 +31,9 @@ const ROWS: [(&str, &str); 15] = [
     ("read unit -", "ok -"),
 ];
 
-const TOLD_SLOW: &[u8] = b"borsh_check: too slow\n";
+const REPORT_OF_SLOW: &[u8] = b"borsh_check: too slow\n";
 
-const TOLD_FULL: &[u8] = b"borsh_check: failed to write whole buffer\n";
+const REPORT_OF_FULL: &[u8] = b"borsh_check: failed to write whole buffer\n";
 
 /// The lines; the last one without a line feed.
 fn input(alloc: Global) -> Result<Vec<u8>, Fail> {
@@ -68,15 +68,15 @@ fn lines_of_every_command_are_answered(rt: HostRuntime) -> Result<(), Fail> {
         let outcome = run(alloc, &mut reader, &mut writer);
         assert_eq!(rt; writer.taken(), output.as_slice());
         assert!(rt; reader.rest().is_empty());
-        assert!(rt; has_told(alloc, &outcome, 0, b""));
+        assert!(rt; ended_with(alloc, &outcome, 0, b""));
     }
     Ok(())
 }
 
 /// Whether `finish` answers this status for the outcome, and writes these bytes.
-fn has_told(alloc: Global, outcome: &borsh::io::Result<()>, status: u8, told: &[u8]) -> bool {
+fn ended_with(alloc: Global, outcome: &borsh::io::Result<()>, status: u8, report: &[u8]) -> bool {
     let mut errors = Vec::new(alloc);
-    finish(outcome, &mut errors) == status && errors.as_slice() == told
+    finish(outcome, &mut errors) == status && errors.as_slice() == report
 }
 
 /// Runs with a writer that has room for so many bytes: these are written, and the error is reported.
@@ -96,7 +96,7 @@ fn check_full_writer(
         "failed to write whole buffer",
     );
     check(
-        is_full && has_told(alloc, &outcome, 1, TOLD_FULL),
+        is_full && ended_with(alloc, &outcome, 1, REPORT_OF_FULL),
         "full writer",
         room,
     )?;
@@ -141,7 +141,7 @@ fn check_failing_writer(
     let number = write as usize;
     let is_slow = is_error(&outcome, ErrorKind::TimedOut, "too slow") && writer.faults() == 1;
     check(
-        is_slow && has_told(alloc, &outcome, 1, TOLD_SLOW),
+        is_slow && ended_with(alloc, &outcome, 1, REPORT_OF_SLOW),
         "failed write",
         number,
     )?;
@@ -189,14 +189,14 @@ fn check_failing_reader(
         return Ok(false);
     }
     let taken = input.len().saturating_sub(reader.rest().len());
-    let is_told = match failure {
+    let is_reported = match failure {
         Failure::TimedOut => {
             is_error(&outcome, ErrorKind::TimedOut, "too slow")
-                && has_told(alloc, &outcome, 1, TOLD_SLOW)
+                && ended_with(alloc, &outcome, 1, REPORT_OF_SLOW)
         }
         Failure::End => is_error(&outcome, ErrorKind::UnexpectedEof, "the device says so"),
     };
-    check(is_told && reader.faults() == 1, "failed read", taken)?;
+    check(is_reported && reader.faults() == 1, "failed read", taken)?;
     let lines = input
         .iter()
         .take(taken)
