@@ -16,10 +16,14 @@ abbrev pub color_code : Color → List ℕ
 color_code c = 27 ∷ 91 ∷ 51 ∷ color_digit c ∷ 109 ∷ []
 
 -- printable ASCII and line feeds, and, where there are colours, their codes
-pub data IsPainted (colored : Bool) : List ℕ → Type 0 where
-  nothing : IsPainted colored []
-  plain : (b : ℕ) {bs : List ℕ} → IsPlain b → IsPainted colored bs → IsPainted colored (b ∷ bs)
-  code : (c : Color) {bs : List ℕ} → colored ≡ true → IsPainted colored bs → IsPainted colored (color_code c ++ bs)
+pub data Painted (colored : Bool) : List ℕ → Type 0 where
+  nothing : Painted colored []
+  plain : (b : ℕ) {bs : List ℕ} → IsPlain b → Painted colored bs → Painted colored (b ∷ bs)
+  code : (c : Color) {bs : List ℕ} → colored ≡ true → Painted colored bs → Painted colored (color_code c ++ bs)
+
+-- the same as a fact, however often it is proved
+abbrev pub IsPainted : Bool → List ℕ → Type 0
+IsPainted colored text = ∥ Painted colored text ∥₁
 
 -- a text in a colour, where there are colours
 abbrev pub painted : Bool → Color → List ℕ → List ℕ

@@ -2,7 +2,7 @@
 ghost use Rattle.std.specs.Prelude.{◌≡◌, ◌++◌, [], All, OnOk, true};
 ghost use Rattle.borsh_commands.specs.Colors.{IsPainted, color_code, color_digit, painted as painted_text};
 ghost use Rattle.borsh_commands.specs.Plain.{IsPlain};
-ghost use Rattle.borsh_commands.specs.Printed.{has_colors, printed, printed_colors};
+ghost use Rattle.borsh_commands.specs.Printed.{printed};
 
 use super::plain_text::PlainText;
 use std::alloc::{AllocError, Global};
@@ -29,7 +29,7 @@ pub struct ColoredText {
 impl ColoredText {
     /// No text; what is added to it has no colours if `is_colored` is false.
     pub fn new(alloc: Global, is_colored: bool) -> ColoredText
-        ensures { (has_colors result ≡ is_colored) × (printed_colors result ≡ []) }
+        ensures { (result.is_colored ≡ is_colored) × (result.text.items ≡ []) }
     {
         ColoredText {
             is_colored,
@@ -39,17 +39,17 @@ impl ColoredText {
 
     /// The text, with the codes of its colours.
     pub fn as_bytes(&self) -> &[u8]
-        ensures is { result.now ≡ printed_colors self.now }
-        ensures painted { IsPainted (has_colors self.now) result.now }
+        ensures is { result.now ≡ self.now.text.items }
+        ensures painted { IsPainted self.now.is_colored result.now }
     {
         self.text.as_slice()
     }
 
     /// Adds a text in the terminal's own colour. If an allocation fails, nothing is added.
     pub fn push(&mut self, text: &PlainText) -> Result<(), AllocError>
-        ensures colored { has_colors self.new ≡ has_colors self.old }
+        ensures colored { self.new.is_colored ≡ self.old.is_colored }
         ensures ok { OnOk result
-            (printed_colors self.new ≡ printed_colors self.old ++ printed text.now) }
+            (self.new.text.items ≡ self.old.text.items ++ printed text.now) }
     {
         self.put(text.as_bytes())
     }
@@ -65,9 +65,9 @@ impl ColoredText {
     /// assert_eq!(rt; text.as_bytes(), b"\x1b[36mu8\x1b[39m".as_slice());
     /// ```
     pub fn push_in(&mut self, color: Color, text: &PlainText) -> Result<(), AllocError>
-        ensures colored { has_colors self.new ≡ has_colors self.old }
-        ensures ok { OnOk result (printed_colors self.new
-            ≡ printed_colors self.old ++ painted_text (has_colors self.old) color (printed text.now)) }
+        ensures colored { self.new.is_colored ≡ self.old.is_colored }
+        ensures ok { OnOk result (self.new.text.items
+            ≡ self.old.text.items ++ painted_text self.old.is_colored color (printed text.now)) }
     {
         if !self.is_colored {
             return self.put(text.as_bytes());
@@ -80,19 +80,20 @@ impl ColoredText {
     /// Adds bytes as they are.
     fn put(&mut self, text: &[u8]) -> Result<(), AllocError>
         requires { All IsPlain text.now }
-        ensures colored { has_colors self.new ≡ has_colors self.old }
-        ensures ok { OnOk result (printed_colors self.new ≡ printed_colors self.old ++ text.now) }
+        ensures colored { self.new.is_colored ≡ self.old.is_colored }
+        ensures ok { OnOk result (self.new.text.items ≡ self.old.text.items ++ text.now) }
     {
         self.text.extend_from_slice(text)
     }
 
     /// Adds the code of a colour.
     fn put_code(&mut self, color: Color) -> Result<(), AllocError>
-        requires { has_colors self.old ≡ true }
-        ensures colored { has_colors self.new ≡ has_colors self.old }
-        ensures ok { OnOk result (printed_colors self.new ≡ printed_colors self.old ++ color_code color) }
+        requires { self.old.is_colored ≡ true }
+        ensures colored { self.new.is_colored ≡ self.old.is_colored }
+        ensures ok { OnOk result (self.new.text.items ≡ self.old.text.items ++ color_code color) }
     {
-        self.text.extend_from_slice(&[27, b'[', b'3', digit(color), b'm'])
+        self.text
+            .extend_from_slice(&[27, b'[', b'3', digit(color), b'm'])
     }
 }
 

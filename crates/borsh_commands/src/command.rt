@@ -93,7 +93,9 @@ pub fn command<'a>(alloc: Global) -> Result<Command<'a>, AllocError> {
         .after_help(AFTER_DECODE)
         .arg(flag(alloc, "compact", "Prints one line, without white space"))?;
     let encode = on_json(alloc)?.after_help(AFTER_ENCODE);
-    let member = on_bytes(alloc, "member", "Checks that bytes are a value")?.after_help(AFTER_MEMBER);
+    let member = on_bytes(alloc, "member", "Checks that bytes are a value")?.after_help(
+        AFTER_MEMBER,
+    );
     let show = on_bytes(alloc, "show", "Prints what each byte of a value is")?
         .after_help(AFTER_SHOW)
         .arg(flag(alloc, "plain", "Prints no colours"))?;
@@ -129,11 +131,7 @@ fn on_container<'a>(
 }
 
 /// A command that reads the bytes of a value, and its container in front of these or from a file of its own.
-fn on_bytes<'a>(
-    alloc: Global,
-    name: &'a str,
-    about: &'a str,
-) -> Result<Command<'a>, AllocError> {
+fn on_bytes<'a>(alloc: Global, name: &'a str, about: &'a str) -> Result<Command<'a>, AllocError> {
     let schema = schema(alloc)
         .required_unless_present("with-schema")?
         .conflicts_with("with-schema")?;
@@ -150,7 +148,11 @@ fn on_bytes<'a>(
         .allow_missing_positional(true)
         .arg(schema)?
         .arg(value)?
-        .arg(flag(alloc, "hex", "The bytes of the value are hexadecimal digits"))?
+        .arg(flag(
+            alloc,
+            "hex",
+            "The bytes of the value are hexadecimal digits",
+        ))?
         .arg(schema_hex(alloc).conflicts_with("with-schema")?)?
         .arg(with_schema)
 }

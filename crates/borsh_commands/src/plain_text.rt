@@ -2,7 +2,6 @@
 ghost use Rattle.std.specs.Prelude.{◌≡◌, ◌++◌, ◌∷◌, ◌<◌, ◌≤◌, [], All, OnOk, decimal, flat_map};
 ghost use Rattle.std.specs.Fmt.{signed_decimal};
 ghost use Rattle.borsh_commands.specs.Plain.{IsPlain, digit as digit_of, escaped, quoted, name_text, is_word as is_word_byte, is_identifier as is_identifier_text};
-ghost use Rattle.borsh_commands.specs.Printed.{printed};
 ghost use Rattle.std.specs.List.{list_all};
 
 use std::alloc::{AllocError, Global};
@@ -19,7 +18,7 @@ pub struct PlainText {
 impl PlainText {
     /// No text.
     pub fn new(alloc: Global) -> PlainText
-        ensures { printed result ≡ [] }
+        ensures { result.text.items ≡ [] }
     {
         PlainText {
             text: Vec::new(alloc),
@@ -28,7 +27,7 @@ impl PlainText {
 
     /// The text.
     pub fn as_bytes(&self) -> &[u8]
-        ensures is { result.now ≡ printed self.now }
+        ensures is { result.now ≡ self.now.text.items }
         ensures plain { All IsPlain result.now }
     {
         self.text.as_slice()
@@ -37,7 +36,7 @@ impl PlainText {
     /// Adds a text, in which printable ASCII appears as it is, and any other byte as `\x` and two digits.
     pub fn push(&mut self, text: &str) -> Result<(), AllocError>
         ensures { OnOk result
-            (printed self.new ≡ printed self.old ++ flat_map escaped text.now) }
+            (self.new.text.items ≡ self.old.text.items ++ flat_map escaped text.now) }
     {
         for byte in text.as_bytes() {
             self.push_byte(*byte)?;
@@ -47,7 +46,7 @@ impl PlainText {
 
     /// Adds a number in decimal.
     pub fn push_number(&mut self, alloc: Global, number: u64) -> Result<(), AllocError>
-        ensures { OnOk result (printed self.new ≡ printed self.old ++ decimal number) }
+        ensures { OnOk result (self.new.text.items ≡ self.old.text.items ++ decimal number) }
     {
         let text = format!(in alloc; "{number}")?;
         self.push(text.as_str())
@@ -55,8 +54,8 @@ impl PlainText {
 
     /// The same of a number with a sign.
     pub fn push_signed(&mut self, alloc: Global, number: &i64) -> Result<(), AllocError>
-        ensures { OnOk result (printed self.new
-            ≡ printed self.old ++ flat_map escaped (signed_decimal number.now)) }
+        ensures { OnOk result (self.new.text.items
+            ≡ self.old.text.items ++ flat_map escaped (signed_decimal number.now)) }
     {
         let text = format!(in alloc; "{number}")?;
         self.push(text.as_str())
@@ -65,7 +64,7 @@ impl PlainText {
     /// Adds a name: an identifier as it is, and any other name in quotation marks, with a backslash
     /// before each quotation mark and backslash in it.
     pub fn push_name(&mut self, name: &str) -> Result<(), AllocError>
-        ensures { OnOk result (printed self.new ≡ printed self.old ++ name_text name.now) }
+        ensures { OnOk result (self.new.text.items ≡ self.old.text.items ++ name_text name.now) }
     {
         if is_identifier(name) {
             return self.push(name);
@@ -112,7 +111,7 @@ impl PlainText {
     /// Adds the bytes of a name that is in quotation marks.
     fn push_quoted(&mut self, name: &[u8]) -> Result<(), AllocError>
         ensures { OnOk result
-            (printed self.new ≡ printed self.old ++ flat_map quoted name.now) }
+            (self.new.text.items ≡ self.old.text.items ++ flat_map quoted name.now) }
     {
         for byte in name {
             if *byte == b'"' || *byte == b'\\' {
@@ -125,14 +124,14 @@ impl PlainText {
 
     /// Ends the line.
     pub fn end_line(&mut self) -> Result<(), AllocError>
-        ensures { OnOk result (printed self.new ≡ printed self.old ++ (10 ∷ [])) }
+        ensures { OnOk result (self.new.text.items ≡ self.old.text.items ++ (10 ∷ [])) }
     {
         self.put(b'\n')
     }
 
     /// Adds a byte of a text.
     fn push_byte(&mut self, byte: u8) -> Result<(), AllocError>
-        ensures { OnOk result (printed self.new ≡ printed self.old ++ escaped byte) }
+        ensures { OnOk result (self.new.text.items ≡ self.old.text.items ++ escaped byte) }
     {
         if 32 <= byte && byte < 127 {
             return self.put(byte);
@@ -146,7 +145,7 @@ impl PlainText {
     /// Adds a byte as it is.
     fn put(&mut self, byte: u8) -> Result<(), AllocError>
         requires { IsPlain byte }
-        ensures { OnOk result (printed self.new ≡ printed self.old ++ (byte ∷ [])) }
+        ensures { OnOk result (self.new.text.items ≡ self.old.text.items ++ (byte ∷ [])) }
     {
         self.text.push(byte)?;
         Ok(())

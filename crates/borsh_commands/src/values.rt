@@ -1,7 +1,7 @@
 // What is asked of a value by its container.
 ghost use Rattle.std.specs.Prelude.{◌≡◌, IfOk, Decides, Some, string_bytes};
 ghost use Rattle.borsh_commands.specs.Colors.{IsPainted};
-ghost use Rattle.borsh_commands.specs.Printed.{has_colors, printed_colors};
+ghost use Rattle.borsh_commands.specs.Colored.{has_colors, printed_colors};
 ghost use Rattle.borsh_commands.specs.Sent.{IsContainer, IsSent, schema_encoding};
 ghost use Rattle.borsh_walks.specs.Container.{Member};
 ghost use Rattle.borsh_walks.specs.Definitions.{definitions_in};
@@ -59,9 +59,8 @@ pub fn schema_in_front<'a, 'b>(
     ensures { IfOk result (λ r. IsSent r.0 r.1.now bytes.now) }
 {
     let mut rest = bytes;
-    let decoded: Result<(String, BTreeMap<String, Definition>), Error> = BorshDeserialize::deserialize(
-        alloc, &mut rest,
-    );
+    let decoded: Result<(String, BTreeMap<String, Definition>), Error> =
+        BorshDeserialize::deserialize(alloc, &mut rest);
     match decoded {
         Ok((root, definitions)) => Ok((Schema { root, definitions }, rest)),
         Err(error) => Err(no_container(path, error)),
@@ -106,11 +105,7 @@ pub fn own_schema<'a>(alloc: Global) -> Result<Schema, Failure<'a>> {
 /// let again = bytes_said(alloc, &own_schema(alloc)?, "readme.json", text.as_bytes())?;
 /// assert_eq!(rt; again.as_slice(), bytes.as_slice());
 /// ```
-pub fn schema_json<'a>(
-    alloc: Global,
-    path: &'a str,
-    bytes: &[u8],
-) -> Result<PlainText, Failure<'a>>
+pub fn schema_json<'a>(alloc: Global, path: &'a str, bytes: &[u8]) -> Result<PlainText, Failure<'a>>
     ensures { IfOk result (λ _. IsContainer bytes.now) }
 {
     let _schema = schema_from(alloc, path, bytes)?;

@@ -14,11 +14,7 @@ fn main(rt: HostRuntime) -> ExitCode {
             return ExitCode::from(2);
         }
     };
-    ExitCode::from(run(
-        &rt,
-        words.as_slice(),
-        rt.stdout().is_terminal(),
-    ))
+    ExitCode::from(run(&rt, words.as_slice(), rt.stdout().is_terminal()))
 }
 
 /// The words of the command line.
