@@ -1,2 +1,3 @@
 mod Told
 mod Painting
+mod Sending

@@ -12,6 +12,7 @@ use super::failure::Failure;
 use super::plain_text::PlainText;
 use borsh::io::{Error, ErrorKind};
 use borsh::schema::{BorshSchemaContainer, Definition};
+use borsh::ser::write_two;
 use borsh::{BorshDeserialize, from_slice, schema_container_of, to_vec};
 use borsh_json::{JsonError, Layout, Row, from_json, rows_of, to_json};
 use borsh_values::{Membership, is_member};
@@ -77,7 +78,8 @@ pub fn schema_in_front<'a, 'b>(
 pub fn with_schema(alloc: Global, schema: &Schema, value: &[u8]) -> Result<Vec<u8>, AllocError>
     ensures { IfOk result (λ sent. IsSent schema.now value.now sent.items) }
 {
-    let Ok(mut sent) = to_vec(alloc, &(&schema.root, &schema.definitions)) else {
+    let mut sent = Vec::new(alloc);
+    let Ok(()) = write_two(&schema.root, &schema.definitions, alloc, &mut sent) else {
         return Err(AllocError);
     };
     sent.extend_from_slice(value)?;
