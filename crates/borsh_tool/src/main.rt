@@ -1,16 +1,8 @@
 //! The command-line tool `borsh`: what a schema container says, and what bytes say by it.
 #![tactic(auto)]
 
-mod answers;
-mod command;
-mod definitions;
-mod failure;
-mod plain_text;
-mod run;
-#[cfg(test)]
-mod tests;
-mod values;
-
+use borsh_commands::run;
+use std::io::IsTerminal;
 use std::process::ExitCode;
 use std::{env, io};
 
@@ -22,7 +14,7 @@ fn main(rt: HostRuntime) -> ExitCode {
             return ExitCode::from(2);
         }
     };
-    ExitCode::from(run::run(&rt, words.as_slice()))
+    ExitCode::from(run(&rt, words.as_slice(), rt.stdout().is_terminal()))
 }
 
 /// The words of the command line.

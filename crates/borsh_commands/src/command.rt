@@ -1,0 +1,242 @@
+// The command line.
+use super::answers::Question;
+use clap::{Arg, ArgAction, ArgMatches, Command};
+use std::alloc::{AllocError, Global};
+
+const AFTER_HELP: &str =
+    "Exit status: 0 for yes, 1 for no or for bytes that are no container, 2 for wrong use or input that can't be read.";
+
+const AFTER_CHECK: &str =
+    "Prints `valid`, or `invalid`, a rule and a name that breaks it:\n  ZSTSequence        the elements of a sequence have no bytes\n  TagTooWide         a length or tag of more than eight bytes\n  TagTooNarrow       the greatest length doesn't fit its length prefix\n  TagNotPowerOfTwo   a length prefix of three, five, six or seven bytes\n  MissingDefinition  a name without a definition\n  EmptyLengthRange   the least length is above the greatest";
+
+const AFTER_SIZE: &str =
+    "Prints the number of bytes in decimal; `overflow` above 18446744073709551615; `recursive` where a definition\ncontains itself; `missing` and a name without a definition.";
+
+const AFTER_SCHEMA: &str =
+    "One definition a line: the root's first, the others by name. Names that aren't identifiers are quoted; bytes of\nnames that aren't printable ASCII are `\\x` and two digits. With --json the container as JSON, which `encode self` takes.";
+
+const AFTER_DECODE: &str =
+    "Whole numbers of up to 64 bits are JSON numbers, longer ones decimal strings; lists of u8 and other primitives are\nhexadecimal strings, \"0x..\"; a variant is \"Name\" or {\"Name\": value}; a value without bytes is null.";
+
+const AFTER_ENCODE: &str =
+    "Takes what `decode` prints, in any layout; fields may come in any order. With --hex the bytes are printed as\nhexadecimal digits and a line feed. With --with-schema the bytes of the container come first.";
+
+const AFTER_MEMBER: &str =
+    "Prints `member`, or `no member`, the path where the bytes stop being a value of the container's root, and why.";
+
+const AFTER_SHOW: &str =
+    "A line for each number, text, count and tag: its offset, its bytes (the first 16), the path to it, its type, and what\nit says; on a terminal in colours, unless NO_COLOR is set.";
+
+/// What is asked of a container, and where the container is.
+#[derive(Clone, Copy, Debug)]
+pub struct Request<'a> {
+    pub question: Question,
+    /// A file, or `-` for standard input.
+    pub path: &'a str,
+    /// Whether the bytes are written as hexadecimal digits.
+    pub is_hex: bool,
+    /// Whether the definitions are printed as JSON.
+    pub is_json: bool,
+}
+
+/// What may be asked of a value.
+#[derive(Clone, Copy, Debug, PartialEq, Eq)]
+pub enum Action {
+    /// Its JSON.
+    Decode,
+    /// Its bytes, from JSON.
+    Encode,
+    /// Whether bytes are one.
+    Member,
+    /// What each of its bytes is.
+    Show,
+}
+
+/// What is asked of a value, and where its container and the value are.
+#[derive(Clone, Copy, Debug)]
+pub struct ValueRequest<'a> {
+    pub action: Action,
+    /// A file, `-` for standard input, or `self` for the container of containers; none where the value's bytes have
+    /// their container in front.
+    pub schema: Option<&'a str>,
+    /// A file, or `-` for standard input.
+    pub value: &'a str,
+    /// Whether the container is written as hexadecimal digits.
+    pub is_schema_hex: bool,
+    /// Whether the bytes of the value are.
+    pub is_hex: bool,
+    /// Whether the bytes of the value have their container in front.
+    pub with_schema: bool,
+    /// Whether JSON is printed without white space.
+    pub is_compact: bool,
+    /// Whether no colours are wanted.
+    pub is_plain: bool,
+}
+
+/// The commands of the tool.
+///
+/// ```
+/// let matches = command(alloc)?.try_get_matches_from(words)?;
+/// let request = request_from(&matches);
+/// ```
+pub fn command<'a>(alloc: Global) -> Result<Command<'a>, AllocError> {
+    let schema = on_container(alloc, "schema", "Prints the definitions of a container")?
+        .after_help(AFTER_SCHEMA)
+        .arg(flag(alloc, "json", "Prints the container as JSON"))?;
+    let check = on_container(alloc, "check", "Checks that a container keeps the rules")?.after_help(
+        AFTER_CHECK,
+    );
+    let size = on_container(alloc, "size", "Prints the length of the longest encoding")?.after_help(
+        AFTER_SIZE,
+    );
+    let decode = on_bytes(alloc, "decode", "Prints a value as JSON")?
+        .after_help(AFTER_DECODE)
+        .arg(flag(alloc, "compact", "Prints one line, without white space"))?;
+    let encode = on_json(alloc)?.after_help(AFTER_ENCODE);
+    let member = on_bytes(alloc, "member", "Checks that bytes are a value")?.after_help(
+        AFTER_MEMBER,
+    );
+    let show = on_bytes(alloc, "show", "Prints what each byte of a value is")?
+        .after_help(AFTER_SHOW)
+        .arg(flag(alloc, "plain", "Prints no colours"))?;
+    Command::new(alloc, "borsh")
+        .bin_name("borsh")?
+        .about("Answers what a Borsh schema container says, and what bytes say by it")
+        .after_help(AFTER_HELP)
+        .subcommand_required(true)
+        .subcommand(schema)?
+        .subcommand(check)?
+        .subcommand(size)?
+        .subcommand(decode)?
+        .subcommand(encode)?
+        .subcommand(member)?
+        .subcommand(show)
+}
+
+/// A command that reads a container.
+fn on_container<'a>(
+    alloc: Global,
+    name: &'a str,
+    about: &'a str,
+) -> Result<Command<'a>, AllocError> {
+    let file = Arg::new(alloc, "FILE")
+        .required(true)
+        .help("The encoded container, or `-` for standard input");
+    let hex = flag(
+        alloc,
+        "hex",
+        "The input is hexadecimal digits; white space in it counts for nothing",
+    );
+    Command::new(alloc, name).about(about).arg(file)?.arg(hex)
+}
+
+/// A command that reads the bytes of a value, and its container in front of these or from a file of its own.
+fn on_bytes<'a>(alloc: Global, name: &'a str, about: &'a str) -> Result<Command<'a>, AllocError> {
+    let schema = schema(alloc)
+        .required_unless_present("with-schema")?
+        .conflicts_with("with-schema")?;
+    let value = Arg::new(alloc, "VALUE")
+        .required(true)
+        .help("The bytes of the value, or `-` for standard input");
+    let with_schema = flag(
+        alloc,
+        "with-schema",
+        "The bytes have their container in front, and SCHEMA is left out",
+    );
+    Command::new(alloc, name)
+        .about(about)
+        .allow_missing_positional(true)
+        .arg(schema)?
+        .arg(value)?
+        .arg(flag(
+            alloc,
+            "hex",
+            "The bytes of the value are hexadecimal digits",
+        ))?
+        .arg(schema_hex(alloc).conflicts_with("with-schema")?)?
+        .arg(with_schema)
+}
+
+/// The command that reads JSON.
+fn on_json<'a>(alloc: Global) -> Result<Command<'a>, AllocError> {
+    let value = Arg::new(alloc, "JSON")
+        .required(true)
+        .help("The value, or `-` for standard input");
+    let with_schema = flag(
+        alloc,
+        "with-schema",
+        "Prints the bytes of the container in front",
+    );
+    Command::new(alloc, "encode")
+        .about("Prints the bytes of a value in JSON")
+        .arg(schema(alloc).required(true))?
+        .arg(value)?
+        .arg(flag(alloc, "hex", "Prints hexadecimal digits"))?
+        .arg(schema_hex(alloc))?
+        .arg(with_schema)
+}
+
+fn schema<'a>(alloc: Global) -> Arg<'a> {
+    Arg::new(alloc, "SCHEMA").help(
+        "The encoded container, `-` for standard input, or `self` for the container of containers",
+    )
+}
+
+fn schema_hex<'a>(alloc: Global) -> Arg<'a> {
+    flag(alloc, "schema-hex", "The container is hexadecimal digits")
+}
+
+/// An option without a value.
+fn flag<'a>(alloc: Global, name: &'a str, help: &'a str) -> Arg<'a> {
+    Arg::new(alloc, name)
+        .long(name)
+        .action(ArgAction::SetTrue)
+        .help(help)
+}
+
+/// What the words of a command line ask of a container. `None` where they name no command.
+pub fn request_from<'a>(matches: &ArgMatches<'a>) -> Option<Request<'a>> {
+    let (name, inner) = matches.subcommand()?;
+    Some(Request {
+        question: question_named(name)?,
+        path: inner.get_str("FILE")?,
+        is_hex: inner.get_flag("hex"),
+        is_json: inner.get_flag("json"),
+    })
+}
+
+/// What the words of a command line ask of a value. `None` where they ask nothing of one.
+pub fn value_request_from<'a>(matches: &ArgMatches<'a>) -> Option<ValueRequest<'a>> {
+    let (name, inner) = matches.subcommand()?;
+    let (action, value) = action_named(name)?;
+    Some(ValueRequest {
+        action,
+        schema: inner.get_str("SCHEMA"),
+        value: inner.get_str(value)?,
+        is_schema_hex: inner.get_flag("schema-hex"),
+        is_hex: inner.get_flag("hex"),
+        with_schema: inner.get_flag("with-schema"),
+        is_compact: inner.get_flag("compact"),
+        is_plain: inner.get_flag("plain"),
+    })
+}
+
+/// The action, and the name of its argument with the value.
+fn action_named(name: &str) -> Option<(Action, &'static str)> {
+    match name {
+        "decode" => Some((Action::Decode, "VALUE")),
+        "encode" => Some((Action::Encode, "JSON")),
+        "member" => Some((Action::Member, "VALUE")),
+        "show" => Some((Action::Show, "VALUE")),
+        _ => None,
+    }
+}
+
+fn question_named(name: &str) -> Option<Question> {
+    match name {
+        "schema" => Some(Question::Schema),
+        "check" => Some(Question::Check),
+        "size" => Some(Question::Size),
+        _ => None,
+    }
+}

@@ -1,0 +1,17 @@
+//! The commands of the tool `borsh`: what a schema container says, and what bytes say by it.
+//!
+//! [`run`] is a run of the tool over the words of its command line. The modules have what it is made of: the command line
+//! ([`command`]), the answers about a container ([`answers`], [`definitions`]) and about a value ([`values`]), the text that is
+//! printed ([`plain_text`], [`colors`]), and why there is no answer ([`failure`]).
+#![tactic(auto)]
+
+pub mod answers;
+pub mod colors;
+pub mod command;
+pub mod definitions;
+pub mod failure;
+pub mod plain_text;
+pub mod runner;
+pub mod values;
+
+pub use runner::run;

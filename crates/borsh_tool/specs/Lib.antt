@@ -1,4 +1,0 @@
-pub mod Plain
-pub mod Questions
-pub mod Answers
-pub mod Definitions
