@@ -5,6 +5,9 @@ ghost use Rattle.borsh_c.specs.Texts.{IsNo, IsNotMalformed, IsUndecided, TellsBr
 ghost use Rattle.borsh_definitions.specs.Codecs.{root_and_map};
 ghost use Rattle.borsh_io.specs.Errors.{error_kind};
 ghost use Rattle.borsh_walks.specs.Container.{IsValid, MaxSize, Member};
+ghost use Rattle.borsh_walks.specs.Definitions.{definitions_in};
+ghost use Rattle.borsh_walks.specs.RulesAnswer.{AcceptsIfValid, JudgesRules};
+ghost use Rattle.borsh_walks.specs.SizeOutcome.{AnswersSize};
 ghost use Rattle.json.specs.Json.{document};
 
 use super::refusal::Refusal;
@@ -53,12 +56,24 @@ pub fn rules(alloc: Global, schema: &[u8]) -> Result<(), Refusal>
     ensures err { IfErr result (λ e. IsRefused schema.now IsInvalid Never e) }
 {
     let (root, definitions) = container_from(alloc, schema)?;
-    let mut counts = no_counts();
-    let mut counted = Counted::new(&definitions, &mut counts);
-    match check_rules(alloc, root.as_str(), &mut counted) {
+    match rules_of(alloc, root.as_str(), &definitions) {
         Ok(()) => Ok(()),
         Err(error) => Err(broken(alloc, &error)),
     }
+}
+
+/// Whether the names that the root refers to keep the rules.
+fn rules_of(
+    alloc: Global,
+    root: &str,
+    map: &BTreeMap<String, Definition>,
+) -> Result<(), SchemaContainerValidateError>
+    ensures answer { JudgesRules (definitions_in map.now) root.now result }
+    ensures complete { AcceptsIfValid (definitions_in map.now) root.now result }
+{
+    let mut counts = no_counts();
+    let mut counted = Counted::new(map, &mut counts);
+    check_rules(alloc, root, &mut counted)
 }
 
 fn no_counts() -> Expansions {
@@ -113,12 +128,22 @@ pub fn size(alloc: Global, schema: &[u8]) -> Result<usize, Refusal>
     ensures err { IfErr result (λ e. IsRefused schema.now HasNoSize Never e) }
 {
     let (root, definitions) = container_from(alloc, schema)?;
-    let mut counts = no_counts();
-    let mut counted = Counted::new(&definitions, &mut counts);
-    match root_size(alloc, root.as_str(), &mut counted) {
+    match size_of_root(alloc, root.as_str(), &definitions) {
         Ok(size) => Ok(size),
         Err(error) => Err(no_size(alloc, &error)),
     }
+}
+
+fn size_of_root(
+    alloc: Global,
+    root: &str,
+    map: &BTreeMap<String, Definition>,
+) -> Result<usize, SchemaMaxSerializedSizeError>
+    ensures { AnswersSize (definitions_in map.now) root.now result }
+{
+    let mut counts = no_counts();
+    let mut counted = Counted::new(map, &mut counts);
+    root_size(alloc, root, &mut counted)
 }
 
 /// Why there is no size.
