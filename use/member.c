@@ -59,20 +59,6 @@ static void print_json(const struct file *schema, const struct file *value) {
     borsh_free(&json);
 }
 
-/* Null pointers are taken with length 0 and refused with another length. */
-static void print_null(const struct file *schema) {
-    struct borsh_buffer text;
-    uint32_t code = borsh_member(schema->bytes, schema->length, NULL, 0, &text);
-    print_text("null, length 0", code, &text);
-    borsh_free(&text);
-    code = borsh_member(schema->bytes, schema->length, NULL, 1, &text);
-    print_text("null, length 1", code, &text);
-    borsh_free(&text);
-    borsh_free(&text);
-    borsh_free(NULL);
-    printf("null buffer: %u\n", (unsigned)borsh_member(schema->bytes, schema->length, NULL, 0, NULL));
-}
-
 int main(int count, char **words) {
     if (count != 3) {
         fprintf(stderr, "member SCHEMA VALUE\n");
@@ -98,7 +84,6 @@ int main(int count, char **words) {
     borsh_free(&text);
 
     print_json(&schema, &value);
-    print_null(&schema);
     free(schema.bytes);
     free(value.bytes);
     return is_member == BORSH_YES ? 0 : 1;
