@@ -1,9 +1,9 @@
 -- A refusal says what is right.
-use Rattle.std.proofs.Common.{◌≡◌, ◌^◌, ◌<◌, ℕ, List, Option, Some, String, string_bytes, subst}
+use Rattle.std.proofs.Common.{◌≡◌, ◌^◌, ◌<◌, ℕ, List, Option, Some, IsSome, String, string_bytes, refl, subst, sym}
 use Rattle.std.specs.Global.{Global}
 use Rattle.std.specs.BTreeMap.{BTreeMap}
 use Rattle.borsh_definitions.specs.Codecs.{root_and_map}
-use Rattle.borsh_walks.specs.Container.{Shape, IsValid, MaxSize}
+use Rattle.borsh_walks.specs.Container.{Shape, IsValid, MaxSize, Member}
 use Rattle.borsh_walks.specs.Definitions.{definitions_in}
 use Rattle.borsh_walks.specs.declared.definition.Definition.{Definition}
 use Rattle.borsh_walks.specs.declared.error.SchemaContainerValidateError.{SchemaContainerValidateError}
@@ -12,7 +12,10 @@ use Rattle.borsh_walks.specs.declared.error.SchemaMaxSerializedSizeError.{Schema
 use Rattle.borsh_walks.specs.declared.error.SchemaMaxSerializedSizeError.TheVariants.{OutOfMemory as NoMemory}
 use Rattle.borsh_c.specs.declared.refusal.Refusal.{Refusal}
 use Rattle.borsh_c.specs.declared.refusal.Refusal.TheVariants.{No, Malformed, OutOfMemory, Undecided}
-use Rattle.borsh_c.specs.Answers.{Saying, About, Anything, HasNoSize, IsInvalid, IsRefused, Never}
+use Rattle.borsh_c.specs.Answers.{Saying, About, Answers, Anything, GivesBytes, GivesJson, HasNoSize, IsInvalid, IsRefused, Never}
+use Rattle.borsh_c.specs.Answers.Answers.{yes}
+use Rattle.borsh_c.specs.Room.{IsGiven}
+use Rattle.json.specs.Json.{document}
 use Rattle.borsh_c.specs.Texts.{IsNo, IsNotMalformed, IsUndecided, TellsBroken, TellsNoSize}
 
 -- ---- what is said of the container whose encoding the bytes are, and of the name of its root
@@ -53,3 +56,11 @@ module _ {schema : List ℕ} (c : String Global × BTreeMap (String Global) Defi
   refusal_told (Malformed t) told = absurd told
   refusal_told OutOfMemory told = tt
   refusal_told (Undecided t) told = about_told Anything tt
+
+-- ---- what was given
+
+pub json_told : {schema value room text bytes : List ℕ} {needed : ℕ} → About schema (λ C root. Member C root value) → IsSome (document text) → bytes ≡ text → IsGiven bytes room needed → GivesJson schema value room needed 0
+json_told {bytes = bytes} m json same given = yes (m.0, m.1, (m.2, (bytes, subst (λ (t : List ℕ). IsSome (document t)) (sym same) json, given))) refl
+
+pub bytes_told : {schema room value bytes : List ℕ} {needed : ℕ} → About schema (λ C root. Member C root value) → bytes ≡ value → IsGiven bytes room needed → GivesBytes schema room needed 0
+bytes_told {bytes = bytes} m same given = yes (m.0, m.1, (bytes, subst (λ (v : List ℕ). Member (definitions_in m.0.1) (string_bytes m.0.0) v) (sym same) m.2, given)) refl
