@@ -123,7 +123,7 @@ fn no(text: Result<String, AllocError>) -> Refusal
 }
 
 /// The length of the longest encoding of the root.
-pub fn size(alloc: Global, schema: &[u8]) -> Result<usize, Refusal>
+pub fn greatest_size(alloc: Global, schema: &[u8]) -> Result<usize, Refusal>
     ensures ok { IfOk result (λ n. About schema.now (λ C root. MaxSize C root n)) }
     ensures err { IfErr result (λ e. IsRefused schema.now HasNoSize Never e) }
 {

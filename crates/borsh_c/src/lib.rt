@@ -2,7 +2,8 @@
 //!
 //! A container is given by its encoding, as `to_vec` of a `BorshSchemaContainer` makes it. Each call returns a code (the
 //! constants of [`codes`]) and gives a text or bytes in the caller's room: their length is written to `needed`, and they are
-//! the beginning of the room if they fit; otherwise the call is made again with a larger room. `use/borsh.c` does that.
+//! the beginning of the room if they fit; otherwise the call is made again with a larger room. `use/borsh.c` does that, and is what
+//! a C program calls.
 #![tactic(auto)]
 
 mod answers;
@@ -14,7 +15,7 @@ mod tests;
 
 ghost use Rattle.borsh_c.specs.Answers.{AnswersMember, AnswersSize, AnswersValid, GivesBytes, GivesJson};
 
-use answers::{json_of, membership, rules, size, value_of};
+use answers::{greatest_size, json_of, membership, rules, value_of};
 use borsh_json::Layout;
 use codes::YES;
 use room::give;
@@ -53,15 +54,15 @@ pub extern "C" fn borsh_c_valid(
 pub extern "C" fn borsh_c_size(
     alloc: Global,
     schema: &[u8],
-    size_out: &mut usize,
+    size: &mut usize,
     room: &mut [u8],
     needed: &mut usize,
 ) -> u32
-    ensures { AnswersSize schema.now size_out.new result }
+    ensures { AnswersSize schema.now size.new result }
 {
-    match size(alloc, schema) {
+    match greatest_size(alloc, schema) {
         Ok(most) => {
-            *size_out = most;
+            *size = most;
             give(b"", room, needed);
             YES
         }
