@@ -33,11 +33,11 @@ static struct file file_at(const char *path) {
 }
 
 static void print_text(const char *call, uint32_t code, const struct borsh_buffer *text) {
-    printf("%s: %u %s\n", call, (unsigned)code, (const char *)text->data);
+    printf("%s: %u%s%s\n", call, (unsigned)code, text->length == 0 ? "" : " ", (const char *)text->data);
 }
 
 static void print_bytes(const char *call, uint32_t code, const struct borsh_buffer *bytes) {
-    printf("%s: %u ", call, (unsigned)code);
+    printf("%s: %u%s", call, (unsigned)code, bytes->length == 0 ? "" : " ");
     for (size_t i = 0; i < bytes->length; i++)
         printf("%02x", bytes->data[i]);
     printf("\n");

@@ -8,6 +8,7 @@ use std::process::ExitCode;
 
 fn print(call: &str, answer: Result<String, Error>) -> bool {
     match &answer {
+        Ok(text) if text.is_empty() => println!("{call}: 0"),
         Ok(text) => println!("{call}: 0 {text}"),
         Err(error) => println!("{call}: {} {error}", error.code()),
     }
