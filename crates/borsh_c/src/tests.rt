@@ -1,5 +1,5 @@
 //! Worked examples: each call with each code that it returns, and rooms that are too small.
-use super::codes::{MALFORMED, NO, OUT_OF_MEMORY, UNDECIDED, YES};
+use super::codes::{MALFORMED, NO, UNDECIDED, YES};
 use super::{borsh_c_from_json, borsh_c_member, borsh_c_size, borsh_c_to_json, borsh_c_valid};
 use std::process::Abort;
 use std::str;
@@ -25,12 +25,18 @@ const MISSING: &[u8] = b"\x01\0\0\0A\0\0\0\0";
 const TWICE: &[u8] =
     b"\x01\0\0\0E\x02\0\0\0\x01\0\0\0E\x03\x01\x02\0\0\0\0\0\0\0\0\0\0\0\x01\0\0\0a\x02\0\0\0u8\0\0\0\0\0\0\0\0\x01\0\0\0b\x02\0\0\0u8\x02\0\0\0u8\0\x01";
 
+/// The bytes that a call gave; none if the room is too small.
+fn given_bytes<'a>(room: &'a [u8], needed: usize) -> &'a [u8] {
+    if needed <= room.len() {
+        &room[..needed]
+    } else {
+        b""
+    }
+}
+
 /// The text that a call gave.
 fn given<'a>(room: &'a [u8], needed: usize) -> &'a str {
-    if room.len() < needed {
-        return "the room is too small";
-    }
-    str::from_utf8(&room[..needed]).unwrap_or("no text")
+    str::from_utf8(given_bytes(room, needed)).unwrap_or("no text")
 }
 
 #[test]
@@ -140,7 +146,7 @@ fn gives_the_bytes_of_json(rt: HostRuntime) -> Result<(), Fail> {
         borsh_c_from_json(alloc, SCHEMA, json, &mut room, &mut needed),
         YES
     );
-    assert!(rt; &room[..needed] == VALUE);
+    assert!(rt; given_bytes(&room, needed) == VALUE);
     assert_eq!(rt;
         borsh_c_from_json(alloc, SCHEMA, b"\xff", &mut room, &mut needed),
         NO
