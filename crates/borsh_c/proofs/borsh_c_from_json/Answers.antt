@@ -1,0 +1,5 @@
+use Rattle.borsh_c.proofs.Told.{bytes_told}
+use Rattle.borsh_c.proofs.borsh_c_from_json.Goals as goal
+
+pub returns-in-Ok : goal.returns-in-Ok
+returns-in-Ok c = bytes_told c.in-Ok.ensures.ok c.as_slice.ensures.value c.give.ensures.given

@@ -1,0 +1,95 @@
+-- What the calls answer about the container whose encoding the bytes are.
+use Rattle.std.specs.Prelude.{◌≡◌, ◌^◌, ◌<◌, ⊤, ℕ, List, IsSome, Option, Some, true, String, string_bytes}
+use Rattle.std.specs.Global.{Global}
+use Rattle.std.specs.BTreeMap.{BTreeMap}
+use Rattle.json.specs.Json.{document}
+use Rattle.borsh_codec.specs.Codec.{IsDecodable}
+use Rattle.borsh_definitions.specs.Codecs.{root_and_map}
+use Rattle.borsh_walks.specs.Container.{Shape, Member, MaxSize, IsValid}
+use Rattle.borsh_walks.specs.Definitions.{definitions_in}
+use Rattle.borsh_walks.specs.declared.definition.Definition.{Definition}
+use Rattle.borsh_values.specs.Unambiguous.{IsUnambiguous}
+use Rattle.borsh_c.specs.Room.{IsGiven}
+use Rattle.borsh_c.specs.declared.refusal.Refusal.{Refusal}
+use Rattle.borsh_c.specs.declared.refusal.Refusal.TheVariants.{No, Malformed, OutOfMemory, Undecided}
+
+-- what may be said of the definitions of a container, and of the name of its root
+abbrev pub Saying : Type 1
+Saying = (List ℕ → Option Shape) → List ℕ → Type 0
+
+-- the bytes are the encoding of a container of which this holds
+abbrev pub About : List ℕ → Saying → Type 0
+About bytes P = (c : String Global × BTreeMap (String Global) Definition) × (root_and_map.encoding c ≡ Some bytes) × P (definitions_in c.1) (string_bytes c.0)
+
+-- no container decodes from the bytes
+abbrev pub IsMalformed : List ℕ → Type 0
+IsMalformed bytes = IsDecodable root_and_map true bytes → ⊥
+
+-- ---- codes
+
+-- the code of each refusal
+abbrev pub code_of : Refusal → ℕ
+code_of (No t) = 1
+code_of (Malformed t) = 2
+code_of OutOfMemory = 3
+code_of (Undecided t) = 5
+
+-- each code says what is right
+pub data Answers (schema : List ℕ) (Yes No Undecided : Saying) (code : ℕ) : Type 0 where
+  yes : About schema Yes → code ≡ 0 → Answers schema Yes No Undecided code
+  no : About schema No → code ≡ 1 → Answers schema Yes No Undecided code
+  malformed : IsMalformed schema → code ≡ 2 → Answers schema Yes No Undecided code
+  out_of_memory : code ≡ 3 → Answers schema Yes No Undecided code
+  undecided : About schema Undecided → code ≡ 5 → Answers schema Yes No Undecided code
+
+-- a refusal is right
+abbrev pub IsRefused : List ℕ → Saying → Saying → Refusal → Type 0
+IsRefused schema N U (No t) = About schema N
+IsRefused schema N U (Malformed t) = IsMalformed schema
+IsRefused schema N U OutOfMemory = ⊤
+IsRefused schema N U (Undecided t) = About schema U
+
+-- ---- what the calls say
+
+abbrev pub Anything : Saying
+Anything C root = ⊤
+
+abbrev pub Never : Saying
+Never C root = ⊥
+
+abbrev pub IsInvalid : Saying
+IsInvalid C root = IsValid C root → ⊥
+
+-- there is no size below 2^64
+abbrev pub HasNoSize : Saying
+HasNoSize C root = (n : ℕ) → MaxSize C root n → n < 2 ^ 64 → ⊥
+
+abbrev pub IsNoMember : List ℕ → Saying
+IsNoMember value C root = Member C root value → ⊥
+
+-- the container breaks a rule, or is ambiguous
+abbrev pub IsUnclear : Saying
+IsUnclear C root = IsValid C root → IsUnambiguous C root → ⊥
+
+-- bytes of which this holds were given
+abbrev pub Gives : (List ℕ → Type 0) → List ℕ → ℕ → Type 0
+Gives P room needed = (bytes : List ℕ) × P bytes × IsGiven bytes room needed
+
+-- ---- the outcomes of the calls
+
+abbrev pub AnswersValid : List ℕ → ℕ → Type 0
+AnswersValid schema = Answers schema IsValid IsInvalid Never
+
+abbrev pub AnswersSize : List ℕ → ℕ → ℕ → Type 0
+AnswersSize schema most = Answers schema (λ C root. MaxSize C root most) HasNoSize Never
+
+abbrev pub AnswersMember : List ℕ → List ℕ → ℕ → Type 0
+AnswersMember schema value = Answers schema (λ C root. Member C root value) (IsNoMember value) IsUnclear
+
+-- the bytes are a value, and JSON is given
+abbrev pub GivesJson : List ℕ → List ℕ → List ℕ → ℕ → ℕ → Type 0
+GivesJson schema value room needed = Answers schema (λ C root. Member C root value × Gives (λ text. IsSome (document text)) room needed) Anything Anything
+
+-- bytes of a value are given
+abbrev pub GivesBytes : List ℕ → List ℕ → ℕ → ℕ → Type 0
+GivesBytes schema room needed = Answers schema (λ C root. Gives (Member C root) room needed) Anything Anything

@@ -1,0 +1,149 @@
+//! The library for C: what a schema container says, and what bytes say by it.
+//!
+//! A container is given by its encoding, as `to_vec` of a `BorshSchemaContainer` makes it. Each call returns a code (the
+//! constants of [`codes`]) and gives a text or bytes in the caller's room: their length is written to `needed`, and they are
+//! the beginning of the room if they fit; otherwise the call is made again with a larger room. `use/borsh.c` does that, and is what
+//! a C program calls.
+#![tactic(auto)]
+
+mod answers;
+mod codes;
+mod refusal;
+mod room;
+#[cfg(test)]
+mod tests;
+
+ghost use Rattle.borsh_c.specs.Answers.{AnswersMember, AnswersSize, AnswersValid, GivesBytes, GivesJson};
+
+use answers::{greatest_size, json_of, membership, rules, value_of};
+use borsh_json::Layout;
+use codes::YES;
+use room::give;
+use std::alloc::Global;
+
+/// Whether the container keeps the rules of schemas.
+///
+/// ```c
+/// uint32_t code = borsh_c_valid(schema, schema_length, room, room_length, &needed);
+/// ```
+#[unsafe(no_mangle)]
+pub extern "C" fn borsh_c_valid(
+    alloc: Global,
+    schema: &[u8],
+    room: &mut [u8],
+    needed: &mut usize,
+) -> u32
+    ensures { AnswersValid schema.now result }
+{
+    match rules(alloc, schema) {
+        Ok(()) => {
+            give(b"", room, needed);
+            YES
+        }
+        Err(refusal) => refusal.tell(room, needed),
+    }
+}
+
+/// The length of the longest encoding of the container's root in bytes, which is written to `size`. After any other code than
+/// [`YES`] `size` is unchanged.
+///
+/// ```c
+/// uint32_t code = borsh_c_size(schema, schema_length, &size, room, room_length, &needed);
+/// ```
+#[unsafe(no_mangle)]
+pub extern "C" fn borsh_c_size(
+    alloc: Global,
+    schema: &[u8],
+    size: &mut usize,
+    room: &mut [u8],
+    needed: &mut usize,
+) -> u32
+    ensures { AnswersSize schema.now size.new result }
+{
+    match greatest_size(alloc, schema) {
+        Ok(most) => {
+            *size = most;
+            give(b"", room, needed);
+            YES
+        }
+        Err(refusal) => refusal.tell(room, needed),
+    }
+}
+
+/// Whether all of `value` is a value of the container's root.
+///
+/// ```c
+/// uint32_t code = borsh_c_member(schema, schema_length, value, value_length, room, room_length, &needed);
+/// ```
+#[unsafe(no_mangle)]
+pub extern "C" fn borsh_c_member(
+    alloc: Global,
+    schema: &[u8],
+    value: &[u8],
+    room: &mut [u8],
+    needed: &mut usize,
+) -> u32
+    ensures { AnswersMember schema.now value.now result }
+{
+    match membership(alloc, schema, value) {
+        Ok(()) => {
+            give(b"", room, needed);
+            YES
+        }
+        Err(refusal) => refusal.tell(room, needed),
+    }
+}
+
+/// Gives the JSON of the value that all of `value` is; on one line if `is_compact`.
+///
+/// ```c
+/// uint32_t code = borsh_c_to_json(schema, schema_length, value, value_length, true, room, room_length, &needed);
+/// ```
+#[unsafe(no_mangle)]
+pub extern "C" fn borsh_c_to_json(
+    alloc: Global,
+    schema: &[u8],
+    value: &[u8],
+    is_compact: bool,
+    room: &mut [u8],
+    needed: &mut usize,
+) -> u32
+    ensures { GivesJson schema.now value.now room.new needed.new result }
+{
+    let layout = if is_compact {
+        Layout::Compact
+    } else {
+        Layout::Pretty
+    };
+    match json_of(alloc, schema, value, layout) {
+        Ok(json) => {
+            give(json.as_bytes(), room, needed);
+            YES
+        }
+        Err(refusal) => refusal.tell(room, needed),
+    }
+}
+
+/// Gives the bytes of the value that `json` says, which is UTF-8.
+///
+/// ```c
+/// uint32_t code = borsh_c_from_json(schema, schema_length, json, json_length, room, room_length, &needed);
+/// ```
+#[unsafe(no_mangle)]
+pub extern "C" fn borsh_c_from_json(
+    alloc: Global,
+    schema: &[u8],
+    json: &[u8],
+    room: &mut [u8],
+    needed: &mut usize,
+) -> u32
+    ensures { GivesBytes schema.now room.new needed.new result }
+{
+    match value_of(alloc, schema, json) {
+        Ok(bytes) => {
+            give(bytes.as_slice(), room, needed);
+            YES
+        }
+        Err(refusal) => refusal.tell(room, needed),
+    }
+}

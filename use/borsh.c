@@ -1,0 +1,132 @@
+/* The calls of `borsh.h`, over the proved functions of `crates/borsh_c`.
+ *
+ * This file isn't proved. It takes null pointers, which a proved function can't, and allocates the buffers: a proved
+ * function writes into a room that it is lent, and says how many bytes it has to give. If the room is too small, the call is
+ * made again with a room of that size. */
+#include "borsh.h"
+
+#include <stdlib.h>
+
+/* The functions of `crates/borsh_c`. No pointer may be null. */
+uint32_t borsh_c_valid(const uint8_t *schema, size_t schema_length, uint8_t *room, size_t room_length, size_t *needed);
+uint32_t borsh_c_size(const uint8_t *schema, size_t schema_length, size_t *size, uint8_t *room, size_t room_length,
+                      size_t *needed);
+uint32_t borsh_c_member(const uint8_t *schema, size_t schema_length, const uint8_t *value, size_t value_length,
+                        uint8_t *room, size_t room_length, size_t *needed);
+uint32_t borsh_c_to_json(const uint8_t *schema, size_t schema_length, const uint8_t *value, size_t value_length,
+                         bool is_compact, uint8_t *room, size_t room_length, size_t *needed);
+uint32_t borsh_c_from_json(const uint8_t *schema, size_t schema_length, const uint8_t *json, size_t json_length,
+                           uint8_t *room, size_t room_length, size_t *needed);
+
+enum call { VALID, SIZE, MEMBER, TO_JSON, FROM_JSON };
+
+struct question {
+    enum call call;
+    const uint8_t *schema;
+    size_t schema_length;
+    const uint8_t *value;
+    size_t value_length;
+    bool is_compact;
+    size_t *size;
+};
+
+static const uint8_t nothing[1] = {0};
+
+void borsh_free(struct borsh_buffer *buffer) {
+    if (buffer == NULL)
+        return;
+    free(buffer->block);
+    *buffer = (struct borsh_buffer){nothing, 0, NULL};
+}
+
+/* An error that the proved functions don't have. Its text isn't allocated. */
+static uint32_t fail(uint32_t code, const char *text, size_t length, struct borsh_buffer *out) {
+    *out = (struct borsh_buffer){(const uint8_t *)text, length, NULL};
+    return code;
+}
+
+#define FAIL(code, text, out) fail((code), (text), sizeof(text) - 1, (out))
+
+static bool is_null(const uint8_t *bytes, size_t length) { return bytes == NULL && length != 0; }
+
+/* Where no bytes are: a pointer that isn't null. */
+static const uint8_t *start(const uint8_t *bytes) { return bytes == NULL ? nothing : bytes; }
+
+static uint32_t call(const struct question *q, uint8_t *room, size_t room_length, size_t *needed) {
+    const uint8_t *schema = start(q->schema);
+    const uint8_t *value = start(q->value);
+    switch (q->call) {
+    case VALID:
+        return borsh_c_valid(schema, q->schema_length, room, room_length, needed);
+    case SIZE:
+        return borsh_c_size(schema, q->schema_length, q->size, room, room_length, needed);
+    case MEMBER:
+        return borsh_c_member(schema, q->schema_length, value, q->value_length, room, room_length, needed);
+    case TO_JSON:
+        return borsh_c_to_json(schema, q->schema_length, value, q->value_length, q->is_compact, room, room_length,
+                               needed);
+    default:
+        return borsh_c_from_json(schema, q->schema_length, value, q->value_length, room, room_length, needed);
+    }
+}
+
+/* A first room, in which most answers fit. */
+static size_t first_room(const struct question *q) {
+    if ((q->call == TO_JSON || q->call == FROM_JSON) && q->value_length < SIZE_MAX / 8)
+        return 4 * q->value_length + 256;
+    return 256;
+}
+
+static uint32_t ask(const struct question *q, struct borsh_buffer *out) {
+    if (out == NULL)
+        return BORSH_NULL;
+    if (is_null(q->schema, q->schema_length) || is_null(q->value, q->value_length) || q->size == NULL)
+        return FAIL(BORSH_NULL, "null pointer", out);
+    size_t room_length = first_room(q);
+    while (room_length < SIZE_MAX) {
+        uint8_t *room = calloc(room_length + 1, 1);
+        if (room == NULL)
+            break;
+        size_t needed = 0;
+        uint32_t code = call(q, room, room_length, &needed);
+        if (needed <= room_length) {
+            room[needed] = 0;
+            *out = (struct borsh_buffer){room, needed, room};
+            return code;
+        }
+        free(room);
+        room_length = needed;
+    }
+    return FAIL(BORSH_OUT_OF_MEMORY, "out of memory", out);
+}
+
+uint32_t borsh_valid(const uint8_t *schema, size_t schema_length, struct borsh_buffer *text) {
+    size_t unused = 0;
+    return ask(&(struct question){VALID, schema, schema_length, NULL, 0, false, &unused}, text);
+}
+
+uint32_t borsh_size(const uint8_t *schema, size_t schema_length, size_t *size, struct borsh_buffer *text) {
+    size_t most = 0;
+    uint32_t code = ask(&(struct question){SIZE, schema, schema_length, NULL, 0, false, size == NULL ? NULL : &most}, text);
+    if (code == BORSH_YES)
+        *size = most;
+    return code;
+}
+
+uint32_t borsh_member(const uint8_t *schema, size_t schema_length, const uint8_t *value, size_t value_length,
+                      struct borsh_buffer *text) {
+    size_t unused = 0;
+    return ask(&(struct question){MEMBER, schema, schema_length, value, value_length, false, &unused}, text);
+}
+
+uint32_t borsh_to_json(const uint8_t *schema, size_t schema_length, const uint8_t *value, size_t value_length,
+                       bool is_compact, struct borsh_buffer *json) {
+    size_t unused = 0;
+    return ask(&(struct question){TO_JSON, schema, schema_length, value, value_length, is_compact, &unused}, json);
+}
+
+uint32_t borsh_from_json(const uint8_t *schema, size_t schema_length, const uint8_t *json, size_t json_length,
+                         struct borsh_buffer *value) {
+    size_t unused = 0;
+    return ask(&(struct question){FROM_JSON, schema, schema_length, json, json_length, false, &unused}, value);
+}

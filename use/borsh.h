@@ -1,0 +1,76 @@
+/* The Borsh library for C: what an encoded schema container says, and what bytes say by it.
+ *
+ * A container is given by its encoding, as `to_vec` of a `BorshSchemaContainer` makes it, in Rust or in Rattle.
+ *
+ * Each call returns one of the codes below and fills a buffer, which `borsh_free` frees whatever the code was:
+ * after BORSH_YES with what was asked for, after any other code with a text that says why.
+ *
+ *     struct borsh_buffer text;
+ *     if (borsh_member(schema, schema_length, value, value_length, &text) != BORSH_YES)
+ *         fprintf(stderr, "%s\n", (const char *)text.data);
+ *     borsh_free(&text);
+ *
+ * No call ends the process, whatever bytes it is given. Input is a pointer and a length; with length 0 the pointer may be
+ * null. Calls share nothing, so any thread may make them. They must not be made from a signal handler, or from
+ * the forked child of a process with threads. */
+#ifndef BORSH_H
+#define BORSH_H
+
+#include <stdbool.h>
+#include <stddef.h>
+#include <stdint.h>
+
+#ifdef __cplusplus
+extern "C" {
+#endif
+
+enum borsh_code {
+    /* Yes; the buffer has what was asked for. */
+    BORSH_YES = 0,
+    /* No: the container breaks a rule or has no size, the bytes are no value, or the JSON says none. */
+    BORSH_NO = 1,
+    /* The bytes of the schema aren't the encoding of a container. */
+    BORSH_MALFORMED = 2,
+    /* An allocation failed. */
+    BORSH_OUT_OF_MEMORY = 3,
+    /* A pointer is null: that of an input whose length isn't 0, or that of a result. */
+    BORSH_NULL = 4,
+    /* The container allows two values for the same bytes, or breaks a rule of widths, so it has no answer. */
+    BORSH_UNDECIDED = 5,
+};
+
+struct borsh_buffer {
+    /* Never null after a call, and behind the last byte is a zero byte that isn't counted. */
+    const uint8_t *data;
+    size_t length;
+    /* What `borsh_free` frees. */
+    void *block;
+};
+
+/* Frees a buffer that a call filled, and empties it. A null pointer and an empty buffer are taken. */
+void borsh_free(struct borsh_buffer *buffer);
+
+/* Whether the container keeps the rules of schemas. After BORSH_NO the text is `invalid`, the rule and a name. */
+uint32_t borsh_valid(const uint8_t *schema, size_t schema_length, struct borsh_buffer *text);
+
+/* The length of the longest encoding of the container's root, in `*size`, which otherwise is unchanged. After BORSH_NO the
+ * text is `overflow`, `recursive`, or `missing` and a name. */
+uint32_t borsh_size(const uint8_t *schema, size_t schema_length, size_t *size, struct borsh_buffer *text);
+
+/* Whether all of the bytes are a value of the root. After BORSH_NO the text says where they stop being one, and why. */
+uint32_t borsh_member(const uint8_t *schema, size_t schema_length, const uint8_t *value, size_t value_length,
+                      struct borsh_buffer *text);
+
+/* The value that all of the bytes are as JSON, in UTF-8: on one line if `is_compact`. */
+uint32_t borsh_to_json(const uint8_t *schema, size_t schema_length, const uint8_t *value, size_t value_length,
+                       bool is_compact, struct borsh_buffer *json);
+
+/* The bytes of the value that JSON says, which is UTF-8. */
+uint32_t borsh_from_json(const uint8_t *schema, size_t schema_length, const uint8_t *json, size_t json_length,
+                         struct borsh_buffer *value);
+
+#ifdef __cplusplus
+}
+#endif
+
+#endif

@@ -1,0 +1,59 @@
+/* Null pointers, and buffers that are freed twice. The exit status is the number of the first check that fails, or 0. */
+#include "borsh.h"
+
+#include <string.h>
+
+/* A container: `u8`, a byte. */
+static const uint8_t byte[] = {2, 0, 0, 0, 'u', '8', 1, 0, 0, 0, 2, 0, 0, 0, 'u', '8', 0, 1};
+
+/* Whether a call returned this code and this text, which is freed. */
+static bool is(uint32_t code, uint32_t wanted, struct borsh_buffer *text, const char *says) {
+    bool same = code == wanted && text->length == strlen(says) && strcmp((const char *)text->data, says) == 0;
+    borsh_free(text);
+    return same && text->length == 0 && text->block == NULL;
+}
+
+int main(void) {
+    struct borsh_buffer text;
+    size_t size = 7;
+    const char *ends = "not a schema container: Unexpected length of input";
+    const char *few = "no member: u8 (`u8` at byte 0): too few bytes are left";
+
+    /* Null with length 0 is no bytes. */
+    if (!is(borsh_valid(NULL, 0, &text), BORSH_MALFORMED, &text, ends)) return 1;
+    if (!is(borsh_size(NULL, 0, &size, &text), BORSH_MALFORMED, &text, ends)) return 2;
+    if (!is(borsh_member(byte, sizeof byte, NULL, 0, &text), BORSH_NO, &text, few)) return 3;
+    if (!is(borsh_to_json(byte, sizeof byte, NULL, 0, true, &text), BORSH_NO, &text, few + strlen("no member: "))) return 4;
+    if (borsh_from_json(byte, sizeof byte, NULL, 0, &text) != BORSH_NO) return 5;
+    borsh_free(&text);
+
+    /* Null with another length is refused, and so is a null pointer to a result. */
+    if (!is(borsh_valid(NULL, 1, &text), BORSH_NULL, &text, "null pointer")) return 6;
+    if (!is(borsh_member(NULL, 1, NULL, 0, &text), BORSH_NULL, &text, "null pointer")) return 7;
+    if (!is(borsh_member(byte, sizeof byte, NULL, 1, &text), BORSH_NULL, &text, "null pointer")) return 8;
+    if (!is(borsh_to_json(byte, sizeof byte, NULL, 1, true, &text), BORSH_NULL, &text, "null pointer")) return 9;
+    if (!is(borsh_from_json(byte, sizeof byte, NULL, 1, &text), BORSH_NULL, &text, "null pointer")) return 10;
+    if (!is(borsh_size(byte, sizeof byte, NULL, &text), BORSH_NULL, &text, "null pointer")) return 11;
+    if (borsh_valid(byte, sizeof byte, NULL) != BORSH_NULL) return 12;
+    if (borsh_size(byte, sizeof byte, &size, NULL) != BORSH_NULL || size != 7) return 13;
+
+    /* A buffer may be freed twice, and a null pointer be freed. */
+    if (!is(borsh_size(byte, sizeof byte, &size, &text), BORSH_YES, &text, "") || size != 1) return 14;
+    borsh_free(&text);
+    borsh_free(&text);
+    borsh_free(NULL);
+
+    /* JSON that is longer than the first room. */
+    static uint8_t list[4096 + 4] = {0, 16, 0, 0};
+    static const uint8_t bools[] = {6,   0,   0, 0, 'V', 'e', 'c', '<', 'b', '>', 2, 0, 0, 0, 6, 0, 0, 0, 'V', 'e', 'c', '<', 'b', '>', 1,
+                                    4,   0,   0, 0, 0,   0,   0,   0,   0,   255, 255, 255, 255, 0, 0, 0, 0, 4, 0, 0, 0, 'b', 'o', 'o', 'l',
+                                    4,   0,   0, 0, 'b', 'o', 'o', 'l', 0,   1};
+    if (borsh_to_json(bools, sizeof bools, list, sizeof list, true, &text) != BORSH_YES) return 15;
+    if (text.length != 4096 * 6 + 1 || text.data[0] != '[' || text.data[text.length - 1] != ']') return 16;
+    struct borsh_buffer again;
+    if (borsh_from_json(bools, sizeof bools, text.data, text.length, &again) != BORSH_YES) return 17;
+    if (again.length != sizeof list || memcmp(again.data, list, sizeof list) != 0) return 18;
+    borsh_free(&again);
+    borsh_free(&text);
+    return 0;
+}

@@ -1,0 +1,98 @@
+/* Each allocation of each call fails in turn: the answer is the right one or BORSH_OUT_OF_MEMORY, and nothing is left allocated. Linked
+ * with `--wrap`, so that the library's allocations come here. The exit status is 0, or 1 after the first failure, which is printed. */
+#include "borsh.h"
+
+#include <stdio.h>
+#include <string.h>
+
+void *__real_malloc(size_t size);
+void *__real_calloc(size_t count, size_t size);
+void *__real_realloc(void *block, size_t size);
+void __real_free(void *block);
+
+/* How many requests are granted before one is refused, and how many blocks are allocated. */
+static size_t granted = SIZE_MAX;
+static size_t blocks = 0;
+
+static bool refuses(void) {
+    if (granted == SIZE_MAX)
+        return false;
+    if (granted == 0)
+        return true;
+    granted--;
+    return false;
+}
+
+static void *counted(void *block) {
+    blocks += block != NULL;
+    return block;
+}
+
+void *__wrap_malloc(size_t size) { return refuses() ? NULL : counted(__real_malloc(size)); }
+
+void *__wrap_calloc(size_t count, size_t size) { return refuses() ? NULL : counted(__real_calloc(count, size)); }
+
+void *__wrap_realloc(void *block, size_t size) {
+    if (refuses())
+        return NULL;
+    return block == NULL ? counted(__real_realloc(NULL, size)) : __real_realloc(block, size);
+}
+
+void __wrap_free(void *block) {
+    blocks -= block != NULL;
+    __real_free(block);
+}
+
+/* `A { x: u64, y: String }`, a value, JSON, and bytes that are no value. */
+static const uint8_t schema[] =
+    "\1\0\0\0A\4\0\0\0\1\0\0\0A\4\0\2\0\0\0\1\0\0\0x\3\0\0\0u64\1\0\0\0y\6\0\0\0String\6\0\0\0String\1\4\0\0\0\0\0\0\0\0"
+    "\377\377\377\377\0\0\0\0\2\0\0\0u8\3\0\0\0u64\0\10\2\0\0\0u8\0\1";
+static const uint8_t value[] = "\14\0\0\0\0\0\0\0\3\0\0\0h\303\251";
+static const uint8_t json[] = "{\"y\": \"h\\u00e9\", \"x\": 12}";
+
+#define LENGTH(text) (sizeof(text) - 1)
+
+static uint32_t ask(int call, struct borsh_buffer *out) {
+    size_t size = 0;
+    switch (call) {
+    case 0:
+        return borsh_valid(schema, LENGTH(schema), out);
+    case 1:
+        return borsh_size(schema, LENGTH(schema), &size, out);
+    case 2:
+        return borsh_member(schema, LENGTH(schema), value, LENGTH(value), out);
+    case 3:
+        return borsh_member(schema, LENGTH(schema), value, 3, out);
+    case 4:
+        return borsh_to_json(schema, LENGTH(schema), value, LENGTH(value), false, out);
+    case 5:
+        return borsh_from_json(schema, LENGTH(schema), json, LENGTH(json), out);
+    default:
+        return borsh_valid(value, LENGTH(value), out);
+    }
+}
+
+int main(void) {
+    for (int call = 0; call < 7; call++) {
+        struct borsh_buffer right, out;
+        uint32_t code = ask(call, &right);
+        size_t before = blocks;
+        size_t count = 0;
+        for (bool refused = true; refused; count++) {
+            granted = count;
+            uint32_t said = ask(call, &out);
+            refused = granted == 0;
+            granted = SIZE_MAX;
+            bool same = said == code && out.length == right.length && memcmp(out.data, right.data, right.length) == 0;
+            bool none = said == BORSH_OUT_OF_MEMORY && strcmp((const char *)out.data, "out of memory") == 0;
+            borsh_free(&out);
+            if (!(same || (refused && none)) || blocks != before) {
+                printf("call %d, request %zu: code %u, %zu blocks left\n", call, count, (unsigned)said, blocks - before);
+                return 1;
+            }
+        }
+        printf("call %d: code %u, each of %zu requests refused in turn\n", call, (unsigned)code, count - 1);
+        borsh_free(&right);
+    }
+    return 0;
+}
