@@ -1,7 +1,7 @@
 //! Times this library and the original on the same values, in turn, in one program. Prints one line for each kind of
 //! value and action: the kind, the action, microseconds of ours and of the original.
 use borsh::schema::{BorshSchemaContainer, Definition, Fields};
-use borsh::{BorshDeserialize, BorshSerialize, from_slice, object_length, to_vec};
+use borsh::{BorshDeserialize, BorshSchema, BorshSerialize, from_slice, object_length, to_vec};
 use indexmap::IndexMap;
 use std::collections::{BTreeMap, BTreeSet, HashMap, VecDeque};
 use std::hint::black_box;
@@ -12,6 +12,14 @@ use uuid::Uuid;
 unsafe extern "C" {
     fn ours(kind: u32, action: u32, bytes: *const u8, len: usize, rounds: usize) -> usize;
     fn ours_of_container(sizes: bool, bytes: *const u8, len: usize, rounds: usize) -> usize;
+    fn ours_by_container(
+        lists_nodes: bool,
+        schema: *const u8,
+        schema_len: usize,
+        bytes: *const u8,
+        len: usize,
+        rounds: usize,
+    ) -> usize;
     fn ours_refuses(bytes: *const u8, len: usize, rounds: usize) -> usize;
 }
 
@@ -105,6 +113,39 @@ fn container(name: &str, value: &BorshSchemaContainer, rounds: usize, with_origi
     }
 }
 
+/// By the type's container alone, against decoding the type with the original.
+fn by_container<T: BorshSerialize + BorshDeserialize + BorshSchema>(name: &str, value: T) {
+    let bytes = to_vec(&value).unwrap();
+    let schema = to_vec(&BorshSchemaContainer::for_type::<T>()).unwrap();
+    values(name, &schema, &bytes, |n| theirs::<T>(1, &bytes, n));
+}
+
+fn values(name: &str, schema: &[u8], bytes: &[u8], other: impl Fn(usize) -> usize) {
+    if !is_wanted(name) {
+        return;
+    }
+    for (lists_nodes, word) in [(false, "is_member"), (true, "decode")] {
+        let mine = |n| unsafe {
+            ours_by_container(lists_nodes, schema.as_ptr(), schema.len(), bytes.as_ptr(), bytes.len(), n)
+        };
+        print(name, word, compare(5, mine, &other));
+    }
+}
+
+/// The same where the original has nothing to compare with.
+fn values_alone(name: &str, schema: &BorshSchemaContainer, bytes: &[u8]) {
+    if !is_wanted(name) {
+        return;
+    }
+    let schema = to_vec(schema).unwrap();
+    for (lists_nodes, word) in [(false, "is_member"), (true, "decode")] {
+        let mine = |n| unsafe {
+            ours_by_container(lists_nodes, schema.as_ptr(), schema.len(), bytes.as_ptr(), bytes.len(), n)
+        };
+        print(name, word, [compare(2, mine, mine)[0], f64::NAN]);
+    }
+}
+
 /// A container of `count` structs, of which each refers to those that `parts` names, and the last ones to `u64`.
 fn structs(count: usize, parts: impl Fn(usize) -> Vec<usize>) -> BorshSchemaContainer {
     let name = |n: usize| if n < count { format!("S{n}") } else { "u64".to_string() };
@@ -189,4 +230,11 @@ fn main() {
     container("container of 2000, a chain", &chain(2000), 20, true);
     // The original recurses as deep as the chain is long, so it isn't asked here.
     container("container of 100000, a chain", &chain(100_000), 2, false);
+
+    by_container("records (u32, String, bool), by container", (0..many).map(|n| (n as u32, format!("text {n}"), n % 2 == 0)).collect::<Vec<_>>());
+    by_container("Vec<(u64, u64, u64)>, by container", (0..many).map(|n| (n, n + 1, n + 2)).collect::<Vec<_>>());
+    by_container("Vec<Option<u64>>, by container", (0..many).map(|n| Some(n).filter(|n| n % 3 > 0)).collect::<Vec<_>>());
+    by_container("Vec<u64>, by container", (0..many).collect::<Vec<u64>>());
+    values_alone("chain of 100000 definitions, by container", &chain(100_000), &7u64.to_le_bytes());
+    values_alone("Vec<()> of 4294967295, by container", &BorshSchemaContainer::for_type::<Vec<()>>(), &[0xff; 4]);
 }

@@ -3,6 +3,8 @@
 
 use borsh::schema::BorshSchemaContainer;
 use borsh::{BorshDeserialize, BorshSerialize, from_slice, object_length, to_vec};
+use borsh_values::{Decoded, Membership, decode, is_member};
+use borsh_walks::Definition;
 use indexmap::IndexMap;
 use std::alloc::Global;
 use std::collections::{BTreeMap, BTreeSet, HashMap, VecDeque};
@@ -125,6 +127,32 @@ pub extern "C" fn ours_of_container(
         };
         if answered {
             sum = sum.wrapping_add(1);
+        }
+    }
+    sum
+}
+
+/// Asks so many times whether the bytes are a value of the container's root, or lists their nodes; the sum of their lengths.
+#[unsafe(no_mangle)]
+pub extern "C" fn ours_by_container(
+    alloc: Global,
+    lists_nodes: bool,
+    schema: &[u8],
+    bytes: &[u8],
+    rounds: usize,
+) -> usize {
+    let Ok((root, map)) = from_slice::<(String, BTreeMap<String, Definition>)>(alloc, schema) else {
+        return 0;
+    };
+    let mut sum = 0usize;
+    for _ in 0..rounds {
+        let answered = if lists_nodes {
+            matches!(decode(alloc, root.as_str(), &map, bytes), Ok(Decoded::Nodes(_)))
+        } else {
+            matches!(is_member(alloc, root.as_str(), &map, bytes), Ok(Membership::Member))
+        };
+        if answered {
+            sum = sum.wrapping_add(bytes.len());
         }
     }
     sum

@@ -5,8 +5,6 @@ Usage: report.py CHART.svg < LINES > TABLE.md
 """
 import sys
 
-ACTIONS = ["write", "read", "length", "validate", "size"]
-
 
 def rows(lines):
     """(ratio, kind, action, ours, original) of each line, slowest ratio first; those without an original last."""
