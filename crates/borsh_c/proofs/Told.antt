@@ -12,7 +12,7 @@ use Rattle.borsh_walks.specs.declared.error.SchemaMaxSerializedSizeError.{Schema
 use Rattle.borsh_walks.specs.declared.error.SchemaMaxSerializedSizeError.TheVariants.{OutOfMemory as NoMemory}
 use Rattle.borsh_c.specs.declared.refusal.Refusal.{Refusal}
 use Rattle.borsh_c.specs.declared.refusal.Refusal.TheVariants.{No, Malformed, OutOfMemory, Undecided}
-use Rattle.borsh_c.specs.Answers.{Saying, About, Answers, Anything, GivesBytes, GivesJson, HasNoSize, IsInvalid, IsRefused, Never}
+use Rattle.borsh_c.specs.Answers.{Saying, About, Anything, GivesBytes, GivesJson, HasNoSize, IsInvalid, IsRefused, Never}
 use Rattle.borsh_c.specs.Answers.Answers.{yes}
 use Rattle.borsh_c.specs.Room.{IsGiven}
 use Rattle.json.specs.Json.{document}

@@ -1,5 +1,5 @@
 -- How the errors of other crates become refusals.
-use Rattle.std.specs.Prelude.{◌≡◌, ⊤, List, ℕ}
+use Rattle.std.specs.Prelude.{◌≡◌, ⊤}
 use Rattle.borsh_io.specs.declared.error.ErrorKind.{ErrorKind}
 use Rattle.borsh_io.specs.declared.error.ErrorKind.TheVariants.{OutOfMemory as NoRoom}
 use Rattle.borsh_walks.specs.declared.error.SchemaContainerValidateError.{SchemaContainerValidateError}
