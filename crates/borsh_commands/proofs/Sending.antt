@@ -1,5 +1,5 @@
 -- What was read from the front of bytes.
-use Rattle.std.proofs.Common.{ℕ, List, refl, String}
+use Rattle.std.proofs.Common.{ℕ, List, refl, String, Result, Ok, Err, OnOk}
 use Rattle.std.specs.Global.{Global}
 use Rattle.std.specs.BTreeMap.{BTreeMap}
 use Rattle.borsh.specs.Stream.{slice_state}
@@ -14,3 +14,8 @@ pub sent : (s : Schema) (value bytes : List ℕ) → Decoded (String Global × B
 sent s value bytes d =
     let t = d.took in
     record { front = t.front; is = root_and_map-lawful.canonical t.front (s.root, s.definitions) refl t.holds; whole = t.takes.bytes }
+
+-- what holds without an answer holds with one
+pub held : {A E P : Type 0} (result : Result A E) → P → OnOk result P
+held (Ok a) p = p
+held (Err e) p = tt

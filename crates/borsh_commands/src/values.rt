@@ -1,5 +1,5 @@
 // What is asked of a value by its container.
-ghost use Rattle.std.specs.Prelude.{◌≡◌, IfOk, Decides, Some, string_bytes};
+ghost use Rattle.std.specs.Prelude.{◌≡◌, IfOk, OnOk, Decides, Some, string_bytes};
 ghost use Rattle.borsh_commands.specs.Colors.{IsPainted};
 ghost use Rattle.borsh_commands.specs.Colored.{has_colors, printed_colors};
 ghost use Rattle.borsh_commands.specs.Sent.{IsContainer, IsSent, schema_encoding};
@@ -108,7 +108,7 @@ pub fn own_schema<'a>(alloc: Global) -> Result<Schema, Failure<'a>> {
 /// assert_eq!(rt; again.as_slice(), bytes.as_slice());
 /// ```
 pub fn schema_json<'a>(alloc: Global, path: &'a str, bytes: &[u8]) -> Result<PlainText, Failure<'a>>
-    ensures { IfOk result (λ _. IsContainer bytes.now) }
+    ensures { OnOk result (IsContainer bytes.now) }
 {
     let _schema = schema_from(alloc, path, bytes)?;
     let own = own_schema(alloc)?;

@@ -23,7 +23,7 @@ fn a_container_comes_in_front(rt: HostRuntime) -> Result<(), Fail> {
 fn no_container_in_front(rt: HostRuntime) -> Result<(), Fail> {
     let alloc = rt.alloc();
     let sent = try_to_vec_with_schema(alloc, &7u8)?;
-    let bytes = &sent.as_slice()[..sent.len() - 2];
+    let bytes = &sent.as_slice()[..sent.len().saturating_sub(2)];
     match schema_in_front(alloc, "v", bytes) {
         Ok(_) => return Err(Fail::from("a container was read")),
         Err(failure) => {
@@ -35,7 +35,7 @@ fn no_container_in_front(rt: HostRuntime) -> Result<(), Fail> {
             );
         }
     }
-    let (_, rest) = schema_in_front(alloc, "v", &sent.as_slice()[..sent.len() - 1])?;
+    let (_, rest) = schema_in_front(alloc, "v", &sent.as_slice()[..sent.len().saturating_sub(1)])?;
     assert!(rt; rest.is_empty());
     Ok(())
 }
