@@ -392,15 +392,18 @@ def struct_parts(writer):
     fields = writer.marked.fields
     names = local_names(fields.encoded(), ())
     parameter = {0: '_fields', 1: names[0] if names else ''}.get(len(names), 'fields')
-    if 1 < len(names) <= TUPLE:
-        parameter = flat(tuple_of(names))
     view = ghost_term(struct_view(writer).within('ghost view = { ', ' };'), 4)
-    head = function_head('from_parts', ['%s: %s' % (parameter, writer.alias_use())], writer.own(), 4)
-    if '\n' in head:
-        parameter = 'fields'
-        head = function_head('from_parts', ['%s: %s' % (parameter, writer.alias_use())], writer.own(), 4)
+
+    def head_with(name):
+        return function_head('from_parts', ['%s: %s' % (name, writer.alias_use())], writer.own(), 4)
+
+    # the fields are taken apart in the parameter where they fit into its line
+    head = head_with(flat(tuple_of(names))) if 1 < len(names) <= TUPLE else ''
+    is_whole = not head or '\n' in head
+    if is_whole:
+        head = head_with(parameter)
     rows = ['    type Parts = %s;' % writer.alias_use(), '', view, '', head]
-    if parameter == 'fields':
+    if is_whole and len(names) > 1:
         rows += taking_apart('fields', names, 8)
     rows += [statement('', made(writer.marked.name, fields, names), '', 8), '    }']
     return writer.block('FromParts', 'BorshDeserialize', rows)

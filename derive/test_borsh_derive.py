@@ -77,6 +77,10 @@ class Taken(Cases):
         self.assertIn('write_two(&self.x, &self.y, alloc, writer)', text)
         self.assertIn('    fn from_parts((x, y): Fields) -> Point {\n        Point { x, y }\n', text)
 
+    def test_fields_named_as_the_parameter(self):
+        one = self.written('// derive: borsh\npub struct Form {\n    pub fields: u64,\n}\n', 'types_form')
+        self.assertIn('    fn from_parts(fields: Fields) -> Form {\n        Form { fields }\n', one)
+
     def test_tuple_struct_of_one_field(self):
         text = self.written('// derive: borsh\npub struct Id(pub u64);\n', 'types_id')
         self.assertIn('type Fields = u64;', text)
