@@ -80,37 +80,51 @@ pub struct ValueRequest<'a> {
 /// let request = request_from(&matches);
 /// ```
 pub fn command<'a>(alloc: Global) -> Result<Command<'a>, AllocError> {
-    let schema = on_container(alloc, "schema", "Prints the definitions of a container")?
-        .after_help(AFTER_SCHEMA)
-        .arg(flag(alloc, "json", "Prints the container as JSON"))?;
-    let check = on_container(alloc, "check", "Checks that a container keeps the rules")?.after_help(
-        AFTER_CHECK,
-    );
-    let size = on_container(alloc, "size", "Prints the length of the longest encoding")?.after_help(
-        AFTER_SIZE,
-    );
-    let decode = on_bytes(alloc, "decode", "Prints a value as JSON")?
-        .after_help(AFTER_DECODE)
-        .arg(flag(alloc, "compact", "Prints one line, without white space"))?;
-    let encode = on_json(alloc)?.after_help(AFTER_ENCODE);
-    let member = on_bytes(alloc, "member", "Checks that bytes are a value")?.after_help(
-        AFTER_MEMBER,
-    );
-    let show = on_bytes(alloc, "show", "Prints what each byte of a value is")?
-        .after_help(AFTER_SHOW)
-        .arg(flag(alloc, "plain", "Prints no colours"))?;
     Command::new(alloc, "borsh")
         .bin_name("borsh")?
         .about("Answers what a Borsh schema container says, and what bytes say by it")
         .after_help(AFTER_HELP)
         .subcommand_required(true)
-        .subcommand(schema)?
-        .subcommand(check)?
-        .subcommand(size)?
-        .subcommand(decode)?
-        .subcommand(encode)?
-        .subcommand(member)?
-        .subcommand(show)
+        .subcommand(schema_command(alloc)?)?
+        .subcommand(check_command(alloc)?)?
+        .subcommand(size_command(alloc)?)?
+        .subcommand(decode_command(alloc)?)?
+        .subcommand(encode_command(alloc)?)?
+        .subcommand(member_command(alloc)?)?
+        .subcommand(show_command(alloc)?)
+}
+
+fn schema_command<'a>(alloc: Global) -> Result<Command<'a>, AllocError> {
+    on_container(alloc, "schema", "Prints the definitions of a container")?
+        .after_help(AFTER_SCHEMA)
+        .arg(flag(alloc, "json", "Prints the container as JSON"))
+}
+
+fn check_command<'a>(alloc: Global) -> Result<Command<'a>, AllocError> {
+    let check = on_container(alloc, "check", "Checks that a container keeps the rules")?;
+    Ok(check.after_help(AFTER_CHECK))
+}
+
+fn size_command<'a>(alloc: Global) -> Result<Command<'a>, AllocError> {
+    let size = on_container(alloc, "size", "Prints the length of the longest encoding")?;
+    Ok(size.after_help(AFTER_SIZE))
+}
+
+fn decode_command<'a>(alloc: Global) -> Result<Command<'a>, AllocError> {
+    on_bytes(alloc, "decode", "Prints a value as JSON")?
+        .after_help(AFTER_DECODE)
+        .arg(flag(alloc, "compact", "Prints one line, without white space"))
+}
+
+fn member_command<'a>(alloc: Global) -> Result<Command<'a>, AllocError> {
+    let member = on_bytes(alloc, "member", "Checks that bytes are a value")?;
+    Ok(member.after_help(AFTER_MEMBER))
+}
+
+fn show_command<'a>(alloc: Global) -> Result<Command<'a>, AllocError> {
+    on_bytes(alloc, "show", "Prints what each byte of a value is")?
+        .after_help(AFTER_SHOW)
+        .arg(flag(alloc, "plain", "Prints no colours"))
 }
 
 /// A command that reads a container.
@@ -119,61 +133,70 @@ fn on_container<'a>(
     name: &'a str,
     about: &'a str,
 ) -> Result<Command<'a>, AllocError> {
-    let file = Arg::new(alloc, "FILE")
-        .required(true)
-        .help("The encoded container, or `-` for standard input");
-    let hex = flag(
-        alloc,
-        "hex",
-        "The input is hexadecimal digits; white space in it counts for nothing",
-    );
-    Command::new(alloc, name).about(about).arg(file)?.arg(hex)
+    Command::new(alloc, name)
+        .about(about)
+        .arg(value(
+            alloc,
+            "FILE",
+            "The encoded container, or `-` for standard input",
+        ))?
+        .arg(flag(
+            alloc,
+            "hex",
+            "The input is hexadecimal digits; white space in it counts for nothing",
+        ))
 }
 
 /// A command that reads the bytes of a value, and its container in front of these or from a file of its own.
 fn on_bytes<'a>(alloc: Global, name: &'a str, about: &'a str) -> Result<Command<'a>, AllocError> {
-    let schema = schema(alloc)
-        .required_unless_present("with-schema")?
-        .conflicts_with("with-schema")?;
-    let value = Arg::new(alloc, "VALUE")
-        .required(true)
-        .help("The bytes of the value, or `-` for standard input");
-    let with_schema = flag(
-        alloc,
-        "with-schema",
-        "The bytes have their container in front, and SCHEMA is left out",
-    );
     Command::new(alloc, name)
         .about(about)
         .allow_missing_positional(true)
-        .arg(schema)?
-        .arg(value)?
+        .arg(schema_unless_sent(alloc)?)?
+        .arg(value(
+            alloc,
+            "VALUE",
+            "The bytes of the value, or `-` for standard input",
+        ))?
         .arg(flag(
             alloc,
             "hex",
             "The bytes of the value are hexadecimal digits",
         ))?
         .arg(schema_hex(alloc).conflicts_with("with-schema")?)?
-        .arg(with_schema)
+        .arg(flag(
+            alloc,
+            "with-schema",
+            "The bytes have their container in front, and SCHEMA is left out",
+        ))
 }
 
 /// The command that reads JSON.
-fn on_json<'a>(alloc: Global) -> Result<Command<'a>, AllocError> {
-    let value = Arg::new(alloc, "JSON")
-        .required(true)
-        .help("The value, or `-` for standard input");
-    let with_schema = flag(
-        alloc,
-        "with-schema",
-        "Prints the bytes of the container in front",
-    );
+fn encode_command<'a>(alloc: Global) -> Result<Command<'a>, AllocError> {
     Command::new(alloc, "encode")
         .about("Prints the bytes of a value in JSON")
+        .after_help(AFTER_ENCODE)
         .arg(schema(alloc).required(true))?
-        .arg(value)?
+        .arg(value(alloc, "JSON", "The value, or `-` for standard input"))?
         .arg(flag(alloc, "hex", "Prints hexadecimal digits"))?
         .arg(schema_hex(alloc))?
-        .arg(with_schema)
+        .arg(flag(
+            alloc,
+            "with-schema",
+            "Prints the bytes of the container in front",
+        ))
+}
+
+/// An argument that has to be given.
+fn value<'a>(alloc: Global, name: &'a str, help: &'a str) -> Arg<'a> {
+    Arg::new(alloc, name).required(true).help(help)
+}
+
+/// The container, which isn't given where the bytes have it in front.
+fn schema_unless_sent<'a>(alloc: Global) -> Result<Arg<'a>, AllocError> {
+    schema(alloc)
+        .required_unless_present("with-schema")?
+        .conflicts_with("with-schema")
 }
 
 fn schema<'a>(alloc: Global) -> Arg<'a> {

@@ -167,7 +167,7 @@ fn prints_the_root_first(rt: HostRuntime) -> Result<(), Fail> {
 #[test]
 fn escapes_hostile_names(rt: HostRuntime) -> Result<(), Fail> {
     let alloc = rt.alloc();
-    for (name, expected) in [
+    for &(name, expected) in &[
         ("\u{1b}[2J", "primitive \"\\x1b[2J\" = 1 byte\n"),
         ("a\nvalid", "primitive \"a\\x0avalid\" = 1 byte\n"),
         ("\r\t\u{7f}", "primitive \"\\x0d\\x09\\x7f\" = 1 byte\n"),

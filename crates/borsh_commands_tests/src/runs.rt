@@ -25,7 +25,7 @@ fn tells_failures_in_one_line(rt: HostRuntime) -> Result<(), Fail> {
 
 #[test]
 fn ends_with_a_status(rt: HostRuntime) -> Result<(), Fail> {
-    for (words, status) in [
+    for &(words, status) in &[
         (["borsh", "--help"].as_slice(), 0),
         (["borsh", "check", "--help"].as_slice(), 0),
         (["borsh"].as_slice(), 2),

@@ -17,7 +17,7 @@ fn shows_each_byte(rt: HostRuntime) -> Result<(), Fail> {
     let text = shown(alloc, &schema, "v", bytes.as_slice(), false)?;
     let root = "(u16, String, Vec<Option<bool>>, (), [u32; 2], [u8; 17])";
     let mut expected = String::new(alloc);
-    for (row, rest) in [
+    for &(row, rest) in &[
         ("       0  0002  ", ".0  u16  512\n"),
         ("       2  02000000610a  ", ".1  String  \"a\\x0a\"\n"),
         (
@@ -63,7 +63,7 @@ fn colors_only_where_asked(rt: HostRuntime) -> Result<(), Fail> {
     let alloc = rt.alloc();
     let mut name = PlainText::new(alloc);
     name.push_name("a\u{1b}")?;
-    for (is_colored, expected) in [
+    for &(is_colored, expected) in &[
         (false, "\"a\\x1b\"\"a\\x1b\""),
         (true, "\u{1b}[36m\"a\\x1b\"\u{1b}[39m\"a\\x1b\""),
     ] {

@@ -12,7 +12,7 @@ fn answers_about_values(rt: HostRuntime) -> Result<(), Fail> {
     let alloc = rt.alloc();
     let container = to_vec(alloc, &schema_container_of::<(String, Option<u16>)>(alloc)?)?;
     let schema = schema_from(alloc, "s", container.as_slice())?;
-    for (digits, json) in [
+    for &(digits, json) in &[
         ("010000006100", "[\"a\",\"None\"]\n"),
         ("02000000c3a9010700", "[\"\\u00e9\",{\"Some\":7}]\n"),
         (

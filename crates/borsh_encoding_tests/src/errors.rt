@@ -27,34 +27,48 @@ const KINDS: [(ErrorKind, &str); 19] = [
     (ErrorKind::OutOfMemory, "out of memory"),
 ];
 
+/// Whether an error of this kind alone shows this text.
+fn is_shown_as(alloc: Global, kind: ErrorKind, text: &str) -> Result<bool, Fail> {
+    let error = Error::from(kind);
+    Ok(
+        error.kind() == kind
+            && error.get_ref().is_none()
+            && error.to_string(alloc)?.as_str() == text,
+    )
+}
+
 #[test]
 fn a_kind_has_a_text_and_a_place(rt: HostRuntime) -> Result<(), Fail> {
     let alloc = rt.alloc();
     let mut before = None;
-    for (kind, text) in KINDS {
-        let error = Error::from(kind);
-        assert_eq!(rt; error.kind(), kind);
-        assert!(rt; error.get_ref().is_none());
-        assert_eq!(rt; error.to_string(alloc)?.as_str(), text);
+    for &(kind, text) in &KINDS {
+        assert!(rt; is_shown_as(alloc, kind, text)?, "the text {text}");
         assert!(rt; before < Some(kind), "the place of {text}");
         before = Some(kind);
     }
     Ok(())
 }
 
+fn is_fixed_text_shown(alloc: Global) -> Result<bool, Fail> {
+    let error = Error::new(ErrorKind::InvalidData, "fixed");
+    let is_shown = error.to_string(alloc)?.as_str() == "fixed";
+    Ok(is_shown && matches!(error.into_inner(), Some(Text::Fixed("fixed"))))
+}
+
+fn is_owned_text_kept(alloc: Global) -> Result<bool, Fail> {
+    let error = Error::other(String::from_str(alloc, "owned")?);
+    let is_other = error.kind() == ErrorKind::Other && error.get_ref() == Some("owned");
+    match error.into_inner() {
+        Some(Text::Owned(text)) => Ok(is_other && text.as_str() == "owned"),
+        _ => Ok(false),
+    }
+}
+
 #[test]
 fn an_error_shows_its_own_text(rt: HostRuntime) -> Result<(), Fail> {
     let alloc = rt.alloc();
-    let fixed = Error::new(ErrorKind::InvalidData, "fixed");
-    assert_eq!(rt; fixed.to_string(alloc)?.as_str(), "fixed");
-    assert!(rt; matches!(fixed.into_inner(), Some(Text::Fixed("fixed"))));
-    let owned = Error::other(String::from_str(alloc, "owned")?);
-    assert_eq!(rt; owned.kind(), ErrorKind::Other);
-    assert_eq!(rt; owned.get_ref(), Some("owned"));
-    match owned.into_inner() {
-        Some(Text::Owned(text)) => assert_eq!(rt; text.as_str(), "owned"),
-        _ => assert!(rt; false),
-    }
+    assert!(rt; is_fixed_text_shown(alloc)?);
+    assert!(rt; is_owned_text_kept(alloc)?);
     Ok(())
 }
 
@@ -64,18 +78,26 @@ fn refusal(alloc: Global) -> Option<AllocError> {
     refused.err()
 }
 
+fn has_a_kind_and_no_text(refused: AllocError) -> bool {
+    let error = Error::from(refused);
+    error.kind() == ErrorKind::OutOfMemory
+        && error.get_ref().is_none()
+        && error.message() == "out of memory"
+}
+
 #[test]
 fn an_allocation_failure_has_a_kind_and_no_text(rt: HostRuntime) -> Result<(), Fail> {
     let alloc = rt.alloc();
-    let error = Error::from(refusal(alloc).ok_or("granted")?);
-    assert_eq!(rt; error.kind(), ErrorKind::OutOfMemory);
-    assert!(rt; error.get_ref().is_none());
-    assert_eq!(rt; error.message(), "out of memory");
-    let error = SchemaBuildError::from(refusal(alloc).ok_or("granted")?);
-    assert!(rt; error == SchemaBuildError::OutOfMemory);
-    let error = SchemaContainerValidateError::from(refusal(alloc).ok_or("granted")?);
-    assert!(rt; error == SchemaContainerValidateError::OutOfMemory);
-    let error = SchemaMaxSerializedSizeError::from(refusal(alloc).ok_or("granted")?);
-    assert!(rt; error == SchemaMaxSerializedSizeError::OutOfMemory);
+    assert!(rt; has_a_kind_and_no_text(refusal(alloc).ok_or("granted")?));
+    let refused = refusal(alloc).ok_or("granted")?;
+    assert!(rt; SchemaBuildError::from(refused) == SchemaBuildError::OutOfMemory);
+    let refused = refusal(alloc).ok_or("granted")?;
+    assert!(rt;
+        SchemaContainerValidateError::from(refused) == SchemaContainerValidateError::OutOfMemory
+    );
+    let refused = refusal(alloc).ok_or("granted")?;
+    assert!(rt;
+        SchemaMaxSerializedSizeError::from(refused) == SchemaMaxSerializedSizeError::OutOfMemory
+    );
     Ok(())
 }

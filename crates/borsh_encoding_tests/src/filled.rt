@@ -70,69 +70,77 @@ fn counted(alloc: Global, count: usize, texts: &[&str]) -> Result<Vec<u8>, Fail>
     Ok(bytes)
 }
 
-/// Whether sets of these keys, put in in this order, are written and read as the bytes.
-fn are_sets(alloc: Global, keys: &[&str], bytes: &[u8]) -> Result<bool, Fail> {
-    let mut ordered = BTreeSet::new(alloc);
-    let mut hashed = HashSet::new(alloc);
+/// Whether an ordered set of these keys, put in in this order, is written and read as the bytes.
+fn is_ordered_set(alloc: Global, keys: &[&str], bytes: &[u8]) -> Result<bool, Fail> {
+    let mut set = BTreeSet::new(alloc);
     for key in keys {
-        ordered.insert(String::from_str(alloc, key)?)?;
-        hashed.insert(String::from_str(alloc, key)?)?;
+        set.insert(String::from_str(alloc, key)?)?;
     }
     let read: BTreeSet<String> = from_slice(alloc, bytes)?;
-    let read_hashed: HashSet<String> = from_slice(alloc, bytes)?;
-    Ok(
-        is_written(alloc, &ordered, bytes)?
-            && is_written(alloc, &hashed, bytes)?
-            && read == ordered
-            && is_written(alloc, &read_hashed, bytes)?,
-    )
+    Ok(read == set && is_written(alloc, &set, bytes)?)
+}
+
+/// The same of a hashed set.
+fn is_hashed_set(alloc: Global, keys: &[&str], bytes: &[u8]) -> Result<bool, Fail> {
+    let mut set = HashSet::new(alloc);
+    for key in keys {
+        set.insert(String::from_str(alloc, key)?)?;
+    }
+    let read: HashSet<String> = from_slice(alloc, bytes)?;
+    Ok(is_written(alloc, &set, bytes)? && is_written(alloc, &read, bytes)?)
+}
+
+/// Whether sets of these keys, put in in this order, are written by ascending key.
+fn are_sets(alloc: Global, keys: &[&str], written: &[&str]) -> Result<bool, Fail> {
+    let bytes = counted(alloc, keys.len(), written)?;
+    let bytes = bytes.as_slice();
+    Ok(is_ordered_set(alloc, keys, bytes)? && is_hashed_set(alloc, keys, bytes)?)
 }
 
 #[test]
 fn sets_are_written_by_ascending_key(rt: HostRuntime) -> Result<(), Fail> {
     let alloc = rt.alloc();
-    for (keys, written) in SETS {
-        let bytes = counted(alloc, keys.len(), written)?;
-        assert!(rt;
-            are_sets(alloc, keys, bytes.as_slice())?,
-            "{} keys",
-            keys.len()
-        );
+    for &(keys, written) in &SETS {
+        assert!(rt; are_sets(alloc, keys, written)?, "{} keys", keys.len());
     }
     Ok(())
 }
 
-/// Whether maps of these entries, put in in this order, are written and read as the bytes.
-fn are_maps(alloc: Global, entries: &[(&str, &str)], bytes: &[u8]) -> Result<bool, Fail> {
-    let mut ordered = BTreeMap::new(alloc);
-    let mut hashed = HashMap::new(alloc);
+/// Whether an ordered map of these entries, put in in this order, is written and read as the bytes.
+fn is_ordered_map(alloc: Global, entries: &[(&str, &str)], bytes: &[u8]) -> Result<bool, Fail> {
+    let mut map = BTreeMap::new(alloc);
     for (key, value) in entries {
-        ordered.insert(
-            String::from_str(alloc, key)?,
-            String::from_str(alloc, value)?,
-        )?;
-        hashed.insert(
-            String::from_str(alloc, key)?,
-            String::from_str(alloc, value)?,
-        )?;
+        let key = String::from_str(alloc, key)?;
+        map.insert(key, String::from_str(alloc, value)?)?;
     }
     let read: BTreeMap<String, String> = from_slice(alloc, bytes)?;
-    let read_hashed: HashMap<String, String> = from_slice(alloc, bytes)?;
-    Ok(
-        is_written(alloc, &ordered, bytes)?
-            && is_written(alloc, &hashed, bytes)?
-            && read == ordered
-            && is_written(alloc, &read_hashed, bytes)?,
-    )
+    Ok(read == map && is_written(alloc, &map, bytes)?)
+}
+
+/// The same of a hashed map.
+fn is_hashed_map(alloc: Global, entries: &[(&str, &str)], bytes: &[u8]) -> Result<bool, Fail> {
+    let mut map = HashMap::new(alloc);
+    for (key, value) in entries {
+        let key = String::from_str(alloc, key)?;
+        map.insert(key, String::from_str(alloc, value)?)?;
+    }
+    let read: HashMap<String, String> = from_slice(alloc, bytes)?;
+    Ok(is_written(alloc, &map, bytes)? && is_written(alloc, &read, bytes)?)
+}
+
+/// Whether maps of these entries, put in in this order, are written by ascending key.
+fn are_maps(alloc: Global, entries: &[(&str, &str)], written: &[&str]) -> Result<bool, Fail> {
+    let bytes = counted(alloc, entries.len(), written)?;
+    let bytes = bytes.as_slice();
+    Ok(is_ordered_map(alloc, entries, bytes)? && is_hashed_map(alloc, entries, bytes)?)
 }
 
 #[test]
 fn maps_are_written_by_ascending_key(rt: HostRuntime) -> Result<(), Fail> {
     let alloc = rt.alloc();
-    for (entries, written) in MAPS {
-        let bytes = counted(alloc, entries.len(), written)?;
+    for &(entries, written) in &MAPS {
         assert!(rt;
-            are_maps(alloc, entries, bytes.as_slice())?,
+            are_maps(alloc, entries, written)?,
             "{} entries",
             entries.len()
         );
@@ -140,39 +148,55 @@ fn maps_are_written_by_ascending_key(rt: HostRuntime) -> Result<(), Fail> {
     Ok(())
 }
 
+/// Whether sets of both kinds are refused for the order of their keys.
+fn are_sets_refused(alloc: Global, keys: &[u8]) -> bool {
+    is_refused::<BTreeSet<String>>(alloc, keys, WRONG_ORDER)
+        && is_refused::<HashSet<String>>(alloc, keys, WRONG_ORDER)
+}
+
+/// Whether maps of both kinds are refused for the order of their keys.
+fn are_maps_refused(alloc: Global, entries: &[u8]) -> bool {
+    is_refused::<BTreeMap<String, String>>(alloc, entries, WRONG_ORDER)
+        && is_refused::<HashMap<String, String>>(alloc, entries, WRONG_ORDER)
+}
+
 #[test]
 fn keys_in_another_order_are_refused(rt: HostRuntime) -> Result<(), Fail> {
     let alloc = rt.alloc();
     let keys = counted(alloc, 3, &["various", "foo", "many"])?;
-    let keys = keys.as_slice();
-    assert!(rt; is_refused::<BTreeSet<String>>(alloc, keys, WRONG_ORDER));
-    assert!(rt; is_refused::<HashSet<String>>(alloc, keys, WRONG_ORDER));
-    let entries = ["various", "value", "foo", "different", "many", "unexp"];
-    let entries = counted(alloc, 3, &entries)?;
-    let entries = entries.as_slice();
-    assert!(rt; is_refused::<BTreeMap<String, String>>(alloc, entries, WRONG_ORDER));
-    assert!(rt; is_refused::<HashMap<String, String>>(alloc, entries, WRONG_ORDER));
+    assert!(rt; are_sets_refused(alloc, keys.as_slice()));
+    let entries = &["various", "value", "foo", "different", "many", "unexp"];
+    let entries = counted(alloc, 3, entries)?;
+    assert!(rt; are_maps_refused(alloc, entries.as_slice()));
     Ok(())
+}
+
+/// Whether an index map of these entries is written as the bytes, in the order of insertion, and read from them.
+fn is_index_map(alloc: Global, entries: &[(i32, i32)], bytes: &[u8]) -> Result<bool, Fail> {
+    let mut map = IndexMap::new(alloc);
+    for &(key, value) in entries {
+        map.insert(key, value)?;
+    }
+    let read = IndexMap::<i32, i32>::try_from_slice(alloc, bytes)?;
+    Ok(read == map && is_written(alloc, &map, bytes)?)
+}
+
+/// The same of an index set.
+fn is_index_set(alloc: Global, keys: &[i32], bytes: &[u8]) -> Result<bool, Fail> {
+    let mut set = IndexSet::new(alloc);
+    for &key in keys {
+        set.insert(key)?;
+    }
+    let read = IndexSet::<i32>::try_from_slice(alloc, bytes)?;
+    Ok(read == set && is_written(alloc, &set, bytes)?)
 }
 
 #[test]
 fn index_maps_and_sets_keep_the_order_of_insertion(rt: HostRuntime) -> Result<(), Fail> {
     let alloc = rt.alloc();
-    let mut map = IndexMap::new(alloc);
-    for (key, value) in [(1i32, 2i32), (3, 4), (5, 6)] {
-        map.insert(key, value)?;
-    }
     let bytes = b"\x03\0\0\0\x01\0\0\0\x02\0\0\0\x03\0\0\0\x04\0\0\0\x05\0\0\0\x06\0\0\0";
-    assert!(rt; is_written(alloc, &map, bytes)?);
-    let read = IndexMap::<i32, i32>::try_from_slice(alloc, bytes)?;
-    assert!(rt; read == map);
-    let mut set = IndexSet::new(alloc);
-    for key in [1i32, 2, 3, 4, 5, 6] {
-        set.insert(key)?;
-    }
+    assert!(rt; is_index_map(alloc, &[(1, 2), (3, 4), (5, 6)], bytes)?);
     let bytes = b"\x06\0\0\0\x01\0\0\0\x02\0\0\0\x03\0\0\0\x04\0\0\0\x05\0\0\0\x06\0\0\0";
-    assert!(rt; is_written(alloc, &set, bytes)?);
-    let read = IndexSet::<i32>::try_from_slice(alloc, bytes)?;
-    assert!(rt; read == set);
+    assert!(rt; is_index_set(alloc, &[1, 2, 3, 4, 5, 6], bytes)?);
     Ok(())
 }

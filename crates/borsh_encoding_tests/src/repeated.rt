@@ -48,7 +48,7 @@ fn is_text(alloc: Global, value: &String) -> Result<bool, Fail> {
 #[test]
 fn texts_are_written_like_lists_of_their_bytes(rt: HostRuntime) -> Result<(), Fail> {
     let alloc = rt.alloc();
-    for (part, times) in TEXTS {
+    for &(part, times) in &TEXTS {
         let mut text = String::new(alloc);
         for _ in 0..times {
             text.push_str(part)?;
@@ -58,38 +58,66 @@ fn texts_are_written_like_lists_of_their_bytes(rt: HostRuntime) -> Result<(), Fa
     Ok(())
 }
 
-/// Whether lists of this element are written as a count and its bytes so many times, and read from that.
-fn is_element<T: BorshSerialize + BorshDeserialize + Clone + PartialEq>(
+/// Whether a list of so many times this element is written as a count and its bytes so many times, and read from that.
+fn is_list<T: BorshSerialize + BorshDeserialize + Clone + PartialEq>(
     alloc: Global,
-    element: T,
+    element: &T,
+    len: u32,
     part: &[u8],
 ) -> Result<bool, Fail> {
-    for len in LENGTHS {
-        let mut list = Vec::new(alloc);
-        for _ in 0..len {
-            list.push(element.clone()?)?;
-        }
-        let bytes = counted(alloc, len, part)?;
-        let read: Vec<T> = from_slice(alloc, bytes.as_slice())?;
-        if read != list || !is_written(alloc, &list, bytes.as_slice())? {
+    let bytes = counted(alloc, len, part)?;
+    let read: Vec<T> = from_slice(alloc, bytes.as_slice())?;
+    let mut list = Vec::new(alloc);
+    for _ in 0..len {
+        list.push(element.clone()?)?;
+    }
+    Ok(read == list && is_written(alloc, &list, bytes.as_slice())?)
+}
+
+/// Whether lists of this element, of all lengths, are.
+fn is_element<T: BorshSerialize + BorshDeserialize + Clone + PartialEq>(
+    alloc: Global,
+    element: &T,
+    part: &[u8],
+) -> Result<bool, Fail> {
+    for &len in &LENGTHS {
+        if !is_list(alloc, element, len, part)? {
             return Ok(false);
         }
     }
     Ok(true)
 }
 
+fn lists_of_numbers(alloc: Global) -> Result<bool, Fail> {
+    Ok(
+        is_element(alloc, &100u8, b"d")?
+            && is_element(alloc, &100i8, b"d")?
+            && is_element(alloc, &1000000000u32, b"\0\xca\x9a\x3b")?,
+    )
+}
+
+fn lists_of_texts(alloc: Global) -> Result<bool, Fail> {
+    is_element(alloc, &String::from_str(alloc, "a")?, b"\x01\0\0\0a")
+}
+
+fn lists_of_lists_of_bytes(alloc: Global) -> Result<bool, Fail> {
+    let bytes = Vec::from_slice(alloc, &[100u8; 10])?;
+    is_element(alloc, &bytes, b"\x0a\0\0\0dddddddddd")
+}
+
+fn lists_of_lists_of_numbers(alloc: Global) -> Result<bool, Fail> {
+    let part = counted(alloc, 10, b"d\0\0\0")?;
+    let numbers = Vec::from_slice(alloc, &[100u32; 10])?;
+    is_element(alloc, &numbers, part.as_slice())
+}
+
 #[test]
 fn lists_are_a_count_and_the_elements(rt: HostRuntime) -> Result<(), Fail> {
     let alloc = rt.alloc();
-    assert!(rt; is_element(alloc, 100u8, b"d")?);
-    assert!(rt; is_element(alloc, 100i8, b"d")?);
-    assert!(rt; is_element(alloc, 1000000000u32, b"\0\xca\x9a\x3b")?);
-    assert!(rt; is_element(alloc, String::from_str(alloc, "a")?, b"\x01\0\0\0a")?);
-    let bytes = vec![in alloc; 100u8; 10]?;
-    assert!(rt; is_element(alloc, bytes, b"\x0a\0\0\0dddddddddd")?);
-    let numbers = vec![in alloc; 100u32; 10]?;
-    let part = counted(alloc, 10, b"d\0\0\0")?;
-    assert!(rt; is_element(alloc, numbers, part.as_slice())?);
+    assert!(rt; lists_of_numbers(alloc)?);
+    assert!(rt; lists_of_texts(alloc)?);
+    assert!(rt; lists_of_lists_of_bytes(alloc)?);
+    assert!(rt; lists_of_lists_of_numbers(alloc)?);
     Ok(())
 }
 
@@ -150,16 +178,24 @@ fn arrays_are_their_elements(rt: HostRuntime) -> Result<(), Fail> {
     Ok(())
 }
 
+fn array_of_texts(alloc: Global) -> Result<bool, Fail> {
+    let bytes = b"\x01\0\0\x000\x01\0\0\x001\x01\0\0\x002";
+    let [zero, one, two]: [String; 3] = from_slice(alloc, bytes)?;
+    let are_digits = zero.as_str() == "0" && one.as_str() == "1" && two.as_str() == "2";
+    Ok(are_digits && is_written(alloc, &[zero, one, two], bytes)?)
+}
+
+fn array_of_structs(alloc: Global) -> Result<bool, Fail> {
+    let bytes = b"\0\x01\x02";
+    let [zero, one, two]: [ShortA; 3] = from_slice(alloc, bytes)?;
+    let are_digits = zero.0 == 0 && one.0 == 1 && two.0 == 2;
+    Ok(are_digits && is_written(alloc, &[ShortA(0), ShortA(1), ShortA(2)], bytes)?)
+}
+
 #[test]
 fn arrays_of_texts_and_structs_are_their_elements(rt: HostRuntime) -> Result<(), Fail> {
     let alloc = rt.alloc();
-    let bytes = b"\x01\0\0\x000\x01\0\0\x001\x01\0\0\x002";
-    let [zero, one, two]: [String; 3] = from_slice(alloc, bytes)?;
-    assert!(rt; zero.as_str() == "0" && one.as_str() == "1" && two.as_str() == "2");
-    assert!(rt; is_written(alloc, &[zero, one, two], bytes)?);
-    let structs = [ShortA(0), ShortA(1), ShortA(2)];
-    assert!(rt; is_written(alloc, &structs, b"\0\x01\x02")?);
-    let [zero, one, two]: [ShortA; 3] = from_slice(alloc, b"\0\x01\x02")?;
-    assert_eq!(rt; (zero.0, one.0, two.0), (0, 1, 2));
+    assert!(rt; array_of_texts(alloc)?);
+    assert!(rt; array_of_structs(alloc)?);
     Ok(())
 }

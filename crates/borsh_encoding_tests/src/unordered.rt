@@ -32,33 +32,54 @@ fn becomes<T: BorshSerialize + BorshDeserialize>(
     is_written(alloc, &value, new)
 }
 
+fn do_old_maps_become_new(alloc: Global) -> Result<bool, Fail> {
+    let old = b"\x03\0\0\0\x02\x07\x01\x09\x02\x08";
+    let new = b"\x02\0\0\0\x01\x09\x02\x08";
+    Ok(
+        becomes::<BTreeMap<u8, u8>>(alloc, old, new)?
+            && becomes::<HashMap<u8, u8>>(alloc, old, new)?,
+    )
+}
+
+fn do_old_nested_maps_become_new(alloc: Global) -> Result<bool, Fail> {
+    let values = b"\x02\0\0\0\x01\x02\0\0\0\x03\x02\x01\x01\0\0\0\x05";
+    let new_values = b"\x01\0\0\0\x01\x01\0\0\0\x05";
+    let keys = b"\x02\0\0\0\x02\0\0\0\x02\x01\x05\x02\0\0\0\x01\x02\x06";
+    let new_keys = b"\x01\0\0\0\x02\0\0\0\x01\x02\x06";
+    Ok(
+        becomes::<BTreeMap<u8, BTreeSet<u8>>>(alloc, values, new_values)?
+            && becomes::<BTreeMap<BTreeSet<u8>, u8>>(alloc, keys, new_keys)?,
+    )
+}
+
+fn does_an_old_index_map_become_new(alloc: Global) -> Result<bool, Fail> {
+    let old = b"\x02\0\0\0\x05\x01\x05\x02";
+    becomes::<IndexMap<u8, u8>>(alloc, old, b"\x01\0\0\0\x05\x02")
+}
+
 #[test]
 fn old_maps_are_written_in_order(rt: HostRuntime) -> Result<(), Fail> {
     let alloc = rt.alloc();
-    let old = b"\x03\0\0\0\x02\x07\x01\x09\x02\x08";
-    let new = b"\x02\0\0\0\x01\x09\x02\x08";
-    assert!(rt; becomes::<BTreeMap<u8, u8>>(alloc, old, new)?);
-    assert!(rt; becomes::<HashMap<u8, u8>>(alloc, old, new)?);
-    let old = b"\x02\0\0\0\x01\x02\0\0\0\x03\x02\x01\x01\0\0\0\x05";
-    let new = b"\x01\0\0\0\x01\x01\0\0\0\x05";
-    assert!(rt; becomes::<BTreeMap<u8, BTreeSet<u8>>>(alloc, old, new)?);
-    let old = b"\x02\0\0\0\x02\0\0\0\x02\x01\x05\x02\0\0\0\x01\x02\x06";
-    let new = b"\x01\0\0\0\x02\0\0\0\x01\x02\x06";
-    assert!(rt; becomes::<BTreeMap<BTreeSet<u8>, u8>>(alloc, old, new)?);
-    let old = b"\x02\0\0\0\x05\x01\x05\x02";
-    assert!(rt; becomes::<IndexMap<u8, u8>>(alloc, old, b"\x01\0\0\0\x05\x02")?);
+    assert!(rt; do_old_maps_become_new(alloc)?);
+    assert!(rt; do_old_nested_maps_become_new(alloc)?);
+    assert!(rt; does_an_old_index_map_become_new(alloc)?);
     Ok(())
+}
+
+fn do_old_sets_become_new(alloc: Global) -> Result<bool, Fail> {
+    let repeated = b"\x02\0\0\0\x01\x01";
+    let hashed = b"\x03\0\0\0\x02\x01\x02";
+    let in_order = b"\x03\0\0\0\x05\x03\x05";
+    Ok(
+        becomes::<BTreeSet<u8>>(alloc, repeated, b"\x01\0\0\0\x01")?
+            && becomes::<HashSet<u8>>(alloc, hashed, b"\x02\0\0\0\x01\x02")?
+            && becomes::<IndexSet<u8>>(alloc, in_order, b"\x02\0\0\0\x05\x03")?,
+    )
 }
 
 #[test]
 fn old_sets_are_written_in_order(rt: HostRuntime) -> Result<(), Fail> {
-    let alloc = rt.alloc();
-    let repeated = b"\x02\0\0\0\x01\x01";
-    assert!(rt; becomes::<BTreeSet<u8>>(alloc, repeated, b"\x01\0\0\0\x01")?);
-    let old = b"\x03\0\0\0\x02\x01\x02";
-    assert!(rt; becomes::<HashSet<u8>>(alloc, old, b"\x02\0\0\0\x01\x02")?);
-    let old = b"\x03\0\0\0\x05\x03\x05";
-    assert!(rt; becomes::<IndexSet<u8>>(alloc, old, b"\x02\0\0\0\x05\x03")?);
+    assert!(rt; do_old_sets_become_new(rt.alloc())?);
     Ok(())
 }
 

@@ -29,7 +29,7 @@ fn no_elements_without_bytes_are_read(rt: HostRuntime) {
 /// Whether a value is refused by `to_vec`, and by `to_writer` with the writer's bytes as they were.
 fn is_never_written<T: BorshSerialize>(alloc: Global, value: &T) -> Result<bool, Fail> {
     let vec = to_vec(alloc, value);
-    let mut out = vec![in alloc; 7u8]?;
+    let mut out = Vec::from_slice(alloc, b"\x07")?;
     let outcome = to_writer(alloc, &mut out, value);
     Ok(
         is_error(&vec, ErrorKind::InvalidData, ERROR_ZST_FORBIDDEN)
@@ -38,57 +38,105 @@ fn is_never_written<T: BorshSerialize>(alloc: Global, value: &T) -> Result<bool,
     )
 }
 
+fn is_vec_never_written(alloc: Global, len: usize) -> Result<bool, Fail> {
+    is_never_written::<Vec<()>>(alloc, &vec![in alloc; (); len]?)
+}
+
+fn is_queue_never_written(alloc: Global, len: usize) -> Result<bool, Fail> {
+    let mut ring = VecDeque::new(alloc);
+    for _ in 0..len {
+        ring.push_back(())?;
+    }
+    is_never_written(alloc, &ring)
+}
+
+fn is_linked_list_never_written(alloc: Global, len: usize) -> Result<bool, Fail> {
+    let mut linked = LinkedList::new(alloc);
+    for _ in 0..len {
+        linked.push_back(())?;
+    }
+    is_never_written(alloc, &linked)
+}
+
+fn is_slice_never_written(alloc: Global, len: usize) -> Result<bool, Fail> {
+    let slice: BoxedSlice<()> = vec![in alloc; (); len]?.into_boxed_slice();
+    is_never_written(alloc, &slice)
+}
+
+/// Whether a list of one list is refused: the outer one isn't empty, and the inner one is refused also where it has no elements.
+fn is_list_of_a_list_refused(alloc: Global, len: usize) -> Result<bool, Fail> {
+    let mut lists = Vec::new(alloc);
+    lists.push(vec![in alloc; (); len]?)?;
+    let outcome = to_vec(alloc, &lists);
+    Ok(is_error(&outcome, ErrorKind::InvalidData, ERROR_ZST_FORBIDDEN))
+}
+
 #[test]
 fn no_lists_of_elements_without_bytes_are_written(rt: HostRuntime) -> Result<(), Fail> {
     let alloc = rt.alloc();
-    for len in [0usize, 1, 3] {
-        assert!(rt; is_never_written::<Vec<()>>(alloc, &vec![in alloc; (); len]?)?);
-        let mut ring = VecDeque::new(alloc);
-        let mut linked = LinkedList::new(alloc);
-        for _ in 0..len {
-            ring.push_back(())?;
-            linked.push_back(())?;
-        }
-        assert!(rt; is_never_written(alloc, &ring)? && is_never_written(alloc, &linked)?);
-        let slice: BoxedSlice<()> = vec![in alloc; (); len]?.into_boxed_slice();
-        assert!(rt; is_never_written(alloc, &slice)?);
-        // The outer list isn't empty, and the inner one is refused, also where it has no elements.
-        let lists = vec![in alloc; vec![in alloc; (); len]?]?;
-        let outcome = to_vec(alloc, &lists);
-        assert!(rt; is_error(&outcome, ErrorKind::InvalidData, ERROR_ZST_FORBIDDEN));
+    for &len in &[0usize, 1, 3] {
+        assert!(rt; is_vec_never_written(alloc, len)?);
+        assert!(rt; is_queue_never_written(alloc, len)?);
+        assert!(rt; is_linked_list_never_written(alloc, len)?);
+        assert!(rt; is_slice_never_written(alloc, len)?);
+        assert!(rt; is_list_of_a_list_refused(alloc, len)?);
     }
     Ok(())
+}
+
+fn is_ordered_set_never_written(alloc: Global, len: usize) -> Result<bool, Fail> {
+    let mut set = BTreeSet::new(alloc);
+    for _ in 0..len {
+        set.insert(())?;
+    }
+    is_never_written(alloc, &set)
+}
+
+fn is_hashed_set_never_written(alloc: Global, len: usize) -> Result<bool, Fail> {
+    let mut set = HashSet::new(alloc);
+    for _ in 0..len {
+        set.insert(())?;
+    }
+    is_never_written(alloc, &set)
+}
+
+fn is_ordered_map_never_written(alloc: Global, len: usize) -> Result<bool, Fail> {
+    let mut map = BTreeMap::new(alloc);
+    for _ in 0..len {
+        map.insert((), 42u64)?;
+    }
+    is_never_written(alloc, &map)
+}
+
+fn is_hashed_map_never_written(alloc: Global, len: usize) -> Result<bool, Fail> {
+    let mut map = HashMap::new(alloc);
+    for _ in 0..len {
+        map.insert((), 42u64)?;
+    }
+    is_never_written(alloc, &map)
 }
 
 #[test]
 fn no_maps_of_keys_without_bytes_are_written(rt: HostRuntime) -> Result<(), Fail> {
     let alloc = rt.alloc();
-    for len in [0usize, 1] {
-        let mut ordered_set = BTreeSet::new(alloc);
-        let mut hashed_set = HashSet::new(alloc);
-        let mut ordered = BTreeMap::new(alloc);
-        let mut hashed = HashMap::new(alloc);
-        for _ in 0..len {
-            ordered_set.insert(())?;
-            hashed_set.insert(())?;
-            ordered.insert((), 42u64)?;
-            hashed.insert((), 42u64)?;
-        }
-        assert!(rt; is_never_written(alloc, &ordered_set)?);
-        assert!(rt; is_never_written(alloc, &hashed_set)?);
-        assert!(rt; is_never_written(alloc, &ordered)?);
-        assert!(rt; is_never_written(alloc, &hashed)?);
+    for &len in &[0usize, 1] {
+        assert!(rt; is_ordered_set_never_written(alloc, len)?);
+        assert!(rt; is_hashed_set_never_written(alloc, len)?);
+        assert!(rt; is_ordered_map_never_written(alloc, len)?);
+        assert!(rt; is_hashed_map_never_written(alloc, len)?);
     }
     Ok(())
 }
 
+fn is_large_number_read_and_written(alloc: Global) -> Result<bool, Fail> {
+    let bytes = b"\x01\0\0\0\x40\0";
+    let list: Vec<LongA> = from_slice(alloc, bytes)?;
+    let is_read = list.len() == 1 && list[0].0 == 64;
+    Ok(is_read && to_vec(alloc, &list)?.as_slice() == bytes.as_slice())
+}
+
 #[test]
 fn elements_with_bytes_are_read_and_written(rt: HostRuntime) -> Result<(), Fail> {
-    let alloc = rt.alloc();
-    let list: Vec<LongA> = from_slice(alloc, b"\x01\0\0\0\x40\0")?;
-    assert_eq!(rt; list.len(), 1);
-    assert_eq!(rt; list[0].0, 64);
-    let bytes = to_vec(alloc, &list)?;
-    assert_eq!(rt; bytes.as_slice(), b"\x01\0\0\0\x40\0".as_slice());
+    assert!(rt; is_large_number_read_and_written(rt.alloc())?);
     Ok(())
 }

@@ -142,27 +142,48 @@ const ROWS: [Row; 20] = [
 
 /// Whether an answer of `validate` names this rule and this name; both are empty for yes.
 fn is_rule(answer: &Result<(), SchemaContainerValidateError>, rule: &str, broken: &str) -> bool {
-    let (found, name) = match answer {
-        Ok(()) => return rule.is_empty(),
-        Err(SchemaContainerValidateError::ZSTSequence(name)) => ("ZSTSequence", name),
-        Err(SchemaContainerValidateError::TagTooWide(name)) => ("TagTooWide", name),
-        Err(SchemaContainerValidateError::TagTooNarrow(name)) => ("TagTooNarrow", name),
-        Err(SchemaContainerValidateError::TagNotPowerOfTwo(name)) => ("TagNotPowerOfTwo", name),
-        Err(SchemaContainerValidateError::MissingDefinition(name)) => ("MissingDefinition", name),
-        Err(SchemaContainerValidateError::EmptyLengthRange(name)) => ("EmptyLengthRange", name),
-        Err(SchemaContainerValidateError::OutOfMemory) => return false,
-    };
-    found == rule && name.as_str() == broken
+    match answer {
+        Ok(()) => rule.is_empty(),
+        Err(error) => match named_rule(error) {
+            Some((found, name)) => found == rule && name == broken,
+            None => false,
+        },
+    }
+}
+
+/// The rule that an error names, and the name that breaks it.
+fn named_rule(error: &SchemaContainerValidateError) -> Option<(&'static str, &str)> {
+    match error {
+        SchemaContainerValidateError::ZSTSequence(name) => Some(("ZSTSequence", name.as_str())),
+        SchemaContainerValidateError::TagTooWide(name) => Some(("TagTooWide", name.as_str())),
+        SchemaContainerValidateError::TagTooNarrow(name) => Some(("TagTooNarrow", name.as_str())),
+        SchemaContainerValidateError::TagNotPowerOfTwo(name) => {
+            Some(("TagNotPowerOfTwo", name.as_str()))
+        }
+        SchemaContainerValidateError::MissingDefinition(name) => {
+            Some(("MissingDefinition", name.as_str()))
+        }
+        SchemaContainerValidateError::EmptyLengthRange(name) => {
+            Some(("EmptyLengthRange", name.as_str()))
+        }
+        SchemaContainerValidateError::OutOfMemory => None,
+    }
 }
 
 /// Whether an answer of `max_serialized_size` is this one.
 fn is_size(answer: &Result<usize, SchemaMaxSerializedSizeError>, size: Size) -> bool {
-    match (answer, size) {
-        (Ok(found), Size::Is(size)) => *found == size,
-        (Err(SchemaMaxSerializedSizeError::Overflow), Size::Overflow) => true,
-        (Err(SchemaMaxSerializedSizeError::Recursive), Size::Recursive) => true,
-        (Err(SchemaMaxSerializedSizeError::MissingDefinition(name)), Size::Missing(missing)) => {
-            name.as_str() == missing
+    match answer {
+        Ok(found) => matches!(size, Size::Is(size) if *found == size),
+        Err(error) => is_no_size(error, size),
+    }
+}
+
+fn is_no_size(error: &SchemaMaxSerializedSizeError, size: Size) -> bool {
+    match error {
+        SchemaMaxSerializedSizeError::Overflow => matches!(size, Size::Overflow),
+        SchemaMaxSerializedSizeError::Recursive => matches!(size, Size::Recursive),
+        SchemaMaxSerializedSizeError::MissingDefinition(name) => {
+            matches!(size, Size::Missing(missing) if name.as_str() == missing)
         }
         _ => false,
     }
@@ -250,12 +271,17 @@ fn is_copied(rt: HostRuntime, container: &BorshSchemaContainer) -> Result<(), Fa
     })
 }
 
+/// The container with this encoding, in hexadecimal digits.
+pub(crate) fn decoded(alloc: Global, digits: &str) -> Result<BorshSchemaContainer, Fail> {
+    let bytes = hex::decode(alloc, digits)?;
+    Ok(from_slice(alloc, bytes.as_slice())?)
+}
+
 #[test]
 fn containers_are_judged_sized_and_copied(rt: HostRuntime) -> Result<(), Fail> {
     let alloc = rt.alloc();
-    for (digits, rule, broken, size) in ROWS {
-        let bytes = hex::decode(alloc, digits)?;
-        let container: BorshSchemaContainer = from_slice(alloc, bytes.as_slice())?;
+    for &(digits, rule, broken, size) in &ROWS {
+        let container = decoded(alloc, digits)?;
         is_judged(rt, &container, rule, broken)?;
         is_sized(rt, &container, size)?;
         is_copied(rt, &container)?;

@@ -15,12 +15,20 @@ fn is_copied<T: Clone + PartialEq>(rt: HostRuntime, name: &str, value: &T) -> Re
         refusal.begin(alloc);
         let copy: Result<T, AllocError> = value.clone();
         let refused = end_refusal(alloc);
-        let right = match copy {
-            Ok(copy) => copy == *value,
-            Err(_) => refused,
-        };
+        let right = is_equal_or_refused(copy, value, refused);
         Ok(Round { refused, right })
     })
+}
+
+fn is_equal_or_refused<T: Clone + PartialEq>(
+    copy: Result<T, AllocError>,
+    value: &T,
+    refused: bool,
+) -> bool {
+    match copy {
+        Ok(copy) => copy == *value,
+        Err(_) => refused,
+    }
 }
 
 fn text(alloc: Global) -> Result<String, Fail> {
@@ -79,6 +87,14 @@ fn definitions_and_fields(rt: HostRuntime) -> Result<(), Fail> {
     is_copied(rt, "Empty", &Fields::Empty)
 }
 
+fn is_rule_copied(rt: HostRuntime, broken: SchemaContainerValidateError) -> Result<(), Fail> {
+    is_copied(rt, "SchemaContainerValidateError", &broken)
+}
+
+fn is_no_size_copied(rt: HostRuntime, no_size: SchemaMaxSerializedSizeError) -> Result<(), Fail> {
+    is_copied(rt, "SchemaMaxSerializedSizeError", &no_size)
+}
+
 #[test]
 fn errors_that_name_a_definition(rt: HostRuntime) -> Result<(), Fail> {
     let alloc = rt.alloc();
@@ -87,24 +103,27 @@ fn errors_that_name_a_definition(rt: HostRuntime) -> Result<(), Fail> {
         "Redefinition",
         &SchemaBuildError::Redefinition(text(alloc)?),
     )?;
-    for broken in [
-        SchemaContainerValidateError::ZSTSequence(text(alloc)?),
-        SchemaContainerValidateError::TagTooWide(text(alloc)?),
-        SchemaContainerValidateError::TagTooNarrow(text(alloc)?),
+    is_rule_copied(rt, SchemaContainerValidateError::ZSTSequence(text(alloc)?))?;
+    is_rule_copied(rt, SchemaContainerValidateError::TagTooWide(text(alloc)?))?;
+    is_rule_copied(rt, SchemaContainerValidateError::TagTooNarrow(text(alloc)?))?;
+    is_rule_copied(
+        rt,
         SchemaContainerValidateError::TagNotPowerOfTwo(text(alloc)?),
+    )?;
+    is_rule_copied(
+        rt,
         SchemaContainerValidateError::MissingDefinition(text(alloc)?),
+    )?;
+    is_rule_copied(
+        rt,
         SchemaContainerValidateError::EmptyLengthRange(text(alloc)?),
-        SchemaContainerValidateError::OutOfMemory,
-    ] {
-        is_copied(rt, "SchemaContainerValidateError", &broken)?;
-    }
-    for no_size in [
-        SchemaMaxSerializedSizeError::Overflow,
-        SchemaMaxSerializedSizeError::Recursive,
+    )?;
+    is_rule_copied(rt, SchemaContainerValidateError::OutOfMemory)?;
+    is_no_size_copied(rt, SchemaMaxSerializedSizeError::Overflow)?;
+    is_no_size_copied(rt, SchemaMaxSerializedSizeError::Recursive)?;
+    is_no_size_copied(
+        rt,
         SchemaMaxSerializedSizeError::MissingDefinition(text(alloc)?),
-        SchemaMaxSerializedSizeError::Redefinition(text(alloc)?),
-    ] {
-        is_copied(rt, "SchemaMaxSerializedSizeError", &no_size)?;
-    }
-    Ok(())
+    )?;
+    is_no_size_copied(rt, SchemaMaxSerializedSizeError::Redefinition(text(alloc)?))
 }

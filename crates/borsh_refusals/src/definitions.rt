@@ -83,27 +83,36 @@ fn new_names(rt: HostRuntime) -> Result<(), Fail> {
     Ok(())
 }
 
+/// The answer to `T5` with this size, put into 20 numbered definitions, which stay; no memory is taken.
+fn is_answered(
+    rt: HostRuntime,
+    size: u8,
+    before: &BTreeMap<String, Definition>,
+    answer: &Result<(), SchemaBuildError>,
+) -> Result<(), Fail> {
+    let alloc = rt.alloc();
+    sweep(rt, "add_definition of a known name", "T5", |refusal| {
+        let mut definitions = numbered(alloc, 20)?;
+        let name = String::from_str(alloc, "T5")?;
+        refusal.begin(alloc);
+        let done = add_definition(name, Definition::Primitive(size), &mut definitions);
+        let refused = end_refusal(alloc);
+        Ok(Round {
+            refused,
+            right: !refused && done == *answer && definitions == *before,
+        })
+    })
+}
+
 #[test]
 fn names_with_a_definition(rt: HostRuntime) -> Result<(), Fail> {
     let alloc = rt.alloc();
-    for count in [1u8, 5, 39] {
+    for &count in &[1u8, 5, 39] {
         is_inserted(rt, count, "T0", Some(Definition::Primitive(0)))?;
     }
     // An equal definition changes nothing, and another one is refused. Neither takes memory.
     let before = numbered(alloc, 20)?;
     let clash = SchemaBuildError::Redefinition(String::from_str(alloc, "T5")?);
-    for (size, answer) in [(5u8, Ok(())), (6, Err(clash))] {
-        sweep(rt, "add_definition of a known name", "T5", |refusal| {
-            let mut definitions = numbered(alloc, 20)?;
-            let name = String::from_str(alloc, "T5")?;
-            refusal.begin(alloc);
-            let done = add_definition(name, Definition::Primitive(size), &mut definitions);
-            let refused = end_refusal(alloc);
-            Ok(Round {
-                refused,
-                right: !refused && done == answer && definitions == before,
-            })
-        })?;
-    }
-    Ok(())
+    is_answered(rt, 5, &before, &Ok(()))?;
+    is_answered(rt, 6, &before, &Err(clash))
 }

@@ -1,6 +1,6 @@
 // Bytes that are refused, and values without an encoding. A text that has to be put together can find no memory.
 use super::heap::end_refusal;
-use super::sweeps::{Round, is_invalid, is_out_of_memory, sweep};
+use super::sweeps::{Round, is_invalid, judge_refused, sweep};
 use borsh::error::ERROR_ZST_FORBIDDEN;
 use borsh::schema::BorshSchemaContainer;
 use borsh::{
@@ -35,24 +35,18 @@ fn refuses<T: BorshDeserialize>(
         refusal.begin(alloc);
         let made = from_slice::<T>(alloc, bytes);
         let refused = end_refusal(alloc);
-        let right = match made {
-            Ok(_) => false,
-            Err(e) => is_invalid(&e, text) || refused && is_out_of_memory(&e),
-        };
-        Ok(Round { refused, right })
+        Ok(judge_refused(made, refused, text))
     })?;
     sweep(rt, "from_reader of refused bytes", name, |refusal| {
         let mut rest = bytes;
         refusal.begin(alloc);
         let made = from_reader::<_, T>(alloc, &mut rest);
         let refused = end_refusal(alloc);
-        let right = match made {
-            Ok(_) => false,
-            Err(e) => {
-                (is_invalid(&e, text) || refused && is_out_of_memory(&e)) && bytes.ends_with(rest)
-            }
-        };
-        Ok(Round { refused, right })
+        let came = judge_refused(made, refused, text);
+        Ok(Round {
+            refused,
+            right: came.right && bytes.ends_with(rest),
+        })
     })
 }
 
@@ -165,11 +159,7 @@ fn is_never_written<T: BorshSerialize>(
         refusal.begin(alloc);
         let made = to_vec(alloc, value);
         let refused = end_refusal(alloc);
-        let right = match made {
-            Ok(_) => false,
-            Err(e) => is_invalid(&e, text) || refused && is_out_of_memory(&e),
-        };
-        Ok(Round { refused, right })
+        Ok(judge_refused(made, refused, text))
     })?;
     sweep(rt, "to_writer of a refused value", name, |refusal| {
         let mut out = Vec::from_slice(alloc, b"front")?;

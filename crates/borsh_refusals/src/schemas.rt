@@ -1,10 +1,11 @@
 // Schemas of types.
+use super::containers::decoded;
 use super::heap::end_refusal;
 use super::sweeps::{Round, sweep};
+use borsh::max_serialized_size;
 use borsh::schema::{
     BorshSchema, BorshSchemaContainer, Definition, SchemaBuildError, SchemaMaxSerializedSizeError,
 };
-use borsh::{from_slice, max_serialized_size};
 use borsh_samples::{A, LongA, MyEnum, ShortA};
 use std::alloc::Global;
 use std::collections::{BTreeMap, HashMap};
@@ -114,9 +115,7 @@ fn has_container<T: BorshSchema>(
     digits: &str,
     size: usize,
 ) -> Result<(), Fail> {
-    let alloc = rt.alloc();
-    let bytes = hex::decode(alloc, digits)?;
-    let container: BorshSchemaContainer = from_slice(alloc, bytes.as_slice())?;
+    let container = decoded(rt.alloc(), digits)?;
     is_built::<T>(rt, name, &container, Ok(size))?;
     is_added::<T>(rt, name, &container)
 }

@@ -1,6 +1,8 @@
 // A call is made again and again, each time with another request for memory refused.
 use super::heap::Refusal;
-use borsh::io::{Error, ErrorKind};
+use borsh::io::{Error, ErrorKind, Result as IoResult};
+use borsh::{BorshDeserialize, BorshSerialize, to_vec};
+use std::alloc::Global;
 use std::test::Fail;
 
 /// More requests than any call here makes.
@@ -63,4 +65,45 @@ pub(crate) fn is_out_of_memory(error: &Error) -> bool {
 /// Whether an error refuses bytes or a value, with this text.
 pub(crate) fn is_invalid(error: &Error, text: &str) -> bool {
     error.kind() == ErrorKind::InvalidData && error.message() == text
+}
+
+/// Whether a value is written as these bytes.
+pub(crate) fn is_written_as<T: BorshSerialize>(
+    alloc: Global,
+    value: &T,
+    bytes: &[u8],
+) -> Result<bool, Fail> {
+    Ok(to_vec(alloc, value)?.as_slice() == bytes)
+}
+
+/// The round of a call that writes a value: these bytes, or an allocation failure.
+pub(crate) fn judge_written(made: IoResult<Vec<u8>>, refused: bool, bytes: &[u8]) -> Round {
+    let right = match made {
+        Ok(out) => out.as_slice() == bytes,
+        Err(e) => refused && is_out_of_memory(&e),
+    };
+    Round { refused, right }
+}
+
+/// The round of a call that reads a value: one that is written as these bytes, or an allocation failure.
+pub(crate) fn judge_read<T: BorshSerialize + BorshDeserialize>(
+    alloc: Global,
+    made: IoResult<T>,
+    refused: bool,
+    again: &[u8],
+) -> Result<Round, Fail> {
+    let right = match made {
+        Ok(value) => is_written_as(alloc, &value, again)?,
+        Err(e) => refused && is_out_of_memory(&e),
+    };
+    Ok(Round { refused, right })
+}
+
+/// The round of a call that refuses what it is given: an error with this text, or an allocation failure.
+pub(crate) fn judge_refused<T: Drop>(made: IoResult<T>, refused: bool, text: &str) -> Round {
+    let right = match made {
+        Ok(_) => false,
+        Err(e) => is_invalid(&e, text) || refused && is_out_of_memory(&e),
+    };
+    Round { refused, right }
 }

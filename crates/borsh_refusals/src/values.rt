@@ -1,6 +1,7 @@
 // Values that are written and read.
 use super::heap::end_refusal;
-use super::sweeps::{Round, is_out_of_memory, sweep};
+use super::sweeps::{Round, is_out_of_memory, judge_read, judge_written, sweep};
+use borsh::io::Result as IoResult;
 use borsh::schema::BorshSchemaContainer;
 use borsh::{
     BorshDeserialize, BorshSerialize, from_reader, from_slice, from_slice_unordered, object_length,
@@ -30,6 +31,14 @@ type Ranges = (
     RangeFull,
 );
 
+/// Whether all bytes were written; or, after an allocation failure, a beginning of them.
+fn is_all_or_beginning(done: IoResult<()>, refused: bool, written: &[u8], bytes: &[u8]) -> bool {
+    match done {
+        Ok(()) => written == bytes,
+        Err(e) => refused && is_out_of_memory(&e) && bytes.starts_with(written),
+    }
+}
+
 /// The value is written as the bytes; or an allocation failure is answered, and what was written is a beginning of them.
 fn writes<T: BorshSerialize>(
     rt: HostRuntime,
@@ -42,11 +51,7 @@ fn writes<T: BorshSerialize>(
         refusal.begin(alloc);
         let made = to_vec(alloc, value);
         let refused = end_refusal(alloc);
-        let right = match made {
-            Ok(out) => out.as_slice() == bytes,
-            Err(e) => refused && is_out_of_memory(&e),
-        };
-        Ok(Round { refused, right })
+        Ok(judge_written(made, refused, bytes))
     })?;
     sweep(rt, "object_length", name, |refusal| {
         refusal.begin(alloc);
@@ -63,12 +68,9 @@ fn writes<T: BorshSerialize>(
         refusal.begin(alloc);
         let done = value.serialize(alloc, &mut out);
         let refused = end_refusal(alloc);
-        let right = match (done, out.as_slice().strip_prefix(b"front")) {
-            (Ok(()), Some(written)) => written == bytes,
-            (Err(e), Some(written)) => {
-                refused && is_out_of_memory(&e) && bytes.starts_with(written)
-            }
-            (_, None) => false,
+        let right = match out.as_slice().strip_prefix(b"front") {
+            Some(written) => is_all_or_beginning(done, refused, written, bytes),
+            None => false,
         };
         Ok(Round { refused, right })
     })
@@ -88,12 +90,16 @@ fn writes_in_pieces<T: BorshSerialize>(
         refusal.begin(alloc);
         let done = to_writer(alloc, &mut writer, value);
         let refused = end_refusal(alloc);
-        let right = match done {
-            Ok(()) => writer.taken() == bytes,
-            Err(e) => { refused && is_out_of_memory(&e) && bytes.starts_with(writer.taken()) }
-        };
+        let right = is_all_or_beginning(done, refused, writer.taken(), bytes);
         Ok(Round { refused, right })
     })
+}
+
+/// The bytes, and `rest` behind them.
+pub(crate) fn with_rest(alloc: Global, bytes: &[u8]) -> Result<Vec<u8>, Fail> {
+    let mut longer = Vec::from_slice(alloc, bytes)?;
+    longer.extend_from_slice(b"rest")?;
+    Ok(longer)
 }
 
 /// The bytes are read as a value that is written as `again`; or an allocation failure is answered, and what is left is a tail
@@ -109,27 +115,35 @@ fn reads<T: BorshSerialize + BorshDeserialize>(
         refusal.begin(alloc);
         let made = from_slice::<T>(alloc, bytes);
         let refused = end_refusal(alloc);
-        let right = match made {
-            Ok(value) => to_vec(alloc, &value)?.as_slice() == again,
-            Err(e) => refused && is_out_of_memory(&e),
-        };
-        Ok(Round { refused, right })
+        judge_read(alloc, made, refused, again)
     })?;
-    let mut longer = Vec::from_slice(alloc, bytes)?;
-    longer.extend_from_slice(b"rest")?;
-    let longer = longer.as_slice();
+    let longer = with_rest(alloc, bytes)?;
+    reads_front::<T>(rt, name, longer.as_slice(), again)
+}
+
+/// The same of a value with `rest` behind it, which is left.
+fn reads_front<T: BorshSerialize + BorshDeserialize>(
+    rt: HostRuntime,
+    name: &str,
+    longer: &[u8],
+    again: &[u8],
+) -> Result<(), Fail> {
+    let alloc = rt.alloc();
     sweep(rt, "deserialize", name, |refusal| {
         let mut rest = longer;
         refusal.begin(alloc);
         let made = T::deserialize(alloc, &mut rest);
         let refused = end_refusal(alloc);
-        let right = match made {
-            Ok(value) => {
-                rest == b"rest".as_slice() && to_vec(alloc, &value)?.as_slice() == again
-            }
-            Err(e) => refused && is_out_of_memory(&e) && longer.ends_with(rest),
+        let is_left = if made.is_ok() {
+            rest == b"rest".as_slice()
+        } else {
+            longer.ends_with(rest)
         };
-        Ok(Round { refused, right })
+        let came = judge_read(alloc, made, refused, again)?;
+        Ok(Round {
+            refused,
+            right: came.right && is_left,
+        })
     })
 }
 
@@ -145,11 +159,7 @@ fn reads_unordered<T: BorshSerialize + BorshDeserialize>(
         refusal.begin(alloc);
         let made = from_slice_unordered::<T>(alloc, bytes);
         let refused = end_refusal(alloc);
-        let right = match made {
-            Ok(value) => to_vec(alloc, &value)?.as_slice() == again,
-            Err(e) => refused && is_out_of_memory(&e),
-        };
-        Ok(Round { refused, right })
+        judge_read(alloc, made, refused, again)
     })
 }
 
@@ -166,11 +176,16 @@ fn reads_in_pieces<T: BorshSerialize + BorshDeserialize>(
         refusal.begin(alloc);
         let made = from_reader::<_, T>(alloc, &mut reader);
         let refused = end_refusal(alloc);
-        let right = match made {
-            Ok(value) => { reader.rest().is_empty() && to_vec(alloc, &value)?.as_slice() == again }
-            Err(e) => { refused && is_out_of_memory(&e) && bytes.ends_with(reader.rest()) }
+        let is_left = if made.is_ok() {
+            reader.rest().is_empty()
+        } else {
+            bytes.ends_with(reader.rest())
         };
-        Ok(Round { refused, right })
+        let came = judge_read(alloc, made, refused, again)?;
+        Ok(Round {
+            refused,
+            right: came.right && is_left,
+        })
     })
 }
 
@@ -337,25 +352,40 @@ fn ascending(alloc: Global, part: &[u8]) -> Result<Vec<u8>, Fail> {
     Ok(bytes)
 }
 
+/// The encoding of the part, so many times.
+fn encodes_repeated<T: BorshSerialize + BorshDeserialize>(
+    rt: HostRuntime,
+    name: &str,
+    count: u32,
+    part: &[u8],
+) -> Result<(), Fail> {
+    let bytes = repeated(rt.alloc(), count, part)?;
+    encodes::<T>(rt, name, bytes.as_slice())
+}
+
+/// The encoding of 200 ascending keys, each with the part behind it.
+fn encodes_ascending<T: BorshSerialize + BorshDeserialize>(
+    rt: HostRuntime,
+    name: &str,
+    part: &[u8],
+) -> Result<(), Fail> {
+    let bytes = ascending(rt.alloc(), part)?;
+    encodes::<T>(rt, name, bytes.as_slice())
+}
+
 // Lists that grow while they are read, past what is reserved at first, and maps of more than one node.
 #[test]
 fn values_that_grow(rt: HostRuntime) -> Result<(), Fail> {
-    let alloc = rt.alloc();
-    let bytes = repeated(alloc, 1048577, b"x")?;
-    encodes::<Vec<u8>>(rt, "Vec<u8>", bytes.as_slice())?;
-    let options = repeated(alloc, 5000, b"\x01\x07")?;
-    encodes::<Vec<Option<u8>>>(rt, "Vec<Option<u8>>", options.as_slice())?;
-    let texts = repeated(alloc, 200, b"\x01\0\0\0a")?;
-    encodes::<Vec<String>>(rt, "Vec<String>", texts.as_slice())?;
-    let entries = ascending(alloc, b"\x07")?;
-    encodes::<BTreeMap<u8, u8>>(rt, "BTreeMap<u8, u8>", entries.as_slice())?;
-    encodes::<HashMap<u8, u8>>(rt, "HashMap<u8, u8>", entries.as_slice())?;
-    encodes::<IndexMap<u8, u8>>(rt, "IndexMap<u8, u8>", entries.as_slice())?;
-    let keys = ascending(alloc, b"")?;
-    encodes::<BTreeSet<u8>>(rt, "BTreeSet<u8>", keys.as_slice())?;
-    encodes::<HashSet<u8>>(rt, "HashSet<u8>", keys.as_slice())?;
-    encodes::<IndexSet<u8>>(rt, "IndexSet<u8>", keys.as_slice())?;
-    encodes::<LinkedList<u8>>(rt, "LinkedList<u8>", keys.as_slice())
+    encodes_repeated::<Vec<u8>>(rt, "Vec<u8>", 1048577, b"x")?;
+    encodes_repeated::<Vec<Option<u8>>>(rt, "Vec<Option<u8>>", 5000, b"\x01\x07")?;
+    encodes_repeated::<Vec<String>>(rt, "Vec<String>", 200, b"\x01\0\0\0a")?;
+    encodes_ascending::<BTreeMap<u8, u8>>(rt, "BTreeMap<u8, u8>", b"\x07")?;
+    encodes_ascending::<HashMap<u8, u8>>(rt, "HashMap<u8, u8>", b"\x07")?;
+    encodes_ascending::<IndexMap<u8, u8>>(rt, "IndexMap<u8, u8>", b"\x07")?;
+    encodes_ascending::<BTreeSet<u8>>(rt, "BTreeSet<u8>", b"")?;
+    encodes_ascending::<HashSet<u8>>(rt, "HashSet<u8>", b"")?;
+    encodes_ascending::<IndexSet<u8>>(rt, "IndexSet<u8>", b"")?;
+    encodes_ascending::<LinkedList<u8>>(rt, "LinkedList<u8>", b"")
 }
 
 // A queue whose items wrap round its end, and one map under another hasher.

@@ -1,8 +1,8 @@
 // Values that are sent with their schema.
 use super::heap::end_refusal;
-use super::sweeps::{Round, is_invalid, is_out_of_memory, sweep};
+use super::sweeps::{judge_read, judge_refused, judge_written, sweep};
 use borsh::{
-    BorshDeserialize, BorshSchema, BorshSerialize, from_slice, to_vec, try_from_slice_with_schema,
+    BorshDeserialize, BorshSchema, BorshSerialize, from_slice, try_from_slice_with_schema,
     try_to_vec_with_schema,
 };
 use borsh_samples::{A, LongA, MyEnum, ShortA};
@@ -25,11 +25,7 @@ fn is_sent<T: BorshSerialize + BorshSchema>(
         refusal.begin(alloc);
         let made = try_to_vec_with_schema(alloc, value);
         let refused = end_refusal(alloc);
-        let right = match made {
-            Ok(out) => out.as_slice() == sent,
-            Err(e) => refused && is_out_of_memory(&e),
-        };
-        Ok(Round { refused, right })
+        Ok(judge_written(made, refused, sent))
     })
 }
 
@@ -45,11 +41,7 @@ fn is_received<T: BorshSerialize + BorshDeserialize + BorshSchema>(
         refusal.begin(alloc);
         let made = try_from_slice_with_schema::<T>(alloc, sent);
         let refused = end_refusal(alloc);
-        let right = match made {
-            Ok(value) => to_vec(alloc, &value)?.as_slice() == bytes,
-            Err(e) => refused && is_out_of_memory(&e),
-        };
-        Ok(Round { refused, right })
+        judge_read(alloc, made, refused, bytes)
     })
 }
 
@@ -65,11 +57,7 @@ fn is_not_received<T: BorshDeserialize + BorshSchema>(
         refusal.begin(alloc);
         let made = try_from_slice_with_schema::<T>(alloc, sent);
         let refused = end_refusal(alloc);
-        let right = match made {
-            Ok(_) => false,
-            Err(e) => is_invalid(&e, text) || refused && is_out_of_memory(&e),
-        };
-        Ok(Round { refused, right })
+        Ok(judge_refused(made, refused, text))
     })
 }
 
@@ -112,11 +100,7 @@ fn two_types_of_one_name(rt: HostRuntime) -> Result<(), Fail> {
         refusal.begin(alloc);
         let made = try_to_vec_with_schema(alloc, &pair);
         let refused = end_refusal(alloc);
-        let right = match made {
-            Ok(_) => false,
-            Err(e) => is_invalid(&e, CLASH) || refused && is_out_of_memory(&e),
-        };
-        Ok(Round { refused, right })
+        Ok(judge_refused(made, refused, CLASH))
     })?;
     let other = try_to_vec_with_schema(alloc, &(1u8, 2u16))?;
     is_not_received::<(ShortA, LongA)>(rt, "(A, A)", other.as_slice(), CLASH)

@@ -7,16 +7,18 @@
 // `definitions`, `get_definition`, `get_mut_definition` and `remove_definition`; and comparisons. `finish` takes none past the
 // writer's own growth: `.ci/sweep.py` shows it, on the program itself.
 use super::heap::{Refusal, end_refusal};
-use super::sweeps::is_invalid;
+use super::sweeps::{is_invalid, is_written_as};
+use super::values::with_rest;
 use borsh::de::hint::cautious;
-use borsh::io::{Error, ErrorKind, Read, StdReader, StdWriter, Text, Unordered, Write};
+use borsh::io::{
+    Error, ErrorKind, Read, Result as IoResult, StdReader, StdWriter, Text, Unordered, Write,
+};
 use borsh::schema::{
     BorshSchemaContainer, Counted, Definition, Expansions, Fields, LengthRange, Question,
     SchemaBuildError, SchemaContainerValidateError, SchemaMaxSerializedSizeError,
 };
 use borsh::{
-    BorshDeserialize, BorshSerialize, BorshType, from_reader, from_slice, object_length, to_vec,
-    to_writer,
+    BorshDeserialize, BorshSerialize, BorshType, from_reader, from_slice, object_length, to_writer,
 };
 use borsh_devices::{Course, Failure, TestReader};
 use borsh_samples::{A, MyEnum, MyStruct, OneOrZero};
@@ -226,23 +228,46 @@ fn is_read<T: BorshSerialize + BorshDeserialize>(
     bytes: &[u8],
 ) -> Result<(), Fail> {
     let alloc = rt.alloc();
-    let mut longer = Vec::from_slice(alloc, bytes)?;
-    longer.extend_from_slice(b"rest")?;
+    let longer = with_rest(alloc, bytes)?;
+    if is_whole_read::<T>(alloc, bytes)? && is_front_read::<T>(alloc, longer.as_slice(), bytes)? {
+        return Ok(());
+    }
+    Err(Fail::new(format_args!("{name}: read without memory")))
+}
+
+fn is_whole_read<T: BorshSerialize + BorshDeserialize>(
+    alloc: Global,
+    bytes: &[u8],
+) -> Result<bool, Fail> {
     Refusal::Rest(1).begin(alloc);
     let whole = from_slice::<T>(alloc, bytes);
-    let mut rest = longer.as_slice();
+    let asked = end_refusal(alloc);
+    Ok(is_value(alloc, whole, bytes)? && !asked)
+}
+
+/// The same from the front of bytes that end with `rest`, which is left.
+fn is_front_read<T: BorshSerialize + BorshDeserialize>(
+    alloc: Global,
+    longer: &[u8],
+    bytes: &[u8],
+) -> Result<bool, Fail> {
+    let mut rest = longer;
+    Refusal::Rest(1).begin(alloc);
     let front = T::deserialize(alloc, &mut rest);
     let asked = end_refusal(alloc);
-    let right = match (whole, front) {
-        (Ok(whole), Ok(front)) => {
-            to_vec(alloc, &whole)?.as_slice() == bytes && to_vec(alloc, &front)?.as_slice() == bytes
-        }
-        _ => false,
-    };
-    if asked || !right || rest != b"rest".as_slice() {
-        return Err(Fail::new(format_args!("{name}: read without memory")));
+    Ok(is_value(alloc, front, bytes)? && !asked && rest == b"rest".as_slice())
+}
+
+/// Whether a value was read that is written as these bytes.
+fn is_value<T: BorshSerialize + BorshDeserialize>(
+    alloc: Global,
+    made: IoResult<T>,
+    bytes: &[u8],
+) -> Result<bool, Fail> {
+    match made {
+        Ok(value) => is_written_as(alloc, &value, bytes),
+        Err(_) => Ok(false),
     }
-    Ok(())
 }
 
 #[test]
@@ -302,18 +327,34 @@ fn is_container(
     same: &BorshSchemaContainer,
 ) -> bool {
     let mut container = BorshSchemaContainer::new(root, definitions);
-    let is_same = container == *same
+    is_of_one_byte(&container, same)
+        && is_changed(&mut container, same)
+        && is_emptied(&mut container)
+}
+
+/// Whether a container's contents are those of `same`, the definition of `u8` alone.
+fn is_of_one_byte(container: &BorshSchemaContainer, same: &BorshSchemaContainer) -> bool {
+    *container == *same
         && container.declaration().as_str() == "u8"
         && container.definitions().count() == 1
         && container.get_definition("u8") == Some(&Definition::Primitive(1))
-        && container.get_definition("u16").is_none();
+        && container.get_definition("u16").is_none()
+}
+
+/// Gives `u8` two bytes: whether the container is another one then.
+fn is_changed(container: &mut BorshSchemaContainer, same: &BorshSchemaContainer) -> bool {
     if let Some(definition) = container.get_mut_definition("u8") {
         *definition = Definition::Primitive(2);
     }
-    let is_changed = container != *same
-        && container.remove_definition("u8") == Some(Definition::Primitive(2))
-        && container.remove_definition("u8").is_none();
-    is_same && is_changed && container.definitions().count() == 0
+    *container != *same
+}
+
+/// Removes `u8` twice: whether its definition, of two bytes, is answered once, and none is left.
+fn is_emptied(container: &mut BorshSchemaContainer) -> bool {
+    let removed = container.remove_definition("u8");
+    let again = container.remove_definition("u8");
+    let is_removed = removed == Some(Definition::Primitive(2)) && again.is_none();
+    is_removed && container.definitions().count() == 0
 }
 
 #[test]
@@ -339,6 +380,11 @@ fn containers(rt: HostRuntime) -> Result<(), Fail> {
     })
 }
 
+/// Whether a value is equal to itself, and not to the other.
+fn is_itself<T: PartialEq + Drop>(value: &T, other: T) -> bool {
+    *value == *value && *value != other
+}
+
 #[test]
 fn comparisons(rt: HostRuntime) -> Result<(), Fail> {
     let alloc = rt.alloc();
@@ -355,11 +401,8 @@ fn comparisons(rt: HostRuntime) -> Result<(), Fail> {
     let broken = SchemaContainerValidateError::ZSTSequence(String::from_str(alloc, "A")?);
     let missing = SchemaMaxSerializedSizeError::MissingDefinition(String::from_str(alloc, "A")?);
     asks_for_none(alloc, "errors", || {
-        clash == clash
-            && clash != SchemaBuildError::OutOfMemory
-            && broken == broken
-            && broken != SchemaContainerValidateError::OutOfMemory
-            && missing == missing
-            && missing != SchemaMaxSerializedSizeError::Recursive
+        is_itself(&clash, SchemaBuildError::OutOfMemory)
+            && is_itself(&broken, SchemaContainerValidateError::OutOfMemory)
+            && is_itself(&missing, SchemaMaxSerializedSizeError::Recursive)
     })
 }

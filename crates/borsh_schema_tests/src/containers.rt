@@ -1,5 +1,6 @@
 // Containers as bytes, asked about by lines.
-use super::lines::{answer, answer_about};
+use super::checks::check;
+use super::lines::{answer_about, check_answer, check_answer_about};
 use super::shapes::{Shape, container, definition};
 use borsh::schema::{BorshSchemaContainer, Definition, LengthRange, SchemaMaxSerializedSizeError};
 use borsh::to_vec;
@@ -165,21 +166,17 @@ fn is_counted(alloc: Global, digits: &str, numbers: [u64; 3]) -> Result<bool, Fa
     )
 }
 
+fn check_counted(alloc: Global, digits: &str, numbers: [u64; 3]) -> Result<(), Fail> {
+    check(is_counted(alloc, digits, numbers)?, digits)
+}
+
 #[test]
 fn containers_are_judged_sized_and_counted(rt: HostRuntime) -> Result<(), Fail> {
     let alloc = rt.alloc();
-    for (digits, check, size, numbers) in ROWS {
-        assert_eq!(rt;
-            answer_about(alloc, "check", digits)?.as_str(),
-            check,
-            "of {digits}"
-        );
-        assert_eq!(rt;
-            answer_about(alloc, "size", digits)?.as_str(),
-            size,
-            "of {digits}"
-        );
-        assert!(rt; is_counted(alloc, digits, numbers)?, "of {digits}");
+    for &(digits, check, size, numbers) in &ROWS {
+        check_answer_about(alloc, "check", digits, check)?;
+        check_answer_about(alloc, "size", digits, size)?;
+        check_counted(alloc, digits, numbers)?;
     }
     Ok(())
 }
@@ -203,8 +200,8 @@ const READ: [(&str, &str); 4] = [
 #[test]
 fn containers_are_read_and_written(rt: HostRuntime) -> Result<(), Fail> {
     let alloc = rt.alloc();
-    for (line, wanted) in READ {
-        assert_eq!(rt; answer(alloc, line)?.as_str(), wanted, "of {line}");
+    for &(line, wanted) in &READ {
+        check_answer(alloc, line, wanted)?;
     }
     Ok(())
 }
@@ -225,13 +222,12 @@ const NO_CONTAINERS: [(&str, &str); 4] = [
 #[test]
 fn bytes_that_are_no_container_are_told(rt: HostRuntime) -> Result<(), Fail> {
     let alloc = rt.alloc();
-    for (digits, error) in NO_CONTAINERS {
-        assert_eq!(rt; answer_about(alloc, "check", digits)?.as_str(), error);
-        assert_eq!(rt; answer_about(alloc, "size", digits)?.as_str(), error);
-        assert_eq!(rt; answer_about(alloc, "counts", digits)?.as_str(), error);
+    for &(digits, error) in &NO_CONTAINERS {
+        for &command in &["check", "size", "counts"] {
+            check_answer_about(alloc, command, digits, error)?;
+        }
     }
-    assert_eq!(rt; answer_about(alloc, "check", "0")?.as_str(), "error line");
-    Ok(())
+    check_answer_about(alloc, "check", "0", "error line")
 }
 
 /// The bytes of a container, as digits.
@@ -254,56 +250,81 @@ fn tuple_of(alloc: Global, name: &str, places: u64) -> Result<Definition, Fail> 
     Ok(Definition::Tuple { elements })
 }
 
+/// Adds the tuple of so many of the name with a number, under the name with the next number.
+fn add_tuple(
+    alloc: Global,
+    letter: &str,
+    number: u64,
+    places: u64,
+    definitions: &mut BTreeMap<String, Definition>,
+) -> Result<(), Fail> {
+    let below = format!(in alloc; "{letter}{number}")?;
+    let tuple = tuple_of(alloc, below.as_str(), places)?;
+    let name = format!(in alloc; "{letter}{}", number.saturating_add(1))?;
+    definitions.insert(name, tuple)?;
+    Ok(())
+}
+
+/// Adds the names of a letter and 0 up to a number, each the tuple of so many of the name before, and
+/// the first one byte.
+fn add_tuples(
+    alloc: Global,
+    letter: &str,
+    last: u64,
+    places: u64,
+    definitions: &mut BTreeMap<String, Definition>,
+) -> Result<(), Fail> {
+    let first = format!(in alloc; "{letter}0")?;
+    definitions.insert(first, Definition::Primitive(1))?;
+    for number in 0..last {
+        add_tuple(alloc, letter, number, places, definitions)?;
+    }
+    Ok(())
+}
+
 /// `L0` to the last one, each the tuple of two of the name before, and the first one byte.
 fn doubled(alloc: Global, last: u64) -> Result<String, Fail> {
     let mut definitions = BTreeMap::new(alloc);
-    definitions.insert(String::from_str(alloc, "L0")?, Definition::Primitive(1))?;
-    for n in 0..last {
-        let name = format!(in alloc; "L{}", n + 1)?;
-        let below = format!(in alloc; "L{n}")?;
-        definitions.insert(name, tuple_of(alloc, below.as_str(), 2)?)?;
-    }
+    add_tuples(alloc, "L", last, 2, &mut definitions)?;
     let root = format!(in alloc; "L{last}")?;
     digits(alloc, root.as_str(), definitions)
+}
+
+fn check_size_of_doubled(alloc: Global, last: u64, wanted: &str) -> Result<(), Fail> {
+    check_answer_about(alloc, "size", doubled(alloc, last)?.as_str(), wanted)
+}
+
+/// Fails the test unless the container is valid, and each of so many definitions is looked into.
+fn check_valid(alloc: Global, digits: &str, definitions: u64) -> Result<(), Fail> {
+    check_answer_about(alloc, "check", digits, "valid")?;
+    check_counted(alloc, digits, [definitions, definitions, definitions])
 }
 
 #[test]
 fn a_name_is_looked_into_once(rt: HostRuntime) -> Result<(), Fail> {
     let alloc = rt.alloc();
-    let sixty = doubled(alloc, 60)?;
-    let sixty = sixty.as_str();
-    assert_eq!(rt; answer_about(alloc, "check", sixty)?.as_str(), "valid");
-    assert_eq!(rt;
-        answer_about(alloc, "size", sixty)?.as_str(),
-        "1152921504606846976"
-    );
-    assert!(rt; is_counted(alloc, sixty, [61, 61, 61])?);
-    assert_eq!(rt;
-        answer_about(alloc, "size", doubled(alloc, 63)?.as_str())?.as_str(),
-        "9223372036854775808"
-    );
-    assert_eq!(rt;
-        answer_about(alloc, "size", doubled(alloc, 64)?.as_str())?.as_str(),
-        "overflow"
-    );
-    Ok(())
+    check_valid(alloc, doubled(alloc, 60)?.as_str(), 61)?;
+    check_size_of_doubled(alloc, 60, "1152921504606846976")?;
+    check_size_of_doubled(alloc, 63, "9223372036854775808")?;
+    check_size_of_doubled(alloc, 64, "overflow")
+}
+
+/// A list of at most one of this name.
+fn at_most_one(alloc: Global, name: &str) -> Result<Definition, Fail> {
+    Ok(Definition::Sequence {
+        length_width: 4,
+        length_range: LengthRange { start: 0, end: 1 },
+        elements: String::from_str(alloc, name)?,
+    })
 }
 
 /// A list of at most one `B`, the first of a chain of so many names, the last of which is one byte.
 fn chain(alloc: Global, names: u64) -> Result<String, Fail> {
     let mut definitions = BTreeMap::new(alloc);
-    let first = Definition::Sequence {
-        length_width: 4,
-        length_range: LengthRange { start: 0, end: 1 },
-        elements: format!(in alloc; "B{names}")?,
-    };
-    definitions.insert(String::from_str(alloc, "A")?, first)?;
-    definitions.insert(String::from_str(alloc, "B0")?, Definition::Primitive(1))?;
-    for n in 0..names {
-        let name = format!(in alloc; "B{}", n + 1)?;
-        let next = format!(in alloc; "B{n}")?;
-        definitions.insert(name, tuple_of(alloc, next.as_str(), 1)?)?;
-    }
+    add_tuples(alloc, "B", names, 1, &mut definitions)?;
+    let element = format!(in alloc; "B{names}")?;
+    let list = at_most_one(alloc, element.as_str())?;
+    definitions.insert(String::from_str(alloc, "A")?, list)?;
     digits(alloc, "A", definitions)
 }
 
@@ -311,11 +332,8 @@ fn chain(alloc: Global, names: u64) -> Result<String, Fail> {
 fn a_long_chain_needs_no_stack(rt: HostRuntime) -> Result<(), Fail> {
     let alloc = rt.alloc();
     let long = chain(alloc, 99999)?;
-    let long = long.as_str();
-    assert_eq!(rt; answer_about(alloc, "check", long)?.as_str(), "valid");
-    assert_eq!(rt; answer_about(alloc, "size", long)?.as_str(), "5");
-    assert!(rt; is_counted(alloc, long, [100001, 100001, 100001])?);
-    Ok(())
+    check_valid(alloc, long.as_str(), 100001)?;
+    check_answer_about(alloc, "size", long.as_str(), "5")
 }
 
 /// What the structs below are made of, the struct `S` itself among it.
@@ -345,16 +363,26 @@ const STRUCTS: [(Shape, Option<usize>); 6] = [
     (Shape::Unnamed(&["[S; 3]"]), None),
 ];
 
+/// The container of `S`, a struct of this shape.
+fn struct_of(alloc: Global, shape: Shape) -> Result<BorshSchemaContainer, Fail> {
+    let mut all = container(alloc, "S", &PARTS)?;
+    let name = String::from_str(alloc, "S")?;
+    all.insert_definition(name, definition(alloc, shape)?)?;
+    Ok(all)
+}
+
+fn check_struct(alloc: Global, shape: Shape, size: Option<usize>) -> Result<(), Fail> {
+    let all = struct_of(alloc, shape)?;
+    let wanted = size.ok_or(SchemaMaxSerializedSizeError::Recursive);
+    let is_sized = all.max_serialized_size(alloc) == wanted;
+    check(all.validate(alloc).is_ok() && is_sized, "a struct")
+}
+
 #[test]
 fn structs_may_hold_themselves(rt: HostRuntime) -> Result<(), Fail> {
     let alloc = rt.alloc();
-    for (shape, size) in STRUCTS {
-        let mut all = container(alloc, "S", &PARTS)?;
-        let name = String::from_str(alloc, "S")?;
-        all.insert_definition(name, definition(alloc, shape)?)?;
-        assert!(rt; all.validate(alloc).is_ok());
-        let wanted = size.ok_or(SchemaMaxSerializedSizeError::Recursive);
-        assert!(rt; all.max_serialized_size(alloc) == wanted);
+    for &(shape, size) in &STRUCTS {
+        check_struct(alloc, shape, size)?;
     }
     Ok(())
 }

@@ -1,6 +1,7 @@
 // The names and definitions of types, as the original's tests and its containers have them.
+use super::checks::check;
 use super::shapes::Shape::{Bytes, Empty, Enum, List, Named, Sequence, Tuple, Unnamed};
-use super::shapes::{Row, is_declared};
+use super::shapes::{Row, check_declared, is_declared};
 use borsh::schema::BorshSchemaContainer;
 use borsh_samples::{A, MyEnum};
 use std::borrow::{CowSlice, CowStr};
@@ -16,33 +17,36 @@ use std::test::Fail;
 #[test]
 fn numbers(rt: HostRuntime) -> Result<(), Fail> {
     let alloc = rt.alloc();
-    assert!(rt; is_declared::<bool>(alloc, "bool", &[("bool", Bytes(1))])?);
-    assert!(rt; is_declared::<u8>(alloc, "u8", &[("u8", Bytes(1))])?);
-    assert!(rt; is_declared::<i16>(alloc, "i16", &[("i16", Bytes(2))])?);
-    assert!(rt; is_declared::<u32>(alloc, "u32", &[("u32", Bytes(4))])?);
-    assert!(rt; is_declared::<u128>(alloc, "u128", &[("u128", Bytes(16))])?);
-    assert!(rt; is_declared::<isize>(alloc, "i64", &[("i64", Bytes(8))])?);
-    assert!(rt; is_declared::<usize>(alloc, "u64", &[("u64", Bytes(8))])?);
-    Ok(())
+    check_declared::<bool>(alloc, "bool", &[("bool", Bytes(1))])?;
+    check_declared::<u8>(alloc, "u8", &[("u8", Bytes(1))])?;
+    check_declared::<i16>(alloc, "i16", &[("i16", Bytes(2))])?;
+    check_declared::<u32>(alloc, "u32", &[("u32", Bytes(4))])?;
+    check_declared::<u128>(alloc, "u128", &[("u128", Bytes(16))])?;
+    check_declared::<isize>(alloc, "i64", &[("i64", Bytes(8))])?;
+    check_declared::<usize>(alloc, "u64", &[("u64", Bytes(8))])
 }
 
 #[test]
 fn non_zero_numbers(rt: HostRuntime) -> Result<(), Fail> {
     let alloc = rt.alloc();
-    assert!(rt; is_declared::<NonZeroI16>(alloc, "NonZeroI16", &[("NonZeroI16", Bytes(2))])?);
-    assert!(rt; is_declared::<NonZeroU128>(alloc, "NonZeroU128", &[("NonZeroU128", Bytes(16))])?);
-    assert!(rt; is_declared::<NonZeroUsize>(alloc, "NonZeroUsize", &[("NonZeroUsize", Bytes(8))])?);
-    Ok(())
+    check_declared::<NonZeroI16>(alloc, "NonZeroI16", &[("NonZeroI16", Bytes(2))])?;
+    check_declared::<NonZeroU128>(alloc, "NonZeroU128", &[("NonZeroU128", Bytes(16))])?;
+    check_declared::<NonZeroUsize>(alloc, "NonZeroUsize", &[("NonZeroUsize", Bytes(8))])
 }
 
 #[test]
 fn types_without_bytes(rt: HostRuntime) -> Result<(), Fail> {
     let alloc = rt.alloc();
     let unit = [("()", Bytes(0))];
-    assert!(rt; is_declared::<()>(alloc, "()", &unit)?);
-    assert!(rt; is_declared::<PhantomData<String>>(alloc, "()", &unit)?);
-    assert!(rt; is_declared::<PhantomData<Vec<u8>>>(alloc, "()", &unit)?);
-    Ok(())
+    check(is_declared::<()>(alloc, "()", &unit)?, "()")?;
+    check(
+        is_declared::<PhantomData<String>>(alloc, "()", &unit)?,
+        "PhantomData<String>",
+    )?;
+    check(
+        is_declared::<PhantomData<Vec<u8>>>(alloc, "()", &unit)?,
+        "PhantomData<Vec<u8>>",
+    )
 }
 
 const TEXT: [Row; 2] = [("String", List("u8")), ("u8", Bytes(1))];
@@ -50,12 +54,11 @@ const TEXT: [Row; 2] = [("String", List("u8")), ("u8", Bytes(1))];
 #[test]
 fn texts(rt: HostRuntime) -> Result<(), Fail> {
     let alloc = rt.alloc();
-    assert!(rt; is_declared::<String>(alloc, "String", &TEXT)?);
-    assert!(rt; is_declared::<&str>(alloc, "String", &TEXT)?);
-    assert!(rt; is_declared::<BoxedStr>(alloc, "String", &TEXT)?);
-    assert!(rt; is_declared::<RcStr>(alloc, "String", &TEXT)?);
-    assert!(rt; is_declared::<CowStr>(alloc, "String", &TEXT)?);
-    Ok(())
+    check(is_declared::<String>(alloc, "String", &TEXT)?, "String")?;
+    check(is_declared::<&str>(alloc, "String", &TEXT)?, "&str")?;
+    check(is_declared::<BoxedStr>(alloc, "String", &TEXT)?, "BoxedStr")?;
+    check(is_declared::<RcStr>(alloc, "String", &TEXT)?, "RcStr")?;
+    check(is_declared::<CowStr>(alloc, "String", &TEXT)?, "CowStr")
 }
 
 #[test]
@@ -66,7 +69,7 @@ fn options_and_results(rt: HostRuntime) -> Result<(), Fail> {
         Enum(1, &[(0, "None", "()"), (1, "Some", "u64")]),
     );
     let rows = [("()", Bytes(0)), option, ("u64", Bytes(8))];
-    assert!(rt; is_declared::<Option<u64>>(alloc, "Option<u64>", &rows)?);
+    check_declared::<Option<u64>>(alloc, "Option<u64>", &rows)?;
     let rows = [
         ("()", Bytes(0)),
         option,
@@ -76,7 +79,7 @@ fn options_and_results(rt: HostRuntime) -> Result<(), Fail> {
         ),
         ("u64", Bytes(8)),
     ];
-    assert!(rt; is_declared::<Option<Option<u64>>>(alloc, "Option<Option<u64>>", &rows)?);
+    check_declared::<Option<Option<u64>>>(alloc, "Option<Option<u64>>", &rows)?;
     let rows = [
         (
             "Result<u8, u8>",
@@ -84,15 +87,14 @@ fn options_and_results(rt: HostRuntime) -> Result<(), Fail> {
         ),
         ("u8", Bytes(1)),
     ];
-    assert!(rt; is_declared::<Result<u8, u8>>(alloc, "Result<u8, u8>", &rows)?);
-    Ok(())
+    check_declared::<Result<u8, u8>>(alloc, "Result<u8, u8>", &rows)
 }
 
 #[test]
 fn tuples(rt: HostRuntime) -> Result<(), Fail> {
     let alloc = rt.alloc();
     let rows = [("(bool,)", Tuple(&["bool"])), ("bool", Bytes(1))];
-    assert!(rt; is_declared::<(bool,)>(alloc, "(bool,)", &rows)?);
+    check_declared::<(bool,)>(alloc, "(bool,)", &rows)?;
     let rows = [
         (
             "(u64, NonZeroU16, String)",
@@ -103,9 +105,7 @@ fn tuples(rt: HostRuntime) -> Result<(), Fail> {
         ("u64", Bytes(8)),
         ("u8", Bytes(1)),
     ];
-    assert!(rt;
-        is_declared::<(u64, NonZeroU16, String)>(alloc, "(u64, NonZeroU16, String)", &rows)?
-    );
+    check_declared::<(u64, NonZeroU16, String)>(alloc, "(u64, NonZeroU16, String)", &rows)?;
     let rows = [
         (
             "(u64, (u8, bool), String)",
@@ -117,17 +117,14 @@ fn tuples(rt: HostRuntime) -> Result<(), Fail> {
         ("u64", Bytes(8)),
         ("u8", Bytes(1)),
     ];
-    assert!(rt;
-        is_declared::<(u64, (u8, bool), String)>(alloc, "(u64, (u8, bool), String)", &rows)?
-    );
-    Ok(())
+    check_declared::<(u64, (u8, bool), String)>(alloc, "(u64, (u8, bool), String)", &rows)
 }
 
 #[test]
 fn arrays(rt: HostRuntime) -> Result<(), Fail> {
     let alloc = rt.alloc();
     let rows = [("[u64; 32]", Sequence(0, 32, 32, "u64")), ("u64", Bytes(8))];
-    assert!(rt; is_declared::<[u64; 32]>(alloc, "[u64; 32]", &rows)?);
+    check_declared::<[u64; 32]>(alloc, "[u64; 32]", &rows)?;
     let rows = [
         (
             "[[[u64; 9]; 10]; 32]",
@@ -137,8 +134,7 @@ fn arrays(rt: HostRuntime) -> Result<(), Fail> {
         ("[u64; 9]", Sequence(0, 9, 9, "u64")),
         ("u64", Bytes(8)),
     ];
-    assert!(rt; is_declared::<[[[u64; 9]; 10]; 32]>(alloc, "[[[u64; 9]; 10]; 32]", &rows)?);
-    Ok(())
+    check_declared::<[[[u64; 9]; 10]; 32]>(alloc, "[[[u64; 9]; 10]; 32]", &rows)
 }
 
 #[test]
@@ -146,34 +142,44 @@ fn lists(rt: HostRuntime) -> Result<(), Fail> {
     let alloc = rt.alloc();
     let number = ("u64", Bytes(8));
     let rows = [("Vec<u64>", List("u64")), number];
-    assert!(rt; is_declared::<Vec<u64>>(alloc, "Vec<u64>", &rows)?);
+    check_declared::<Vec<u64>>(alloc, "Vec<u64>", &rows)?;
     let rows = [("VecDeque<u64>", List("u64")), number];
-    assert!(rt; is_declared::<VecDeque<u64>>(alloc, "VecDeque<u64>", &rows)?);
+    check_declared::<VecDeque<u64>>(alloc, "VecDeque<u64>", &rows)?;
     let rows = [("LinkedList<u64>", List("u64")), number];
-    assert!(rt; is_declared::<LinkedList<u64>>(alloc, "LinkedList<u64>", &rows)?);
+    check_declared::<LinkedList<u64>>(alloc, "LinkedList<u64>", &rows)?;
     let rows = [
         ("Vec<Vec<u64>>", List("Vec<u64>")),
         ("Vec<u64>", List("u64")),
         number,
     ];
-    assert!(rt; is_declared::<Vec<Vec<u64>>>(alloc, "Vec<Vec<u64>>", &rows)?);
-    Ok(())
+    check_declared::<Vec<Vec<u64>>>(alloc, "Vec<Vec<u64>>", &rows)
 }
 
 #[test]
 fn slices_and_pointers(rt: HostRuntime) -> Result<(), Fail> {
     let alloc = rt.alloc();
     let rows = [("Vec<i64>", List("i64")), ("i64", Bytes(8))];
-    assert!(rt; is_declared::<Vec<i64>>(alloc, "Vec<i64>", &rows)?);
-    assert!(rt; is_declared::<&[i64]>(alloc, "Vec<i64>", &rows)?);
+    check(
+        is_declared::<Vec<i64>>(alloc, "Vec<i64>", &rows)?,
+        "Vec<i64>",
+    )?;
+    check(is_declared::<&[i64]>(alloc, "Vec<i64>", &rows)?, "&[i64]")?;
     let rows = [("Vec<u8>", List("u8")), ("u8", Bytes(1))];
-    assert!(rt; is_declared::<BoxedSlice<u8>>(alloc, "Vec<u8>", &rows)?);
-    assert!(rt; is_declared::<CowSlice<u8>>(alloc, "Vec<u8>", &rows)?);
-    assert!(rt; is_declared::<Box<Rc<Vec<u8>>>>(alloc, "Vec<u8>", &rows)?);
+    check(
+        is_declared::<BoxedSlice<u8>>(alloc, "Vec<u8>", &rows)?,
+        "BoxedSlice<u8>",
+    )?;
+    check(
+        is_declared::<CowSlice<u8>>(alloc, "Vec<u8>", &rows)?,
+        "CowSlice<u8>",
+    )?;
+    check(
+        is_declared::<Box<Rc<Vec<u8>>>>(alloc, "Vec<u8>", &rows)?,
+        "Box<Rc<Vec<u8>>>",
+    )?;
     let rows = [("Vec<i32>", List("i32")), ("i32", Bytes(4))];
-    assert!(rt; is_declared::<RcSlice<i32>>(alloc, "Vec<i32>", &rows)?);
-    assert!(rt; is_declared::<Rc<i32>>(alloc, "i32", &[("i32", Bytes(4))])?);
-    Ok(())
+    check_declared::<RcSlice<i32>>(alloc, "Vec<i32>", &rows)?;
+    check_declared::<Rc<i32>>(alloc, "i32", &[("i32", Bytes(4))])
 }
 
 #[test]
@@ -184,11 +190,10 @@ fn maps(rt: HostRuntime) -> Result<(), Fail> {
     let [text, byte] = TEXT;
     let ordered = ("BTreeMap<u64, String>", List("(u64, String)"));
     let rows = [ordered, pair, text, number, byte];
-    assert!(rt; is_declared::<BTreeMap<u64, String>>(alloc, "BTreeMap<u64, String>", &rows)?);
+    check_declared::<BTreeMap<u64, String>>(alloc, "BTreeMap<u64, String>", &rows)?;
     let hashed = ("HashMap<u64, String>", List("(u64, String)"));
     let rows = [hashed, pair, text, number, byte];
-    assert!(rt; is_declared::<HashMap<u64, String>>(alloc, "HashMap<u64, String>", &rows)?);
-    Ok(())
+    check_declared::<HashMap<u64, String>>(alloc, "HashMap<u64, String>", &rows)
 }
 
 #[test]
@@ -196,10 +201,9 @@ fn sets(rt: HostRuntime) -> Result<(), Fail> {
     let alloc = rt.alloc();
     let [text, byte] = TEXT;
     let rows = [("BTreeSet<String>", List("String")), text, byte];
-    assert!(rt; is_declared::<BTreeSet<String>>(alloc, "BTreeSet<String>", &rows)?);
+    check_declared::<BTreeSet<String>>(alloc, "BTreeSet<String>", &rows)?;
     let rows = [("HashSet<String>", List("String")), text, byte];
-    assert!(rt; is_declared::<HashSet<String>>(alloc, "HashSet<String>", &rows)?);
-    Ok(())
+    check_declared::<HashSet<String>>(alloc, "HashSet<String>", &rows)
 }
 
 #[test]
@@ -209,18 +213,17 @@ fn ranges(rt: HostRuntime) -> Result<(), Fail> {
     let both = Named(&[("start", "u64"), ("end", "u64")]);
     let start = Named(&[("start", "u64")]);
     let end = Named(&[("end", "u64")]);
-    assert!(rt; is_declared::<RangeFull>(alloc, "RangeFull", &[("RangeFull", Empty)])?);
+    check_declared::<RangeFull>(alloc, "RangeFull", &[("RangeFull", Empty)])?;
     let rows = [("Range<u64>", both), number];
-    assert!(rt; is_declared::<Range<u64>>(alloc, "Range<u64>", &rows)?);
+    check_declared::<Range<u64>>(alloc, "Range<u64>", &rows)?;
     let rows = [("RangeInclusive<u64>", both), number];
-    assert!(rt; is_declared::<RangeInclusive<u64>>(alloc, "RangeInclusive<u64>", &rows)?);
+    check_declared::<RangeInclusive<u64>>(alloc, "RangeInclusive<u64>", &rows)?;
     let rows = [("RangeFrom<u64>", start), number];
-    assert!(rt; is_declared::<RangeFrom<u64>>(alloc, "RangeFrom<u64>", &rows)?);
+    check_declared::<RangeFrom<u64>>(alloc, "RangeFrom<u64>", &rows)?;
     let rows = [("RangeTo<u64>", end), number];
-    assert!(rt; is_declared::<RangeTo<u64>>(alloc, "RangeTo<u64>", &rows)?);
+    check_declared::<RangeTo<u64>>(alloc, "RangeTo<u64>", &rows)?;
     let rows = [("RangeToInclusive<u64>", end), number];
-    assert!(rt; is_declared::<RangeToInclusive<u64>>(alloc, "RangeToInclusive<u64>", &rows)?);
-    Ok(())
+    check_declared::<RangeToInclusive<u64>>(alloc, "RangeToInclusive<u64>", &rows)
 }
 
 const VERSION_4: [Row; 2] = [
@@ -239,8 +242,8 @@ fn addresses(rt: HostRuntime) -> Result<(), Fail> {
     let [four, four_bytes] = VERSION_4;
     let [six, six_bytes] = VERSION_6;
     let byte = ("u8", Bytes(1));
-    assert!(rt; is_declared::<Ipv4Addr>(alloc, "Ipv4Addr", &[four, four_bytes, byte])?);
-    assert!(rt; is_declared::<Ipv6Addr>(alloc, "Ipv6Addr", &[six, six_bytes, byte])?);
+    check_declared::<Ipv4Addr>(alloc, "Ipv4Addr", &[four, four_bytes, byte])?;
+    check_declared::<Ipv6Addr>(alloc, "Ipv6Addr", &[six, six_bytes, byte])?;
     let rows = [
         (
             "IpAddr",
@@ -254,8 +257,7 @@ fn addresses(rt: HostRuntime) -> Result<(), Fail> {
         six_bytes,
         byte,
     ];
-    assert!(rt; is_declared::<IpAddr>(alloc, "IpAddr", &rows)?);
-    Ok(())
+    check_declared::<IpAddr>(alloc, "IpAddr", &rows)
 }
 
 #[test]
@@ -268,7 +270,7 @@ fn user_types(rt: HostRuntime) -> Result<(), Fail> {
         ("u64", Bytes(8)),
         byte,
     ];
-    assert!(rt; is_declared::<A>(alloc, "A", &rows)?);
+    check_declared::<A>(alloc, "A", &rows)?;
     let variants = Enum(
         1,
         &[
@@ -285,8 +287,7 @@ fn user_types(rt: HostRuntime) -> Result<(), Fail> {
         ("Vec<u8>", List("u8")),
         byte,
     ];
-    assert!(rt; is_declared::<MyEnum>(alloc, "MyEnum", &rows)?);
-    Ok(())
+    check_declared::<MyEnum>(alloc, "MyEnum", &rows)
 }
 
 const CONTAINER: [Row; 23] = [
@@ -362,6 +363,5 @@ const CONTAINER: [Row; 23] = [
 #[test]
 fn containers(rt: HostRuntime) -> Result<(), Fail> {
     let name = "BorshSchemaContainer";
-    assert!(rt; is_declared::<BorshSchemaContainer>(rt.alloc(), name, &CONTAINER)?);
-    Ok(())
+    check_declared::<BorshSchemaContainer>(rt.alloc(), name, &CONTAINER)
 }

@@ -7,6 +7,8 @@
 #[cfg(test)]
 mod calls;
 #[cfg(test)]
+mod checks;
+#[cfg(test)]
 mod containers;
 #[cfg(test)]
 mod definitions;

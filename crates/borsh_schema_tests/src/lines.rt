@@ -1,4 +1,5 @@
 // Lines of the program, and their answers.
+use super::checks::check_text;
 use borsh_lines::run;
 use std::alloc::Global;
 use std::test::Fail;
@@ -16,4 +17,20 @@ pub(crate) fn answer(alloc: Global, line: &str) -> Result<String, Fail> {
 pub(crate) fn answer_about(alloc: Global, command: &str, digits: &str) -> Result<String, Fail> {
     let line = format!(in alloc; "{command} {digits}")?;
     answer(alloc, line.as_str())
+}
+
+/// Fails the test unless the line has this answer.
+pub(crate) fn check_answer(alloc: Global, line: &str, wanted: &str) -> Result<(), Fail> {
+    check_text(answer(alloc, line)?.as_str(), wanted, line)
+}
+
+/// Fails the test unless a command about a container, given as digits, has this answer.
+pub(crate) fn check_answer_about(
+    alloc: Global,
+    command: &str,
+    digits: &str,
+    wanted: &str,
+) -> Result<(), Fail> {
+    let line = format!(in alloc; "{command} {digits}")?;
+    check_answer(alloc, line.as_str(), wanted)
 }

@@ -1,9 +1,8 @@
 // Sizes and rules of user types, and values sent with their schema.
+use super::checks::{check, text};
+use super::worked::has_list_of_nothing;
 use borsh::io::ErrorKind;
-use borsh::schema::{
-    BorshSchema, BorshSchemaContainer, Definition, SchemaBuildError, SchemaContainerValidateError,
-    SchemaMaxSerializedSizeError,
-};
+use borsh::schema::{BorshSchema, Definition, SchemaBuildError, SchemaMaxSerializedSizeError};
 use borsh::{
     BorshDeserialize, max_serialized_size, schema_container_of, to_vec, try_from_slice_with_schema,
     try_to_vec_with_schema,
@@ -14,27 +13,30 @@ use std::collections::BTreeMap;
 use std::ops::RangeFull;
 use std::test::Fail;
 
+/// Whether the type has this greatest size and keeps the rules.
+fn is_valid_of_size<T: BorshSchema>(alloc: Global, size: usize) -> Result<bool, Fail> {
+    let is_sized = max_serialized_size::<T>(alloc) == Ok(size);
+    Ok(is_sized && schema_container_of::<T>(alloc)?.validate(alloc).is_ok())
+}
+
 #[test]
 fn user_types_have_a_greatest_size_and_keep_the_rules(rt: HostRuntime) -> Result<(), Fail> {
     let alloc = rt.alloc();
-    assert!(rt; max_serialized_size::<MyEnum>(alloc) == Ok(4294967300));
-    assert!(rt; max_serialized_size::<A>(alloc) == Ok(4294967307));
-    assert!(rt;
-        schema_container_of::<MyEnum>(alloc)?
-            .validate(alloc)
-            .is_ok()
-    );
-    assert!(rt; schema_container_of::<A>(alloc)?.validate(alloc).is_ok());
-    Ok(())
+    check(is_valid_of_size::<MyEnum>(alloc, 4294967300)?, "MyEnum")?;
+    check(is_valid_of_size::<A>(alloc, 4294967307)?, "A")
 }
 
 #[test]
 fn a_list_of_full_ranges_breaks_the_rules(rt: HostRuntime) -> Result<(), Fail> {
     let alloc = rt.alloc();
-    let name = String::from_str(alloc, "Vec<RangeFull>")?;
-    let broken = SchemaContainerValidateError::ZSTSequence(name);
-    assert!(rt; schema_container_of::<Vec<RangeFull>>(alloc)?.validate(alloc) == Err(broken));
-    Ok(())
+    let name = "Vec<RangeFull>";
+    check(has_list_of_nothing::<Vec<RangeFull>>(alloc, name)?, name)
+}
+
+/// Whether the bytes are a schema and `42`, and the value with its schema is these bytes.
+pub(crate) fn is_answer_with_schema(alloc: Global, sent: &[u8]) -> Result<bool, Fail> {
+    let written = try_to_vec_with_schema(alloc, &42u8)?;
+    Ok(written.as_slice() == sent && try_from_slice_with_schema::<u8>(alloc, sent)? == 42)
 }
 
 #[test]
@@ -43,17 +45,30 @@ fn values_are_sent_with_their_schema(rt: HostRuntime) -> Result<(), Fail> {
     // A container and a value, written one after the other.
     let sent = to_vec(alloc, &(schema_container_of::<u8>(alloc)?, 42u8))?;
     let sent = sent.as_slice();
-    assert_eq!(rt; try_from_slice_with_schema::<u8>(alloc, sent)?, 42);
-    assert_eq!(rt; try_to_vec_with_schema(alloc, &42u8)?.as_slice(), sent);
-    assert!(rt; is_refused_with_schema::<i8>(alloc, sent, OTHER));
-    assert!(rt; is_refused_with_schema::<u16>(alloc, sent, "Unexpected length of input"));
-    assert!(rt; is_refused_with_schema::<u8>(alloc, b"\x02\0\0\0u", "Unexpected length of input"));
-    Ok(())
+    check(
+        is_answer_with_schema(alloc, sent)?,
+        "a value with its schema",
+    )?;
+    check(
+        is_refused_with_schema::<i8>(alloc, sent, OTHER),
+        "another schema",
+    )?;
+    check(
+        is_refused_with_schema::<u16>(alloc, sent, SHORT),
+        "a value too short",
+    )?;
+    let beginning = b"\x02\0\0\0u";
+    check(
+        is_refused_with_schema::<u8>(alloc, beginning, SHORT),
+        "a schema too short",
+    )
 }
 
-const OTHER: &str = "Borsh schema does not match";
+const SHORT: &str = "Unexpected length of input";
 
-fn is_refused_with_schema<T: BorshSchema + BorshDeserialize>(
+pub(crate) const OTHER: &str = "Borsh schema does not match";
+
+pub(crate) fn is_refused_with_schema<T: BorshSchema + BorshDeserialize>(
     alloc: Global,
     bytes: &[u8],
     text: &str,
@@ -68,34 +83,53 @@ const CLASH: &str = "Redefining type schema for A. Types with the same names are
 
 type Clashing = (ShortA, LongA);
 
+fn has_no_container(alloc: Global) -> Result<bool, Fail> {
+    let clash = SchemaBuildError::Redefinition(text(alloc, "A")?);
+    Ok(schema_container_of::<Clashing>(alloc) == Err(clash))
+}
+
+fn has_no_size(alloc: Global) -> Result<bool, Fail> {
+    let clash = SchemaMaxSerializedSizeError::Redefinition(text(alloc, "A")?);
+    Ok(max_serialized_size::<Clashing>(alloc) == Err(clash))
+}
+
+fn is_not_sent(alloc: Global) -> bool {
+    match try_to_vec_with_schema(alloc, &(ShortA(1), LongA(2))) {
+        Ok(_) => false,
+        Err(e) => e.kind() == ErrorKind::InvalidData && e.message() == CLASH,
+    }
+}
+
+fn is_not_received(alloc: Global) -> Result<bool, Fail> {
+    let other = try_to_vec_with_schema(alloc, &(1u8, 2u16))?;
+    Ok(is_refused_with_schema::<Clashing>(alloc, other.as_slice(), CLASH))
+}
+
 #[test]
 fn a_name_has_one_definition(rt: HostRuntime) -> Result<(), Fail> {
     let alloc = rt.alloc();
-    let clash = SchemaBuildError::Redefinition(String::from_str(alloc, "A")?);
-    assert!(rt; schema_container_of::<Clashing>(alloc) == Err(clash));
-    let clash = SchemaMaxSerializedSizeError::Redefinition(String::from_str(alloc, "A")?);
-    assert!(rt; max_serialized_size::<Clashing>(alloc) == Err(clash));
-    match try_to_vec_with_schema(alloc, &(ShortA(1), LongA(2))) {
-        Ok(_) => assert!(rt; false),
-        Err(e) => {
-            assert_eq!(rt; e.kind(), ErrorKind::InvalidData);
-            assert_eq!(rt; e.message(), CLASH);
+    check(has_no_container(alloc)?, "the container")?;
+    check(has_no_size(alloc)?, "the size")?;
+    check(is_not_sent(alloc), "a value that is sent")?;
+    check(is_not_received(alloc)?, "a value that is received")
+}
+
+/// Whether nothing is there that a clash of `A` can't leave.
+fn are_left(definitions: &BTreeMap<String, Definition>) -> bool {
+    for name in definitions.keys() {
+        let name = name.as_str();
+        if name != "u8" && name != "(A, A)" && name != "A" {
+            return false;
         }
     }
-    let other = try_to_vec_with_schema(alloc, &(1u8, 2u16))?;
-    assert!(rt; is_refused_with_schema::<Clashing>(alloc, other.as_slice(), CLASH));
-    Ok(())
+    definitions.get("u8") == Some(&Definition::Primitive(1))
 }
 
 #[test]
 fn a_clash_leaves_what_stood(rt: HostRuntime) -> Result<(), Fail> {
     let alloc = rt.alloc();
     let mut definitions = BTreeMap::new(alloc);
-    definitions.insert(String::from_str(alloc, "u8")?, Definition::Primitive(1))?;
-    assert!(rt; Clashing::add_definitions_recursively(alloc, &mut definitions).is_err());
-    assert!(rt; definitions.get("u8") == Some(&Definition::Primitive(1)));
-    for name in definitions.keys() {
-        assert!(rt; matches!(name.as_str(), "u8" | "(A, A)" | "A"));
-    }
-    Ok(())
+    definitions.insert(text(alloc, "u8")?, Definition::Primitive(1))?;
+    let refused = Clashing::add_definitions_recursively(alloc, &mut definitions).is_err();
+    check(refused && are_left(&definitions), "the definitions")
 }

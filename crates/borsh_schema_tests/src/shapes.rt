@@ -1,4 +1,5 @@
 // Definitions as constants, and the containers of them.
+use super::checks::check;
 use borsh::schema::{BorshSchema, BorshSchemaContainer, Definition, Fields, LengthRange};
 use borsh::schema_container_of;
 use std::alloc::Global;
@@ -113,4 +114,13 @@ pub(crate) fn is_declared<T: BorshSchema>(
     rows: &[Row],
 ) -> Result<bool, Fail> {
     Ok(schema_container_of::<T>(alloc)? == container(alloc, name, rows)?)
+}
+
+/// Fails the test unless the container of a type has this name and these definitions, and no others.
+pub(crate) fn check_declared<T: BorshSchema>(
+    alloc: Global,
+    name: &str,
+    rows: &[Row],
+) -> Result<(), Fail> {
+    check(is_declared::<T>(alloc, name, rows)?, name)
 }

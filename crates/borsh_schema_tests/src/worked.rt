@@ -1,95 +1,104 @@
 // The worked examples of schemas, containers and lines.
-use super::lines::answer;
+use super::calls::is_other_refused;
+use super::checks::{check, text};
+use super::lines::check_answer;
+use super::schemas::{OTHER, is_answer_with_schema, is_refused_with_schema};
 use super::shapes::Shape::Bytes;
 use super::shapes::container;
-use borsh::io::ErrorKind;
 use borsh::schema::{
-    BorshSchema, BorshSchemaContainer, Definition, SchemaBuildError, SchemaContainerValidateError,
-    SchemaMaxSerializedSizeError, add_definition,
+    BorshSchema, BorshSchemaContainer, Definition, SchemaContainerValidateError,
+    SchemaMaxSerializedSizeError,
 };
-use borsh::{
-    max_serialized_size, schema_container_of, to_vec, try_from_slice_with_schema,
-    try_to_vec_with_schema,
-};
+use borsh::{max_serialized_size, schema_container_of, to_vec};
 use std::alloc::Global;
 use std::collections::BTreeMap;
 use std::net::IpAddr;
 use std::ops::Range;
 use std::test::Fail;
 
+/// Whether the bytes are those of the container of `u8` and `42`.
+fn is_container_and_value(alloc: Global, bytes: &[u8]) -> Result<bool, Fail> {
+    let pair = (container(alloc, "u8", &[("u8", Bytes(1))])?, 42u8);
+    Ok(to_vec(alloc, &pair)?.as_slice() == bytes)
+}
+
 #[test]
 fn a_value_is_sent_with_its_schema(rt: HostRuntime) -> Result<(), Fail> {
     let alloc = rt.alloc();
     let bytes = b"\x02\0\0\0u8\x01\0\0\0\x02\0\0\0u8\0\x01\x2a";
-    let sent = try_to_vec_with_schema(alloc, &42u8)?;
-    assert_eq!(rt; sent.as_slice(), bytes.as_slice());
-    // The same bytes are those of a container, and then the value.
-    let pair = (container(alloc, "u8", &[("u8", Bytes(1))])?, 42u8);
-    assert_eq!(rt; to_vec(alloc, &pair)?.as_slice(), bytes.as_slice());
-    assert_eq!(rt; try_from_slice_with_schema::<u8>(alloc, bytes)?, 42);
-    match try_from_slice_with_schema::<i8>(alloc, bytes) {
-        Ok(_) => assert!(rt; false),
-        Err(e) => {
-            assert_eq!(rt; e.kind(), ErrorKind::InvalidData);
-            assert_eq!(rt; e.message(), "Borsh schema does not match");
-        }
-    }
-    Ok(())
+    check(
+        is_answer_with_schema(alloc, bytes)?,
+        "a value with its schema",
+    )?;
+    check(
+        is_container_and_value(alloc, bytes)?,
+        "a container and a value",
+    )?;
+    check(
+        is_refused_with_schema::<i8>(alloc, bytes, OTHER),
+        "another schema",
+    )
 }
 
-fn is_size<T: BorshSchema>(alloc: Global, size: usize) -> bool {
-    max_serialized_size::<T>(alloc) == Ok(size)
+fn check_size<T: BorshSchema>(alloc: Global, name: &str, size: usize) -> Result<(), Fail> {
+    check(max_serialized_size::<T>(alloc) == Ok(size), name)
 }
 
-fn overflows<T: BorshSchema>(alloc: Global) -> bool {
-    max_serialized_size::<T>(alloc) == Err(SchemaMaxSerializedSizeError::Overflow)
+fn check_overflow<T: BorshSchema>(alloc: Global, name: &str) -> Result<(), Fail> {
+    let overflow = Err(SchemaMaxSerializedSizeError::Overflow);
+    check(max_serialized_size::<T>(alloc) == overflow, name)
 }
 
 #[test]
-fn sizes(rt: HostRuntime) {
+fn sizes(rt: HostRuntime) -> Result<(), Fail> {
     let alloc = rt.alloc();
-    assert!(rt; is_size::<()>(alloc, 0));
-    assert!(rt; is_size::<usize>(alloc, 8));
-    assert!(rt; is_size::<IpAddr>(alloc, 17));
-    assert!(rt; is_size::<[Option<u8>; 10]>(alloc, 20));
-    assert!(rt; is_size::<String>(alloc, 4294967299));
-    assert!(rt; is_size::<Vec<Option<u8>>>(alloc, 8589934594));
-    assert!(rt; overflows::<Vec<String>>(alloc) && overflows::<BorshSchemaContainer>(alloc));
+    check_size::<()>(alloc, "()", 0)?;
+    check_size::<usize>(alloc, "usize", 8)?;
+    check_size::<IpAddr>(alloc, "IpAddr", 17)?;
+    check_size::<[Option<u8>; 10]>(alloc, "[Option<u8>; 10]", 20)?;
+    check_size::<String>(alloc, "String", 4294967299)?;
+    check_size::<Vec<Option<u8>>>(alloc, "Vec<Option<u8>>", 8589934594)?;
+    check_overflow::<Vec<String>>(alloc, "Vec<String>")?;
+    check_overflow::<BorshSchemaContainer>(alloc, "BorshSchemaContainer")
 }
 
 fn is_valid<T: BorshSchema>(alloc: Global) -> Result<bool, Fail> {
     Ok(schema_container_of::<T>(alloc)?.validate(alloc).is_ok())
 }
 
-fn has_list_of_nothing<T: BorshSchema>(alloc: Global, name: &str) -> Result<bool, Fail> {
-    let broken = SchemaContainerValidateError::ZSTSequence(String::from_str(alloc, name)?);
+/// Whether a type is refused for its list of elements without bytes, which has this name.
+pub(crate) fn has_list_of_nothing<T: BorshSchema>(alloc: Global, name: &str) -> Result<bool, Fail> {
+    let broken = SchemaContainerValidateError::ZSTSequence(text(alloc, name)?);
     Ok(schema_container_of::<T>(alloc)?.validate(alloc) == Err(broken))
+}
+
+fn check_list_of_nothing<T: BorshSchema>(alloc: Global, name: &str) -> Result<(), Fail> {
+    check(has_list_of_nothing::<T>(alloc, name)?, name)
 }
 
 #[test]
 fn valid_types_and_lists_of_nothing(rt: HostRuntime) -> Result<(), Fail> {
     let alloc = rt.alloc();
-    assert!(rt; is_valid::<usize>(alloc)? && is_valid::<[(); 300]>(alloc)?);
-    assert!(rt; is_valid::<BorshSchemaContainer>(alloc)?);
-    assert!(rt; has_list_of_nothing::<Vec<Vec<()>>>(alloc, "Vec<()>")?);
-    assert!(rt; has_list_of_nothing::<Vec<Range<()>>>(alloc, "Vec<Range<()>>")?);
-    let name = "Vec<([u8; 0], [u8; 0])>";
-    assert!(rt; has_list_of_nothing::<Vec<([u8; 0], [u8; 0])>>(alloc, name)?);
-    Ok(())
+    check(is_valid::<usize>(alloc)?, "usize")?;
+    check(is_valid::<[(); 300]>(alloc)?, "[(); 300]")?;
+    check(
+        is_valid::<BorshSchemaContainer>(alloc)?,
+        "BorshSchemaContainer",
+    )?;
+    check_list_of_nothing::<Vec<Vec<()>>>(alloc, "Vec<()>")?;
+    check_list_of_nothing::<Vec<Range<()>>>(alloc, "Vec<Range<()>>")?;
+    check_list_of_nothing::<Vec<([u8; 0], [u8; 0])>>(alloc, "Vec<([u8; 0], [u8; 0])>")
 }
 
 #[test]
 fn a_clash_leaves_the_map(rt: HostRuntime) -> Result<(), Fail> {
     let alloc = rt.alloc();
-    let name = String::from_str(alloc, "u8")?;
     let mut definitions = BTreeMap::new(alloc);
-    definitions.insert(name.clone()?, Definition::Primitive(1))?;
-    let clash = SchemaBuildError::Redefinition(name.clone()?);
-    let refused = add_definition(name, Definition::Primitive(2), &mut definitions);
-    assert!(rt; refused == Err(clash));
-    assert_eq!(rt; definitions.len(), 1);
-    assert!(rt; definitions.get("u8") == Some(&Definition::Primitive(1)));
-    Ok(())
+    definitions.insert(text(alloc, "u8")?, Definition::Primitive(1))?;
+    check(
+        is_other_refused(alloc, &mut definitions)?,
+        "another definition",
+    )
 }
 
 const LINES: [(&str, &str); 24] = [
@@ -171,8 +180,8 @@ const LINES: [(&str, &str); 24] = [
 #[test]
 fn lines_and_their_answers(rt: HostRuntime) -> Result<(), Fail> {
     let alloc = rt.alloc();
-    for (line, wanted) in LINES {
-        assert_eq!(rt; answer(alloc, line)?.as_str(), wanted, "of {line}");
+    for &(line, wanted) in &LINES {
+        check_answer(alloc, line, wanted)?;
     }
     Ok(())
 }

@@ -166,6 +166,35 @@ fn is_kind_alone(error: &Error, kind: ErrorKind) -> bool {
     error.kind() == kind && error.get_ref().is_none() && error.message() == kind.as_str()
 }
 
+/// Fails the test unless the condition holds, with the kind of the device's error.
+fn check_kind(holds: bool, name: &str, kind: std::io::ErrorKind) -> Result<(), Fail> {
+    if holds {
+        Ok(())
+    } else {
+        Err(Fail::new(format_args!("{name}: {kind:?}")))
+    }
+}
+
+/// Whether the outcome of a read is the error that a device's error becomes.
+fn is_failed_read<T>(outcome: &Result<T, Error>, expected: ErrorKind) -> bool {
+    match outcome {
+        Ok(_) => false,
+        // A false end of the input is taken for the end.
+        Err(_) if expected == ErrorKind::UnexpectedEof => {
+            is_error(outcome, ErrorKind::InvalidData, SHORT)
+        }
+        Err(e) => is_kind_alone(e, expected),
+    }
+}
+
+/// Whether the outcome of a write is the error that a device's error becomes.
+fn is_failed_write(outcome: &Result<(), Error>, expected: ErrorKind) -> bool {
+    match outcome {
+        Ok(()) => false,
+        Err(e) => is_kind_alone(e, expected),
+    }
+}
+
 /// Reads from a device that fails with an error of this kind after so many bytes, which is counted, and
 /// reads on.
 fn check_reader(
@@ -175,20 +204,9 @@ fn check_reader(
     expected: ErrorKind,
 ) -> Result<(), Fail> {
     let mut reader = StdReader::new(Device::new(alloc).failing(after, kind), 0);
-    let outcome = u64::deserialize_reader(alloc, &mut reader);
-    let is_right = match &outcome {
-        Ok(_) => false,
-        // A false end of the input is taken for the end.
-        Err(_) if expected == ErrorKind::UnexpectedEof => {
-            is_error(&outcome, ErrorKind::InvalidData, SHORT)
-        }
-        Err(e) => is_kind_alone(e, expected),
-    };
-    check(
-        is_right && reader.faults() == 1,
-        "failed read",
-        after as usize,
-    )?;
+    let is_right = is_failed_read(&u64::deserialize_reader(alloc, &mut reader), expected)
+        && reader.faults() == 1;
+    check(is_right, "failed read", after as usize)?;
     check(
         u8::deserialize_reader(alloc, &mut reader)? == 12,
         "next read",
@@ -196,23 +214,33 @@ fn check_reader(
     )
 }
 
-#[test]
-fn errors_of_readers_keep_their_kind(rt: HostRuntime) -> Result<(), Fail> {
-    let alloc = rt.alloc();
-    let mut count = 0u32;
-    for (kind, expected) in KINDS {
-        let mut reader = StdReader::new(Device::new(alloc).failing(0, kind), 0);
-        match reader.read(&mut [0u8; 2]) {
-            Ok(_) => assert!(rt; false, "{kind:?}"),
-            Err(e) => assert!(rt; is_kind_alone(&e, expected), "{kind:?}: {e:?}"),
-        }
-        assert_eq!(rt; reader.faults(), 1);
+/// Whether a read of a device that fails at once has that error, which is counted.
+fn is_first_read_failed(alloc: Global, kind: std::io::ErrorKind, expected: ErrorKind) -> bool {
+    let mut reader = StdReader::new(Device::new(alloc).failing(0, kind), 0);
+    let is_right = match reader.read(&mut [0u8; 2]) {
+        Ok(_) => false,
+        Err(e) => is_kind_alone(&e, expected),
+    };
+    is_right && reader.faults() == 1
+}
+
+/// Lets readers fail with each kind at each byte, and counts them.
+fn count_failed_reads(alloc: Global) -> Result<usize, Fail> {
+    let mut count = 0usize;
+    for &(kind, expected) in &KINDS {
+        check_kind(is_first_read_failed(alloc, kind, expected), "read", kind)?;
         for after in 0..8 {
             check_reader(alloc, after, kind, expected)?;
             count = count.saturating_add(1);
         }
     }
-    assert_eq!(rt; count, 328);
+    Ok(count)
+}
+
+#[test]
+fn errors_of_readers_keep_their_kind(rt: HostRuntime) -> Result<(), Fail> {
+    let count = count_failed_reads(rt.alloc())?;
+    check(count == 328, "failed reads", count)?;
     println!(rt; "adapters: {count} failed reads")?;
     Ok(())
 }
@@ -227,15 +255,9 @@ fn check_writer(
 ) -> Result<(), Fail> {
     let mut device = Device::new(alloc).failing(after, kind);
     let mut writer = StdWriter::new(&mut device, 0);
-    let is_right = match to_writer(alloc, &mut writer, &12u64) {
-        Ok(()) => false,
-        Err(e) => is_kind_alone(&e, expected),
-    };
-    check(
-        is_right && writer.faults() == 1,
-        "failed write",
-        after as usize,
-    )?;
+    let is_right = is_failed_write(&to_writer(alloc, &mut writer, &12u64), expected)
+        && writer.faults() == 1;
+    check(is_right, "failed write", after as usize)?;
     writer.flush()?;
     let taken = device.bytes.as_slice();
     let is_beginning = taken.len() == after as usize && TWELVE.starts_with(taken);
@@ -246,95 +268,124 @@ fn check_writer(
     )
 }
 
-#[test]
-fn errors_of_writers_keep_their_kind(rt: HostRuntime) -> Result<(), Fail> {
-    let alloc = rt.alloc();
-    let mut count = 0u32;
-    for (kind, expected) in KINDS {
-        let mut device = Device::new(alloc).failing(0, kind);
-        let mut writer = StdWriter::new(&mut device, 0);
-        match writer.flush() {
-            Ok(()) => assert!(rt; false, "{kind:?}"),
-            Err(e) => assert!(rt; is_kind_alone(&e, expected), "{kind:?}: {e:?}"),
-        }
-        assert_eq!(rt; writer.faults(), 1);
-        assert_eq!(rt; device.flushes, 0);
+/// Whether a flush of a device that fails at once has that error, which is counted.
+fn is_first_flush_failed(alloc: Global, kind: std::io::ErrorKind, expected: ErrorKind) -> bool {
+    let mut device = Device::new(alloc).failing(0, kind);
+    let mut writer = StdWriter::new(&mut device, 0);
+    let is_right = is_failed_write(&writer.flush(), expected) && writer.faults() == 1;
+    is_right && device.flushes == 0
+}
+
+/// Lets writers fail with each kind at each byte, and counts them.
+fn count_failed_writes(alloc: Global) -> Result<usize, Fail> {
+    let mut count = 0usize;
+    for &(kind, expected) in &KINDS {
+        check_kind(is_first_flush_failed(alloc, kind, expected), "flush", kind)?;
         for after in 0..8 {
             check_writer(alloc, after, kind, expected)?;
             count = count.saturating_add(1);
         }
     }
-    assert_eq!(rt; count, 328);
+    Ok(count)
+}
+
+#[test]
+fn errors_of_writers_keep_their_kind(rt: HostRuntime) -> Result<(), Fail> {
+    let count = count_failed_writes(rt.alloc())?;
+    check(count == 328, "failed writes", count)?;
     println!(rt; "adapters: {count} failed writes")?;
     Ok(())
+}
+
+/// How often a call is repeated at most.
+const MOST: u32 = 3;
+
+/// Whether a number is read from a device that interrupts so many calls, and no error is counted.
+fn is_read_at_last(alloc: Global, interruptions: u32) -> Result<bool, Fail> {
+    let mut reader = StdReader::new(Device::new(alloc).interrupted(interruptions), MOST);
+    Ok(u64::deserialize_reader(alloc, &mut reader)? == 0x0c0c0c0c0c0c0c0c && reader.faults() == 0)
+}
+
+/// Whether a read that is interrupted too often fails, and the next one doesn't.
+fn is_read_given_up(alloc: Global) -> Result<bool, Fail> {
+    let mut reader = StdReader::new(Device::new(alloc).interrupted(4), MOST);
+    let outcome = u64::deserialize_reader(alloc, &mut reader);
+    let is_given_up = is_given_up(&outcome) && reader.faults() == 1;
+    Ok(is_given_up && u64::deserialize_reader(alloc, &mut reader)? == 0x0c0c0c0c0c0c0c0c)
+}
+
+fn is_given_up<T>(outcome: &Result<T, Error>) -> bool {
+    is_error(outcome, ErrorKind::Other, "interrupted too often")
 }
 
 #[test]
 fn interruptions_of_a_reader_are_bounded(rt: HostRuntime) -> Result<(), Fail> {
     let alloc = rt.alloc();
-    for interruptions in 0..4 {
-        let mut reader = StdReader::new(Device::new(alloc).interrupted(interruptions), 3);
-        assert_eq!(rt;
-            u64::deserialize_reader(alloc, &mut reader)?,
-            0x0c0c0c0c0c0c0c0c
-        );
-        assert_eq!(rt; reader.faults(), 0);
+    for interruptions in 0..4u32 {
+        let is_read = is_read_at_last(alloc, interruptions)?;
+        check(is_read, "interruptions", interruptions as usize)?;
     }
-    let mut reader = StdReader::new(Device::new(alloc).interrupted(4), 3);
-    let outcome = u64::deserialize_reader(alloc, &mut reader);
-    assert!(rt; is_error(&outcome, ErrorKind::Other, "interrupted too often"));
-    assert_eq!(rt; reader.faults(), 1);
-    assert_eq!(rt;
-        u64::deserialize_reader(alloc, &mut reader)?,
-        0x0c0c0c0c0c0c0c0c
-    );
-    Ok(())
+    check(is_read_given_up(alloc)?, "interruptions", 4)
+}
+
+/// Whether a number is written to a device that interrupts so many calls, and no error is counted.
+fn is_written_at_last(alloc: Global, interruptions: u32) -> Result<bool, Fail> {
+    let mut device = Device::new(alloc).interrupted(interruptions);
+    let mut writer = StdWriter::new(&mut device, MOST);
+    to_writer(alloc, &mut writer, &12u64)?;
+    let is_counted = writer.faults() == 0;
+    Ok(is_counted && device.bytes.as_slice() == TWELVE.as_slice())
+}
+
+/// Whether a device that interrupts so many calls is flushed, and no error is counted.
+fn is_flushed_at_last(alloc: Global, interruptions: u32) -> Result<bool, Fail> {
+    let mut device = Device::new(alloc).interrupted(interruptions);
+    let mut writer = StdWriter::new(&mut device, MOST);
+    flush_all(&mut writer)?;
+    let is_counted = writer.faults() == 0;
+    Ok(is_counted && device.flushes == 1)
+}
+
+/// Whether a write that is interrupted too often fails, and nothing is written.
+fn is_write_given_up(alloc: Global) -> bool {
+    let mut device = Device::new(alloc).interrupted(4);
+    let mut writer = StdWriter::new(&mut device, MOST);
+    let is_given_up = is_given_up(&to_writer(alloc, &mut writer, &12u64)) && writer.faults() == 1;
+    is_given_up && device.bytes.is_empty()
+}
+
+/// Whether a flush that is interrupted too often fails, and nothing is flushed.
+fn is_flush_given_up(alloc: Global) -> bool {
+    let mut device = Device::new(alloc).interrupted(4);
+    let mut writer = StdWriter::new(&mut device, MOST);
+    let is_given_up = is_given_up(&flush_all(&mut writer)) && writer.faults() == 1;
+    is_given_up && device.flushes == 0
 }
 
 #[test]
 fn interruptions_of_a_writer_are_bounded(rt: HostRuntime) -> Result<(), Fail> {
     let alloc = rt.alloc();
-    for interruptions in 0..4 {
-        let mut device = Device::new(alloc).interrupted(interruptions);
-        let mut writer = StdWriter::new(&mut device, 3);
-        to_writer(alloc, &mut writer, &12u64)?;
-        assert_eq!(rt; writer.faults(), 0);
-        assert_eq!(rt; device.bytes.as_slice(), TWELVE.as_slice());
-        let mut device = Device::new(alloc).interrupted(interruptions);
-        let mut writer = StdWriter::new(&mut device, 3);
-        flush_all(&mut writer)?;
-        assert_eq!(rt; writer.faults(), 0);
-        assert_eq!(rt; device.flushes, 1);
+    for interruptions in 0..4u32 {
+        let is_written = is_written_at_last(alloc, interruptions)?;
+        check(is_written, "interrupted writes", interruptions as usize)?;
+        let is_flushed = is_flushed_at_last(alloc, interruptions)?;
+        check(is_flushed, "interrupted flushes", interruptions as usize)?;
     }
-    let mut device = Device::new(alloc).interrupted(4);
-    let mut writer = StdWriter::new(&mut device, 3);
+    check(is_write_given_up(alloc), "interrupted writes", 4)?;
+    check(is_flush_given_up(alloc), "interrupted flushes", 4)
+}
+
+/// Whether a write that is full at once fails, which is counted, and nothing is written.
+fn is_full(alloc: Global) -> bool {
+    let mut device = Device::new(alloc).taking_nothing();
+    let mut writer = StdWriter::new(&mut device, MOST);
     let outcome = to_writer(alloc, &mut writer, &12u64);
-    assert!(rt; is_error(&outcome, ErrorKind::Other, "interrupted too often"));
-    assert_eq!(rt; writer.faults(), 1);
-    assert!(rt; device.bytes.is_empty());
-    let mut device = Device::new(alloc).interrupted(4);
-    let mut writer = StdWriter::new(&mut device, 3);
-    let outcome = flush_all(&mut writer);
-    assert!(rt; is_error(&outcome, ErrorKind::Other, "interrupted too often"));
-    assert_eq!(rt; writer.faults(), 1);
-    assert_eq!(rt; device.flushes, 0);
-    Ok(())
+    let text = "failed to write whole buffer";
+    let is_full = is_error(&outcome, ErrorKind::WriteZero, text) && writer.faults() == 1;
+    is_full && device.bytes.is_empty()
 }
 
 #[test]
 fn a_writer_that_takes_nothing_is_full(rt: HostRuntime) -> Result<(), Fail> {
-    let alloc = rt.alloc();
-    let mut device = Device::new(alloc).taking_nothing();
-    let mut writer = StdWriter::new(&mut device, 3);
-    let outcome = to_writer(alloc, &mut writer, &12u64);
-    assert!(rt;
-        is_error(
-            &outcome,
-            ErrorKind::WriteZero,
-            "failed to write whole buffer"
-        )
-    );
-    assert_eq!(rt; writer.faults(), 1);
-    assert!(rt; device.bytes.is_empty());
-    Ok(())
+    check(is_full(rt.alloc()), "writer that takes nothing", 0)
 }

@@ -34,10 +34,10 @@ const CONTAINERS: [&[u8]; 7] = [
 
 fn parts(alloc: Global) -> Result<Checks, Fail> {
     let mut checks = check_encoding::<LengthRange>(alloc, b"0123456789abcdef")?;
-    for fields in FIELDS {
+    for &fields in &FIELDS {
         checks.add(check_encoding::<Fields>(alloc, fields)?);
     }
-    for definition in DEFINITIONS {
+    for &definition in &DEFINITIONS {
         checks.add(check_encoding::<Definition>(alloc, definition)?);
     }
     Ok(checks)
@@ -45,7 +45,7 @@ fn parts(alloc: Global) -> Result<Checks, Fail> {
 
 fn containers(alloc: Global) -> Result<Checks, Fail> {
     let mut checks = Checks::none();
-    for container in CONTAINERS {
+    for &container in &CONTAINERS {
         checks.add(check_encoding::<BorshSchemaContainer>(alloc, container)?);
     }
     Ok(checks)

@@ -1,4 +1,5 @@
 // Lines and their answers, through readers and writers of every kind.
+use borsh_devices::encodings::check;
 use borsh_devices::{Course, TestReader, TestWriter, courses};
 use borsh_lines::{Answerer, run, run_counted};
 use std::alloc::Global;
@@ -143,7 +144,7 @@ const ROWS: [(&str, &str); 68] = [
 
 fn input(alloc: Global) -> Result<String, Fail> {
     let mut all = String::new(alloc);
-    for (line, _) in ROWS {
+    for &(line, _) in &ROWS {
         all.push_str(line)?;
         all.push('\n')?;
     }
@@ -152,11 +153,35 @@ fn input(alloc: Global) -> Result<String, Fail> {
 
 fn output(alloc: Global) -> Result<String, Fail> {
     let mut all = String::new(alloc);
-    for (_, answer) in ROWS {
+    for &(_, answer) in &ROWS {
         all.push_str(answer)?;
         all.push('\n')?;
     }
     Ok(all)
+}
+
+/// Whether the lines, read and written so, have these answers, and all of them are read.
+fn are_answered(
+    alloc: Global,
+    input: &str,
+    output: &str,
+    reading: Course,
+    writing: Course,
+) -> Result<bool, Fail> {
+    let mut reader = TestReader::new(input.as_bytes(), reading);
+    let mut writer = TestWriter::new(Vec::new(alloc), usize::MAX, writing);
+    run(alloc, &mut reader, &mut writer)?;
+    Ok(writer.taken() == output.as_bytes() && reader.rest().is_empty())
+}
+
+fn check_answers(alloc: Global, input: &str, output: &str) -> Result<(), Fail> {
+    for (number, &course) in courses().iter().enumerate() {
+        let is_read = are_answered(alloc, input, output, course, Course::smooth())?;
+        check(is_read, "answers to lines that come in pieces", number)?;
+        let is_written = are_answered(alloc, input, output, Course::smooth(), course)?;
+        check(is_written, "answers that go in pieces", number)?;
+    }
+    Ok(())
 }
 
 #[test]
@@ -164,37 +189,35 @@ fn lines_are_answered_however_their_bytes_come_and_go(rt: HostRuntime) -> Result
     let alloc = rt.alloc();
     let input = input(alloc)?;
     let output = output(alloc)?;
-    for reading in courses() {
-        let mut reader = TestReader::new(input.as_bytes(), reading);
-        let mut writer = TestWriter::new(Vec::new(alloc), usize::MAX, Course::smooth());
-        run(alloc, &mut reader, &mut writer)?;
-        assert_eq!(rt; writer.taken(), output.as_bytes());
-        assert!(rt; reader.rest().is_empty());
-    }
-    for writing in courses() {
-        let mut reader = TestReader::new(input.as_bytes(), Course::smooth());
-        let mut writer = TestWriter::new(Vec::new(alloc), usize::MAX, writing);
-        run(alloc, &mut reader, &mut writer)?;
-        assert_eq!(rt; writer.taken(), output.as_bytes());
-    }
-    Ok(())
+    check_answers(alloc, input.as_str(), output.as_str())
 }
+
+/// Whether these answers are written to the input, and so many lines are counted.
+fn is_counted(alloc: Global, input: &str, written: &str, count: u64) -> Result<bool, Fail> {
+    let mut reader = input.as_bytes();
+    let mut writer = Vec::new(alloc);
+    let mut answerer = Answerer::new();
+    run_counted(alloc, &mut reader, &mut writer, &mut answerer)?;
+    Ok(writer.as_slice() == written.as_bytes() && answerer.count() == count)
+}
+
+/// Lines, their answers, and how many there are.
+const COUNTED: [(&str, &str, u64); 4] = [
+    ("", "", 0),
+    ("\n", "error line\n", 1),
+    ("read u8 07\n\n", "ok 07\nerror line\n", 2),
+    ("read u8 07\nread u8 08", "ok 07\nok 08\n", 2),
+];
 
 #[test]
 fn answered_lines_are_counted(rt: HostRuntime) -> Result<(), Fail> {
     let alloc = rt.alloc();
-    for (input, written, count) in [
-        ("", "", 0u64),
-        ("\n", "error line\n", 1),
-        ("read u8 07\n\n", "ok 07\nerror line\n", 2),
-        ("read u8 07\nread u8 08", "ok 07\nok 08\n", 2),
-    ] {
-        let mut reader = input.as_bytes();
-        let mut writer = Vec::new(alloc);
-        let mut answerer = Answerer::new();
-        run_counted(alloc, &mut reader, &mut writer, &mut answerer)?;
-        assert_eq!(rt; writer.as_slice(), written.as_bytes());
-        assert_eq!(rt; answerer.count(), count);
+    for &(input, written, count) in &COUNTED {
+        check(
+            is_counted(alloc, input, written, count)?,
+            input,
+            count as usize,
+        )?;
     }
     Ok(())
 }

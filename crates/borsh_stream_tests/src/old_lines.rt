@@ -1,4 +1,5 @@
 // Old values, whose keys come in any order, are written as their encoding, which is read and written again.
+use borsh_devices::encodings::check;
 use borsh_lines::run;
 use std::alloc::Global;
 use std::test::Fail;
@@ -21,9 +22,15 @@ const OLD: [(&str, &str, &str); 9] = [
 ];
 
 fn add_line(all: &mut String, command: &str, word: &str, hex: &str) -> Result<(), Fail> {
-    for part in [command, " ", word, " ", hex, "\n"] {
+    for part in &[command, " ", word, " ", hex, "\n"] {
         all.push_str(part)?;
     }
+    Ok(())
+}
+
+fn add_answer(answers: &mut String, answer: &str) -> Result<(), Fail> {
+    answers.push_str(answer)?;
+    answers.push('\n')?;
     Ok(())
 }
 
@@ -34,34 +41,57 @@ fn is_answered(alloc: Global, lines: &str, answers: &str) -> Result<bool, Fail> 
     Ok(output.as_slice() == answers.as_bytes())
 }
 
+// Adds the lines of old bytes, and the answers to them.
+fn add_old(old: &mut String, answers: &mut String) -> Result<(), Fail> {
+    for &(word, hex, answer) in &OLD {
+        add_line(old, "canon", word, hex)?;
+        add_answer(answers, answer)?;
+    }
+    Ok(())
+}
+
 #[test]
 fn old_bytes_are_answered_by_their_encoding(rt: HostRuntime) -> Result<(), Fail> {
     let alloc = rt.alloc();
     let mut old = String::new(alloc);
     let mut answers = String::new(alloc);
-    for (word, hex, answer) in OLD {
-        add_line(&mut old, "canon", word, hex)?;
-        answers.push_str(answer)?;
-        answers.push('\n')?;
+    add_old(&mut old, &mut answers)?;
+    check(
+        is_answered(alloc, old.as_str(), answers.as_str())?,
+        "canon of old bytes",
+        0,
+    )
+}
+
+// Adds the lines of encodings, and the answers, which are the encodings again.
+fn add_encodings(command: &str, again: &mut String, answers: &mut String) -> Result<(), Fail> {
+    for &(word, _, answer) in &OLD {
+        if let Some(hex) = answer.strip_prefix("ok ") {
+            add_line(again, command, word, hex)?;
+            add_answer(answers, answer)?;
+        }
     }
-    assert!(rt; is_answered(alloc, old.as_str(), answers.as_str())?);
     Ok(())
+}
+
+fn are_encodings_answered(alloc: Global, command: &str) -> Result<bool, Fail> {
+    let mut again = String::new(alloc);
+    let mut answers = String::new(alloc);
+    add_encodings(command, &mut again, &mut answers)?;
+    is_answered(alloc, again.as_str(), answers.as_str())
 }
 
 #[test]
 fn an_encoding_is_read_and_written_again(rt: HostRuntime) -> Result<(), Fail> {
     let alloc = rt.alloc();
-    for command in ["canon", "read"] {
-        let mut again = String::new(alloc);
-        let mut answers = String::new(alloc);
-        for (word, _, answer) in OLD {
-            if let Some(hex) = answer.strip_prefix("ok ") {
-                add_line(&mut again, command, word, hex)?;
-                answers.push_str(answer)?;
-                answers.push('\n')?;
-            }
-        }
-        assert!(rt; is_answered(alloc, again.as_str(), answers.as_str())?);
-    }
-    Ok(())
+    check(
+        are_encodings_answered(alloc, "canon")?,
+        "canon of encodings",
+        0,
+    )?;
+    check(
+        are_encodings_answered(alloc, "read")?,
+        "read of encodings",
+        0,
+    )
 }

@@ -1,6 +1,7 @@
 // Lengths that are greater than what is there, through readers of every kind.
+use borsh::BorshDeserialize;
 use borsh::error::ERROR_ZST_FORBIDDEN;
-use borsh_devices::encodings::{SHORT, check_refused};
+use borsh_devices::encodings::{SHORT, check, check_refused};
 use bytes::Bytes;
 use indexmap::{IndexMap, IndexSet};
 use std::alloc::Global;
@@ -12,58 +13,57 @@ use std::test::Fail;
 /// The greatest length, and one byte.
 const GREATEST: &[u8] = b"\xff\xff\xff\xff\0";
 
-fn refused_lists(alloc: Global) -> Result<usize, Fail> {
-    let mut count = check_refused::<Vec<u8>>(alloc, b"\xff\xff\xff\xff\x01\x02\x03", SHORT)?;
-    for refused in [
-        check_refused::<Vec<u8>>(alloc, GREATEST, SHORT)?,
-        check_refused::<String>(alloc, GREATEST, SHORT)?,
-        check_refused::<Vec<String>>(alloc, GREATEST, SHORT)?,
-        check_refused::<Vec<Option<u8>>>(alloc, GREATEST, SHORT)?,
-        check_refused::<VecDeque<u8>>(alloc, GREATEST, SHORT)?,
-        check_refused::<LinkedList<u8>>(alloc, GREATEST, SHORT)?,
-        check_refused::<Vec<()>>(alloc, GREATEST, ERROR_ZST_FORBIDDEN)?,
-    ] {
-        count = count.saturating_add(refused);
-    }
-    Ok(count)
+/// Adds how often the bytes were decoded as a `T` and refused with this text.
+fn count_refused<T: BorshDeserialize>(
+    alloc: Global,
+    bytes: &[u8],
+    text: &str,
+    count: &mut usize,
+) -> Result<(), Fail> {
+    *count = count.saturating_add(check_refused::<T>(alloc, bytes, text)?);
+    Ok(())
 }
 
-fn refused_maps(alloc: Global) -> Result<usize, Fail> {
-    let mut count = 0usize;
-    for refused in [
-        check_refused::<BTreeSet<u8>>(alloc, GREATEST, SHORT)?,
-        check_refused::<HashSet<u8>>(alloc, GREATEST, SHORT)?,
-        check_refused::<BTreeMap<u8, u8>>(alloc, GREATEST, SHORT)?,
-        check_refused::<HashMap<u8, u8>>(alloc, GREATEST, SHORT)?,
-        check_refused::<IndexMap<u8, u8>>(alloc, GREATEST, SHORT)?,
-        check_refused::<IndexSet<u8>>(alloc, GREATEST, SHORT)?,
-    ] {
-        count = count.saturating_add(refused);
-    }
-    Ok(count)
+/// Adds how often the greatest length of a `T` was refused.
+fn count_greatest<T: BorshDeserialize>(alloc: Global, count: &mut usize) -> Result<(), Fail> {
+    count_refused::<T>(alloc, GREATEST, SHORT, count)
 }
 
-fn refused_bytes_and_pointers(alloc: Global) -> Result<usize, Fail> {
-    let mut count = 0usize;
-    for refused in [
-        check_refused::<Bytes>(alloc, GREATEST, SHORT)?,
-        check_refused::<BoxedSlice<u8>>(alloc, GREATEST, SHORT)?,
-        check_refused::<RcStr>(alloc, GREATEST, SHORT)?,
-    ] {
-        count = count.saturating_add(refused);
-    }
-    Ok(count)
+fn refuse_lists(alloc: Global, count: &mut usize) -> Result<(), Fail> {
+    count_refused::<Vec<u8>>(alloc, b"\xff\xff\xff\xff\x01\x02\x03", SHORT, count)?;
+    count_greatest::<Vec<u8>>(alloc, count)?;
+    count_greatest::<String>(alloc, count)?;
+    count_greatest::<Vec<String>>(alloc, count)?;
+    count_greatest::<Vec<Option<u8>>>(alloc, count)?;
+    count_greatest::<VecDeque<u8>>(alloc, count)?;
+    count_greatest::<LinkedList<u8>>(alloc, count)?;
+    count_refused::<Vec<()>>(alloc, GREATEST, ERROR_ZST_FORBIDDEN, count)
+}
+
+fn refuse_maps(alloc: Global, count: &mut usize) -> Result<(), Fail> {
+    count_greatest::<BTreeSet<u8>>(alloc, count)?;
+    count_greatest::<HashSet<u8>>(alloc, count)?;
+    count_greatest::<BTreeMap<u8, u8>>(alloc, count)?;
+    count_greatest::<HashMap<u8, u8>>(alloc, count)?;
+    count_greatest::<IndexMap<u8, u8>>(alloc, count)?;
+    count_greatest::<IndexSet<u8>>(alloc, count)
+}
+
+fn refuse_bytes_and_pointers(alloc: Global, count: &mut usize) -> Result<(), Fail> {
+    count_greatest::<Bytes>(alloc, count)?;
+    count_greatest::<BoxedSlice<u8>>(alloc, count)?;
+    count_greatest::<RcStr>(alloc, count)
 }
 
 #[test]
 fn lengths_beyond_the_input_are_refused_by_every_reader(rt: HostRuntime) -> Result<(), Fail> {
     let alloc = rt.alloc();
-    let lists = refused_lists(alloc)?;
-    let maps = refused_maps(alloc)?;
-    let others = refused_bytes_and_pointers(alloc)?;
+    let mut count = 0usize;
+    refuse_lists(alloc, &mut count)?;
+    refuse_maps(alloc, &mut count)?;
+    refuse_bytes_and_pointers(alloc, &mut count)?;
     // Six readings of each of 17 inputs.
-    let count = lists.saturating_add(maps).saturating_add(others);
-    assert_eq!(rt; count, 102);
+    check(count == 102, "refusals", count)?;
     println!(rt; "lengths beyond the input: {count} refusals")?;
     Ok(())
 }

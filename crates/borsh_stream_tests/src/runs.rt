@@ -57,18 +57,22 @@ fn answers(alloc: Global, lines: usize) -> Result<Vec<u8>, Fail> {
     Ok(all)
 }
 
+/// Whether the lines have these answers, all of them are read, and the run ends well.
+fn is_answered(alloc: Global, input: &[u8], output: &[u8], course: Course) -> bool {
+    let mut reader = TestReader::new(input, course);
+    let mut writer = TestWriter::new(Vec::new(alloc), usize::MAX, course);
+    let outcome = run(alloc, &mut reader, &mut writer);
+    writer.taken() == output && reader.rest().is_empty() && ended_with(alloc, &outcome, 0, b"")
+}
+
 #[test]
 fn lines_of_every_command_are_answered(rt: HostRuntime) -> Result<(), Fail> {
     let alloc = rt.alloc();
     let input = input(alloc)?;
     let output = answers(alloc, ROWS.len())?;
-    for course in courses() {
-        let mut reader = TestReader::new(input.as_slice(), course);
-        let mut writer = TestWriter::new(Vec::new(alloc), usize::MAX, course);
-        let outcome = run(alloc, &mut reader, &mut writer);
-        assert_eq!(rt; writer.taken(), output.as_slice());
-        assert!(rt; reader.rest().is_empty());
-        assert!(rt; ended_with(alloc, &outcome, 0, b""));
+    for (number, &course) in courses().iter().enumerate() {
+        let is_right = is_answered(alloc, input.as_slice(), output.as_slice(), course);
+        check(is_right, "run", number)?;
     }
     Ok(())
 }
@@ -108,20 +112,25 @@ fn check_full_writer(
     )
 }
 
+fn count_full_writers(alloc: Global, input: &[u8], output: &[u8]) -> Result<usize, Fail> {
+    let mut count = 0usize;
+    for &course in &courses() {
+        for room in 0..output.len() {
+            check_full_writer(alloc, input, output, room, course)?;
+            count = count.saturating_add(1);
+        }
+    }
+    Ok(count)
+}
+
 #[test]
 fn a_full_writer_has_the_first_bytes(rt: HostRuntime) -> Result<(), Fail> {
     let alloc = rt.alloc();
     let input = input(alloc)?;
     let output = answers(alloc, ROWS.len())?;
-    let mut count = 0usize;
-    for course in courses() {
-        for room in 0..output.len() {
-            check_full_writer(alloc, input.as_slice(), output.as_slice(), room, course)?;
-            count = count.saturating_add(1);
-        }
-    }
-    assert!(rt; count > 0);
-    assert_eq!(rt; count, output.len().saturating_mul(4));
+    let count = count_full_writers(alloc, input.as_slice(), output.as_slice())?;
+    let is_counted = count > 0 && count == output.len().saturating_mul(4);
+    check(is_counted, "full writers", count)?;
     println!(rt; "runs: {count} full writers")?;
     Ok(())
 }
@@ -153,25 +162,57 @@ fn check_failing_writer(
     )
 }
 
+fn count_failing_writers(alloc: Global, input: &[u8], output: &[u8]) -> Result<usize, Fail> {
+    let writes = u32::try_from(output.len())?;
+    let mut count = 0usize;
+    for &course in &courses() {
+        if course.is_by_bytes() {
+            // Behind the last byte it is the flush that fails.
+            for write in 0..=writes {
+                check_failing_writer(alloc, input, output, write, course)?;
+                count = count.saturating_add(1);
+            }
+        }
+    }
+    Ok(count)
+}
+
 #[test]
 fn a_failing_writer_has_the_first_bytes(rt: HostRuntime) -> Result<(), Fail> {
     let alloc = rt.alloc();
     let input = input(alloc)?;
     let output = answers(alloc, ROWS.len())?;
-    let writes = u32::try_from(output.len())?;
-    let mut count = 0u32;
-    for course in courses() {
-        if course.is_by_bytes() {
-            // Behind the last byte it is the flush that fails.
-            for write in 0..=writes {
-                check_failing_writer(alloc, input.as_slice(), output.as_slice(), write, course)?;
-                count = count.saturating_add(1);
-            }
-        }
-    }
-    assert_eq!(rt; count, writes.saturating_add(1).saturating_mul(2));
+    let count = count_failing_writers(alloc, input.as_slice(), output.as_slice())?;
+    let expected = output.len().saturating_add(1).saturating_mul(2);
+    check(count == expected, "failed writes", count)?;
     println!(rt; "runs: {count} failed writes")?;
     Ok(())
+}
+
+/// Whether a run that failed so has the error, and reports it.
+fn is_reported(alloc: Global, outcome: &borsh::io::Result<()>, failure: Failure) -> bool {
+    match failure {
+        Failure::TimedOut => {
+            is_error(outcome, ErrorKind::TimedOut, "too slow")
+                && ended_with(alloc, outcome, 1, REPORT_OF_SLOW)
+        }
+        Failure::End => is_error(outcome, ErrorKind::UnexpectedEof, "the device says so"),
+    }
+}
+
+/// Whether the answers to the lines that end in the first bytes were written.
+fn are_lines_answered(
+    alloc: Global,
+    input: &[u8],
+    taken: usize,
+    written: &[u8],
+) -> Result<bool, Fail> {
+    let lines = input
+        .iter()
+        .take(taken)
+        .filter(|byte| **byte == b'\n')
+        .count();
+    Ok(answers(alloc, lines)?.as_slice() == written)
 }
 
 /// Runs with a reader that fails at a read: the answers to the lines whose line feed was taken are
@@ -189,34 +230,23 @@ fn check_failing_reader(
         return Ok(false);
     }
     let taken = input.len().saturating_sub(reader.rest().len());
-    let is_reported = match failure {
-        Failure::TimedOut => {
-            is_error(&outcome, ErrorKind::TimedOut, "too slow")
-                && ended_with(alloc, &outcome, 1, REPORT_OF_SLOW)
-        }
-        Failure::End => is_error(&outcome, ErrorKind::UnexpectedEof, "the device says so"),
-    };
-    check(is_reported && reader.faults() == 1, "failed read", taken)?;
-    let lines = input
-        .iter()
-        .take(taken)
-        .filter(|byte| **byte == b'\n')
-        .count();
-    let written = answers(alloc, lines)?;
-    check(
-        writer.taken() == written.as_slice(),
-        "answers before a failed read",
-        taken,
-    )?;
+    let is_right = is_reported(alloc, &outcome, failure) && reader.faults() == 1;
+    check(is_right, "failed read", taken)?;
+    let is_answered = are_lines_answered(alloc, input, taken, writer.taken())?;
+    check(is_answered, "answers before a failed read", taken)?;
     Ok(true)
 }
 
-fn failing_readers(alloc: Global, course: Course, failure: Failure) -> Result<usize, Fail> {
-    let input = input(alloc)?;
+fn count_failing_reads(
+    alloc: Global,
+    input: &[u8],
+    course: Course,
+    failure: Failure,
+) -> Result<usize, Fail> {
     let mut count = 0usize;
     for read in 0..=u32::try_from(input.len())? {
         let failing = course.failing(read, failure);
-        if check_failing_reader(alloc, input.as_slice(), failing, failure)? {
+        if check_failing_reader(alloc, input, failing, failure)? {
             count = count.saturating_add(1);
         }
     }
@@ -225,15 +255,21 @@ fn failing_readers(alloc: Global, course: Course, failure: Failure) -> Result<us
     Ok(count)
 }
 
+fn count_failing_readers(alloc: Global, input: &[u8]) -> Result<usize, Fail> {
+    let mut count = 0usize;
+    for &course in &courses() {
+        for &failure in &[Failure::TimedOut, Failure::End] {
+            count = count.saturating_add(count_failing_reads(alloc, input, course, failure)?);
+        }
+    }
+    Ok(count)
+}
+
 #[test]
 fn a_failing_reader_leaves_the_answers_to_the_lines_before(rt: HostRuntime) -> Result<(), Fail> {
     let alloc = rt.alloc();
-    let mut count = 0usize;
-    for course in courses() {
-        for failure in [Failure::TimedOut, Failure::End] {
-            count = count.saturating_add(failing_readers(alloc, course, failure)?);
-        }
-    }
+    let input = input(alloc)?;
+    let count = count_failing_readers(alloc, input.as_slice())?;
     println!(rt; "runs: {count} failed reads")?;
     Ok(())
 }

@@ -20,7 +20,7 @@ fn user_types(alloc: Global) -> Result<Checks, Fail> {
     let mut checks = Checks::none();
     checks.add(check_encoding::<A>(alloc, b"\xe5\x0c\0\0\0\0\0\0\x0c\0\0\0liber primus")?);
     checks.add(check_encoding::<MyStruct>(alloc, b"\x0a\0\0\0\0\0\0\0\x03\0\0\0\x01\x02\x03")?);
-    for bytes in [
+    for &bytes in &[
         b"\0".as_slice(),
         b"\x01\x07",
         b"\x02\0\0\0\0",

@@ -34,7 +34,7 @@ fn bytes_and_identifiers(alloc: Global) -> Result<bool, Fail> {
 }
 
 /// Whether the value is written as these bytes and read from them.
-fn is_value<T: BorshSerialize + BorshDeserialize + PartialEq>(
+pub fn is_value<T: BorshSerialize + BorshDeserialize + PartialEq>(
     alloc: Global,
     value: T,
     bytes: &[u8],
@@ -52,27 +52,38 @@ fn addresses_and_bytes_round_trip(rt: HostRuntime) -> Result<(), Fail> {
     Ok(())
 }
 
+fn home() -> Ipv4Addr {
+    Ipv4Addr::new(192, 168, 0, 1)
+}
+
+fn example() -> Ipv6Addr {
+    Ipv6Addr::new(0x2001, 0xdb8, 0, 0, 0, 0, 0, 1)
+}
+
+fn octets_in_order(alloc: Global) -> Result<bool, Fail> {
+    let untagged = b"\x20\x01\x0d\xb8\0\0\0\0\0\0\0\0\0\0\0\x01";
+    let tagged = b"\x01\x20\x01\x0d\xb8\0\0\0\0\0\0\0\0\0\0\0\x01";
+    Ok(
+        is_value(alloc, home(), b"\xc0\xa8\0\x01")?
+            && is_value(alloc, example(), untagged)?
+            && is_value(alloc, IpAddr::V4(home()), b"\0\xc0\xa8\0\x01")?
+            && is_value(alloc, IpAddr::V6(example()), tagged)?,
+    )
+}
+
+fn a_list_in_order(alloc: Global) -> Result<bool, Fail> {
+    let local = Ipv6Addr::new(0xfe80, 0, 0, 0, 0, 0, 0, 1);
+    let addresses = [IpAddr::V4(home()), IpAddr::V6(example()), IpAddr::V6(local)];
+    let bytes =
+        b"\x03\0\0\0\0\xc0\xa8\0\x01\x01\x20\x01\x0d\xb8\0\0\0\0\0\0\0\0\0\0\0\x01\x01\xfe\x80\0\0\0\0\0\0\0\0\0\0\0\0\0\x01";
+    is_value(alloc, Vec::from_slice(alloc, &addresses)?, bytes)
+}
+
 #[test]
 fn addresses_and_identifiers_are_written_in_order(rt: HostRuntime) -> Result<(), Fail> {
     let alloc = rt.alloc();
-    let home = Ipv4Addr::new(192, 168, 0, 1);
-    let example = Ipv6Addr::new(0x2001, 0xdb8, 0, 0, 0, 0, 0, 1);
-    let local = Ipv6Addr::new(0xfe80, 0, 0, 0, 0, 0, 0, 1);
-    assert!(rt; is_value(alloc, home, b"\xc0\xa8\0\x01")?);
-    assert!(rt;
-        is_value(
-            alloc,
-            example,
-            b"\x20\x01\x0d\xb8\0\0\0\0\0\0\0\0\0\0\0\x01"
-        )?
-    );
-    assert!(rt; is_value(alloc, IpAddr::V4(home), b"\0\xc0\xa8\0\x01")?);
-    let bytes = b"\x01\x20\x01\x0d\xb8\0\0\0\0\0\0\0\0\0\0\0\x01";
-    assert!(rt; is_value(alloc, IpAddr::V6(example), bytes)?);
-    let list = vec![in alloc; IpAddr::V4(home), IpAddr::V6(example), IpAddr::V6(local)]?;
-    let bytes =
-        b"\x03\0\0\0\0\xc0\xa8\0\x01\x01\x20\x01\x0d\xb8\0\0\0\0\0\0\0\0\0\0\0\x01\x01\xfe\x80\0\0\0\0\0\0\0\0\0\0\0\0\0\x01";
-    assert!(rt; is_value(alloc, list, bytes)?);
+    assert!(rt; octets_in_order(alloc)?);
+    assert!(rt; a_list_in_order(alloc)?);
     let bytes = b"\xa1\xa2\xa3\xa4\xb1\xb2\xc1\xc2\xd1\xd2\xd3\xd4\xd5\xd6\xd7\xd8";
     assert!(rt; is_value(alloc, Uuid::from_bytes(*bytes), bytes)?);
     Ok(())

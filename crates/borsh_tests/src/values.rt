@@ -1,5 +1,6 @@
 // Values and their bytes.
-use borsh::io::ErrorKind;
+use super::addresses::is_value;
+use borsh::io::{ErrorKind, Result as IoResult};
 use borsh::{from_slice, object_length, to_vec, to_writer};
 use borsh_devices::encodings::{is_encoding, is_error, is_written};
 use borsh_samples::{A, MyEnum, MyStruct, One, OneOrZero};
@@ -196,112 +197,152 @@ fn arrays_round_trip(rt: HostRuntime) -> Result<(), Fail> {
 #[test]
 fn numbers_of_the_machine_s_width_have_eight_bytes(rt: HostRuntime) -> Result<(), Fail> {
     let alloc = rt.alloc();
-    for (n, bytes) in [
+    for &(n, bytes) in &[
         (-100isize, b"\x9c\xff\xff\xff\xff\xff\xff\xff"),
         (100, b"\x64\0\0\0\0\0\0\0"),
         (isize::MIN, b"\0\0\0\0\0\0\0\x80"),
         (isize::MAX, b"\xff\xff\xff\xff\xff\xff\xff\x7f"),
     ] {
-        assert!(rt; is_written(alloc, &n, bytes)?);
-        assert_eq!(rt; from_slice::<isize>(alloc, bytes)?, n);
+        assert!(rt; is_value(alloc, n, bytes)?, "{n}");
     }
-    for (n, bytes) in [
+    for &(n, bytes) in &[
         (100usize, b"\x64\0\0\0\0\0\0\0"),
         (usize::MIN, b"\0\0\0\0\0\0\0\0"),
         (usize::MAX, b"\xff\xff\xff\xff\xff\xff\xff\xff"),
     ] {
-        assert!(rt; is_written(alloc, &n, bytes)?);
-        assert_eq!(rt; from_slice::<usize>(alloc, bytes)?, n);
+        assert!(rt; is_value(alloc, n, bytes)?, "{n}");
     }
     Ok(())
 }
 
+fn numbers_within(alloc: Global) -> Result<bool, Fail> {
+    Ok(
+        from_slice::<NonZeroU8>(alloc, b"\x01")?.get() == 1
+            && from_slice::<NonZeroU32>(alloc, b"\xff\0\0\0")?.get() == 255
+            && from_slice::<NonZeroUsize>(alloc, b"\x01\x01\0\0\0\0\0\0")?.get() == 257
+            && from_slice::<NonZeroI64>(alloc, &[255u8; 8])?.get() == -1
+            && from_slice::<NonZeroI16>(alloc, b"\0\x80")?.get() == i16::MIN,
+    )
+}
+
 #[test]
 fn non_zero_numbers_are_their_number(rt: HostRuntime) -> Result<(), Fail> {
-    let alloc = rt.alloc();
-    assert_eq!(rt; from_slice::<NonZeroU8>(alloc, b"\x01")?.get(), 1);
-    assert_eq!(rt; from_slice::<NonZeroU32>(alloc, b"\xff\0\0\0")?.get(), 255);
-    let bytes = b"\x01\x01\0\0\0\0\0\0";
-    assert_eq!(rt; from_slice::<NonZeroUsize>(alloc, bytes)?.get(), 257);
-    assert_eq!(rt; from_slice::<NonZeroI64>(alloc, &[255u8; 8])?.get(), -1);
-    assert_eq!(rt; from_slice::<NonZeroI16>(alloc, b"\0\x80")?.get(), i16::MIN);
+    assert!(rt; numbers_within(rt.alloc())?);
     Ok(())
+}
+
+fn borrowed_values(alloc: Global) -> Result<bool, Fail> {
+    Ok(
+        is_written(alloc, &"liber", b"\x05\0\0\0liber")?
+            && is_written(alloc, &&7u16, b"\x07\0")?
+            && is_written(alloc, &[(), (), ()].as_slice(), b"\x03\0\0\0")?,
+    )
 }
 
 #[test]
 fn borrowed_values_and_a_tuple_of_one(rt: HostRuntime) -> Result<(), Fail> {
     let alloc = rt.alloc();
-    assert!(rt; is_written(alloc, &"liber", b"\x05\0\0\0liber")?);
-    assert!(rt; is_written(alloc, &&7u16, b"\x07\0")?);
-    assert!(rt; is_written(alloc, &[(), (), ()].as_slice(), b"\x03\0\0\0")?);
-    let unary: (bool,) = from_slice(alloc, b"\x01")?;
-    assert!(rt; unary.0 && is_written(alloc, &(true,), b"\x01")?);
+    assert!(rt; borrowed_values(alloc)?);
+    assert!(rt; is_value(alloc, (true,), b"\x01")?);
     Ok(())
+}
+
+fn a_shared_number(alloc: Global) -> Result<bool, Fail> {
+    let read: Rc<u8> = from_slice(alloc, b"\x08")?;
+    Ok(*read == 8 && is_written(alloc, &Rc::new(alloc, 8u8)?, b"\x08")?)
+}
+
+fn shared_numbers(alloc: Global) -> Result<bool, Fail> {
+    let bytes = b"\x07\0\0\0\x01\0\0\0\x02\0\0\0\x03\0\0\0\x04\0\0\0\x06\0\0\0\x09\0\0\0\x0a\0\0\0";
+    let numbers = [1i32, 2, 3, 4, 6, 9, 10];
+    let read: RcSlice<i32> = from_slice(alloc, bytes)?;
+    Ok(
+        read.as_slice() == numbers.as_slice()
+            && is_written(alloc, &numbers.as_slice(), bytes)?
+            && is_written(alloc, &read, bytes)?,
+    )
 }
 
 #[test]
 fn shared_values_are_what_they_hold(rt: HostRuntime) -> Result<(), Fail> {
     let alloc = rt.alloc();
-    let eight = Rc::new(alloc, 8u8)?;
-    assert!(rt; is_written(alloc, &eight, b"\x08")?);
-    let read: Rc<u8> = from_slice(alloc, b"\x08")?;
-    assert_eq!(rt; *read, 8);
-    let bytes = b"\x07\0\0\0\x01\0\0\0\x02\0\0\0\x03\0\0\0\x04\0\0\0\x06\0\0\0\x09\0\0\0\x0a\0\0\0";
-    let numbers = [1i32, 2, 3, 4, 6, 9, 10];
-    assert!(rt; is_written(alloc, &numbers.as_slice(), bytes)?);
-    let read: RcSlice<i32> = from_slice(alloc, bytes)?;
-    assert_eq!(rt; read.as_slice(), numbers.as_slice());
-    assert!(rt; is_written(alloc, &read, bytes)?);
+    assert!(rt; a_shared_number(alloc)?);
+    assert!(rt; shared_numbers(alloc)?);
     Ok(())
+}
+
+fn is_read_as_owned_text(alloc: Global, bytes: &[u8], text: &str) -> Result<bool, Fail> {
+    match from_slice(alloc, bytes)? {
+        CowStr::Owned(read) => Ok(read.as_str() == text),
+        CowStr::Borrowed(_) => Ok(false),
+    }
+}
+
+fn is_read_as_owned_slice(alloc: Global, bytes: &[u8], slice: &[u8]) -> Result<bool, Fail> {
+    match from_slice(alloc, bytes)? {
+        CowSlice::Owned(read) => Ok(read.as_slice() == slice),
+        CowSlice::Borrowed(_) => Ok(false),
+    }
 }
 
 #[test]
 fn a_cow_is_read_as_owned(rt: HostRuntime) -> Result<(), Fail> {
     let alloc = rt.alloc();
-    let text = CowStr::Borrowed("static input");
+    let text = "static input";
     let bytes = b"\x0c\0\0\0static input";
-    assert!(rt; is_written(alloc, &text, bytes)?);
-    match from_slice(alloc, bytes)? {
-        CowStr::Owned(read) => assert_eq!(rt; read.as_str(), "static input"),
-        CowStr::Borrowed(_) => assert!(rt; false),
-    }
+    assert!(rt; is_written(alloc, &CowStr::Borrowed(text), bytes)?);
+    assert!(rt; is_read_as_owned_text(alloc, bytes, text)?);
     let ten = [1u8, 2, 3, 4, 5, 6, 7, 8, 9, 10];
-    let slice = CowSlice::Borrowed(ten.as_slice());
     let bytes = b"\x0a\0\0\0\x01\x02\x03\x04\x05\x06\x07\x08\x09\x0a";
-    assert!(rt; is_written(alloc, &slice, bytes)?);
-    match from_slice(alloc, bytes)? {
-        CowSlice::Owned(read) => assert_eq!(rt; read.as_slice(), ten.as_slice()),
-        CowSlice::Borrowed(_) => assert!(rt; false),
-    }
+    assert!(rt; is_written(alloc, &CowSlice::Borrowed(ten.as_slice()), bytes)?);
+    assert!(rt; is_read_as_owned_slice(alloc, bytes, ten.as_slice())?);
     Ok(())
+}
+
+/// A queue whose last two numbers lie before its first two.
+fn wrapped(alloc: Global) -> Result<VecDeque<u8>, Fail> {
+    let mut ring = VecDeque::with_capacity(alloc, 4)?;
+    for &n in &[1u8, 2, 3, 4] {
+        ring.push_back(n)?;
+    }
+    for &n in &[5u8, 6] {
+        ring.pop_front();
+        ring.push_back(n)?;
+    }
+    Ok(ring)
 }
 
 #[test]
 fn a_queue_that_wraps_is_written_as_its_list(rt: HostRuntime) -> Result<(), Fail> {
     let alloc = rt.alloc();
-    let mut ring = VecDeque::with_capacity(alloc, 4)?;
-    for n in [1u8, 2, 3, 4] {
-        ring.push_back(n)?;
-    }
-    for n in [5u8, 6] {
-        ring.pop_front();
-        ring.push_back(n)?;
-    }
-    assert!(rt; is_written(alloc, &ring, b"\x04\0\0\0\x03\x04\x05\x06")?);
+    assert!(rt; is_written(alloc, &wrapped(alloc)?, b"\x04\0\0\0\x03\x04\x05\x06")?);
     Ok(())
+}
+
+fn is_not_allowed<T>(outcome: &IoResult<T>) -> bool {
+    is_error(
+        outcome,
+        ErrorKind::InvalidData,
+        "MyEnum::Many not allowed here",
+    )
+}
+
+fn is_neither_written_nor_counted(alloc: Global, value: &OneOrZero) -> bool {
+    is_not_allowed(&to_vec(alloc, value)) && is_not_allowed(&object_length(alloc, value))
+}
+
+fn leaves_the_vector(alloc: Global, value: &OneOrZero) -> Result<bool, Fail> {
+    let mut out = vec![in alloc; 7u8]?;
+    let outcome = to_writer(alloc, &mut out, value);
+    Ok(is_not_allowed(&outcome) && out.as_slice() == b"\x07".as_slice())
 }
 
 #[test]
 fn a_refused_value_leaves_the_vector(rt: HostRuntime) -> Result<(), Fail> {
     let alloc = rt.alloc();
     let many = OneOrZero(MyEnum::Many(vec![in alloc; 1u8]?));
-    let text = "MyEnum::Many not allowed here";
-    assert!(rt; is_error(&to_vec(alloc, &many), ErrorKind::InvalidData, text));
-    assert!(rt; is_error(&object_length(alloc, &many), ErrorKind::InvalidData, text));
-    let mut out = vec![in alloc; 7u8]?;
-    let outcome = to_writer(alloc, &mut out, &many);
-    assert!(rt; is_error(&outcome, ErrorKind::InvalidData, text));
-    assert_eq!(rt; out.as_slice(), b"\x07".as_slice());
+    assert!(rt; is_neither_written_nor_counted(alloc, &many));
+    assert!(rt; leaves_the_vector(alloc, &many)?);
     Ok(())
 }
 
@@ -311,6 +352,6 @@ fn a_value_is_written_into_a_slice(rt: HostRuntime) -> Result<(), Fail> {
     let mut space = [0u8; 1];
     let mut room = space.as_mut_slice();
     to_writer(alloc, &mut room, &42u8)?;
-    assert_eq!(rt; from_slice::<u8>(alloc, space.as_slice())?, 42);
+    assert!(rt; from_slice::<u8>(alloc, space.as_slice())? == 42);
     Ok(())
 }

@@ -27,16 +27,23 @@ impl Maker<u64> for Numbers {
     }
 }
 
+fn makes_what_is_asked(numbers: &mut Numbers) -> bool {
+    array_from(numbers) == Ok([4u64, 5, 6])
+        && array_from::<u64, Numbers, 0>(numbers) == Ok([])
+        && array_from(numbers) == Ok([7u64])
+}
+
+fn gives_up_at_the_end(numbers: &mut Numbers) -> bool {
+    array_from::<u64, Numbers, 3>(numbers) == Err(GaveUp)
+        && numbers.next == 9
+        && array_from::<u64, Numbers, 1>(numbers) == Err(GaveUp)
+}
+
 #[test]
 fn makes_arrays_until_it_gives_up(rt: HostRuntime) -> Result<(), Fail> {
     let mut numbers = Numbers { next: 4, end: 9 };
-    assert_eq!(rt; array_from(&mut numbers)?, [4u64, 5, 6]);
-    assert!(rt; array_from::<u64, Numbers, 0>(&mut numbers)?.is_empty());
-    assert_eq!(rt; array_from(&mut numbers)?, [7u64]);
-    let refused = array_from::<u64, Numbers, 3>(&mut numbers);
-    assert_eq!(rt; refused, Err(GaveUp));
-    assert_eq!(rt; numbers.next, 9);
-    assert_eq!(rt; array_from::<u64, Numbers, 1>(&mut numbers), Err(GaveUp));
+    assert!(rt; makes_what_is_asked(&mut numbers));
+    assert!(rt; gives_up_at_the_end(&mut numbers));
     Ok(())
 }
 
@@ -79,26 +86,31 @@ impl<'a> Maker<Token<'a>> for Tokens<'a> {
     }
 }
 
+// What an array of four tokens has dropped while it is held, and then: the digits are the numbers of the tokens, in the
+// order in which they were dropped.
+fn dropped_tokens(left: u32) -> (u32, u32) {
+    let drops = Cell::new(0u32);
+    let mut tokens = Tokens {
+        made: 0,
+        left,
+        drops: &drops,
+    };
+    let made = array_from::<Token, Tokens, 4>(&mut tokens);
+    let while_held = drops.get();
+    drop(made);
+    (while_held, drops.get())
+}
+
 #[test]
 fn drops_each_value_once(rt: HostRuntime) -> Result<(), Fail> {
-    // The digits of the count are the numbers of the tokens, in the order in which they were dropped.
-    for (left, while_held, at_the_end) in [(0, 0, 0), (1, 1, 1), (3, 123, 123), (4, 0, 1234)] {
-        let drops = Cell::new(0u32);
-        let mut tokens = Tokens {
-            made: 0,
-            left,
-            drops: &drops,
-        };
-        let made = array_from::<Token, Tokens, 4>(&mut tokens);
-        assert_eq!(rt; drops.get(), while_held, "of {left} tokens");
-        drop(made);
-        assert_eq!(rt; drops.get(), at_the_end, "of {left} tokens");
+    for &(left, dropped) in &[(0, (0, 0)), (1, (1, 1)), (3, (123, 123)), (4, (0, 1234))] {
+        assert!(rt; dropped_tokens(left) == dropped, "of {left} tokens");
     }
     Ok(())
 }
 
 #[test]
 fn prints_the_error(rt: HostRuntime) -> Result<(), Fail> {
-    assert_eq!(rt; GaveUp.to_string(rt.alloc())?.as_str(), "the maker gave up");
+    assert!(rt; GaveUp.to_string(rt.alloc())?.as_str() == "the maker gave up");
     Ok(())
 }
