@@ -104,6 +104,17 @@ impl BorshSchemaContainer {
         }
     }
 
+    /// The definitions by their names, as the calls of `borsh_values` and `borsh_json` take them.
+    ///
+    /// ```
+    /// let answer = is_member(alloc, container.declaration(), container.as_map(), bytes)?;
+    /// ```
+    pub fn as_map(&self) -> &BTreeMap<Declaration, Definition>
+        ensures { result.now ≡ map_of self.now }
+    {
+        &self.definitions
+    }
+
     /// The definition of a name, if it has one.
     ///
     /// ```

@@ -66,6 +66,11 @@ pub left_on : {A : Type 0} (m : BTreeMap (String A) Definition) (a b idle : ℕ)
 unfolding steps_of
 left_on m a b idle f h g fs room low small = less (3 + work references m.entries) _ _ _ _ (opens_on (btree_map_len m) a b idle room) (omega (arith, low, small))
 
+-- or one that has no parts was read with some bytes
+pub left_past : {A : Type 0} (m : BTreeMap (String A) Definition) (a b idle : ℕ) (f h : Frame) (fs : List Frame) → a < b → step_count h.rest ≤ step_count f.rest → left m a 0 (h ∷ fs) < left m b idle (f ∷ fs)
+unfolding steps_of
+left_past m a b idle f h fs room low = less (3 + work references m.entries) _ _ _ _ (opens_on (btree_map_len m) a b idle room) (omega (arith, low))
+
 -- a frame has a step left
 pub some_step : (r : Rest) → 0 < step_count r
 some_step (Copies e zero) = omega arith

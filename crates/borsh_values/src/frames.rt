@@ -1,6 +1,6 @@
 // What is still to be read of a value.
 ghost use Rattle.borsh_values.specs.Steps.{StepsOn, remaining, step_count};
-ghost use Rattle.std.specs.Prelude.{◌≡◌, ◌∷◌, ◌++◌, ◌<◌, ◌≤◌, ℕ, suc, [], MatchOption, IfSome, replicate};
+ghost use Rattle.std.specs.Prelude.{false, length, true, ◌≡◌, ◌∷◌, ◌++◌, ◌<◌, ◌≤◌, ℕ, suc, [], MatchOption, IfSome, replicate};
 
 use crate::faults::Reason;
 use borsh_walks::Definition;
@@ -76,5 +76,19 @@ pub fn after_copies<'a>(rest: Rest<'a>, step: Step<'a>) -> Rest<'a>
     match rest {
         Rest::Copies(name, _) => Rest::Copies(name, 0),
         Rest::Parts(_, _) => step.others,
+    }
+}
+
+/// Whether names are still to be read.
+pub fn has_parts(rest: Rest<'_>) -> bool
+    ensures none { result ≡ false → remaining rest.entry ≡ [] }
+    ensures some { result ≡ true → 0 < length (remaining rest.entry) }
+{
+    match rest {
+        Rest::Copies(_, count) => count > 0,
+        Rest::Parts(definition, index) => match mentioned_part(definition, index) {
+            Some(_) => true,
+            None => false,
+        },
     }
 }

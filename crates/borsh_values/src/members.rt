@@ -10,7 +10,7 @@ ghost use Rattle.borsh_walks.specs.ZeroAnswer.{ZeroTable};
 ghost use Rattle.std.specs.Prelude.{IfOk, ◌+◌, ◌≤◌, ◌≡◌, ◌∷◌, [], length, drop, take, true};
 
 use crate::faults::{Fault, Path, Question, Reason, no_member};
-use crate::frames::{Frame, Opened, Rest, after_copies, next_part};
+use crate::frames::{Frame, Opened, Rest, after_copies, has_parts, next_part};
 use crate::nodes::{Node, list_node};
 use crate::opening::open_definition;
 use borsh_walks::Definition;
@@ -268,14 +268,17 @@ fn decide<'a>(
                             list_node(alloc, wanted, map, zeros, nodes, node)?;
                             count_one(opened);
                             frame.rest = step.others;
-                            stack.push(frame)?;
-                            frame = Frame {
-                                name: step.part,
-                                start: left.len(),
-                                rest,
-                            };
                             idle = 0;
+                            let start = left.len();
                             left = after(left, taken);
+                            if has_parts(rest) {
+                                stack.push(frame)?;
+                                frame = Frame {
+                                    name: step.part,
+                                    start,
+                                    rest,
+                                };
+                            }
                         }
                     }
                 }

@@ -9,6 +9,10 @@ mod build;
 #[cfg(test)]
 mod json;
 #[cfg(test)]
+mod random;
+#[cfg(test)]
 mod values;
 #[cfg(test)]
 mod walks;
+#[cfg(test)]
+mod words;

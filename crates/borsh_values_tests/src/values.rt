@@ -6,131 +6,69 @@ use std::alloc::Global;
 use std::collections::BTreeMap;
 use std::test::Fail;
 
+// Sequences: a name, the width of the length, the range, and the elements.
+const SEQUENCES: [(&str, u8, (u64, u64), &str); 14] = [
+    ("[u8; 3]", 0, (3, 3), "u8"),
+    ("Vec<u8>", 4, (0, 4294967295), "u8"),
+    ("u8 to 2 of u8", 1, (1, 2), "u8"),
+    ("many u32", 8, (0, u64::MAX), "u32"),
+    ("most units", 0, (u64::MAX, u64::MAX), "()"),
+    ("counted units", 4, (0, 4294967295), "()"),
+    ("most Units", 8, (0, u64::MAX), "Unit"),
+    ("left array", 0, (2, 2), "left array"),
+    ("loop to 0", 1, (0, 9), "loop to 0"),
+    ("misses none", 1, (0, 9), "nowhere"),
+    ("any array", 0, (0, 5), "u8"),
+    ("no array", 0, (5, 0), "u8"),
+    ("three", 3, (0, 5), "u8"),
+    ("narrow", 1, (0, 256), "u8"),
+];
+
+const TUPLES: [(&str, &[&str]); 6] = [
+    ("(u8, u32)", &["u8", "u32"]),
+    ("Link", &["u8", "List"]),
+    ("left", &["()", "left"]),
+    ("right", &["u8", "right"]),
+    ("misses", &["u8", "nowhere"]),
+    ("behind", &["u8", "twice"]),
+];
+
+// Enums: a name, the width of the tag, and the variants.
+const CHOICES: [(&str, u8, &[(i64, &str)]); 9] = [
+    ("Option<u8>", 1, &[(0, "()"), (1, "u8")]),
+    ("signed", 2, &[(-2, "()"), (-1, "u8"), (255, "u8")]),
+    ("wide", 9, &[(-1, "()"), (1, "u8")]),
+    ("only", 0, &[(7, "u8")]),
+    ("never", 1, &[]),
+    ("List", 1, &[(0, "()"), (1, "Link")]),
+    ("left enum", 0, &[(0, "left enum")]),
+    ("twice", 1, &[(0, "()"), (256, "u8")]),
+    ("two of 0", 0, &[(0, "()"), (1, "u8")]),
+];
+
+fn put_all(alloc: Global, map: &mut Definitions) -> Result<(), Fail> {
+    for &(name, size) in &[("u8", 1), ("u32", 4), ("()", 0)] {
+        put(alloc, map, name, Definition::Primitive(size))?;
+    }
+    for &(name, width, range, element) in &SEQUENCES {
+        put(alloc, map, name, sequence(alloc, width, range, element)?)?;
+    }
+    for &(name, elements) in &TUPLES {
+        put(alloc, map, name, tuple(alloc, elements)?)?;
+    }
+    for &(name, width, variants) in &CHOICES {
+        put(alloc, map, name, choice(alloc, width, variants)?)?;
+    }
+    let pair = with_fields(alloc, &[("small", "u8"), ("bytes", "Vec<u8>")])?;
+    put(alloc, map, "Pair", pair)?;
+    let fields = Fields::Empty;
+    put(alloc, map, "Unit", Definition::Struct { fields })
+}
+
 // The definitions of the examples.
 fn definitions(alloc: Global) -> Result<Definitions, Fail> {
     let mut map: Definitions = BTreeMap::new(alloc);
-    let m = &mut map;
-    put(alloc, m, "u8", Definition::Primitive(1))?;
-    put(alloc, m, "u32", Definition::Primitive(4))?;
-    put(alloc, m, "()", Definition::Primitive(0))?;
-    put(alloc, m, "[u8; 3]", sequence(alloc, 0, (3, 3), "u8")?)?;
-    put(
-        alloc,
-        m,
-        "Vec<u8>",
-        sequence(alloc, 4, (0, 4294967295), "u8")?,
-    )?;
-    put(alloc, m, "u8 to 2 of u8", sequence(alloc, 1, (1, 2), "u8")?)?;
-    put(
-        alloc,
-        m,
-        "many u32",
-        sequence(alloc, 8, (0, u64::MAX), "u32")?,
-    )?;
-    put(alloc, m, "(u8, u32)", tuple(alloc, &["u8", "u32"])?)?;
-    put(
-        alloc,
-        m,
-        "Pair",
-        with_fields(alloc, &[("small", "u8"), ("bytes", "Vec<u8>")])?,
-    )?;
-    put(
-        alloc,
-        m,
-        "Unit",
-        Definition::Struct {
-            fields: Fields::Empty,
-        },
-    )?;
-    put(
-        alloc,
-        m,
-        "Option<u8>",
-        choice(alloc, 1, &[(0, "()"), (1, "u8")])?,
-    )?;
-    put(
-        alloc,
-        m,
-        "signed",
-        choice(alloc, 2, &[(-2, "()"), (-1, "u8"), (255, "u8")])?,
-    )?;
-    put(
-        alloc,
-        m,
-        "wide",
-        choice(alloc, 9, &[(-1, "()"), (1, "u8")])?,
-    )?;
-    put(alloc, m, "only", choice(alloc, 0, &[(7, "u8")])?)?;
-    put(alloc, m, "never", choice(alloc, 1, &[])?)?;
-    put(
-        alloc,
-        m,
-        "List",
-        choice(alloc, 1, &[(0, "()"), (1, "Link")])?,
-    )?;
-    put(alloc, m, "Link", tuple(alloc, &["u8", "List"])?)?;
-    put(
-        alloc,
-        m,
-        "most units",
-        sequence(alloc, 0, (u64::MAX, u64::MAX), "()")?,
-    )?;
-    put(
-        alloc,
-        m,
-        "counted units",
-        sequence(alloc, 4, (0, 4294967295), "()")?,
-    )?;
-    put(
-        alloc,
-        m,
-        "most Units",
-        sequence(alloc, 8, (0, u64::MAX), "Unit")?,
-    )?;
-    put(alloc, m, "left", tuple(alloc, &["()", "left"])?)?;
-    put(
-        alloc,
-        m,
-        "left array",
-        sequence(alloc, 0, (2, 2), "left array")?,
-    )?;
-    put(
-        alloc,
-        m,
-        "left enum",
-        choice(alloc, 0, &[(0, "left enum")])?,
-    )?;
-    put(alloc, m, "right", tuple(alloc, &["u8", "right"])?)?;
-    put(
-        alloc,
-        m,
-        "loop to 0",
-        sequence(alloc, 1, (0, 9), "loop to 0")?,
-    )?;
-    put(alloc, m, "misses", tuple(alloc, &["u8", "nowhere"])?)?;
-    put(
-        alloc,
-        m,
-        "misses none",
-        sequence(alloc, 1, (0, 9), "nowhere")?,
-    )?;
-    put(
-        alloc,
-        m,
-        "twice",
-        choice(alloc, 1, &[(0, "()"), (256, "u8")])?,
-    )?;
-    put(
-        alloc,
-        m,
-        "two of 0",
-        choice(alloc, 0, &[(0, "()"), (1, "u8")])?,
-    )?;
-    put(alloc, m, "any array", sequence(alloc, 0, (0, 5), "u8")?)?;
-    put(alloc, m, "no array", sequence(alloc, 0, (5, 0), "u8")?)?;
-    put(alloc, m, "three", sequence(alloc, 3, (0, 5), "u8")?)?;
-    put(alloc, m, "narrow", sequence(alloc, 1, (0, 256), "u8")?)?;
-    put(alloc, m, "behind", tuple(alloc, &["u8", "twice"])?)?;
+    put_all(alloc, &mut map)?;
     Ok(map)
 }
 

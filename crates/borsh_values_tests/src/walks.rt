@@ -61,7 +61,7 @@ const END: u64 = 18446744073709551615;
 #[test]
 fn sequences(rt: HostRuntime) -> Result<(), Fail> {
     let alloc = rt.alloc();
-    for (width, start, end, element, rule, size, looks) in [
+    for &(width, start, end, element, rule, size, looks) in &[
         (4, 5, 3, "P", "EmptyLengthRange", 7, [1, 0, 2]),
         (1, 0, 255, "P", "valid", 256, [2, 1, 2]),
         (1, 0, 256, "P", "TagTooNarrow", 257, [1, 0, 2]),
@@ -165,7 +165,7 @@ fn elements_without_bytes(rt: HostRuntime) -> Result<(), Fail> {
         "list",
         sequence(alloc, 4, (0, 4294967295), "()")?,
     )?;
-    for (element, rule, size, looks) in [
+    for &(element, rule, size, looks) in &[
         ("tuple", "ZSTSequence", 4, [1, 2, 3]),
         ("range", "ZSTSequence", 4, [1, 2, 3]),
         ("list", "ZSTSequence", 17179869184, [2, 2, 3]),
@@ -245,7 +245,7 @@ fn sizes_up_to_the_limit(rt: HostRuntime) -> Result<(), Fail> {
         "texts",
         sequence(alloc, 4, (0, 4294967295), "text")?,
     )?;
-    for (root, fault, size, looks) in [
+    for &(root, fault, size, looks) in &[
         ("more", "Overflow", 0, [3, 0, 3]),
         ("ten", "size", 20, [4, 0, 4]),
         ("options", "size", 8589934594, [4, 1, 4]),
@@ -272,7 +272,7 @@ fn a_name_is_looked_into_once(rt: HostRuntime) -> Result<(), Fail> {
         let definition = tuple(alloc, &[below.as_str(), below.as_str()])?;
         put(alloc, &mut definitions, above.as_str(), definition)?;
     }
-    for (root, fault, size, looks) in [
+    for &(root, fault, size, looks) in &[
         ("L60", "size", 1152921504606846976, [61, 0, 61]),
         ("L63", "size", 9223372036854775808, [64, 0, 64]),
         ("L64", "Overflow", 0, [65, 0, 65]),

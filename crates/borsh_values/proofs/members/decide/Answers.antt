@@ -23,7 +23,7 @@ use Rattle.borsh_values.proofs.NodesLaws.{nodes_skip}
 use Rattle.borsh_values.proofs.Listing.{list_more, all_views}
 use Rattle.borsh_values.specs.Steps.{pending, remaining}
 use Rattle.borsh_values.proofs.Walk.{Walk, walk_start, walk_skip, walk_still, walk_on, walk_up, walk_up_empty, walk_end, undefined_none, denied, leads_back, with_rest, part_reached}
-use Rattle.borsh_values.proofs.Measure.{left, opened_still, opened_on, few_still, few_on, listed_more, left_moved, left_up, left_still, left_on, work_found, some_step}
+use Rattle.borsh_values.proofs.Measure.{left, opened_still, opened_on, few_still, few_on, listed_more, left_moved, left_up, left_still, left_on, left_past, work_found, some_step}
 use Rattle.borsh_values.proofs.members.decide.Goals as goal
 
 pub loop-step-init : goal.loop-step-init
@@ -165,21 +165,21 @@ positive (suc n) f = omega arith
 less_left : (n : ℕ) (xs ys : List ℕ) → ys ≡ drop n xs → 0 < n → n ≤ length xs → length ys < length xs
 less_left n xs ys e more low = let k = length-drop n xs in let h = ap (λ l. length l) e in omega (arith, k, h)
 
-pub loop-step-smaller-else-taken-eq0 : goal.loop-step-smaller-else-taken-eq0
-loop-step-smaller-else-taken-eq0 c =
+pub loop-step-smaller-then-has_parts : goal.loop-step-smaller-then-has_parts
+loop-step-smaller-then-has_parts c =
     let m = c.args.map.now in
     let p = c.in-Some.step.part.now in
     let g : Frame = record { name = c.in-Some.step.part; start = length c.loop-step.left.now; rest = c.in-Taken.rest } in
     let h : Frame = with_rest c.loop-step.frame c.in-Some.step.others in
     let w = work_found p m.entries c.in-Some-get.definition.now (sym c.in-Some-get.ensures.value) in
     let small = c.in-Taken.ensures.1 in
-    let back = last_first c.loop-step.stack.items c.push-else-taken-eq0.new.self.items h c.in_ok-push-in-Taken.ensures.items in
+    let back = last_first c.loop-step.stack.items c.push-then-has_parts.new.self.items h c.in_ok-push-in-Taken.ensures.items in
     let fewer = less_left c.in-Taken.taken c.loop-step.left.now c.after-left.result.now c.after-left.ensures (positive c.in-Taken.taken c.if-taken-eq0.false) c.in-Taken.ensures.0.within in
     let t = left_on m (length c.after-left.result.now) (length c.loop-step.left.now) c.loop-step.idle c.loop-step.frame h g (reverse c.loop-step.stack.items) fewer c.in-Some.ensures.steps (omega (arith, w, small)) in
     subst (λ l. left m (length c.after-left.result.now) 0 (g ∷ l) < left m (length c.loop-step.left.now) c.loop-step.idle (c.loop-step.frame ∷ reverse c.loop-step.stack.items)) (sym back) t
 
-pub loop-step-preserved-else-taken-eq0 : goal.loop-step-preserved-else-taken-eq0
-loop-step-preserved-else-taken-eq0 c =
+pub loop-step-preserved-then-has_parts : goal.loop-step-preserved-then-has_parts
+loop-step-preserved-then-has_parts c =
     let C = definitions_in c.args.map.now in
     let i = c.loop-step.invariant in
     let p = c.in-Some.step.part.now in
@@ -188,7 +188,7 @@ loop-step-preserved-else-taken-eq0 c =
     let h : Frame = with_rest c.loop-step.frame c.in-Some.step.others in
     let ends = suffix_on c.in-Taken.taken c.args.bytes.now c.loop-step.left.now c.after-left.result.now i.within i.suffix c.after-left.ensures c.in-Taken.ensures.0.within in
     let s = walk_on C i.state c.in-Some.step.others c.in-Some.ensures.parts g (positive c.in-Taken.taken c.if-taken-eq0.false) e c.in-Taken.ensures.0 refl refl in
-    let back = last_first c.loop-step.stack.items c.push-else-taken-eq0.new.self.items h c.in_ok-push-in-Taken.ensures.items in
+    let back = last_first c.loop-step.stack.items c.push-then-has_parts.new.self.items h c.in_ok-push-in-Taken.ensures.items in
     let node : Node = record { name = c.in-Some.step.part; definition = c.in-Some-get.definition; bytes = c.front.result } in
     let fewer = less_left c.in-Taken.taken c.loop-step.left.now c.after-left.result.now c.after-left.ensures (positive c.in-Taken.taken c.if-taken-eq0.false) c.in-Taken.ensures.0.within in
     record {
@@ -207,6 +207,44 @@ loop-step-preserved-else-taken-eq0 c =
           list_more C (λ l. Nodes C (c.args.root.now ∷ []) c.args.bytes.now l) node c.loop-step.nodes.items c.list_node-else-taken-eq0.new.nodes.items c.in-Taken.taken c.loop-step.left.now (remaining c.in-Taken.rest) (remaining c.in-Some.step.others ++ pending fs) e c.front.ensures c.in-Taken.ensures.0.opens (c.in_ok-list_node-in-Taken.ensures.listed w)
           (λ fs2 m. i.listed w fs2 (subst (λ l. Nodes C l c.loop-step.left.now fs2) (sym same) m)) es
           (subst (λ b. Nodes C (remaining c.in-Taken.rest ++ (remaining c.in-Some.step.others ++ pending fs)) b es) c.after-left.ensures (subst (λ l. Nodes C (remaining c.in-Taken.rest ++ pending l) c.after-left.result.now es) back n));
+    }
+
+pub loop-step-smaller-else-has_parts : goal.loop-step-smaller-else-has_parts
+loop-step-smaller-else-has_parts c =
+    let m = c.args.map.now in
+    let h : Frame = with_rest c.loop-step.frame c.in-Some.step.others in
+    let fewer = less_left c.in-Taken.taken c.loop-step.left.now c.after-left.result.now c.after-left.ensures (positive c.in-Taken.taken c.if-taken-eq0.false) c.in-Taken.ensures.0.within in
+    left_past m (length c.after-left.result.now) (length c.loop-step.left.now) c.loop-step.idle c.loop-step.frame h (reverse c.loop-step.stack.items) fewer c.in-Some.ensures.steps
+
+pub loop-step-preserved-else-has_parts : goal.loop-step-preserved-else-has_parts
+loop-step-preserved-else-has_parts c =
+    let C = definitions_in c.args.map.now in
+    let i = c.loop-step.invariant in
+    let p = c.in-Some.step.part.now in
+    let e = found_shape c.args.map c.args.map p c.in-Some-get.definition.now refl c.in-Some-get.ensures.value in
+    let g : Frame = record { name = c.in-Some.step.part; start = length c.loop-step.left.now; rest = c.in-Taken.rest } in
+    let none = c.has_parts.ensures.none c.if-has_parts.false in
+    let ends = suffix_on c.in-Taken.taken c.args.bytes.now c.loop-step.left.now c.after-left.result.now i.within i.suffix c.after-left.ensures c.in-Taken.ensures.0.within in
+    let s = walk_on C i.state c.in-Some.step.others c.in-Some.ensures.parts g (positive c.in-Taken.taken c.if-taken-eq0.false) e c.in-Taken.ensures.0 refl refl in
+    let node : Node = record { name = c.in-Some.step.part; definition = c.in-Some-get.definition; bytes = c.front.result } in
+    let fewer = less_left c.in-Taken.taken c.loop-step.left.now c.after-left.result.now c.after-left.ensures (positive c.in-Taken.taken c.if-taken-eq0.false) c.in-Taken.ensures.0.within in
+    let far : g.start ≡ length (drop c.in-Taken.taken c.loop-step.left.now) → ⊥ = λ q. let k = ap (λ l. length l) c.after-left.ensures in absurd (omega (arith, q, k, fewer)) in
+    record {
+      names = [];
+      state = subst (λ b. Walk C c.args.root.now c.args.bytes.now (mark_of c.loop-step.table) (reverse c.loop-step.stack.items) (with_rest c.loop-step.frame c.in-Some.step.others) b []) (sym c.after-left.ensures) (walk_up C s none far);
+      count = refl;
+      within = ends.0;
+      suffix = ends.1;
+      opened = opened_on (btree_map_len c.args.map.now) (length c.args.bytes.now) c.args.opened.now c.loop-step.opened c.count_one-else-taken-eq0.new.count (length c.after-left.result.now) (length c.loop-step.left.now) c.loop-step.idle fewer i.opened c.count_one-else-taken-eq0.ensures;
+      few = λ w. few_on (btree_map_len c.args.map.now) (length c.args.bytes.now) (length c.loop-step.nodes.items) (length c.list_node-else-taken-eq0.new.nodes.items) (length c.after-left.result.now) (length c.loop-step.left.now) c.loop-step.idle fewer (i.few w) (listed_more C node c.loop-step.nodes.items c.list_node-else-taken-eq0.new.nodes.items (c.in_ok-list_node-in-Taken.ensures.listed w));
+      table = c.in_ok-list_node-in-Taken.ensures.table;
+      listed = λ w es n.
+          let fs = reverse c.loop-step.stack.items in
+          let same : pending (c.loop-step.frame ∷ fs) ≡ p ∷ (remaining c.in-Some.step.others ++ pending fs) = ap (λ l. l ++ pending fs) c.in-Some.ensures.parts in
+          let node : Node = record { name = c.in-Some.step.part; definition = c.in-Some-get.definition; bytes = c.front.result } in
+          list_more C (λ l. Nodes C (c.args.root.now ∷ []) c.args.bytes.now l) node c.loop-step.nodes.items c.list_node-else-taken-eq0.new.nodes.items c.in-Taken.taken c.loop-step.left.now (remaining c.in-Taken.rest) (remaining c.in-Some.step.others ++ pending fs) e c.front.ensures c.in-Taken.ensures.0.opens (c.in_ok-list_node-in-Taken.ensures.listed w)
+          (λ fs2 m. i.listed w fs2 (subst (λ l. Nodes C l c.loop-step.left.now fs2) (sym same) m)) es
+          (subst (λ b. Nodes C (remaining c.in-Taken.rest ++ (remaining c.in-Some.step.others ++ pending fs)) b es) c.after-left.ensures (subst (λ l. Nodes C (l ++ (remaining c.in-Some.step.others ++ pending fs)) c.after-left.result.now es) (sym none) n));
     }
 
 pub loop-step-smaller-in_ok-insert-in-Some-pop : goal.loop-step-smaller-in_ok-insert-in-Some-pop
