@@ -34,7 +34,7 @@ fn bytes_and_identifiers(alloc: Global) -> Result<bool, Fail> {
 }
 
 /// Whether the value is written as these bytes and read from them.
-pub fn is_value<T: BorshSerialize + BorshDeserialize + PartialEq>(
+pub(crate) fn is_value<T: BorshSerialize + BorshDeserialize + PartialEq>(
     alloc: Global,
     value: T,
     bytes: &[u8],
