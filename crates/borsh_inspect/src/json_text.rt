@@ -1,7 +1,6 @@
 // Values as JSON, and byte by byte.
-ghost use Rattle.borsh_schema.specs.Containers.{declaration_of, map_of};
+ghost use Rattle.borsh_schema.specs.Containers.{language_of, root_of};
 ghost use Rattle.borsh_walks.specs.Container.{Member};
-ghost use Rattle.borsh_walks.specs.Definitions.{definitions_in};
 ghost use Rattle.json.specs.Json.{document};
 ghost use Rattle.std.specs.Prelude.{IfOk, IsSome, OnOk, string_bytes};
 
@@ -20,8 +19,8 @@ pub fn to_json<'a>(
     bytes: &'a [u8],
     layout: Layout,
 ) -> Result<String, JsonError<'a>>
-    ensures member { let root = string_bytes (declaration_of container.now) in
-        OnOk result (Member (definitions_in (map_of container.now)) root bytes.now) }
+    ensures member { let c = container.now in
+        OnOk result (Member (language_of c) (root_of c) bytes.now) }
     ensures json { IfOk result (λ text. IsSome (document (string_bytes text))) }
 {
     let root = container.declaration().as_str();
@@ -38,8 +37,8 @@ pub fn from_json<'a>(
     container: &'a BorshSchemaContainer,
     text: &str,
 ) -> Result<Vec<u8>, JsonError<'a>>
-    ensures { let root = string_bytes (declaration_of container.now) in
-        IfOk result (λ bytes. Member (definitions_in (map_of container.now)) root bytes.items) }
+    ensures { let c = container.now in
+        IfOk result (λ bytes. Member (language_of c) (root_of c) bytes.items) }
 {
     let root = container.declaration().as_str();
     borsh_json::from_json(alloc, root, container.as_map(), text)
@@ -55,8 +54,8 @@ pub fn rows_of<'a>(
     container: &'a BorshSchemaContainer,
     bytes: &'a [u8],
 ) -> Result<Vec<Row<'a>>, JsonError<'a>>
-    ensures { let root = string_bytes (declaration_of container.now) in
-        OnOk result (Member (definitions_in (map_of container.now)) root bytes.now) }
+    ensures { let c = container.now in
+        OnOk result (Member (language_of c) (root_of c) bytes.now) }
 {
     let root = container.declaration().as_str();
     borsh_json::rows_of(alloc, root, container.as_map(), bytes)

@@ -1,12 +1,11 @@
 // Values, and their nodes.
-ghost use Rattle.borsh_schema.specs.Containers.{declaration_of, map_of};
+ghost use Rattle.borsh_schema.specs.Containers.{language_of, map_of, root_of};
 ghost use Rattle.borsh_values.specs.Decoding.{DecodesValue, HasAtMost};
 ghost use Rattle.borsh_values.specs.Encoded.{EncodesNodes};
 ghost use Rattle.borsh_values.specs.Membership.{AnswersMembership, IsAmbiguousName, most_opened};
 ghost use Rattle.borsh_values.specs.Nodes.{views};
 ghost use Rattle.borsh_values.specs.Unambiguous.{IsUnambiguous};
-ghost use Rattle.borsh_walks.specs.Definitions.{definitions_in};
-ghost use Rattle.std.specs.Prelude.{IfOk, MatchOption, string_bytes};
+ghost use Rattle.std.specs.Prelude.{IfOk, MatchOption};
 
 use borsh_schema::BorshSchemaContainer;
 use borsh_values::{Decoded, Membership, Node};
@@ -22,8 +21,8 @@ pub fn is_member<'a>(
     container: &'a BorshSchemaContainer,
     bytes: &'a [u8],
 ) -> Result<Membership<'a>, AllocError>
-    ensures { let root = string_bytes (declaration_of container.now) in
-        AnswersMembership (definitions_in (map_of container.now)) root bytes.now result }
+    ensures { let c = container.now in
+        AnswersMembership (language_of c) (root_of c) bytes.now result }
 {
     let root = container.declaration().as_str();
     borsh_values::is_member(alloc, root, container.as_map(), bytes)
@@ -39,10 +38,9 @@ pub fn find_ambiguous(
     alloc: Global,
     container: &BorshSchemaContainer,
 ) -> Result<Option<&str>, AllocError>
-    ensures { let root = string_bytes (declaration_of container.now) in
-        let definitions = definitions_in (map_of container.now) in
-        IfOk result (λ found. MatchOption found (IsUnambiguous definitions root)
-        (λ name. IsAmbiguousName definitions root name.now)) }
+    ensures { let c = container.now in
+        IfOk result (λ found. MatchOption found (IsUnambiguous (language_of c) (root_of c))
+        (λ name. IsAmbiguousName (language_of c) (root_of c) name.now)) }
 {
     let root = container.declaration().as_str();
     borsh_values::find_ambiguous(alloc, root, container.as_map())
@@ -58,8 +56,8 @@ pub fn decode<'a>(
     container: &'a BorshSchemaContainer,
     bytes: &'a [u8],
 ) -> Result<Decoded<'a>, AllocError>
-    ensures value { let root = string_bytes (declaration_of container.now) in
-        DecodesValue (definitions_in (map_of container.now)) root bytes.now result }
+    ensures value { let c = container.now in
+        DecodesValue (language_of c) (root_of c) bytes.now result }
     ensures few { let most = most_opened bytes.now (map_of container.now) in
         IfOk result (λ a. HasAtMost most a) }
 {
@@ -77,10 +75,8 @@ pub fn encode_value(
     container: &BorshSchemaContainer,
     nodes: &[Node<'_>],
 ) -> Result<Option<Vec<u8>>, AllocError>
-    ensures { let root = string_bytes (declaration_of container.now) in
-        let definitions = definitions_in (map_of container.now) in
-        let ns = views nodes.now in
-        IfOk result (λ found. EncodesNodes definitions root ns found) }
+    ensures { let c = container.now in
+        IfOk result (λ found. EncodesNodes (language_of c) (root_of c) (views nodes.now) found) }
 {
     let root = container.declaration().as_str();
     borsh_values::encode_value(alloc, root, container.as_map(), nodes)

@@ -261,10 +261,9 @@ fn writes_and_reads_values(rt: HostRuntime) -> Result<(), Fail> {
 const ROUNDS: usize = 1667;
 
 // Whether random values of the root come back from their JSON.
-fn come_back(alloc: Global, map: &Definitions, root: &str) -> Result<bool, Fail> {
-    let mut state = 88172645463325252;
+fn come_back(alloc: Global, map: &Definitions, root: &str, state: &mut u64) -> Result<bool, Fail> {
     for _ in 0..ROUNDS {
-        let Some(bytes) = member_of(alloc, map, root, &mut state)? else {
+        let Some(bytes) = member_of(alloc, map, root, state)? else {
             return Ok(false);
         };
         let text = to_json(alloc, root, map, bytes.as_slice(), Layout::Compact)?;
@@ -279,8 +278,9 @@ fn come_back(alloc: Global, map: &Definitions, root: &str) -> Result<bool, Fail>
 fn many_values_come_back(rt: HostRuntime) -> Result<(), Fail> {
     let alloc = rt.alloc();
     let map = definitions(alloc)?;
+    let mut state = 88172645463325252;
     for &(root, _, _) in &VALUES {
-        assert!(rt; come_back(alloc, &map, root)?, "{root}");
+        assert!(rt; come_back(alloc, &map, root, &mut state)?, "{root}");
     }
     Ok(())
 }
