@@ -18,3 +18,4 @@ pub mod NodesLaws
 pub mod Listing
 pub mod SameNodes
 pub mod ValueLaws
+pub mod Offsets

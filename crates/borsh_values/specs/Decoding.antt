@@ -4,9 +4,15 @@ use Rattle.borsh_walks.specs.Container.{Shape, Member, IsValid}
 use Rattle.borsh_values.specs.Unambiguous.{IsUnambiguous}
 use Rattle.borsh_values.specs.Membership.{IsUndecided}
 use Rattle.borsh_values.specs.Faults.{IsFault}
-use Rattle.borsh_values.specs.Nodes.{NodeView, Nodes, views, joined_bytes}
+use Rattle.borsh_values.specs.Nodes.{NodeView, Nodes, views, joined_bytes, AreOffsets}
 use Rattle.borsh_values.specs.declared.members.Decoded.{Decoded}
 use Rattle.borsh_values.specs.declared.members.Decoded.TheVariants.{Nodes as IsNodes, NoMember, Ambiguous}
+
+-- each node says where its own bytes begin
+abbrev pub HasOffsets : Decoded → Type 0
+HasOffsets (IsNodes ns) = AreOffsets 0 ns.items
+HasOffsets (NoMember f) = ⊤
+HasOffsets (Ambiguous x) = ⊤
 
 -- there are at most n nodes
 abbrev pub HasAtMost : ℕ → Decoded → Type 0
@@ -37,6 +43,8 @@ module _ (C : List ℕ → Option Shape) (root bytes : List ℕ) where
   pub record DecodesValue {E : Type 0} (result : Result Decoded E) : Type 0 where
     -- an answer is right
     pub answer : IfOk result (λ a. IsDecoded a)
+    -- each node says where its own bytes begin
+    pub placed : IfOk result (λ a. HasOffsets a)
     -- where the container is unambiguous, the bytes determine the nodes
     pub determined : IsUnambiguous C root → IfOk result (λ a. AreTheNodes a)
     -- a container that is valid and unambiguous gets nodes or no

@@ -1,5 +1,6 @@
 -- The nodes of a value: its parts in preorder, each with the bytes that it encodes before its own parts.
-use Rattle.std.specs.Prelude.{◌≡◌, ◌⊎◌, ℕ, suc, zero, ◌*◌, ◌<◌, ◌≤◌, ℤ, pos, List, [], ◌∷◌, ◌++◌, length, replicate, Option, Some, None, All}
+use Rattle.std.specs.Prelude.{◌≡◌, ◌⊎◌, ⊤, ℕ, suc, zero, ◌+◌, ◌*◌, ◌<◌, ◌≤◌, ℤ, pos, List, [], ◌∷◌, ◌++◌, length, replicate, take, drop, Option, Some, None, MatchOption, All}
+use Rattle.borsh_values.specs.Numbers.{value_of}
 use Rattle.borsh_values.specs.Tags.{IsVariantIndex}
 use Rattle.borsh_walks.specs.Definitions.{shape_of}
 use Rattle.borsh_values.specs.declared.nodes.Node.{Node}
@@ -30,6 +31,21 @@ IsVariantOf (sequence w lo hi e) own found = found ≡ None
 IsVariantOf (product ps) own found = found ≡ None
 IsVariantOf (choice w vs) own found = IsVariantIndex vs own found
 
+-- the number of elements that the own bytes of a sequence say: that of its definition where no byte says it, else that of its first bytes, where there are as many, and at most eight; none of a definition of another kind
+abbrev pub IsCountOf : Shape → List ℕ → Option ℕ → Type 0
+IsCountOf (primitive n) own found = found ≡ None
+IsCountOf (sequence zero lo hi e) own found = found ≡ Some lo
+IsCountOf (sequence (suc w) lo hi e) own found = MatchOption found (suc w ≤ length own → suc w ≤ 8 → ⊥) (λ k. (k ≡ value_of (take (suc w) own)) × (suc w ≤ length own))
+IsCountOf (product ps) own found = found ≡ None
+IsCountOf (choice w vs) own found = found ≡ None
+
+-- the bytes of elements behind the count of a sequence; all bytes of a definition of another kind
+abbrev pub AreElementsOf : Shape → List ℕ → List ℕ → Type 0
+AreElementsOf (primitive n) own es = es ≡ own
+AreElementsOf (sequence w lo hi e) own es = es ≡ drop w own
+AreElementsOf (product ps) own es = es ≡ own
+AreElementsOf (choice w vs) own es = es ≡ own
+
 -- a node: its name, the definition of the name, and its own bytes
 abbrev pub NodeView : Type 0
 NodeView = List ℕ × Shape × List ℕ
@@ -41,6 +57,11 @@ view_of n = (n.name.now, shape_of n.definition.now, n.bytes.now)
 abbrev pub views : List Node → List NodeView
 views [] = []
 views (n ∷ ns) = view_of n ∷ views ns
+
+-- the own bytes of each node begin where those of the nodes before it end, the first at k
+abbrev pub AreOffsets : ℕ → List Node → Type 0
+AreOffsets k [] = ⊤
+AreOffsets k (n ∷ ns) = (n.offset ≡ k) × AreOffsets (k + length n.bytes.now) ns
 
 -- all own bytes, one after another
 abbrev pub joined_bytes : List NodeView → List ℕ

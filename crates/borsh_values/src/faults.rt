@@ -5,8 +5,9 @@ ghost use Rattle.std.specs.Prelude.{IfOk, ◌≤◌, length};
 use crate::frames::{Frame, Rest, Step};
 use crate::members::Membership;
 use crate::numbers::number;
+use crate::paths::field_step;
 use crate::tags::variant_at;
-use borsh_walks::{Definition, Fields};
+use borsh_walks::Definition;
 use std::alloc::{AllocError, Global};
 use std::collections::BTreeMap;
 use std::fmt;
@@ -106,18 +107,6 @@ fn bytes_at(bytes: &[u8], place: usize, width: u8) -> &[u8] {
     } else {
         &bytes[..0]
     }
-}
-
-// The step to the field at `index`.
-fn field_step<'a>(definition: &'a Definition, index: usize) -> PathStep<'a> {
-    if let Definition::Struct {
-        fields: Fields::NamedFields(fields),
-    } = definition
-        && let Some((name, _)) = fields.get(index)
-    {
-        return PathStep::Field(name.as_str());
-    }
-    PathStep::Place(index)
 }
 
 // The step to a part of which `others` follow, in a value of this definition that begins at `place`.

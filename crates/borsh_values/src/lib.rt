@@ -14,11 +14,13 @@ pub mod members;
 pub mod nodes;
 pub mod numbers;
 pub mod opening;
+pub mod paths;
 pub mod tags;
 pub mod unambiguous;
 
 pub use encoding::encode_value;
 pub use faults::{Fault, Path, PathStep, Reason};
 pub use members::{Decoded, Membership, decode, is_member, is_member_counted};
-pub use nodes::{Node, encode, variant_of};
+pub use nodes::{Node, count_of, elements_of, encode, variant_of};
+pub use paths::Paths;
 pub use unambiguous::find_ambiguous;

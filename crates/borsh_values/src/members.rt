@@ -3,7 +3,7 @@ ghost use Rattle.borsh_values.specs.Membership.{AnswersMembership, IsAnswer, IsA
 ghost use Rattle.borsh_values.specs.Steps.{KnownAs};
 ghost use Rattle.borsh_walks.specs.Tables.{mark_of};
 ghost use Rattle.borsh_walks.specs.Definitions.{definitions_in};
-ghost use Rattle.borsh_values.specs.Nodes.{Nodes, views};
+ghost use Rattle.borsh_values.specs.Nodes.{AreOffsets, Nodes, views};
 ghost use Rattle.borsh_values.specs.Decoding.{DecodesValue, HasAtMost};
 ghost use Rattle.borsh_values.specs.declared.members.Membership.TheVariants.{Member as IsMember};
 ghost use Rattle.borsh_walks.specs.ZeroAnswer.{ZeroTable};
@@ -159,7 +159,7 @@ pub enum Decoded<'a> {
 ///
 /// The definitions may be any, as for [`is_member`], and the answer is of the same kind. Where they are
 /// unambiguous, as [`crate::find_ambiguous`] says, the bytes have these nodes and no others. The own bytes of all
-/// nodes, one after another, are `bytes`. An error is a refused allocation.
+/// nodes, one after another, are `bytes`, and each node says where its own begin. An error is a refused allocation.
 pub fn decode<'a>(
     alloc: Global,
     root: &'a str,
@@ -205,6 +205,7 @@ fn decide<'a>(
     ensures answer { IfOk result (λ a. IsAnswer (definitions_in map.now) root.now bytes.now a) }
     ensures listed { wanted ≡ true → IfOk result (λ a. a ≡ IsMember →
         Nodes (definitions_in map.now) (root.now ∷ []) bytes.now (views nodes.new.items)) }
+    ensures placed { wanted ≡ true → IfOk result (λ a. AreOffsets 0 nodes.new.items) }
     ensures few { opened.new ≤ opened.old + most_opened bytes.now map.now }
     ensures few_nodes { wanted ≡ true →
         IfOk result (λ a. length nodes.new.items ≤ most_opened bytes.now map.now) }
@@ -242,6 +243,8 @@ fn decide<'a>(
                             name: step.part,
                             definition,
                             bytes: front(left, taken),
+                            offset: bytes.len() - left.len(),
+                            depth: stack.len(),
                         };
                         if taken == 0 {
                             match look_up(&table, step.part, left.len()) {

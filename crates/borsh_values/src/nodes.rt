@@ -1,9 +1,10 @@
 // The nodes of a value.
-ghost use Rattle.borsh_values.specs.Nodes.{IsVariantOf, ListsNode, joined_bytes, views};
+ghost use Rattle.borsh_values.specs.Nodes.{AreElementsOf, IsCountOf, IsVariantOf, ListsNode, joined_bytes, views};
 ghost use Rattle.borsh_walks.specs.Definitions.{definitions_in, shape_of};
 ghost use Rattle.borsh_walks.specs.ZeroAnswer.{ZeroTable};
 ghost use Rattle.std.specs.Prelude.{IfOk, OnOk, ◌≡◌, true};
 
+use crate::numbers::number;
 use crate::tags::variant_at;
 use borsh_walks::zero::is_zero;
 use borsh_walks::{Counted, Definition, Expansions};
@@ -13,11 +14,18 @@ use std::collections::BTreeMap;
 /// A part of a value, or the value itself, with the bytes that it encodes before its own parts: a primitive all
 /// its bytes, a sequence its count, an enum its tag, a struct and a tuple none. The elements of a sequence that are
 /// primitives of some bytes are no parts: their bytes follow the count, in the node of the sequence.
+///
+/// [`variant_of`] gives the variant of an enum, [`count_of`] the number of elements of a sequence, [`elements_of`] their
+/// bytes where these are in its node, and [`crate::Paths`] the path of each node in turn.
 #[derive(Clone, Copy)]
 pub struct Node<'a> {
     pub name: &'a str,
     pub definition: &'a Definition,
     pub bytes: &'a [u8],
+    /// How many bytes of the value come before these.
+    pub offset: usize,
+    /// How many values the part is in: 0 for the whole value, 1 for its parts.
+    pub depth: usize,
 }
 
 /// The index of the variant that a node of an enum encodes; none for a node of another kind.
@@ -27,6 +35,47 @@ pub fn variant_of(node: &Node<'_>) -> Option<usize>
     match node.definition {
         Definition::Enum { variants, .. } => variant_at(variants, node.bytes),
         _ => None,
+    }
+}
+
+/// How many elements the sequence has whose node this is; none for a node of another kind, and where the count has more
+/// than eight bytes, which no valid container allows.
+pub fn count_of(node: &Node<'_>) -> Option<u64>
+    ensures { IsCountOf (shape_of node.now.definition.now) node.now.bytes.now result }
+{
+    match node.definition {
+        Definition::Sequence {
+            length_width: 0,
+            length_range,
+            ..
+        } => Some(length_range.start),
+        Definition::Sequence { length_width, .. } => {
+            let width = usize::from(*length_width);
+            if width <= 8 && width <= node.bytes.len() {
+                Some(number(&node.bytes[..width]))
+            } else {
+                None
+            }
+        }
+        _ => None,
+    }
+}
+
+/// The bytes of the elements that are in the node of their sequence, those behind its count; all own bytes of a node
+/// of another kind.
+pub fn elements_of<'a>(node: &Node<'a>) -> &'a [u8]
+    ensures { AreElementsOf (shape_of node.now.definition.now) node.now.bytes.now result.now }
+{
+    match node.definition {
+        Definition::Sequence { length_width, .. } => {
+            let width = usize::from(*length_width);
+            if width <= node.bytes.len() {
+                &node.bytes[width..]
+            } else {
+                &node.bytes[..0]
+            }
+        }
+        _ => node.bytes,
     }
 }
 

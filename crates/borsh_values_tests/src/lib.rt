@@ -9,6 +9,10 @@ mod build;
 #[cfg(test)]
 mod json;
 #[cfg(test)]
+mod large;
+#[cfg(test)]
+mod positions;
+#[cfg(test)]
 mod random;
 #[cfg(test)]
 mod values;

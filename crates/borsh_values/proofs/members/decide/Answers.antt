@@ -1,4 +1,4 @@
-use Rattle.std.proofs.Common.{◌≡◌, ℕ, suc, ◌+◌, ◌<◌, ◌≤◌, List, [], ◌∷◌, ◌++◌, length, drop, length-drop, zero, reverse, replicate, append_assoc, refl, sym, ◌∙◌, ap, subst, arith, add-one}
+use Rattle.std.proofs.Common.{◌≡◌, ℕ, suc, ◌+◌, ◌-◌, ◌<◌, ◌≤◌, List, [], ◌∷◌, ◌++◌, length, drop, length-drop, zero, reverse, replicate, append_assoc, refl, sym, ◌∙◌, ap, subst, arith, add-one}
 use Rattle.std.specs.Prelude.{Option}
 use Rattle.std.specs.BTreeMap.{btree_map_len}
 use Rattle.borsh_walks.specs.Definitions.{definitions_in, shape_of}
@@ -18,9 +18,10 @@ use Rattle.borsh_values.specs.Faults.{BeginsWith, IsNoMemberAt}
 use Rattle.borsh_values.specs.Membership.{IsAnswer, IsAnswerAtEnd}
 use Rattle.borsh_values.proofs.Answers.{suffix_start, suffix_on, some_left, at_fault, answers_no}
 use Rattle.borsh_values.specs.declared.nodes.Node.{Node}
-use Rattle.borsh_values.specs.Nodes.{Nodes, nodes_none, views}
+use Rattle.borsh_values.specs.Nodes.{AreOffsets, Nodes, nodes_none, views}
 use Rattle.borsh_values.proofs.NodesLaws.{nodes_skip}
 use Rattle.borsh_values.proofs.Listing.{list_more, all_views}
+use Rattle.borsh_values.proofs.Offsets.{total, placed_more}
 use Rattle.borsh_values.specs.Steps.{pending, remaining}
 use Rattle.borsh_values.proofs.Walk.{Walk, walk_start, walk_skip, walk_still, walk_on, walk_up, walk_up_empty, walk_end, undefined_none, denied, leads_back, with_rest, part_reached}
 use Rattle.borsh_values.proofs.Measure.{left, opened_still, opened_on, few_still, few_on, listed_more, left_moved, left_up, left_still, left_on, left_past, work_found, some_step}
@@ -38,6 +39,7 @@ loop-step-init c =
       suffix = suffix_start c.args.bytes.now;
       opened = omega arith;
       few = λ _. (let e = ap (λ l. length l) c.requires.empty in omega (arith, e));
+      placed = λ _. (subst (λ l. AreOffsets 0 l) (sym c.requires.empty) tt, ap (λ l. total l + length c.args.bytes.now) c.requires.empty);
       table = c.requires.table;
       listed = λ w es n. subst (λ l. Nodes C (c.args.root.now ∷ []) c.args.bytes.now (views l ++ es)) (sym c.requires.empty) (subst (λ l. Nodes C (c.args.root.now ∷ pending (reverse l)) c.args.bytes.now es) c.new-stack.ensures.items n);
     }
@@ -61,6 +63,7 @@ loop-step-preserved-in-Empty c =
       suffix = i.suffix;
       opened = i.opened;
       few = i.few;
+      placed = i.placed;
       table = i.table;
       listed = λ w es n. i.listed w es (subst (λ l. Nodes C l c.loop-step.left.now es) (sym same) (nodes_skip C (suc s.0) (i.state.empty p c.in-Empty.ensures) n));
     }
@@ -136,7 +139,7 @@ loop-step-preserved-in-New c =
     let h : Frame = with_rest c.loop-step.frame c.in-Some.step.others in
     let s = walk_still C i.state c.in-Some.step.others c.in-Some.ensures.parts g c.if-taken-eq0.true e c.in-Taken.ensures.0 c.in-New.ensures.0 c.in-New.ensures.1 u refl refl in
     let back = last_first c.loop-step.stack.items c.push.new.self.items h c.in_ok-push-in-New.ensures.items in
-    let node : Node = record { name = c.in-Some.step.part; definition = c.in-Some-get.definition; bytes = c.front.result } in
+    let node : Node = record { name = c.in-Some.step.part; definition = c.in-Some-get.definition; bytes = c.front.result; offset = length c.args.bytes.now - length c.loop-step.left.now; depth = length c.loop-step.stack.items } in
     let few = names_within c.args.map.now (p ∷ i.names) s.distinct s.defined in
     let n = i.count in
     let room : suc c.loop-step.idle ≤ btree_map_len c.args.map.now = omega (arith, few, n) in
@@ -148,11 +151,12 @@ loop-step-preserved-in-New c =
       suffix = i.suffix;
       opened = opened_still (btree_map_len c.args.map.now) (length c.args.bytes.now) c.args.opened.now c.loop-step.opened c.count_one.new.count (length c.loop-step.left.now) c.loop-step.idle room i.opened c.count_one.ensures;
       few = λ w. few_still (btree_map_len c.args.map.now) (length c.args.bytes.now) (length c.loop-step.nodes.items) (length c.list_node.new.nodes.items) (length c.loop-step.left.now) c.loop-step.idle room (i.few w) (listed_more C node c.loop-step.nodes.items c.list_node.new.nodes.items (c.in_ok-list_node-in-New.ensures.listed w));
+      placed = λ w. placed_more C node c.loop-step.nodes.items c.list_node.new.nodes.items c.in-Taken.taken (length c.args.bytes.now) c.loop-step.left.now c.loop-step.left.now refl c.front.ensures (sym (ap (λ k. drop k c.loop-step.left.now) c.if-taken-eq0.true)) (c.in_ok-list_node-in-New.ensures.listed w) (i.placed w);
       table = c.in_ok-list_node-in-New.ensures.table;
       listed = λ w es n.
           let fs = reverse c.loop-step.stack.items in
           let same : pending (c.loop-step.frame ∷ fs) ≡ p ∷ (remaining c.in-Some.step.others ++ pending fs) = ap (λ l. l ++ pending fs) c.in-Some.ensures.parts in
-          let node : Node = record { name = c.in-Some.step.part; definition = c.in-Some-get.definition; bytes = c.front.result } in
+          let node : Node = record { name = c.in-Some.step.part; definition = c.in-Some-get.definition; bytes = c.front.result; offset = length c.args.bytes.now - length c.loop-step.left.now; depth = length c.loop-step.stack.items } in
           list_more C (λ l. Nodes C (c.args.root.now ∷ []) c.args.bytes.now l) node c.loop-step.nodes.items c.list_node.new.nodes.items c.in-Taken.taken c.loop-step.left.now (remaining c.in-Taken.rest) (remaining c.in-Some.step.others ++ pending fs) e c.front.ensures c.in-Taken.ensures.0.opens (c.in_ok-list_node-in-New.ensures.listed w)
           (λ fs2 m. i.listed w fs2 (subst (λ l. Nodes C l c.loop-step.left.now fs2) (sym same) m)) es
           (subst (λ b. Nodes C (remaining c.in-Taken.rest ++ (remaining c.in-Some.step.others ++ pending fs)) b es) (sym (ap (λ k. drop k c.loop-step.left.now) c.if-taken-eq0.true)) (subst (λ l. Nodes C (remaining c.in-Taken.rest ++ pending l) c.loop-step.left.now es) back n));
@@ -189,7 +193,7 @@ loop-step-preserved-then-has_parts c =
     let ends = suffix_on c.in-Taken.taken c.args.bytes.now c.loop-step.left.now c.after-left.result.now i.within i.suffix c.after-left.ensures c.in-Taken.ensures.0.within in
     let s = walk_on C i.state c.in-Some.step.others c.in-Some.ensures.parts g (positive c.in-Taken.taken c.if-taken-eq0.false) e c.in-Taken.ensures.0 refl refl in
     let back = last_first c.loop-step.stack.items c.push-then-has_parts.new.self.items h c.in_ok-push-in-Taken.ensures.items in
-    let node : Node = record { name = c.in-Some.step.part; definition = c.in-Some-get.definition; bytes = c.front.result } in
+    let node : Node = record { name = c.in-Some.step.part; definition = c.in-Some-get.definition; bytes = c.front.result; offset = length c.args.bytes.now - length c.loop-step.left.now; depth = length c.loop-step.stack.items } in
     let fewer = less_left c.in-Taken.taken c.loop-step.left.now c.after-left.result.now c.after-left.ensures (positive c.in-Taken.taken c.if-taken-eq0.false) c.in-Taken.ensures.0.within in
     record {
       names = [];
@@ -199,11 +203,12 @@ loop-step-preserved-then-has_parts c =
       suffix = ends.1;
       opened = opened_on (btree_map_len c.args.map.now) (length c.args.bytes.now) c.args.opened.now c.loop-step.opened c.count_one-else-taken-eq0.new.count (length c.after-left.result.now) (length c.loop-step.left.now) c.loop-step.idle fewer i.opened c.count_one-else-taken-eq0.ensures;
       few = λ w. few_on (btree_map_len c.args.map.now) (length c.args.bytes.now) (length c.loop-step.nodes.items) (length c.list_node-else-taken-eq0.new.nodes.items) (length c.after-left.result.now) (length c.loop-step.left.now) c.loop-step.idle fewer (i.few w) (listed_more C node c.loop-step.nodes.items c.list_node-else-taken-eq0.new.nodes.items (c.in_ok-list_node-in-Taken.ensures.listed w));
+      placed = λ w. placed_more C node c.loop-step.nodes.items c.list_node-else-taken-eq0.new.nodes.items c.in-Taken.taken (length c.args.bytes.now) c.loop-step.left.now c.after-left.result.now refl c.front.ensures c.after-left.ensures (c.in_ok-list_node-in-Taken.ensures.listed w) (i.placed w);
       table = c.in_ok-list_node-in-Taken.ensures.table;
       listed = λ w es n.
           let fs = reverse c.loop-step.stack.items in
           let same : pending (c.loop-step.frame ∷ fs) ≡ p ∷ (remaining c.in-Some.step.others ++ pending fs) = ap (λ l. l ++ pending fs) c.in-Some.ensures.parts in
-          let node : Node = record { name = c.in-Some.step.part; definition = c.in-Some-get.definition; bytes = c.front.result } in
+          let node : Node = record { name = c.in-Some.step.part; definition = c.in-Some-get.definition; bytes = c.front.result; offset = length c.args.bytes.now - length c.loop-step.left.now; depth = length c.loop-step.stack.items } in
           list_more C (λ l. Nodes C (c.args.root.now ∷ []) c.args.bytes.now l) node c.loop-step.nodes.items c.list_node-else-taken-eq0.new.nodes.items c.in-Taken.taken c.loop-step.left.now (remaining c.in-Taken.rest) (remaining c.in-Some.step.others ++ pending fs) e c.front.ensures c.in-Taken.ensures.0.opens (c.in_ok-list_node-in-Taken.ensures.listed w)
           (λ fs2 m. i.listed w fs2 (subst (λ l. Nodes C l c.loop-step.left.now fs2) (sym same) m)) es
           (subst (λ b. Nodes C (remaining c.in-Taken.rest ++ (remaining c.in-Some.step.others ++ pending fs)) b es) c.after-left.ensures (subst (λ l. Nodes C (remaining c.in-Taken.rest ++ pending l) c.after-left.result.now es) back n));
@@ -226,7 +231,7 @@ loop-step-preserved-else-has_parts c =
     let none = c.has_parts.ensures.none c.if-has_parts.false in
     let ends = suffix_on c.in-Taken.taken c.args.bytes.now c.loop-step.left.now c.after-left.result.now i.within i.suffix c.after-left.ensures c.in-Taken.ensures.0.within in
     let s = walk_on C i.state c.in-Some.step.others c.in-Some.ensures.parts g (positive c.in-Taken.taken c.if-taken-eq0.false) e c.in-Taken.ensures.0 refl refl in
-    let node : Node = record { name = c.in-Some.step.part; definition = c.in-Some-get.definition; bytes = c.front.result } in
+    let node : Node = record { name = c.in-Some.step.part; definition = c.in-Some-get.definition; bytes = c.front.result; offset = length c.args.bytes.now - length c.loop-step.left.now; depth = length c.loop-step.stack.items } in
     let fewer = less_left c.in-Taken.taken c.loop-step.left.now c.after-left.result.now c.after-left.ensures (positive c.in-Taken.taken c.if-taken-eq0.false) c.in-Taken.ensures.0.within in
     let far : g.start ≡ length (drop c.in-Taken.taken c.loop-step.left.now) → ⊥ = λ q. let k = ap (λ l. length l) c.after-left.ensures in absurd (omega (arith, q, k, fewer)) in
     record {
@@ -237,11 +242,12 @@ loop-step-preserved-else-has_parts c =
       suffix = ends.1;
       opened = opened_on (btree_map_len c.args.map.now) (length c.args.bytes.now) c.args.opened.now c.loop-step.opened c.count_one-else-taken-eq0.new.count (length c.after-left.result.now) (length c.loop-step.left.now) c.loop-step.idle fewer i.opened c.count_one-else-taken-eq0.ensures;
       few = λ w. few_on (btree_map_len c.args.map.now) (length c.args.bytes.now) (length c.loop-step.nodes.items) (length c.list_node-else-taken-eq0.new.nodes.items) (length c.after-left.result.now) (length c.loop-step.left.now) c.loop-step.idle fewer (i.few w) (listed_more C node c.loop-step.nodes.items c.list_node-else-taken-eq0.new.nodes.items (c.in_ok-list_node-in-Taken.ensures.listed w));
+      placed = λ w. placed_more C node c.loop-step.nodes.items c.list_node-else-taken-eq0.new.nodes.items c.in-Taken.taken (length c.args.bytes.now) c.loop-step.left.now c.after-left.result.now refl c.front.ensures c.after-left.ensures (c.in_ok-list_node-in-Taken.ensures.listed w) (i.placed w);
       table = c.in_ok-list_node-in-Taken.ensures.table;
       listed = λ w es n.
           let fs = reverse c.loop-step.stack.items in
           let same : pending (c.loop-step.frame ∷ fs) ≡ p ∷ (remaining c.in-Some.step.others ++ pending fs) = ap (λ l. l ++ pending fs) c.in-Some.ensures.parts in
-          let node : Node = record { name = c.in-Some.step.part; definition = c.in-Some-get.definition; bytes = c.front.result } in
+          let node : Node = record { name = c.in-Some.step.part; definition = c.in-Some-get.definition; bytes = c.front.result; offset = length c.args.bytes.now - length c.loop-step.left.now; depth = length c.loop-step.stack.items } in
           list_more C (λ l. Nodes C (c.args.root.now ∷ []) c.args.bytes.now l) node c.loop-step.nodes.items c.list_node-else-taken-eq0.new.nodes.items c.in-Taken.taken c.loop-step.left.now (remaining c.in-Taken.rest) (remaining c.in-Some.step.others ++ pending fs) e c.front.ensures c.in-Taken.ensures.0.opens (c.in_ok-list_node-in-Taken.ensures.listed w)
           (λ fs2 m. i.listed w fs2 (subst (λ l. Nodes C l c.loop-step.left.now fs2) (sym same) m)) es
           (subst (λ b. Nodes C (remaining c.in-Taken.rest ++ (remaining c.in-Some.step.others ++ pending fs)) b es) c.after-left.ensures (subst (λ l. Nodes C (l ++ (remaining c.in-Some.step.others ++ pending fs)) c.after-left.result.now es) (sym none) n));
@@ -262,7 +268,7 @@ loop-step-preserved-in_ok-insert-in-Some-pop c =
     let items = last_first c.pop.new.self.items c.loop-step.stack.items c.in-Some-pop.above c.in-Some-pop.ensures.items in
     let s = subst (λ l. Walk C c.args.root.now c.args.bytes.now (mark_of c.loop-step.table) l c.loop-step.frame c.loop-step.left.now i.names) items i.state in
     let u = updated_by c.loop-step.frame.name.now c.loop-step.table c.insert-then-frame-left.new.self Empty c.in_ok-insert-in-Some-pop.ensures.updates in
-    record { names = i.names; state = walk_up_empty C s c.in-None.ensures.parts c.if-frame-left.true u; count = i.count; within = i.within; suffix = i.suffix; opened = i.opened; few = i.few; table = i.table; listed = λ w es n. i.listed w es (subst (λ l. Nodes C l c.loop-step.left.now es) (sym (ap (λ l. l ++ pending (reverse c.loop-step.stack.items)) c.in-None.ensures.parts ∙ ap (λ l. pending l) items)) n) }
+    record { names = i.names; state = walk_up_empty C s c.in-None.ensures.parts c.if-frame-left.true u; count = i.count; within = i.within; suffix = i.suffix; opened = i.opened; few = i.few; placed = i.placed; table = i.table; listed = λ w es n. i.listed w es (subst (λ l. Nodes C l c.loop-step.left.now es) (sym (ap (λ l. l ++ pending (reverse c.loop-step.stack.items)) c.in-None.ensures.parts ∙ ap (λ l. pending l) items)) n) }
 
 pub loop-step-smaller : goal.loop-step-smaller
 loop-step-smaller c =
@@ -278,7 +284,7 @@ loop-step-preserved c =
     let i = c.loop-step.invariant in
     let items = last_first c.pop.new.self.items c.loop-step.stack.items c.in-Some-pop.above c.in-Some-pop.ensures.items in
     let s = subst (λ l. Walk C c.args.root.now c.args.bytes.now (mark_of c.loop-step.table) l c.loop-step.frame c.loop-step.left.now i.names) items i.state in
-    record { names = i.names; state = walk_up C s c.in-None.ensures.parts c.if-frame-left.false; count = i.count; within = i.within; suffix = i.suffix; opened = i.opened; few = i.few; table = i.table; listed = λ w es n. i.listed w es (subst (λ l. Nodes C l c.loop-step.left.now es) (sym (ap (λ l. l ++ pending (reverse c.loop-step.stack.items)) c.in-None.ensures.parts ∙ ap (λ l. pending l) items)) n) }
+    record { names = i.names; state = walk_up C s c.in-None.ensures.parts c.if-frame-left.false; count = i.count; within = i.within; suffix = i.suffix; opened = i.opened; few = i.few; placed = i.placed; table = i.table; listed = λ w es n. i.listed w es (subst (λ l. Nodes C l c.loop-step.left.now es) (sym (ap (λ l. l ++ pending (reverse c.loop-step.stack.items)) c.in-None.ensures.parts ∙ ap (λ l. pending l) items)) n) }
 
 end_answer : (C : List ℕ → Option Shape) (root bytes rest : List ℕ) (a : Membership) → length rest ≤ length bytes → IsAnswerAtEnd root (length bytes) rest a → (Member C root bytes → rest ≡ []) × (rest ≡ [] → Member C root bytes) → IsAnswer C root bytes a
 end_answer C root bytes rest IsMember low h w = w.1 h
@@ -322,3 +328,6 @@ returns-in-None-pop-clause-listed c = λ w e.
     let same : pending (c.loop-step.frame ∷ reverse c.loop-step.stack.items) ≡ [] = ap (λ l. l ++ pending (reverse c.loop-step.stack.items)) c.in-None.ensures.parts ∙ ap (λ l. pending (reverse l)) none in
     let n = i.listed w [] (subst (λ l. Nodes C l c.loop-step.left.now []) (sym same) (subst (λ b. Nodes C [] b []) (sym left) nodes_none)) in
     subst (λ l. Nodes C (c.args.root.now ∷ []) c.args.bytes.now l) (all_views (views c.loop-step.nodes.items)) n
+
+pub returns-in-None-pop-clause-placed : goal.returns-in-None-pop-clause-placed
+returns-in-None-pop-clause-placed c = λ w. (c.loop-step.invariant.placed w).0

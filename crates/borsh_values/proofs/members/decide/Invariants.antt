@@ -7,6 +7,7 @@ use Rattle.borsh_values.specs.Nodes.{NodeView, Nodes, views}
 use Rattle.borsh_values.specs.Steps.{pending}
 use Rattle.borsh_values.proofs.Walk.{Walk}
 use Rattle.borsh_values.proofs.Measure.{left, opens}
+use Rattle.borsh_values.proofs.Offsets.{Placed}
 use Rattle.borsh_values.proofs.members.decide.Given as goal
 
 abbrev pub invariant-loop-step : goal.invariant-loop-step
@@ -18,6 +19,7 @@ invariant-loop-step l = record {
   suffix : l.left ≡ drop (length l.fn.bytes - length l.left) l.fn.bytes;
   opened : l.opened + opens (btree_map_len l.fn.map) (length l.left) l.idle ≤ l.fn.opened + opens (btree_map_len l.fn.map) (length l.fn.bytes) 0;
   few : l.wanted ≡ true → length l.nodes.items + opens (btree_map_len l.fn.map) (length l.left) l.idle ≤ opens (btree_map_len l.fn.map) (length l.fn.bytes) 0;
+  placed : l.wanted ≡ true → Placed (length l.fn.bytes) l.nodes.items l.left;
   table : ZeroTable (definitions_in l.fn.map) l.zeros;
   listed : l.wanted ≡ true → (es : List NodeView) → Nodes (definitions_in l.fn.map) (pending (l.frame ∷ reverse l.stack.items)) l.left es → Nodes (definitions_in l.fn.map) (l.fn.root ∷ []) l.fn.bytes (views l.nodes.items ++ es);
 }

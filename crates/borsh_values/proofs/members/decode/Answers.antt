@@ -19,6 +19,7 @@ returns-in-Member-clause-value c =
     let nodes = c.in_ok-decide.ensures.listed refl c.in-Member.is in
     record {
       answer = (nodes, member, nodes_bytes C nodes);
+      placed = c.in_ok-decide.ensures.placed refl;
       determined = λ one es h. one_reading C root one [] [] (λ y a. subst (λ z. Reached C root z) (sym (among_one a)) stays) h nodes refl;
       decided = λ v u. tt;
     }
@@ -28,4 +29,4 @@ returns-clause-value c =
     let C = definitions_in c.args.map.now in
     let root = c.args.root.now in
     let fault = subst (λ a. IsAnswer C root c.args.bytes.now a) c.in-Ambiguous.is c.in_ok-decide.ensures.answer in
-    record { answer = fault; determined = λ _. tt; decided = λ v u. none_ambiguous C c.in-Ambiguous.name.now v u fault }
+    record { answer = fault; placed = tt; determined = λ _. tt; decided = λ v u. none_ambiguous C c.in-Ambiguous.name.now v u fault }
