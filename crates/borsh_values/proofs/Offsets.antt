@@ -23,8 +23,8 @@ offsets_append k [] n a e = (omega (arith, e), tt)
 offsets_append k (x ∷ xs) n a e = (a.0, offsets_append (k + length x.bytes.now) xs n a.1 (omega (arith, e)))
 
 split_length : (k : ℕ) (xs : List ℕ) → length (take k xs) + length (drop k xs) ≡ length xs
-split_length zero xs = refl
-split_length (suc k) [] = refl
+split_length zero xs = omega arith
+split_length (suc k) [] = omega arith
 split_length (suc k) (x ∷ xs) = let r = split_length k xs in omega (arith, r)
 
 -- a node may be listed, with its own bytes

@@ -7,7 +7,7 @@ ghost use Rattle.borsh_values.specs.Nodes.{AreOffsets, Nodes, views};
 ghost use Rattle.borsh_values.specs.Decoding.{DecodesValue, HasAtMost};
 ghost use Rattle.borsh_values.specs.declared.members.Membership.TheVariants.{Member as IsMember};
 ghost use Rattle.borsh_walks.specs.ZeroAnswer.{ZeroTable};
-ghost use Rattle.std.specs.Prelude.{IfOk, ◌+◌, ◌≤◌, ◌≡◌, ◌∷◌, [], length, drop, take, true};
+ghost use Rattle.std.specs.Prelude.{IfOk, ◌+◌, ◌-◌, ◌≤◌, ◌≡◌, ◌∷◌, [], length, drop, take, true};
 
 use crate::faults::{Fault, Path, Question, Reason, no_member};
 use crate::frames::{Frame, Opened, Rest, after_copies, has_parts, next_part};
@@ -79,6 +79,14 @@ fn after(bytes: &[u8], taken: usize) -> &[u8]
     ensures { result.now ≡ drop taken bytes.now }
 {
     &bytes[taken..]
+}
+
+// How many bytes come before those that are left.
+fn offset_of(bytes: &[u8], left: &[u8]) -> usize
+    requires { length left.now ≤ length bytes.now }
+    ensures { result ≡ length bytes.now - length left.now }
+{
+    bytes.len() - left.len()
 }
 
 fn count_one(count: &mut u64)
@@ -239,12 +247,14 @@ fn decide<'a>(
                         return no_member(asked, &stack, frame, step, left.len(), why);
                     }
                     Opened::Taken(taken, rest) => {
+                        let offset = offset_of(bytes, left);
+                        let depth = stack.len();
                         let node = Node {
                             name: step.part,
                             definition,
                             bytes: front(left, taken),
-                            offset: bytes.len() - left.len(),
-                            depth: stack.len(),
+                            offset,
+                            depth,
                         };
                         if taken == 0 {
                             match look_up(&table, step.part, left.len()) {

@@ -39,7 +39,7 @@ loop-step-init c =
       suffix = suffix_start c.args.bytes.now;
       opened = omega arith;
       few = λ _. (let e = ap (λ l. length l) c.requires.empty in omega (arith, e));
-      placed = λ _. (subst (λ l. AreOffsets 0 l) (sym c.requires.empty) tt, ap (λ l. total l + length c.args.bytes.now) c.requires.empty);
+      placed = λ _. (subst (λ l. AreOffsets 0 l) (sym c.requires.empty) tt, (let t = ap (λ l. total l) c.requires.empty in omega (arith, t)));
       table = c.requires.table;
       listed = λ w es n. subst (λ l. Nodes C (c.args.root.now ∷ []) c.args.bytes.now (views l ++ es)) (sym c.requires.empty) (subst (λ l. Nodes C (c.args.root.now ∷ pending (reverse l)) c.args.bytes.now es) c.new-stack.ensures.items n);
     }
@@ -139,7 +139,7 @@ loop-step-preserved-in-New c =
     let h : Frame = with_rest c.loop-step.frame c.in-Some.step.others in
     let s = walk_still C i.state c.in-Some.step.others c.in-Some.ensures.parts g c.if-taken-eq0.true e c.in-Taken.ensures.0 c.in-New.ensures.0 c.in-New.ensures.1 u refl refl in
     let back = last_first c.loop-step.stack.items c.push.new.self.items h c.in_ok-push-in-New.ensures.items in
-    let node : Node = record { name = c.in-Some.step.part; definition = c.in-Some-get.definition; bytes = c.front.result; offset = length c.args.bytes.now - length c.loop-step.left.now; depth = length c.loop-step.stack.items } in
+    let node : Node = record { name = c.in-Some.step.part; definition = c.in-Some-get.definition; bytes = c.front.result; offset = c.offset_of-offset.result; depth = c.len-depth.result } in
     let few = names_within c.args.map.now (p ∷ i.names) s.distinct s.defined in
     let n = i.count in
     let room : suc c.loop-step.idle ≤ btree_map_len c.args.map.now = omega (arith, few, n) in
@@ -151,12 +151,12 @@ loop-step-preserved-in-New c =
       suffix = i.suffix;
       opened = opened_still (btree_map_len c.args.map.now) (length c.args.bytes.now) c.args.opened.now c.loop-step.opened c.count_one.new.count (length c.loop-step.left.now) c.loop-step.idle room i.opened c.count_one.ensures;
       few = λ w. few_still (btree_map_len c.args.map.now) (length c.args.bytes.now) (length c.loop-step.nodes.items) (length c.list_node.new.nodes.items) (length c.loop-step.left.now) c.loop-step.idle room (i.few w) (listed_more C node c.loop-step.nodes.items c.list_node.new.nodes.items (c.in_ok-list_node-in-New.ensures.listed w));
-      placed = λ w. placed_more C node c.loop-step.nodes.items c.list_node.new.nodes.items c.in-Taken.taken (length c.args.bytes.now) c.loop-step.left.now c.loop-step.left.now refl c.front.ensures (sym (ap (λ k. drop k c.loop-step.left.now) c.if-taken-eq0.true)) (c.in_ok-list_node-in-New.ensures.listed w) (i.placed w);
+      placed = λ w. placed_more C node c.loop-step.nodes.items c.list_node.new.nodes.items c.in-Taken.taken (length c.args.bytes.now) c.loop-step.left.now c.loop-step.left.now c.offset_of-offset.ensures c.front.ensures (sym (ap (λ k. drop k c.loop-step.left.now) c.if-taken-eq0.true)) (c.in_ok-list_node-in-New.ensures.listed w) (i.placed w);
       table = c.in_ok-list_node-in-New.ensures.table;
       listed = λ w es n.
           let fs = reverse c.loop-step.stack.items in
           let same : pending (c.loop-step.frame ∷ fs) ≡ p ∷ (remaining c.in-Some.step.others ++ pending fs) = ap (λ l. l ++ pending fs) c.in-Some.ensures.parts in
-          let node : Node = record { name = c.in-Some.step.part; definition = c.in-Some-get.definition; bytes = c.front.result; offset = length c.args.bytes.now - length c.loop-step.left.now; depth = length c.loop-step.stack.items } in
+          let node : Node = record { name = c.in-Some.step.part; definition = c.in-Some-get.definition; bytes = c.front.result; offset = c.offset_of-offset.result; depth = c.len-depth.result } in
           list_more C (λ l. Nodes C (c.args.root.now ∷ []) c.args.bytes.now l) node c.loop-step.nodes.items c.list_node.new.nodes.items c.in-Taken.taken c.loop-step.left.now (remaining c.in-Taken.rest) (remaining c.in-Some.step.others ++ pending fs) e c.front.ensures c.in-Taken.ensures.0.opens (c.in_ok-list_node-in-New.ensures.listed w)
           (λ fs2 m. i.listed w fs2 (subst (λ l. Nodes C l c.loop-step.left.now fs2) (sym same) m)) es
           (subst (λ b. Nodes C (remaining c.in-Taken.rest ++ (remaining c.in-Some.step.others ++ pending fs)) b es) (sym (ap (λ k. drop k c.loop-step.left.now) c.if-taken-eq0.true)) (subst (λ l. Nodes C (remaining c.in-Taken.rest ++ pending l) c.loop-step.left.now es) back n));
@@ -193,7 +193,7 @@ loop-step-preserved-then-has_parts c =
     let ends = suffix_on c.in-Taken.taken c.args.bytes.now c.loop-step.left.now c.after-left.result.now i.within i.suffix c.after-left.ensures c.in-Taken.ensures.0.within in
     let s = walk_on C i.state c.in-Some.step.others c.in-Some.ensures.parts g (positive c.in-Taken.taken c.if-taken-eq0.false) e c.in-Taken.ensures.0 refl refl in
     let back = last_first c.loop-step.stack.items c.push-then-has_parts.new.self.items h c.in_ok-push-in-Taken.ensures.items in
-    let node : Node = record { name = c.in-Some.step.part; definition = c.in-Some-get.definition; bytes = c.front.result; offset = length c.args.bytes.now - length c.loop-step.left.now; depth = length c.loop-step.stack.items } in
+    let node : Node = record { name = c.in-Some.step.part; definition = c.in-Some-get.definition; bytes = c.front.result; offset = c.offset_of-offset.result; depth = c.len-depth.result } in
     let fewer = less_left c.in-Taken.taken c.loop-step.left.now c.after-left.result.now c.after-left.ensures (positive c.in-Taken.taken c.if-taken-eq0.false) c.in-Taken.ensures.0.within in
     record {
       names = [];
@@ -203,12 +203,12 @@ loop-step-preserved-then-has_parts c =
       suffix = ends.1;
       opened = opened_on (btree_map_len c.args.map.now) (length c.args.bytes.now) c.args.opened.now c.loop-step.opened c.count_one-else-taken-eq0.new.count (length c.after-left.result.now) (length c.loop-step.left.now) c.loop-step.idle fewer i.opened c.count_one-else-taken-eq0.ensures;
       few = λ w. few_on (btree_map_len c.args.map.now) (length c.args.bytes.now) (length c.loop-step.nodes.items) (length c.list_node-else-taken-eq0.new.nodes.items) (length c.after-left.result.now) (length c.loop-step.left.now) c.loop-step.idle fewer (i.few w) (listed_more C node c.loop-step.nodes.items c.list_node-else-taken-eq0.new.nodes.items (c.in_ok-list_node-in-Taken.ensures.listed w));
-      placed = λ w. placed_more C node c.loop-step.nodes.items c.list_node-else-taken-eq0.new.nodes.items c.in-Taken.taken (length c.args.bytes.now) c.loop-step.left.now c.after-left.result.now refl c.front.ensures c.after-left.ensures (c.in_ok-list_node-in-Taken.ensures.listed w) (i.placed w);
+      placed = λ w. placed_more C node c.loop-step.nodes.items c.list_node-else-taken-eq0.new.nodes.items c.in-Taken.taken (length c.args.bytes.now) c.loop-step.left.now c.after-left.result.now c.offset_of-offset.ensures c.front.ensures c.after-left.ensures (c.in_ok-list_node-in-Taken.ensures.listed w) (i.placed w);
       table = c.in_ok-list_node-in-Taken.ensures.table;
       listed = λ w es n.
           let fs = reverse c.loop-step.stack.items in
           let same : pending (c.loop-step.frame ∷ fs) ≡ p ∷ (remaining c.in-Some.step.others ++ pending fs) = ap (λ l. l ++ pending fs) c.in-Some.ensures.parts in
-          let node : Node = record { name = c.in-Some.step.part; definition = c.in-Some-get.definition; bytes = c.front.result; offset = length c.args.bytes.now - length c.loop-step.left.now; depth = length c.loop-step.stack.items } in
+          let node : Node = record { name = c.in-Some.step.part; definition = c.in-Some-get.definition; bytes = c.front.result; offset = c.offset_of-offset.result; depth = c.len-depth.result } in
           list_more C (λ l. Nodes C (c.args.root.now ∷ []) c.args.bytes.now l) node c.loop-step.nodes.items c.list_node-else-taken-eq0.new.nodes.items c.in-Taken.taken c.loop-step.left.now (remaining c.in-Taken.rest) (remaining c.in-Some.step.others ++ pending fs) e c.front.ensures c.in-Taken.ensures.0.opens (c.in_ok-list_node-in-Taken.ensures.listed w)
           (λ fs2 m. i.listed w fs2 (subst (λ l. Nodes C l c.loop-step.left.now fs2) (sym same) m)) es
           (subst (λ b. Nodes C (remaining c.in-Taken.rest ++ (remaining c.in-Some.step.others ++ pending fs)) b es) c.after-left.ensures (subst (λ l. Nodes C (remaining c.in-Taken.rest ++ pending l) c.after-left.result.now es) back n));
@@ -231,7 +231,7 @@ loop-step-preserved-else-has_parts c =
     let none = c.has_parts.ensures.none c.if-has_parts.false in
     let ends = suffix_on c.in-Taken.taken c.args.bytes.now c.loop-step.left.now c.after-left.result.now i.within i.suffix c.after-left.ensures c.in-Taken.ensures.0.within in
     let s = walk_on C i.state c.in-Some.step.others c.in-Some.ensures.parts g (positive c.in-Taken.taken c.if-taken-eq0.false) e c.in-Taken.ensures.0 refl refl in
-    let node : Node = record { name = c.in-Some.step.part; definition = c.in-Some-get.definition; bytes = c.front.result; offset = length c.args.bytes.now - length c.loop-step.left.now; depth = length c.loop-step.stack.items } in
+    let node : Node = record { name = c.in-Some.step.part; definition = c.in-Some-get.definition; bytes = c.front.result; offset = c.offset_of-offset.result; depth = c.len-depth.result } in
     let fewer = less_left c.in-Taken.taken c.loop-step.left.now c.after-left.result.now c.after-left.ensures (positive c.in-Taken.taken c.if-taken-eq0.false) c.in-Taken.ensures.0.within in
     let far : g.start ≡ length (drop c.in-Taken.taken c.loop-step.left.now) → ⊥ = λ q. let k = ap (λ l. length l) c.after-left.ensures in absurd (omega (arith, q, k, fewer)) in
     record {
@@ -242,12 +242,12 @@ loop-step-preserved-else-has_parts c =
       suffix = ends.1;
       opened = opened_on (btree_map_len c.args.map.now) (length c.args.bytes.now) c.args.opened.now c.loop-step.opened c.count_one-else-taken-eq0.new.count (length c.after-left.result.now) (length c.loop-step.left.now) c.loop-step.idle fewer i.opened c.count_one-else-taken-eq0.ensures;
       few = λ w. few_on (btree_map_len c.args.map.now) (length c.args.bytes.now) (length c.loop-step.nodes.items) (length c.list_node-else-taken-eq0.new.nodes.items) (length c.after-left.result.now) (length c.loop-step.left.now) c.loop-step.idle fewer (i.few w) (listed_more C node c.loop-step.nodes.items c.list_node-else-taken-eq0.new.nodes.items (c.in_ok-list_node-in-Taken.ensures.listed w));
-      placed = λ w. placed_more C node c.loop-step.nodes.items c.list_node-else-taken-eq0.new.nodes.items c.in-Taken.taken (length c.args.bytes.now) c.loop-step.left.now c.after-left.result.now refl c.front.ensures c.after-left.ensures (c.in_ok-list_node-in-Taken.ensures.listed w) (i.placed w);
+      placed = λ w. placed_more C node c.loop-step.nodes.items c.list_node-else-taken-eq0.new.nodes.items c.in-Taken.taken (length c.args.bytes.now) c.loop-step.left.now c.after-left.result.now c.offset_of-offset.ensures c.front.ensures c.after-left.ensures (c.in_ok-list_node-in-Taken.ensures.listed w) (i.placed w);
       table = c.in_ok-list_node-in-Taken.ensures.table;
       listed = λ w es n.
           let fs = reverse c.loop-step.stack.items in
           let same : pending (c.loop-step.frame ∷ fs) ≡ p ∷ (remaining c.in-Some.step.others ++ pending fs) = ap (λ l. l ++ pending fs) c.in-Some.ensures.parts in
-          let node : Node = record { name = c.in-Some.step.part; definition = c.in-Some-get.definition; bytes = c.front.result; offset = length c.args.bytes.now - length c.loop-step.left.now; depth = length c.loop-step.stack.items } in
+          let node : Node = record { name = c.in-Some.step.part; definition = c.in-Some-get.definition; bytes = c.front.result; offset = c.offset_of-offset.result; depth = c.len-depth.result } in
           list_more C (λ l. Nodes C (c.args.root.now ∷ []) c.args.bytes.now l) node c.loop-step.nodes.items c.list_node-else-taken-eq0.new.nodes.items c.in-Taken.taken c.loop-step.left.now (remaining c.in-Taken.rest) (remaining c.in-Some.step.others ++ pending fs) e c.front.ensures c.in-Taken.ensures.0.opens (c.in_ok-list_node-in-Taken.ensures.listed w)
           (λ fs2 m. i.listed w fs2 (subst (λ l. Nodes C l c.loop-step.left.now fs2) (sym same) m)) es
           (subst (λ b. Nodes C (remaining c.in-Taken.rest ++ (remaining c.in-Some.step.others ++ pending fs)) b es) c.after-left.ensures (subst (λ l. Nodes C (l ++ (remaining c.in-Some.step.others ++ pending fs)) c.after-left.result.now es) (sym none) n));
