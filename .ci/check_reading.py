@@ -9,7 +9,7 @@ import sys
 
 HEAD = "| Crate | Files of `specs/`, with their lines | Lines |"
 CRATES = (
-    "borsh_io borsh_codec borsh_de places borsh_enums borsh_walks borsh_values borsh_definitions borsh_schema "
+    "borsh_io borsh_codec borsh_de places borsh_enums borsh_walks borsh_values borsh_json borsh_definitions borsh_schema "
     "borsh_variants borsh borsh_answers borsh_lines borsh_commands borsh_c"
 ).split()
 

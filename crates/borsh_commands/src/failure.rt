@@ -1,4 +1,7 @@
 // Why a command has no answer.
+ghost use Rattle.borsh_commands.specs.declared.failure.Failure.TheVariants.{OutOfMemory};
+ghost use Rattle.std.specs.Prelude.{◌≡◌};
+
 use super::plain_text::PlainText;
 use hex::FromHexError;
 use std::alloc::{AllocError, Global};
@@ -38,6 +41,8 @@ impl<'a> Failure<'a> {
 }
 
 impl<'a> From<AllocError> for Failure<'a> {
+    ghost from_gives = { λ _ e. e ≡ OutOfMemory };
+
     fn from(_: AllocError) -> Failure<'a> {
         Failure::OutOfMemory
     }

@@ -136,7 +136,10 @@ pub fn json_text<'a>(
     path: &'a str,
     bytes: &[u8],
     layout: Layout,
-) -> Result<PlainText, Failure<'a>> {
+) -> Result<PlainText, Failure<'a>>
+    ensures { OnOk result (Member (definitions_in schema.now.definitions)
+        (string_bytes schema.now.root) bytes.now) }
+{
     match to_json(
         alloc,
         schema.root.as_str(),

@@ -1,8 +1,9 @@
 // Values as JSON, and byte by byte.
+ghost use Rattle.borsh_json.specs.Errors.{IsReason, IsTextReason};
 ghost use Rattle.borsh_schema.specs.Containers.{language_of, root_of};
 ghost use Rattle.borsh_walks.specs.Container.{Member};
 ghost use Rattle.json.specs.Json.{document};
-ghost use Rattle.std.specs.Prelude.{IfOk, IsSome, OnOk, string_bytes};
+ghost use Rattle.std.specs.Prelude.{IfErr, IfOk, IsSome, OnOk, string_bytes};
 
 use borsh_json::{JsonError, Layout, Row};
 use borsh_schema::BorshSchemaContainer;
@@ -22,6 +23,8 @@ pub fn to_json<'a>(
     ensures member { let c = container.now in
         OnOk result (Member (language_of c) (root_of c) bytes.now) }
     ensures json { IfOk result (λ text. IsSome (document (string_bytes text))) }
+    ensures reason { let c = container.now in
+        IfErr result (λ e. IsReason (language_of c) (root_of c) bytes.now e) }
 {
     let root = container.declaration().as_str();
     borsh_json::to_json(alloc, root, container.as_map(), bytes, layout)
@@ -37,8 +40,11 @@ pub fn from_json<'a>(
     container: &'a BorshSchemaContainer,
     text: &str,
 ) -> Result<Vec<u8>, JsonError<'a>>
-    ensures { let c = container.now in
+    ensures member { let c = container.now in
         IfOk result (λ bytes. Member (language_of c) (root_of c) bytes.items) }
+    ensures json { OnOk result (IsSome (document text.now)) }
+    ensures reason { let c = container.now in
+        IfErr result (λ e. IsTextReason (language_of c) (root_of c) text.now e) }
 {
     let root = container.declaration().as_str();
     borsh_json::from_json(alloc, root, container.as_map(), text)
@@ -54,8 +60,10 @@ pub fn rows_of<'a>(
     container: &'a BorshSchemaContainer,
     bytes: &'a [u8],
 ) -> Result<Vec<Row<'a>>, JsonError<'a>>
-    ensures { let c = container.now in
+    ensures member { let c = container.now in
         OnOk result (Member (language_of c) (root_of c) bytes.now) }
+    ensures reason { let c = container.now in
+        IfErr result (λ e. IsReason (language_of c) (root_of c) bytes.now e) }
 {
     let root = container.declaration().as_str();
     borsh_json::rows_of(alloc, root, container.as_map(), bytes)

@@ -1,4 +1,9 @@
 // Why a value has no JSON, or a text is no value.
+ghost use Rattle.borsh_json.specs.Errors.{error_of};
+ghost use Rattle.borsh_json.specs.declared.error.JsonError.TheVariants.{OutOfMemory};
+ghost use Rattle.borsh_json.specs.declared.error.PartError.TheVariants.{OutOfMemory as NoMemory};
+ghost use Rattle.std.specs.Prelude.{◌≡◌};
+
 use borsh_values::{Fault, Path};
 use std::alloc::{AllocError, AllocFailed};
 use std::fmt;
@@ -17,6 +22,15 @@ pub enum JsonError<'a> {
     /// The text isn't JSON: it is wrong near this byte, or ends too early.
     NotJson(usize),
     /// A part of the value, by its path, and what is wrong with it.
+    Refused(Path<'a>, Refusal),
+}
+
+/// Why a part of a value was not written, or not read.
+#[derive(Drop)]
+pub enum PartError<'a> {
+    /// An allocation failed.
+    OutOfMemory,
+    /// The part, by its path, and what is wrong with it.
     Refused(Path<'a>, Refusal),
 }
 
@@ -50,14 +64,45 @@ pub enum Refusal {
 }
 
 impl<'a> From<AllocError> for JsonError<'a> {
+    ghost from_gives = { λ _ e. e ≡ OutOfMemory };
+
     fn from(_: AllocError) -> JsonError<'a> {
         JsonError::OutOfMemory
     }
 }
 
 impl<'a, T: Drop> From<AllocFailed<T>> for JsonError<'a> {
+    ghost from_gives = { λ _ e. e ≡ OutOfMemory };
+
     fn from(_: AllocFailed<T>) -> JsonError<'a> {
         JsonError::OutOfMemory
+    }
+}
+
+impl<'a> From<AllocError> for PartError<'a> {
+    ghost from_gives = { λ _ e. e ≡ NoMemory };
+
+    fn from(_: AllocError) -> PartError<'a> {
+        PartError::OutOfMemory
+    }
+}
+
+impl<'a, T: Drop> From<AllocFailed<T>> for PartError<'a> {
+    ghost from_gives = { λ _ e. e ≡ NoMemory };
+
+    fn from(_: AllocFailed<T>) -> PartError<'a> {
+        PartError::OutOfMemory
+    }
+}
+
+impl<'a> From<PartError<'a>> for JsonError<'a> {
+    ghost from_gives = { λ part e. e ≡ error_of part };
+
+    fn from(part: PartError<'a>) -> JsonError<'a> {
+        match part {
+            PartError::OutOfMemory => JsonError::OutOfMemory,
+            PartError::Refused(path, refusal) => JsonError::Refused(path, refusal),
+        }
     }
 }
 

@@ -15,9 +15,6 @@ pub enum Layout {
 }
 
 /// The JSON text that is being written.
-ghost use Rattle.json.specs.Print.{IsPrintable};
-ghost use Rattle.json.specs.Reads.{token_of};
-
 #[derive(Drop)]
 pub enum Output {
     Compact(Writer),

@@ -1,10 +1,12 @@
 // The bytes of a value that JSON says.
 ghost use Rattle.borsh_walks.specs.Container.{Member};
 ghost use Rattle.borsh_walks.specs.Definitions.{definitions_in};
-ghost use Rattle.std.specs.Prelude.{IfOk, OnOk};
+ghost use Rattle.borsh_json.specs.Errors.{IsBytesReason, IsTextReason, TellsNoJson};
+ghost use Rattle.json.specs.Json.{document};
+ghost use Rattle.std.specs.Prelude.{◌≡◌, IfErr, IfOk, IfSome, IsSome, OnOk};
 
 use crate::definitions::Definitions;
-use crate::error::{JsonError, Refusal};
+use crate::error::{JsonError, PartError, Refusal};
 use crate::kinds::{Kind, kind_of};
 use crate::numbers::Number;
 use crate::position::{Part, Parts, Place, path_of};
@@ -27,7 +29,11 @@ pub fn from_json<'a>(
     map: &'a BTreeMap<String, Definition>,
     text: &str,
 ) -> Result<Vec<u8>, JsonError<'a>>
-    ensures { IfOk result (λ bytes. Member (definitions_in map.now) root.now bytes.items) }
+    ensures member { IfOk result
+        (λ bytes. Member (definitions_in map.now) root.now bytes.items) }
+    ensures json { OnOk result (IsSome (document text.now)) }
+    ensures reason { IfErr result
+        (λ e. IsTextReason (definitions_in map.now) root.now text.now e) }
 {
     let bytes = read_text(alloc, root, map, text)?;
     check_member(alloc, root, map, bytes.as_slice())?;
@@ -41,35 +47,54 @@ fn check_member<'a>(
     map: &'a BTreeMap<String, Definition>,
     bytes: &[u8],
 ) -> Result<(), JsonError<'a>>
-    ensures { OnOk result (Member (definitions_in map.now) root.now bytes.now) }
+    ensures member { OnOk result (Member (definitions_in map.now) root.now bytes.now) }
+    ensures reason { IfErr result
+        (λ e. IsBytesReason (definitions_in map.now) root.now e) }
 {
     match is_member(alloc, root, map, bytes)? {
         Membership::Member => Ok(()),
         Membership::NoMember(_) => Err(JsonError::NoValue),
-        Membership::Ambiguous(name) => match map.get_key_value(name) {
-            Some((name, _)) => Err(JsonError::Ambiguous(name.as_str())),
+        Membership::Ambiguous(name) => match name_in(map, name) {
+            Some(name) => Err(JsonError::Ambiguous(name)),
             None => Err(JsonError::NoValue),
         },
     }
 }
 
+/// The name as the definitions have it; none if they don't.
+fn name_in<'a>(map: &'a BTreeMap<String, Definition>, name: &str) -> Option<&'a str>
+    ensures { IfSome result (λ found. found.now ≡ name.now) }
+{
+    match map.get_key_value(name) {
+        Some((found, _)) => Some(found.as_str()),
+        None => None,
+    }
+}
+
+/// The bytes that a text says, which needn't be a member of the root.
 fn read_text<'a>(
     alloc: Global,
     root: &'a str,
     map: &'a BTreeMap<String, Definition>,
     text: &str,
-) -> Result<Vec<u8>, JsonError<'a>> {
+) -> Result<Vec<u8>, JsonError<'a>>
+    ensures json { OnOk result (IsSome (document text.now)) }
+    ensures reason { IfErr result
+        (λ e. IsTextReason (definitions_in map.now) root.now text.now e) }
+{
     let mut scratch = Scratch::new(alloc);
     match Tape::parse(text, &mut scratch, Vec::new(alloc)) {
-        Ok(tape) => read_value(alloc, root, map, tape.root()),
+        Ok(tape) => Ok(read_value(alloc, root, map, tape.root())?),
+        Err(json::Error::Invalid) => Err(why_not_json(alloc, root, text)),
         // A text of 4 GiB has more places than a tape can number.
-        Err(json::Error::OutOfMemory | json::Error::TooLong) => Err(JsonError::OutOfMemory),
-        Err(_) => Err(why_not_json(alloc, root, text)),
+        Err(_) => Err(JsonError::OutOfMemory),
     }
 }
 
 /// Why a text isn't JSON that is read: it nests too deep, or is wrong somewhere.
-fn why_not_json<'a>(alloc: Global, root: &'a str, text: &str) -> JsonError<'a> {
+fn why_not_json<'a>(alloc: Global, root: &'a str, text: &str) -> JsonError<'a>
+    ensures { TellsNoJson result }
+{
     let mut scratch = Scratch::new(alloc);
     let Ok(mut reader) = Reader::new(text, &mut scratch) else {
         return JsonError::OutOfMemory;
@@ -98,7 +123,7 @@ fn read_value<'a>(
     root: &'a str,
     map: &'a BTreeMap<String, Definition>,
     element: Element<'_, '_>,
-) -> Result<Vec<u8>, JsonError<'a>> {
+) -> Result<Vec<u8>, PartError<'a>> {
     let mut reading = Reading {
         root,
         definitions: Definitions::new(alloc, map)?,
@@ -144,7 +169,7 @@ struct Reading<'a, 't, 's> {
 }
 
 impl<'a, 't, 's> Reading<'a, 't, 's> {
-    fn read_all(&mut self, alloc: Global) -> Result<(), JsonError<'a>> {
+    fn read_all(&mut self, alloc: Global) -> Result<(), PartError<'a>> {
         for _ in 0..u64::MAX {
             match self.place.next_part() {
                 Some(part) => {
@@ -171,7 +196,7 @@ impl<'a, 't, 's> Reading<'a, 't, 's> {
         alloc: Global,
         part: Part<'a>,
         element: Element<'t, 's>,
-    ) -> Result<(), JsonError<'a>> {
+    ) -> Result<(), PartError<'a>> {
         if part.may_be_empty && self.definitions.is_zero_size(part.name) {
             if element.is_null() {
                 return Ok(());
@@ -217,7 +242,7 @@ impl<'a, 't, 's> Reading<'a, 't, 's> {
         alloc: Global,
         number: Number,
         element: &Element<'t, 's>,
-    ) -> Result<(), JsonError<'a>> {
+    ) -> Result<(), PartError<'a>> {
         let text = if number.is_quoted() {
             element.as_str()
         } else {
@@ -242,7 +267,7 @@ impl<'a, 't, 's> Reading<'a, 't, 's> {
         alloc: Global,
         size: u8,
         element: &Element<'t, 's>,
-    ) -> Result<(), JsonError<'a>> {
+    ) -> Result<(), PartError<'a>> {
         if let Some(text) = element.as_str() {
             let bytes = self.hexadecimal(alloc, text)?;
             if bytes.len() == usize::from(size) {
@@ -254,13 +279,13 @@ impl<'a, 't, 's> Reading<'a, 't, 's> {
     }
 
     /// The bytes that `0x` and digits say.
-    fn hexadecimal(&self, alloc: Global, text: &str) -> Result<Vec<u8>, JsonError<'a>> {
+    fn hexadecimal(&self, alloc: Global, text: &str) -> Result<Vec<u8>, PartError<'a>> {
         let Some(digits) = text.strip_prefix("0x") else {
             return Err(self.expected(alloc, "\"0x..\", hexadecimal digits"));
         };
         match hex::decode(alloc, digits) {
             Ok(bytes) => Ok(bytes),
-            Err(FromHexError::OutOfMemory) => Err(JsonError::OutOfMemory),
+            Err(FromHexError::OutOfMemory) => Err(PartError::OutOfMemory),
             Err(_) => Err(self.expected(alloc, "\"0x..\", hexadecimal digits")),
         }
     }
@@ -271,7 +296,7 @@ impl<'a, 't, 's> Reading<'a, 't, 's> {
         alloc: Global,
         definition: &'a Definition,
         bytes: &[u8],
-    ) -> Result<(), JsonError<'a>> {
+    ) -> Result<(), PartError<'a>> {
         self.put_count(alloc, definition, bytes.len())?;
         Ok(self.out.extend_from_slice(bytes)?)
     }
@@ -282,7 +307,7 @@ impl<'a, 't, 's> Reading<'a, 't, 's> {
         alloc: Global,
         definition: &'a Definition,
         count: usize,
-    ) -> Result<(), JsonError<'a>> {
+    ) -> Result<(), PartError<'a>> {
         let Definition::Sequence {
             length_width,
             length_range,
@@ -314,7 +339,7 @@ impl<'a, 't, 's> Reading<'a, 't, 's> {
         alloc: Global,
         parts: Parts<'a>,
         source: Source<'t, 's>,
-    ) -> Result<(), JsonError<'a>> {
+    ) -> Result<(), PartError<'a>> {
         if self.outer.len() >= MAX_DEPTH {
             return Err(self.refused(alloc, Refusal::TooDeep));
         }
@@ -331,7 +356,7 @@ impl<'a, 't, 's> Reading<'a, 't, 's> {
         definition: &'a Definition,
         name: &'a str,
         element: &Element<'t, 's>,
-    ) -> Result<(), JsonError<'a>> {
+    ) -> Result<(), PartError<'a>> {
         if self.definitions.is_zero_size(name) {
             return Err(self.refused(alloc, Refusal::EmptyElements));
         }
@@ -348,7 +373,7 @@ impl<'a, 't, 's> Reading<'a, 't, 's> {
         definition: &'a Definition,
         count: usize,
         element: &Element<'t, 's>,
-    ) -> Result<(), JsonError<'a>> {
+    ) -> Result<(), PartError<'a>> {
         match element.items() {
             Some(items) if count_items(element) == Some(count) => {
                 self.open(alloc, Parts::Row(definition), Source::Items(items))
@@ -365,7 +390,7 @@ impl<'a, 't, 's> Reading<'a, 't, 's> {
         alloc: Global,
         fields: &'a Vec<(FieldName, Declaration)>,
         element: &Element<'t, 's>,
-    ) -> Result<(), JsonError<'a>> {
+    ) -> Result<(), PartError<'a>> {
         let Some(mut members) = element.members() else {
             return Err(self.expected(alloc, "an object"));
         };
@@ -388,7 +413,7 @@ impl<'a, 't, 's> Reading<'a, 't, 's> {
         tag_width: u8,
         variants: &'a Vec<(DiscriminantValue, VariantName, Declaration)>,
         element: &Element<'t, 's>,
-    ) -> Result<(), JsonError<'a>> {
+    ) -> Result<(), PartError<'a>> {
         let Some((name, value)) = variant_in(element) else {
             return Err(self.expected(alloc, "a variant: \"Name\" or {\"Name\": value}"));
         };
@@ -417,7 +442,7 @@ impl<'a, 't, 's> Reading<'a, 't, 's> {
     }
 
     /// Refuses keys of an object that are no fields.
-    fn check_left(&self, alloc: Global, source: &Source<'t, 's>) -> Result<(), JsonError<'a>> {
+    fn check_left(&self, alloc: Global, source: &Source<'t, 's>) -> Result<(), PartError<'a>> {
         let Source::Members(members) = source else {
             return Ok(());
         };
@@ -436,7 +461,7 @@ impl<'a, 't, 's> Reading<'a, 't, 's> {
         alloc: Global,
         name: &'a str,
         definition: &'a Definition,
-    ) -> Result<(), JsonError<'a>> {
+    ) -> Result<(), PartError<'a>> {
         match self.definitions.repeated(alloc, name, definition)? {
             Some(name) => {
                 let name = String::from_str(alloc, name)?;
@@ -446,18 +471,18 @@ impl<'a, 't, 's> Reading<'a, 't, 's> {
         }
     }
 
-    fn expected(&self, alloc: Global, wanted: &str) -> JsonError<'a> {
+    fn expected(&self, alloc: Global, wanted: &str) -> PartError<'a> {
         match String::from_str(alloc, wanted) {
             Ok(wanted) => self.refused(alloc, Refusal::Expected(wanted)),
-            Err(_) => JsonError::OutOfMemory,
+            Err(_) => PartError::OutOfMemory,
         }
     }
 
     /// The error of the part that was begun last.
-    fn refused(&self, alloc: Global, refusal: Refusal) -> JsonError<'a> {
+    fn refused(&self, alloc: Global, refusal: Refusal) -> PartError<'a> {
         match path_of(alloc, self.root, self.outer.as_slice(), &self.place) {
-            Ok(path) => JsonError::Refused(path, refusal),
-            Err(_) => JsonError::OutOfMemory,
+            Ok(path) => PartError::Refused(path, refusal),
+            Err(_) => PartError::OutOfMemory,
         }
     }
 }

@@ -1,10 +1,11 @@
 // What each of the bytes of a value is.
 ghost use Rattle.borsh_walks.specs.Container.{Member};
 ghost use Rattle.borsh_walks.specs.Definitions.{definitions_in};
-ghost use Rattle.std.specs.Prelude.{OnOk};
+ghost use Rattle.borsh_json.specs.Errors.{IsReason};
+ghost use Rattle.std.specs.Prelude.{IfErr, OnOk};
 
 use crate::definitions::Definitions;
-use crate::error::{JsonError, Refusal};
+use crate::error::{JsonError, PartError, Refusal};
 use crate::kinds::{Kind, kind_of};
 use crate::position::{Parts, Place, path_of};
 use crate::writing::{count_of, elements_of};
@@ -36,10 +37,12 @@ pub fn rows_of<'a>(
     map: &'a BTreeMap<String, Definition>,
     bytes: &'a [u8],
 ) -> Result<Vec<Row<'a>>, JsonError<'a>>
-    ensures { OnOk result (Member (definitions_in map.now) root.now bytes.now) }
+    ensures member { OnOk result (Member (definitions_in map.now) root.now bytes.now) }
+    ensures reason { IfErr result
+        (λ e. IsReason (definitions_in map.now) root.now bytes.now e) }
 {
     match decode(alloc, root, map, bytes)? {
-        Decoded::Nodes(nodes) => list_rows(alloc, root, map, nodes.as_slice()),
+        Decoded::Nodes(nodes) => Ok(list_rows(alloc, root, map, nodes.as_slice())?),
         Decoded::NoMember(fault) => Err(JsonError::NoMember(fault)),
         Decoded::Ambiguous(name) => Err(JsonError::Ambiguous(name)),
     }
@@ -50,7 +53,7 @@ fn list_rows<'a>(
     root: &'a str,
     map: &'a BTreeMap<String, Definition>,
     nodes: &[Node<'a>],
-) -> Result<Vec<Row<'a>>, JsonError<'a>> {
+) -> Result<Vec<Row<'a>>, PartError<'a>> {
     let definitions = Definitions::new(alloc, map)?;
     let mut rows = Vec::new(alloc);
     let mut outer: Vec<Place<'a>> = Vec::new(alloc);
@@ -60,7 +63,7 @@ fn list_rows<'a>(
         begin_part(&definitions, &mut outer, &mut place);
         let path = path_of(alloc, root, outer.as_slice(), &place)?;
         if outer.len() > MAX_DEPTH {
-            return Err(JsonError::Refused(path, Refusal::TooDeep));
+            return Err(PartError::Refused(path, Refusal::TooDeep));
         }
         if !node.bytes.is_empty() {
             rows.push(Row {

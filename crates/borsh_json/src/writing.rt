@@ -1,17 +1,18 @@
 // A value as JSON.
 ghost use Rattle.borsh_walks.specs.Container.{Member};
 ghost use Rattle.borsh_walks.specs.Definitions.{definitions_in};
+ghost use Rattle.borsh_json.specs.Errors.{IsReason};
 ghost use Rattle.json.specs.Json.{document};
-ghost use Rattle.std.specs.Prelude.{IfOk, IsSome, OnOk, string_bytes};
+ghost use Rattle.std.specs.Prelude.{IfErr, IfOk, IsSome, OnOk, string_bytes};
 
 use crate::definitions::Definitions;
-use crate::error::{JsonError, Refusal};
+use crate::error::{JsonError, PartError, Refusal};
 use crate::kinds::{Kind, kind_of, kind_of_primitive};
 use crate::numbers::Number;
 use crate::output::{Layout, Output};
 use crate::position::{Part, Parts, Place, path_of};
 use borsh_values::numbers::number;
-use borsh_values::{Decoded, Node, decode, variant_of};
+use borsh_values::{Decoded, Node, Path, decode, variant_of};
 use borsh_walks::{Declaration, Definition, DiscriminantValue, VariantName};
 use json::{MAX_DEPTH, Scratch, is_valid};
 use std::alloc::{AllocError, Global};
@@ -37,9 +38,11 @@ pub fn to_json<'a>(
 ) -> Result<String, JsonError<'a>>
     ensures member { OnOk result (Member (definitions_in map.now) root.now bytes.now) }
     ensures json { IfOk result (λ text. IsSome (document (string_bytes text))) }
+    ensures reason { IfErr result
+        (λ e. IsReason (definitions_in map.now) root.now bytes.now e) }
 {
     match decode(alloc, root, map, bytes)? {
-        Decoded::Nodes(nodes) => write_nodes(alloc, root, map, nodes.as_slice(), layout),
+        Decoded::Nodes(nodes) => Ok(write_nodes(alloc, root, map, nodes.as_slice(), layout)?),
         Decoded::NoMember(fault) => Err(JsonError::NoMember(fault)),
         Decoded::Ambiguous(name) => Err(JsonError::Ambiguous(name)),
     }
@@ -51,7 +54,7 @@ fn write_nodes<'a>(
     map: &'a BTreeMap<String, Definition>,
     nodes: &[Node<'a>],
     layout: Layout,
-) -> Result<String, JsonError<'a>>
+) -> Result<String, PartError<'a>>
     ensures { IfOk result (λ text. IsSome (document (string_bytes text))) }
 {
     let mut writing = Writing {
@@ -64,21 +67,27 @@ fn write_nodes<'a>(
     };
     writing.write_all(alloc)?;
     let Ok(text) = String::from_utf8(writing.out.into_bytes()) else {
-        return Err(JsonError::NotJson(0));
+        return Err(no_json(alloc, root));
     };
-    check_json(alloc, text.as_str())?;
+    check_json(alloc, root, text.as_str())?;
     Ok(text)
 }
 
 /// Refuses a text that isn't JSON.
-fn check_json<'a>(alloc: Global, text: &str) -> Result<(), JsonError<'a>>
+fn check_json<'a>(alloc: Global, root: &'a str, text: &str) -> Result<(), PartError<'a>>
     ensures { OnOk result (IsSome (document text.now)) }
 {
     if is_valid(text, &mut Scratch::new(alloc))? {
         Ok(())
     } else {
-        Err(JsonError::NotJson(text.len()))
+        Err(no_json(alloc, root))
     }
+}
+
+/// That the text that was written isn't JSON, as it is where the nodes are those of the definitions.
+fn no_json<'a>(alloc: Global, root: &'a str) -> PartError<'a> {
+    let steps = Vec::new(alloc);
+    PartError::Refused(Path { root, steps }, Refusal::OtherNodes)
 }
 
 /// The nodes that are left, and the places that are being written, the last in `place`.
@@ -93,7 +102,7 @@ struct Writing<'a, 'n> {
 }
 
 impl<'a, 'n> Writing<'a, 'n> {
-    fn write_all(&mut self, alloc: Global) -> Result<(), JsonError<'a>> {
+    fn write_all(&mut self, alloc: Global) -> Result<(), PartError<'a>> {
         for _ in 0..u64::MAX {
             match self.place.next_part() {
                 Some(part) => self.write_part(alloc, part)?,
@@ -118,7 +127,7 @@ impl<'a, 'n> Writing<'a, 'n> {
         }
     }
 
-    fn write_part(&mut self, alloc: Global, part: Part<'a>) -> Result<(), JsonError<'a>> {
+    fn write_part(&mut self, alloc: Global, part: Part<'a>) -> Result<(), PartError<'a>> {
         if let Some(key) = part.key {
             self.out.key(key)?;
         }
@@ -150,7 +159,7 @@ impl<'a, 'n> Writing<'a, 'n> {
         }
     }
 
-    fn take_node(&mut self, alloc: Global) -> Result<Node<'a>, JsonError<'a>> {
+    fn take_node(&mut self, alloc: Global) -> Result<Node<'a>, PartError<'a>> {
         match self.nodes {
             [node, others @ ..] => {
                 self.nodes = others;
@@ -161,7 +170,7 @@ impl<'a, 'n> Writing<'a, 'n> {
     }
 
     /// How many elements a list has.
-    fn count_of(&self, alloc: Global, node: &Node<'a>) -> Result<u64, JsonError<'a>> {
+    fn count_of(&self, alloc: Global, node: &Node<'a>) -> Result<u64, PartError<'a>> {
         match count_of(node) {
             Some(count) => Ok(count),
             None => Err(self.refused(alloc, Refusal::OtherNodes)),
@@ -169,7 +178,7 @@ impl<'a, 'n> Writing<'a, 'n> {
     }
 
     /// Begins the parts of a value, whose bracket was written.
-    fn open(&mut self, alloc: Global, parts: Parts<'a>) -> Result<(), JsonError<'a>> {
+    fn open(&mut self, alloc: Global, parts: Parts<'a>) -> Result<(), PartError<'a>> {
         if self.outer.len() >= MAX_DEPTH {
             return Err(self.refused(alloc, Refusal::TooDeep));
         }
@@ -183,7 +192,7 @@ impl<'a, 'n> Writing<'a, 'n> {
         alloc: Global,
         node: &Node<'a>,
         element: &'a str,
-    ) -> Result<(), JsonError<'a>> {
+    ) -> Result<(), PartError<'a>> {
         let count = self.count_of(alloc, node)?;
         if self.definitions.is_zero_size(element) {
             return Err(self.refused(alloc, Refusal::EmptyElements));
@@ -197,7 +206,7 @@ impl<'a, 'n> Writing<'a, 'n> {
         alloc: Global,
         node: &Node<'a>,
         variants: &'a Vec<(DiscriminantValue, VariantName, Declaration)>,
-    ) -> Result<(), JsonError<'a>> {
+    ) -> Result<(), PartError<'a>> {
         let Some((_, variant, name)) = variant_of(node).and_then(|index| variants.get(index)) else {
             return Err(self.refused(alloc, Refusal::OtherNodes));
         };
@@ -215,7 +224,7 @@ impl<'a, 'n> Writing<'a, 'n> {
         name: &'a str,
         size: u8,
         bytes: &[u8],
-    ) -> Result<(), JsonError<'a>> {
+    ) -> Result<(), PartError<'a>> {
         let size = usize::from(size);
         if size == 0 {
             return Err(self.refused(alloc, Refusal::EmptyElements));
@@ -234,7 +243,7 @@ impl<'a, 'n> Writing<'a, 'n> {
         alloc: Global,
         name: &str,
         bytes: &[u8],
-    ) -> Result<(), JsonError<'a>> {
+    ) -> Result<(), PartError<'a>> {
         let size = bytes.len().min(255) as u8;
         match kind_of_primitive(name, size) {
             Kind::Number(number) => self.write_number(alloc, number, bytes),
@@ -248,7 +257,7 @@ impl<'a, 'n> Writing<'a, 'n> {
         alloc: Global,
         number: Number,
         bytes: &[u8],
-    ) -> Result<(), JsonError<'a>> {
+    ) -> Result<(), PartError<'a>> {
         let text = number.decimal(alloc, bytes)?;
         if number.is_non_zero && text.as_str() == "0" {
             return Err(self.refused(alloc, Refusal::Zero));
@@ -260,7 +269,7 @@ impl<'a, 'n> Writing<'a, 'n> {
         }
     }
 
-    fn write_bool(&mut self, alloc: Global, bytes: &[u8]) -> Result<(), JsonError<'a>> {
+    fn write_bool(&mut self, alloc: Global, bytes: &[u8]) -> Result<(), PartError<'a>> {
         match bytes {
             [0] => Ok(self.out.boolean(false)?),
             [1] => Ok(self.out.boolean(true)?),
@@ -268,21 +277,21 @@ impl<'a, 'n> Writing<'a, 'n> {
         }
     }
 
-    fn write_text(&mut self, alloc: Global, bytes: &[u8]) -> Result<(), JsonError<'a>> {
+    fn write_text(&mut self, alloc: Global, bytes: &[u8]) -> Result<(), PartError<'a>> {
         match str::from_utf8(bytes) {
             Ok(text) => Ok(self.out.string(text)?),
             Err(_) => Err(self.refused(alloc, Refusal::NotUtf8)),
         }
     }
 
-    fn write_bytes(&mut self, alloc: Global, bytes: &[u8]) -> Result<(), JsonError<'a>> {
+    fn write_bytes(&mut self, alloc: Global, bytes: &[u8]) -> Result<(), PartError<'a>> {
         let digits = hex::encode(alloc, bytes)?;
         let text = format!(in alloc; "0x{digits}")?;
         Ok(self.out.string(text.as_str())?)
     }
 
     /// Refuses two fields, or two variants, of one name.
-    fn check_names(&mut self, alloc: Global, node: &Node<'a>) -> Result<(), JsonError<'a>> {
+    fn check_names(&mut self, alloc: Global, node: &Node<'a>) -> Result<(), PartError<'a>> {
         match self
             .definitions
             .repeated(alloc, node.name, node.definition)?
@@ -296,10 +305,10 @@ impl<'a, 'n> Writing<'a, 'n> {
     }
 
     /// The error of the part that was begun last.
-    fn refused(&self, alloc: Global, refusal: Refusal) -> JsonError<'a> {
+    fn refused(&self, alloc: Global, refusal: Refusal) -> PartError<'a> {
         match path_of(alloc, self.root, self.outer.as_slice(), &self.place) {
-            Ok(path) => JsonError::Refused(path, refusal),
-            Err(_) => JsonError::OutOfMemory,
+            Ok(path) => PartError::Refused(path, refusal),
+            Err(_) => PartError::OutOfMemory,
         }
     }
 }

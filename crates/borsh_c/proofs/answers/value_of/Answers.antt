@@ -8,7 +8,7 @@ pub returns-in_default-clause-err : goal.returns-in_default-clause-err
 returns-in_default-clause-err c = no_told (c.in_ok-root.root, c.in_ok-root.definitions) c.in_ok-root.ensures.ok (string_bytes c.in_ok-root.root) refl Anything Anything tt c.no.result c.no.ensures
 
 pub returns-in-Ok-from_json-clause-ok : goal.returns-in-Ok-from_json-clause-ok
-returns-in-Ok-from_json-clause-ok c = about_told (c.in_ok-root.root, c.in_ok-root.definitions) c.in_ok-root.ensures.ok c.as_str.result.now c.as_str.ensures.value (λ C root. Member C root c.in-Ok-from_json.bytes.items) c.in-Ok-from_json.ensures
+returns-in-Ok-from_json-clause-ok c = about_told (c.in_ok-root.root, c.in_ok-root.definitions) c.in_ok-root.ensures.ok c.as_str.result.now c.as_str.ensures.value (λ C root. Member C root c.in-Ok-from_json.bytes.items) c.in-Ok-from_json.ensures.member
 
 pub returns-clause-err : goal.returns-clause-err
 returns-clause-err c = refusal_told (c.in_ok-root.root, c.in_ok-root.definitions) c.in_ok-root.ensures.ok c.as_str.result.now c.as_str.ensures.value c.no_value.result c.no_value.ensures
