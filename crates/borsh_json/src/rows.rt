@@ -7,9 +7,7 @@ ghost use Rattle.std.specs.Prelude.{IfErr, OnOk};
 use crate::definitions::Definitions;
 use crate::error::{JsonError, PartError, Refusal};
 use crate::kinds::{Kind, kind_of};
-use crate::position::{Parts, Place, path_of};
-use crate::writing::{count_of, elements_of};
-use borsh_values::{Decoded, Node, Path, decode, variant_of};
+use borsh_values::{Decoded, Node, Path, Paths, count_of, decode, elements_of, variant_of};
 use borsh_walks::Definition;
 use json::MAX_DEPTH;
 use std::alloc::{AllocError, Global};
@@ -20,7 +18,10 @@ use std::str;
 /// enum; or a primitive.
 #[derive(Drop)]
 pub struct Row<'a> {
+    /// How many bytes of the value come before these.
     pub offset: usize,
+    /// How many values the part is in: 0 for the whole value.
+    pub depth: usize,
     pub bytes: &'a [u8],
     pub path: Path<'a>,
     /// The name of the type.
@@ -56,69 +57,24 @@ fn list_rows<'a>(
 ) -> Result<Vec<Row<'a>>, PartError<'a>> {
     let definitions = Definitions::new(alloc, map)?;
     let mut rows = Vec::new(alloc);
-    let mut outer: Vec<Place<'a>> = Vec::new(alloc);
-    let mut place = Place::new(Parts::Root(root));
-    let mut offset: usize = 0;
+    let mut paths = Paths::new(alloc, root);
     for node in nodes {
-        begin_part(&definitions, &mut outer, &mut place);
-        let path = path_of(alloc, root, outer.as_slice(), &place)?;
-        if outer.len() > MAX_DEPTH {
-            return Err(PartError::Refused(path, Refusal::TooDeep));
+        paths.enter(node)?;
+        if node.depth > MAX_DEPTH {
+            return Err(PartError::Refused(paths.path(alloc)?, Refusal::TooDeep));
         }
         if !node.bytes.is_empty() {
             rows.push(Row {
-                offset,
+                offset: node.offset,
+                depth: node.depth,
                 bytes: node.bytes,
-                path,
+                path: paths.path(alloc)?,
                 name: node.name,
                 value: value_of(alloc, &definitions, node)?,
             })?;
-            offset = offset.saturating_add(node.bytes.len());
-        }
-        if let Some(parts) = parts_of(&definitions, node) {
-            outer.push(place)?;
-            place = Place::new(parts);
         }
     }
     Ok(rows)
-}
-
-/// Begins the next part that has bytes, in the place or in one around it.
-fn begin_part<'a>(
-    definitions: &Definitions<'a>,
-    outer: &mut Vec<Place<'a>>,
-    place: &mut Place<'a>,
-) {
-    for _ in 0..u64::MAX {
-        match place.next_part() {
-            Some(part) => {
-                if !part.may_be_empty || !definitions.is_zero_size(part.name) {
-                    return;
-                }
-            }
-            None => match outer.pop() {
-                Some(around) => *place = around,
-                None => return,
-            },
-        }
-    }
-}
-
-/// The parts of a value, if they have nodes.
-fn parts_of<'a>(definitions: &Definitions<'a>, node: &Node<'a>) -> Option<Parts<'a>> {
-    match kind_of(definitions, node.name, node.definition) {
-        Kind::List(element) => Some(Parts::List(element, count_of(node)?)),
-        Kind::Row(_) => Some(Parts::Row(node.definition)),
-        Kind::Object(fields) => Some(Parts::Object(fields)),
-        Kind::Choice(_, variants) => {
-            let (_, variant, name) = variants.get(variant_of(node)?)?;
-            if definitions.is_zero_size(name.as_str()) {
-                return None;
-            }
-            Some(Parts::Variant(variant.as_str(), name.as_str()))
-        }
-        _ => None,
-    }
 }
 
 /// What the own bytes of a node say.

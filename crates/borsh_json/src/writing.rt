@@ -11,8 +11,7 @@ use crate::kinds::{Kind, kind_of, kind_of_primitive};
 use crate::numbers::Number;
 use crate::output::{Layout, Output};
 use crate::position::{Part, Parts, Place, path_of};
-use borsh_values::numbers::number;
-use borsh_values::{Decoded, Node, Path, decode, variant_of};
+use borsh_values::{Decoded, Node, Path, count_of, decode, elements_of, variant_of};
 use borsh_walks::{Declaration, Definition, DiscriminantValue, VariantName};
 use json::{MAX_DEPTH, Scratch, is_valid};
 use std::alloc::{AllocError, Global};
@@ -310,36 +309,5 @@ impl<'a, 'n> Writing<'a, 'n> {
             Ok(path) => PartError::Refused(path, refusal),
             Err(_) => PartError::OutOfMemory,
         }
-    }
-}
-
-/// How many elements a list has; none of a node of another kind.
-pub fn count_of(node: &Node<'_>) -> Option<u64> {
-    match node.definition {
-        Definition::Sequence {
-            length_width: 0,
-            length_range,
-            ..
-        } => Some(length_range.start),
-        Definition::Sequence { length_width, .. } => {
-            let width = usize::from(*length_width).min(node.bytes.len());
-            if width <= 8 {
-                Some(number(&node.bytes[..width]))
-            } else {
-                None
-            }
-        }
-        _ => None,
-    }
-}
-
-/// The bytes of the elements of a list, which come after its count.
-pub fn elements_of<'a>(node: &Node<'a>) -> &'a [u8] {
-    match node.definition {
-        Definition::Sequence { length_width, .. } => {
-            let width = usize::from(*length_width).min(node.bytes.len());
-            &node.bytes[width..]
-        }
-        _ => node.bytes,
     }
 }
