@@ -10,10 +10,12 @@
 pub mod encoding;
 pub mod faults;
 pub mod frames;
+pub mod keys;
 pub mod members;
 pub mod nodes;
 pub mod numbers;
 pub mod opening;
+pub mod tag_tables;
 pub mod tags;
 pub mod unambiguous;
 
