@@ -1,5 +1,5 @@
 -- Two discriminants share a key exactly if their tags are the same.
-use Rattle.std.proofs.Common.{◌≡◌, ℕ, suc, zero, ◌+◌, ◌-◌, ◌*◌, ◌/◌, ◌%◌, ◌^◌, ◌<◌, ◌≤◌, List, [], ◌∷◌, map, length, take, refl, sym, ◌∙◌, ap, arith, pow-suc, inl, inr}
+use Rattle.std.proofs.Common.{◌≡◌, ℕ, suc, zero, ◌+◌, ◌-◌, ◌*◌, ◌/◌, ◌%◌, ◌^◌, ◌<◌, ◌≤◌, List, ◌∷◌, map, length, take, refl, sym, ◌∙◌, ap, arith, pow-suc, inl, inr}
 use Rattle.std.specs.Prelude.{ℤ, pos, negsuc}
 use Rattle.std.proofs.Math.Nat.{div-add-mod, pow-succ', mul_assoc, mul_comm, mod-lt}
 use Rattle.std.proofs.lemmas.Bool.{cases_lt}

@@ -1,6 +1,6 @@
 -- Tables of tags, made of one variant after another.
 use Rattle.std.proofs.Common.{◌≡◌, ℕ, suc, zero, ◌<◌, List, [], ◌∷◌, ◌++◌, length, refl, sym, ◌∙◌, ap, subst, arith, inl, inr}
-use Rattle.std.specs.Prelude.{ℤ, pos, slice_get, Option, Some, None}
+use Rattle.std.specs.Prelude.{ℤ, slice_get, Option, Some, None}
 use Rattle.std.specs.Borrow.{Bor}
 use Rattle.std.specs.BTreeMap.{BTreeMap}
 use Rattle.std.proofs.lemmas.Bool.{cases_eq}
@@ -15,7 +15,7 @@ use Rattle.borsh_values.specs.TagTables.{at_key, IsEntryFor, IsRightAt, IsTagTab
 use Rattle.borsh_values.specs.declared.tags.Found.TheVariants.{Nothing, One, Several}
 use Rattle.borsh_values.specs.declared.tag_tables.AtKey.{AtKey}
 use Rattle.borsh_values.specs.declared.tag_tables.AtKey.TheVariants.{One as AtOne, Several as AtSeveral}
-use Rattle.borsh_values.proofs.FoundLaws.{listed_append, listed_left, listed_last, only_last, twice, distinct_left}
+use Rattle.borsh_values.proofs.FoundLaws.{listed_append, only_last, twice, distinct_left}
 use Rattle.borsh_values.proofs.KeyLaws.{key_tag, tag_key, key_of_tag}
 
 listed_at : {k : ℤ} {p : List ℕ} (vs : List (ℤ × List ℕ)) (i : ℕ) → slice_get vs i ≡ Some (k, p) → IsListedVariant k p vs

@@ -3,7 +3,7 @@ ghost use Rattle.borsh_values.specs.Unambiguous.{DistinctTags, IsUnambiguous, Un
 ghost use Rattle.borsh_values.specs.Membership.{IsAmbiguousName, IsUnseen};
 ghost use Rattle.borsh_walks.specs.Definitions.{definitions_in, shape_of};
 ghost use Rattle.borsh_walks.specs.Tables.{mark_of};
-ghost use Rattle.std.specs.Prelude.{Decides, IfOk, MatchOption, ◌+◌, ◌^◌, ◌<◌, ◌≤◌, ◌≡◌, map, string_bytes};
+ghost use Rattle.std.specs.Prelude.{Decides, IfOk, MatchOption, ◌+◌, ◌^◌, ◌<◌, map, string_bytes};
 
 use crate::frames::{Frame, Rest, after_copies, next_part};
 use crate::keys::{numbers_in, tag_key};

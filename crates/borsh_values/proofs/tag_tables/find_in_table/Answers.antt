@@ -1,10 +1,10 @@
-use Rattle.std.proofs.Common.{◌≡◌, ℕ, ◌<◌, ◌≤◌, length, refl, sym, ◌∙◌, ap, arith, false, true, ℤ, List}
-use Rattle.std.specs.Prelude.{string_bytes, slice_get, Option, Some, None}
+use Rattle.std.proofs.Common.{◌≡◌, ℕ, length, refl, sym, ◌∙◌, ap, arith, ℤ, List}
+use Rattle.std.specs.Prelude.{string_bytes, slice_get, Some, None}
 use Rattle.std.proofs.lemmas.List.{length-map}
 use Rattle.std.proofs.lemmas.Option.{slice_get_past}
 use Rattle.borsh_values.specs.TagTables.{at_key}
 use Rattle.borsh_values.specs.declared.tag_tables.AtKey.TheVariants.{One as AtOne, Several as AtSeveral}
-use Rattle.borsh_values.proofs.FoundLaws.{unnamed, got_within, got_variant}
+use Rattle.borsh_values.proofs.FoundLaws.{unnamed, got_variant}
 use Rattle.borsh_values.proofs.TableLaws.{table_nothing, table_several, table_within, table_one, table_other}
 use Rattle.borsh_values.proofs.tag_tables.find_in_table.Goals as goal
 
@@ -45,3 +45,6 @@ pub returns-in-Some-Several : goal.returns-in-Some-Several
 returns-in-Some-Several c =
     let at : at_key c.args.table.now c.key_of.result ≡ Some AtSeveral = sym c.in-Some-Several.ensures.value ∙ ap (λ a. Some a) c.in-Some-Several.field-0-is in
     table_several c.args.tag.now c.requires.table c.key_of.result c.key_of.ensures c.requires.some at
+
+pub returns-in-None : goal.returns-in-None
+returns-in-None c = table_nothing c.args.tag.now c.requires.table c.key_of.result c.key_of.ensures c.requires.some (sym c.in-None.ensures.value)
