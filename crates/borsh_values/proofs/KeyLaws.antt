@@ -1,11 +1,14 @@
 -- Two discriminants share a key exactly if their tags are the same.
-use Rattle.std.proofs.Common.{◌≡◌, ℕ, suc, zero, ◌+◌, ◌-◌, ◌*◌, ◌/◌, ◌%◌, ◌^◌, ◌<◌, ◌≤◌, ◌∷◌, map, refl, sym, ◌∙◌, ap, arith, pow-suc, inl, inr}
+use Rattle.std.proofs.Common.{◌≡◌, ℕ, suc, zero, ◌+◌, ◌-◌, ◌*◌, ◌/◌, ◌%◌, ◌^◌, ◌<◌, ◌≤◌, List, ◌∷◌, map, length, take, refl, sym, ◌∙◌, ap, arith, pow-suc, inl, inr}
 use Rattle.std.specs.Prelude.{ℤ, pos, negsuc}
 use Rattle.std.proofs.Math.Nat.{div-add-mod, pow-succ', mul_assoc, mul_comm, mod-lt}
 use Rattle.std.proofs.lemmas.Bool.{cases_lt}
+use Rattle.std.proofs.lemmas.List.{take-map}
 use Rattle.borsh_walks.specs.Container.{low_bytes, tag}
 use Rattle.borsh_values.specs.Tags.{magnitude_of}
-use Rattle.borsh_values.specs.Keys.{bits_of, IsTagKey}
+use Rattle.borsh_values.specs.Numbers.{value_of}
+use Rattle.borsh_values.specs.Keys.{bits_of, IsTagKey, IsKeyOfTag}
+use Rattle.borsh_values.proofs.FoundLaws.{take_whole}
 use Rattle.borsh_values.proofs.PrefixFree.{close}
 
 -- the complement of each low byte is the low byte of the complement
@@ -103,4 +106,35 @@ tag_key w j k m n a b e = elim (cases_lt w 8) [
       let t = fewer_tag 8 w j k h e in
       let l : low_bytes 8 (bits_of j) ≡ low_bytes 8 (bits_of k) = sym (tag_bits 8 j (omega arith) a.fits) ∙ t ∙ tag_bits 8 k (omega arith) b.fits in
       a.wide h ∙ same_low 8 (bits_of j) (bits_of k) l (bits_fit j a.fits) (bits_fit k b.fits) ∙ sym (b.wide h))
+]
+
+-- the number of low bytes
+value_low : (w n : ℕ) → n < 256 ^ w → value_of (low_bytes w n) ≡ n
+value_low zero n h = omega arith
+value_low (suc w) n h =
+    let p = pow-suc 256 w in
+    let r = value_low w (n / 256) (omega (arith, p, h)) in
+    let e : n / 256 * 256 + n % 256 ≡ n = omega arith in
+    ap (λ m. m * 256 + n % 256) r ∙ e
+
+-- the first bytes of a tag are the narrower tag
+take_low : (v w n : ℕ) → v ≤ w → take v (low_bytes w n) ≡ low_bytes v n
+take_low zero w n h = refl
+take_low (suc v) zero n h = absurd (omega arith)
+take_low (suc v) (suc w) n h = ap (λ l. (n % 256) ∷ l) (take_low v w (n / 256) (omega arith))
+
+take_tag : (v w : ℕ) (k : ℤ) → v ≤ w → take v (tag w k) ≡ tag v k
+take_tag v w (pos n) h = take_low v w n h
+take_tag v w (negsuc n) h = take-map (λ b. 255 - b) v (low_bytes w n) ∙ ap (λ l. map (λ b. 255 - b) l) (take_low v w n h)
+
+-- the key of the bytes of a tag is the key of its discriminant
+pub key_of_tag : (t : List ℕ) (k : ℤ) (n m : ℕ) → tag (length t) k ≡ t → IsTagKey (length t) k n → IsKeyOfTag t m → n ≡ m
+key_of_tag t k n m e a b = elim (cases_lt (length t) 8) [
+  | inl h ↦ (
+      let w = length t in
+      let l : low_bytes w (bits_of k % 256 ^ w) ≡ take 8 t = low_mod w (bits_of k) ∙ sym (tag_bits w k (omega arith) a.fits) ∙ e ∙ sym (take_whole t 8 (omega arith)) in
+      a.narrow h ∙ sym (value_low w (bits_of k % 256 ^ w) (mod-lt (bits_of k) (positive_power w))) ∙ ap (λ l. value_of l) l ∙ sym b)
+  | inr h ↦ (
+      let l : low_bytes 8 (bits_of k) ≡ take 8 t = sym (tag_bits 8 k (omega arith) a.fits) ∙ sym (take_tag 8 (length t) k h) ∙ ap (λ l. take 8 l) e in
+      a.wide h ∙ sym (value_low 8 (bits_of k) (bits_fit k a.fits)) ∙ ap (λ l. value_of l) l ∙ sym b)
 ]

@@ -13,6 +13,7 @@ pub mod FoundLaws
 pub mod Valid
 pub mod KeyLaws
 pub mod DistinctLaws
+pub mod TableLaws
 pub mod Reach
 pub mod NodesLaws
 pub mod Listing

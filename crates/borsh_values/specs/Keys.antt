@@ -1,5 +1,6 @@
 -- A number for the tag of a discriminant.
-use Rattle.std.specs.Prelude.{◌≡◌, ℕ, ◌-◌, ◌%◌, ◌^◌, ◌<◌, ◌≤◌, ℤ, pos, negsuc}
+use Rattle.std.specs.Prelude.{◌≡◌, ℕ, ◌-◌, ◌%◌, ◌^◌, ◌<◌, ◌≤◌, ℤ, pos, negsuc, List, take}
+use Rattle.borsh_values.specs.Numbers.{value_of}
 use Rattle.borsh_values.specs.Tags.{magnitude_of}
 
 -- a number of 64 bits, in two's complement
@@ -12,3 +13,7 @@ pub record IsTagKey (width : ℕ) (k : ℤ) (n : ℕ) : Type 0 where
   pub narrow : width < 8 → n ≡ bits_of k % 256 ^ width
   pub wide : 8 ≤ width → n ≡ bits_of k
   pub fits : magnitude_of k < 9223372036854775808
+
+-- the number of the first eight bytes of a tag, or of all if these are fewer
+abbrev pub IsKeyOfTag : List ℕ → ℕ → Type 0
+IsKeyOfTag t n = n ≡ value_of (take 8 t)

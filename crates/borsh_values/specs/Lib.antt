@@ -8,3 +8,4 @@ pub mod Faults
 pub mod Decoding
 pub mod Encoded
 pub mod Steps
+pub mod TagTables

@@ -10,11 +10,13 @@
 pub mod encoding;
 pub mod faults;
 pub mod frames;
+pub mod keys;
 pub mod members;
 pub mod nodes;
 pub mod numbers;
 pub mod opening;
 pub mod paths;
+pub mod tag_tables;
 pub mod tags;
 pub mod unambiguous;
 

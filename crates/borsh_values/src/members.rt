@@ -13,6 +13,7 @@ use crate::faults::{Fault, Path, Question, Reason, no_member};
 use crate::frames::{Frame, Opened, Rest, after_copies, has_parts, next_part};
 use crate::nodes::{Node, list_node};
 use crate::opening::open_definition;
+use crate::tag_tables::AtKey;
 use borsh_walks::Definition;
 use std::alloc::{AllocError, Global};
 use std::collections::BTreeMap;
@@ -219,6 +220,7 @@ fn decide<'a>(
         IfOk result (λ a. length nodes.new.items ≤ most_opened bytes.now map.now) }
 {
     let mut table: BTreeMap<&'a str, Mark> = BTreeMap::new(alloc);
+    let mut tags: BTreeMap<&'a str, BTreeMap<u64, AtKey>> = BTreeMap::new(alloc);
     let mut stack: Vec<Frame<'a>> = Vec::new(alloc);
     let _definitions = map.len();
     let asked = Question {
@@ -241,7 +243,7 @@ fn decide<'a>(
                     let why = Reason::MissingDefinition;
                     return no_member(asked, &stack, frame, step, left.len(), why);
                 };
-                match open_definition(map, definition, left) {
+                match open_definition(alloc, map, &mut tags, step.part, definition, left)? {
                     Opened::Undecided => return Ok(Membership::Ambiguous(step.part)),
                     Opened::Refused(why) => {
                         return no_member(asked, &stack, frame, step, left.len(), why);

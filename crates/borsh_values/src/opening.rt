@@ -1,15 +1,19 @@
 // What the definition of a name takes from the bytes.
 ghost use Rattle.borsh_values.specs.Nodes.{packed_size};
 ghost use Rattle.borsh_values.specs.Steps.{FitsWidth, OpensAs, TakesElements};
+ghost use Rattle.borsh_values.specs.TagTables.{AreTagTables, KeepsTables, TableFits};
 ghost use Rattle.borsh_walks.specs.Container.{Shape, choice, sequence};
 ghost use Rattle.borsh_walks.specs.Definitions.{definitions_in, shape_of};
-ghost use Rattle.std.specs.Prelude.{◌≡◌, ◌≤◌, ℕ, List, Option, length, map, string_bytes};
+ghost use Rattle.borsh_walks.specs.Tables.{mark_of};
+ghost use Rattle.std.specs.Prelude.{◌≡◌, ◌≤◌, ℕ, IfOk, List, OnOk, Option, length, map, string_bytes};
 
 use crate::faults::Reason;
 use crate::frames::{Opened, Rest};
 use crate::numbers::number;
-use crate::tags::{Found, find_variant};
+use crate::tag_tables::{AtKey, find_variant_of};
+use crate::tags::Found;
 use borsh_walks::{Declaration, Definition, DiscriminantValue, VariantName};
+use std::alloc::{AllocError, Global};
 use std::collections::BTreeMap;
 
 // Whether all counts up to `end` can be written in `width` bytes, a width that a valid container has.
@@ -98,60 +102,74 @@ fn open_sequence<'a>(
 }
 
 fn open_enum<'a>(
+    alloc: Global,
+    tables: &mut BTreeMap<&'a str, BTreeMap<u64, AtKey>>,
+    name: &'a str,
     width: u8,
     variants: &'a Vec<(DiscriminantValue, VariantName, Declaration)>,
     bytes: &[u8],
-) -> Opened<'a>
-    ensures { (C : List ℕ → Option Shape) →
-        OpensAs C (choice width (map (λ v. (v.0, string_bytes v.2)) variants.now.items)) bytes.now result }
+) -> Result<Opened<'a>, AllocError>
+    requires { let vs = map (λ v. (v.0, string_bytes v.2)) variants.now.items in
+        TableFits width vs (mark_of tables.old name.now) }
+    ensures opened { let vs = map (λ v. (v.0, string_bytes v.2)) variants.now.items in
+        (C : List ℕ → Option Shape) → IfOk result (λ o. OpensAs C (choice width vs) bytes.now o) }
+    ensures kept { let vs = map (λ v. (v.0, string_bytes v.2)) variants.now.items in
+        OnOk result (KeepsTables name.now width vs tables.old tables.new) }
 {
     let size = usize::from(width);
     if bytes.len() < size {
-        return Opened::Refused(Reason::TooShort);
+        return Ok(Opened::Refused(Reason::TooShort));
     }
-    match find_variant(variants, &bytes[..size]) {
-        Found::Nothing => Opened::Refused(Reason::Tag),
-        Found::One(name) => Opened::Taken(size, Rest::Copies(name, 1)),
-        Found::Several => Opened::Undecided,
+    match find_variant_of(alloc, tables, name, width, variants, &bytes[..size])? {
+        Found::Nothing => Ok(Opened::Refused(Reason::Tag)),
+        Found::One(name) => Ok(Opened::Taken(size, Rest::Copies(name, 1))),
+        Found::Several => Ok(Opened::Undecided),
     }
 }
 
-/// What a definition takes from the front of the bytes: a primitive its bytes, a sequence its count and its elements
-/// if these are primitives of some bytes, an enum its tag, a struct and a tuple none.
+/// What the definition of a name takes from the front of the bytes: a primitive its bytes, a sequence its count and its
+/// elements if these are primitives of some bytes, an enum its tag, a struct and a tuple none.
 pub fn open_definition<'a>(
+    alloc: Global,
     map: &BTreeMap<String, Definition>,
+    tables: &mut BTreeMap<&'a str, BTreeMap<u64, AtKey>>,
+    name: &'a str,
     definition: &'a Definition,
     bytes: &[u8],
-) -> Opened<'a>
-    ensures { OpensAs (definitions_in map.now) (shape_of definition.now) bytes.now result }
+) -> Result<Opened<'a>, AllocError>
+    requires defined { definitions_in map.now name.now ≡ Some (shape_of definition.now) }
+    requires tables { AreTagTables (definitions_in map.now) tables.old }
+    ensures opened { let C = definitions_in map.now in
+        IfOk result (λ o. OpensAs C (shape_of definition.now) bytes.now o) }
+    ensures tables { OnOk result (AreTagTables (definitions_in map.now) tables.new) }
 {
     match definition {
         Definition::Primitive(size) => {
             let size = usize::from(*size);
             if bytes.len() < size {
-                Opened::Refused(Reason::TooShort)
+                Ok(Opened::Refused(Reason::TooShort))
             } else {
-                Opened::Taken(size, Rest::Parts(definition, 0))
+                Ok(Opened::Taken(size, Rest::Parts(definition, 0)))
             }
         }
         Definition::Tuple { .. } | Definition::Struct { .. } => {
-            Opened::Taken(0, Rest::Parts(definition, 0))
+            Ok(Opened::Taken(0, Rest::Parts(definition, 0)))
         }
         Definition::Sequence {
             length_width,
             length_range,
             elements,
-        } => open_sequence(
+        } => Ok(open_sequence(
             map,
             *length_width,
             length_range.start,
             length_range.end,
             elements.as_str(),
             bytes,
-        ),
+        )),
         Definition::Enum {
             tag_width,
             variants,
-        } => open_enum(*tag_width, variants, bytes),
+        } => open_enum(alloc, tables, name, *tag_width, variants, bytes),
     }
 }

@@ -1,32 +1,15 @@
 // Whether bytes say which value was encoded, by the definitions alone.
-ghost use Rattle.borsh_values.specs.Keys.{IsTagKey, bits_of};
 ghost use Rattle.borsh_values.specs.Unambiguous.{DistinctTags, IsUnambiguous, UnambiguousShape};
 ghost use Rattle.borsh_values.specs.Membership.{IsAmbiguousName, IsUnseen};
 ghost use Rattle.borsh_walks.specs.Definitions.{definitions_in, shape_of};
 ghost use Rattle.borsh_walks.specs.Tables.{mark_of};
-ghost use Rattle.std.specs.Prelude.{Decides, IfOk, MatchOption, ◌+◌, ◌^◌, ◌<◌, ◌≤◌, ◌≡◌, map, string_bytes};
+ghost use Rattle.std.specs.Prelude.{Decides, IfOk, MatchOption, ◌+◌, ◌^◌, ◌<◌, map, string_bytes};
 
 use crate::frames::{Frame, Rest, after_copies, next_part};
+use crate::keys::{numbers_in, tag_key};
 use borsh_walks::{Declaration, Definition, DiscriminantValue, VariantName};
 use std::alloc::{AllocError, Global};
 use std::collections::{BTreeMap, BTreeSet};
-
-// How many numbers have that many bytes, where that is below 2^64.
-fn numbers_in(width: u8) -> Option<u64>
-    ensures { MatchOption result (8 ≤ width) (λ n. (n ≡ 256 ^ width) × (width < 8) × (0 < n)) }
-{
-    match width {
-        0 => Some(1),
-        1 => Some(256),
-        2 => Some(65536),
-        3 => Some(16777216),
-        4 => Some(4294967296),
-        5 => Some(1099511627776),
-        6 => Some(281474976710656),
-        7 => Some(72057594037927936),
-        _ => None,
-    }
-}
 
 // Whether no two counts of the range are encoded alike.
 fn has_distinct_counts(width: u8, start: u64, end: u64) -> bool
@@ -35,29 +18,6 @@ fn has_distinct_counts(width: u8, start: u64, end: u64) -> bool
     match numbers_in(width) {
         Some(numbers) => end < start || end - start < numbers,
         None => true,
-    }
-}
-
-// The number of 64 bits, in two's complement.
-fn bits(discriminant: i64) -> u64
-    ensures { result ≡ bits_of discriminant }
-{
-    if discriminant < 0 {
-        18446744073709551615 - (-(discriminant + 1)) as u64
-    } else {
-        discriminant as u64
-    }
-}
-
-// A number that two discriminants share exactly if their tags in that width are the same.
-fn tag_key(width: u8, discriminant: &i64) -> u64
-    ensures { IsTagKey width discriminant.now result }
-{
-    let value = *discriminant;
-    let bits = bits(value);
-    match numbers_in(width) {
-        Some(numbers) => bits % numbers,
-        None => bits,
     }
 }
 

@@ -5,6 +5,7 @@ use Rattle.borsh_walks.specs.Tables.{mark_of}
 use Rattle.borsh_walks.specs.ZeroAnswer.{ZeroTable}
 use Rattle.borsh_values.specs.Nodes.{NodeView, Nodes, views}
 use Rattle.borsh_values.specs.Steps.{pending}
+use Rattle.borsh_values.specs.TagTables.{AreTagTables}
 use Rattle.borsh_values.proofs.Walk.{Walk}
 use Rattle.borsh_values.proofs.Measure.{left, opens}
 use Rattle.borsh_values.proofs.Offsets.{Placed}
@@ -21,6 +22,7 @@ invariant-loop-step l = record {
   few : l.wanted ≡ true → length l.nodes.items + opens (btree_map_len l.fn.map) (length l.left) l.idle ≤ opens (btree_map_len l.fn.map) (length l.fn.bytes) 0;
   placed : l.wanted ≡ true → Placed (length l.fn.bytes) l.nodes.items l.left;
   table : ZeroTable (definitions_in l.fn.map) l.zeros;
+  tags : AreTagTables (definitions_in l.fn.map) l.tags;
   listed : l.wanted ≡ true → (es : List NodeView) → Nodes (definitions_in l.fn.map) (pending (l.frame ∷ reverse l.stack.items)) l.left es → Nodes (definitions_in l.fn.map) (l.fn.root ∷ []) l.fn.bytes (views l.nodes.items ++ es);
 }
 

@@ -3,7 +3,7 @@ use Rattle.std.specs.Prelude.{ℤ, pos, negsuc}
 use Rattle.std.proofs.lemmas.Int.{to_z-of_z}
 use Rattle.borsh_values.specs.Tags.{magnitude_of}
 use Rattle.borsh_values.specs.Keys.{bits_of}
-use Rattle.borsh_values.proofs.unambiguous.tag_key.Goals as goal
+use Rattle.borsh_values.proofs.keys.tag_key.Goals as goal
 
 small : (k : ℤ) → SFits w64 k → magnitude_of k < 9223372036854775808
 small (pos n) f = omega arith
