@@ -1,12 +1,8 @@
 // Written by borsh_derive.py from generics.rt: edit that file, and run the program again.
-ghost use Rattle.borsh.specs.Laws.OfParts.{IsKey, contramap, contramap-lawful, from, key_facts};
+ghost use Rattle.borsh.specs.Derived.{IsKey, contramap, contramap-lawful, from, key_facts};
 
 use super::generics::Ledger;
-use borsh::de::{FromParts, read_parts};
-use borsh::io::{Read, Result, Write};
-use borsh::ser::write_two;
-use borsh::{BorshDeserialize, BorshKey, BorshSerialize, BorshType};
-use std::alloc::Global;
+use borsh::derived::*;
 use std::collections::BTreeMap;
 
 /// The fields of [`Ledger`], in order.
@@ -15,8 +11,7 @@ type Fields<K, V> = (BTreeMap<K, V>, bool);
 impl<K: BorshKey + Ord + BorshType, V: BorshType> BorshType for Ledger<K, V> {
     ghost codec = { contramap (λ v. (v.entries, v.closed)) ⟦<Fields<K, V> as BorshType>⟧.codec };
 
-    ghost lawful_if = { from (contramap-lawful (λ v. (v.entries, v.closed)))
-        ⟦<Fields<K, V> as BorshType>⟧.lawful_if };
+    ghost lawful_if = { from (contramap-lawful _) ⟦<Fields<K, V> as BorshType>⟧.lawful_if };
 
     ghost premises = { let k_key : IsKey K.ordered K.cmp K.eq K.codec =
         record { key = K.key; total = K.total; matches = K.matches_eq } in

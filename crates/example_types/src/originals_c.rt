@@ -1,12 +1,8 @@
 // Written by borsh_derive.py from originals.rt: edit that file, and run the program again.
-ghost use Rattle.borsh.specs.Laws.OfParts.{IsKey, contramap, contramap-lawful, from, key_facts};
+ghost use Rattle.borsh.specs.Derived.{IsKey, contramap, contramap-lawful, from, key_facts};
 
 use super::originals::C;
-use borsh::de::{FromParts, read_parts};
-use borsh::io::{Read, Result, Write};
-use borsh::ser::write_two;
-use borsh::{BorshDeserialize, BorshKey, BorshSerialize, BorshType};
-use std::alloc::Global;
+use borsh::derived::*;
 use std::collections::HashMap;
 use std::hash::Hash;
 
@@ -16,8 +12,7 @@ type Fields<T, U> = (String, HashMap<T, U>);
 impl<T: BorshKey + Ord + Hash + Eq + BorshType, U: BorshType> BorshType for C<T, U> {
     ghost codec = { contramap (λ v. (v.a, v.b)) ⟦<Fields<T, U> as BorshType>⟧.codec };
 
-    ghost lawful_if = { from (contramap-lawful (λ v. (v.a, v.b)))
-        ⟦<Fields<T, U> as BorshType>⟧.lawful_if };
+    ghost lawful_if = { from (contramap-lawful _) ⟦<Fields<T, U> as BorshType>⟧.lawful_if };
 
     ghost premises = { let t_key : IsKey T.ordered T.cmp T.eq T.codec =
         record { key = T.key; total = T.total; matches = T.matches_eq } in

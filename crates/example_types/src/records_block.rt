@@ -1,12 +1,8 @@
 // Written by borsh_derive.py from records.rt: edit that file, and run the program again.
-ghost use Rattle.borsh.specs.Laws.OfParts.{contramap, contramap-lawful, from, key_facts};
+ghost use Rattle.borsh.specs.Derived.{contramap, contramap-lawful, from, key_facts};
 
 use super::records::{Block, Marker, Name, Point};
-use borsh::de::{FromParts, read_parts};
-use borsh::io::{Read, Result, Write};
-use borsh::ser::write_four;
-use borsh::{BorshDeserialize, BorshSerialize, BorshType};
-use std::alloc::Global;
+use borsh::derived::*;
 
 /// The fields of [`Block`], in order.
 type Fields = ([u8; 32], [[u16; 3]; 2], Vec<Name>, Option<(Point, Marker)>);
@@ -14,8 +10,7 @@ type Fields = ([u8; 32], [[u16; 3]; 2], Vec<Name>, Option<(Point, Marker)>);
 impl BorshType for Block {
     ghost codec = { contramap ⟦<Block as FromParts>⟧.view ⟦<Fields as BorshType>⟧.codec };
 
-    ghost lawful_if = { from (contramap-lawful ⟦<Block as FromParts>⟧.view)
-        ⟦<Fields as BorshType>⟧.lawful_if };
+    ghost lawful_if = { from (contramap-lawful _) ⟦<Fields as BorshType>⟧.lawful_if };
 
     ghost premises = { Prim.search key_facts };
 

@@ -1,12 +1,8 @@
 // Written by borsh_derive.py from records.rt: edit that file, and run the program again.
-ghost use Rattle.borsh.specs.Laws.OfParts.{contramap, contramap-lawful, from, key_facts};
+ghost use Rattle.borsh.specs.Derived.{contramap, contramap-lawful, from, key_facts};
 
 use super::records::Cached;
-use borsh::de::{FromParts, read_parts};
-use borsh::io::{Read, Result, Write};
-use borsh::ser::write_two;
-use borsh::{BorshDeserialize, BorshSerialize, BorshType};
-use std::alloc::Global;
+use borsh::derived::*;
 use std::collections::HashMap;
 use std::net::Ipv4Addr;
 
@@ -16,8 +12,7 @@ type Fields = (u16, HashMap<u8, Ipv4Addr>);
 impl BorshType for Cached {
     ghost codec = { contramap ⟦<Cached as FromParts>⟧.view ⟦<Fields as BorshType>⟧.codec };
 
-    ghost lawful_if = { from (contramap-lawful ⟦<Cached as FromParts>⟧.view)
-        ⟦<Fields as BorshType>⟧.lawful_if };
+    ghost lawful_if = { from (contramap-lawful _) ⟦<Fields as BorshType>⟧.lawful_if };
 
     ghost premises = { Prim.search key_facts };
 

@@ -1,12 +1,9 @@
 // Written by borsh_derive.py from records.rt: edit that file, and run the program again.
-ghost use Rattle.borsh.specs.Laws.OfParts.{contramap, contramap-lawful, contramap_ordered, from, key_facts};
+ghost use Rattle.borsh.specs.Derived.{contramap, contramap-lawful, contramap_ordered, from};
+ghost use Rattle.borsh.specs.Derived.{key_facts};
 
 use super::records::UserId;
-use borsh::de::{FromParts, read_parts};
-use borsh::io::{Read, Result, Write};
-use borsh::ser::write_two;
-use borsh::{BorshDeserialize, BorshKey, BorshSerialize, BorshType};
-use std::alloc::Global;
+use borsh::derived::*;
 
 /// The fields of [`UserId`], in order.
 type Fields = (u8, String);
@@ -14,8 +11,7 @@ type Fields = (u8, String);
 impl BorshType for UserId {
     ghost codec = { contramap ⟦<UserId as FromParts>⟧.view ⟦<Fields as BorshType>⟧.codec };
 
-    ghost lawful_if = { from (contramap-lawful ⟦<UserId as FromParts>⟧.view)
-        ⟦<Fields as BorshType>⟧.lawful_if };
+    ghost lawful_if = { from (contramap-lawful _) ⟦<Fields as BorshType>⟧.lawful_if };
 
     ghost premises = { Prim.search key_facts };
 
