@@ -334,7 +334,7 @@ def struct_meaning(writer):
     else:
         view = quote(writer, writer.own(), 'FromParts', '.view')
     of_fields = quote(writer, writer.alias_use(), 'BorshType', '.lawful_if')
-    laws = ghost_member('lawful_if', 'from', [Term('', ['(contramap-lawful _)']), of_fields], 4)
+    laws = ghost_member('lawful_if', 'from', [view.within('(contramap-lawful ', ')'), of_fields], 4)
     encodes_empty = of_parts(writer, 'encodes_empty', and_then)
     element_size = of_parts(writer, 'element_size', added)
     return meaning(writer, view, 'BorshType', laws, encodes_empty, element_size)

@@ -12,7 +12,8 @@ type Fields<A, B> = (A, B);
 impl<A: BorshType, B: BorshType> BorshType for Pair<A, B> {
     ghost codec = { contramap (λ v. (v.first, v.second)) ⟦<Fields<A, B> as BorshType>⟧.codec };
 
-    ghost lawful_if = { from (contramap-lawful _) ⟦<Fields<A, B> as BorshType>⟧.lawful_if };
+    ghost lawful_if = { from (contramap-lawful (λ v. (v.first, v.second)))
+        ⟦<Fields<A, B> as BorshType>⟧.lawful_if };
 
     ghost premises = { Prim.search (key_facts, A.premises, B.premises) };
 

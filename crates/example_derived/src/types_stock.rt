@@ -12,7 +12,8 @@ type Fields = (BTreeMap<String, u32>, Option<String>);
 impl BorshType for Stock {
     ghost codec = { contramap ⟦<Stock as FromParts>⟧.view ⟦<Fields as BorshType>⟧.codec };
 
-    ghost lawful_if = { from (contramap-lawful _) ⟦<Fields as BorshType>⟧.lawful_if };
+    ghost lawful_if = { from (contramap-lawful ⟦<Stock as FromParts>⟧.view)
+        ⟦<Fields as BorshType>⟧.lawful_if };
 
     ghost premises = { Prim.search key_facts };
 

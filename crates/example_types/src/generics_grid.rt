@@ -10,7 +10,8 @@ type Fields<const N: usize> = ([u8; N], bool);
 impl<const N: usize> BorshType for Grid<N> {
     ghost codec = { contramap (λ v. (v.cells, v.turned)) ⟦<Fields<N> as BorshType>⟧.codec };
 
-    ghost lawful_if = { from (contramap-lawful _) ⟦<Fields<N> as BorshType>⟧.lawful_if };
+    ghost lawful_if = { from (contramap-lawful (λ v. (v.cells, v.turned)))
+        ⟦<Fields<N> as BorshType>⟧.lawful_if };
 
     ghost premises = { Prim.search key_facts };
 

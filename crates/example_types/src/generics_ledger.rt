@@ -11,7 +11,8 @@ type Fields<K, V> = (BTreeMap<K, V>, bool);
 impl<K: BorshKey + Ord + BorshType, V: BorshType> BorshType for Ledger<K, V> {
     ghost codec = { contramap (λ v. (v.entries, v.closed)) ⟦<Fields<K, V> as BorshType>⟧.codec };
 
-    ghost lawful_if = { from (contramap-lawful _) ⟦<Fields<K, V> as BorshType>⟧.lawful_if };
+    ghost lawful_if = { from (contramap-lawful (λ v. (v.entries, v.closed)))
+        ⟦<Fields<K, V> as BorshType>⟧.lawful_if };
 
     ghost premises = { let k_key : IsKey K.ordered K.cmp K.eq K.codec =
         record { key = K.key; total = K.total; matches = K.matches_eq } in

@@ -19,7 +19,8 @@ where
 {
     ghost codec = { contramap (λ v. (v.rows, v.by_number)) ⟦<Fields<T> as BorshType>⟧.codec };
 
-    ghost lawful_if = { from (contramap-lawful _) ⟦<Fields<T> as BorshType>⟧.lawful_if };
+    ghost lawful_if = { from (contramap-lawful (λ v. (v.rows, v.by_number)))
+        ⟦<Fields<T> as BorshType>⟧.lawful_if };
 
     ghost premises = { Prim.search (key_facts, T.premises) };
 

@@ -12,7 +12,8 @@ type Fields = (Box<u64>, BoxedStr, BoxedSlice<u8>);
 impl BorshType for Boxed {
     ghost codec = { contramap ⟦<Boxed as FromParts>⟧.view ⟦<Fields as BorshType>⟧.codec };
 
-    ghost lawful_if = { from (contramap-lawful _) ⟦<Fields as BorshType>⟧.lawful_if };
+    ghost lawful_if = { from (contramap-lawful ⟦<Boxed as FromParts>⟧.view)
+        ⟦<Fields as BorshType>⟧.lawful_if };
 
     ghost premises = { Prim.search key_facts };
 

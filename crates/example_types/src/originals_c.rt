@@ -12,7 +12,8 @@ type Fields<T, U> = (String, HashMap<T, U>);
 impl<T: BorshKey + Ord + Hash + Eq + BorshType, U: BorshType> BorshType for C<T, U> {
     ghost codec = { contramap (λ v. (v.a, v.b)) ⟦<Fields<T, U> as BorshType>⟧.codec };
 
-    ghost lawful_if = { from (contramap-lawful _) ⟦<Fields<T, U> as BorshType>⟧.lawful_if };
+    ghost lawful_if = { from (contramap-lawful (λ v. (v.a, v.b)))
+        ⟦<Fields<T, U> as BorshType>⟧.lawful_if };
 
     ghost premises = { let t_key : IsKey T.ordered T.cmp T.eq T.codec =
         record { key = T.key; total = T.total; matches = T.matches_eq } in

@@ -15,7 +15,8 @@ impl<T: BorshType, F: BorshType, G: BorshType> BorshType for Generic<T, F, G> {
     ghost codec = { contramap (λ v. (v.x, v.y, v.b, v.pd, v.c, v.d))
         ⟦<Fields<T, F, G> as BorshType>⟧.codec };
 
-    ghost lawful_if = { from (contramap-lawful _) ⟦<Fields<T, F, G> as BorshType>⟧.lawful_if };
+    ghost lawful_if = { from (contramap-lawful (λ v. (v.x, v.y, v.b, v.pd, v.c, v.d)))
+        ⟦<Fields<T, F, G> as BorshType>⟧.lawful_if };
 
     ghost premises = { Prim.search (key_facts, T.premises, F.premises, G.premises) };
 

@@ -13,7 +13,8 @@ type Fields<K, V> = (K, PhantomData<V>);
 impl<K: BorshType, V> BorshType for Parametrized<K, V> {
     ghost codec = { contramap (λ v. (v.field, v.another)) ⟦<Fields<K, V> as BorshType>⟧.codec };
 
-    ghost lawful_if = { from (contramap-lawful _) ⟦<Fields<K, V> as BorshType>⟧.lawful_if };
+    ghost lawful_if = { from (contramap-lawful (λ v. (v.field, v.another)))
+        ⟦<Fields<K, V> as BorshType>⟧.lawful_if };
 
     ghost premises = { Prim.search (key_facts, K.premises) };
 

@@ -12,7 +12,8 @@ type Fields = (u64, BTreeMap<String, u64>, Option<String>);
 impl BorshType for Account {
     ghost codec = { contramap ⟦<Account as FromParts>⟧.view ⟦<Fields as BorshType>⟧.codec };
 
-    ghost lawful_if = { from (contramap-lawful _) ⟦<Fields as BorshType>⟧.lawful_if };
+    ghost lawful_if = { from (contramap-lawful ⟦<Account as FromParts>⟧.view)
+        ⟦<Fields as BorshType>⟧.lawful_if };
 
     ghost premises = { Prim.search key_facts };
 

@@ -10,7 +10,8 @@ type Fields = ([u8; 32], [[u16; 3]; 2], Vec<Name>, Option<(Point, Marker)>);
 impl BorshType for Block {
     ghost codec = { contramap ⟦<Block as FromParts>⟧.view ⟦<Fields as BorshType>⟧.codec };
 
-    ghost lawful_if = { from (contramap-lawful _) ⟦<Fields as BorshType>⟧.lawful_if };
+    ghost lawful_if = { from (contramap-lawful ⟦<Block as FromParts>⟧.view)
+        ⟦<Fields as BorshType>⟧.lawful_if };
 
     ghost premises = { Prim.search key_facts };
 

@@ -12,7 +12,8 @@ type Fields = (u16, HashMap<u8, Ipv4Addr>);
 impl BorshType for Cached {
     ghost codec = { contramap ⟦<Cached as FromParts>⟧.view ⟦<Fields as BorshType>⟧.codec };
 
-    ghost lawful_if = { from (contramap-lawful _) ⟦<Fields as BorshType>⟧.lawful_if };
+    ghost lawful_if = { from (contramap-lawful ⟦<Cached as FromParts>⟧.view)
+        ⟦<Fields as BorshType>⟧.lawful_if };
 
     ghost premises = { Prim.search key_facts };
 

@@ -11,7 +11,8 @@ type Fields = (BTreeMap<UserId, Name>, BTreeSet<UserId>);
 impl BorshType for Directory {
     ghost codec = { contramap ⟦<Directory as FromParts>⟧.view ⟦<Fields as BorshType>⟧.codec };
 
-    ghost lawful_if = { from (contramap-lawful _) ⟦<Fields as BorshType>⟧.lawful_if };
+    ghost lawful_if = { from (contramap-lawful ⟦<Directory as FromParts>⟧.view)
+        ⟦<Fields as BorshType>⟧.lawful_if };
 
     ghost premises = { Prim.search key_facts };
 

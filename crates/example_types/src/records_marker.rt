@@ -11,7 +11,8 @@ type Fields = ();
 impl BorshType for Marker {
     ghost codec = { contramap ⟦<Marker as FromParts>⟧.view ⟦<Fields as BorshType>⟧.codec };
 
-    ghost lawful_if = { from (contramap-lawful _) ⟦<Fields as BorshType>⟧.lawful_if };
+    ghost lawful_if = { from (contramap-lawful ⟦<Marker as FromParts>⟧.view)
+        ⟦<Fields as BorshType>⟧.lawful_if };
 
     ghost premises = { Prim.search key_facts };
 

@@ -11,7 +11,8 @@ type Fields = String;
 impl BorshType for Name {
     ghost codec = { contramap ⟦<Name as FromParts>⟧.view ⟦<Fields as BorshType>⟧.codec };
 
-    ghost lawful_if = { from (contramap-lawful _) ⟦<Fields as BorshType>⟧.lawful_if };
+    ghost lawful_if = { from (contramap-lawful ⟦<Name as FromParts>⟧.view)
+        ⟦<Fields as BorshType>⟧.lawful_if };
 
     ghost premises = { Prim.search key_facts };
 

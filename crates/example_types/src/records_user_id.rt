@@ -11,7 +11,8 @@ type Fields = (u8, String);
 impl BorshType for UserId {
     ghost codec = { contramap ⟦<UserId as FromParts>⟧.view ⟦<Fields as BorshType>⟧.codec };
 
-    ghost lawful_if = { from (contramap-lawful _) ⟦<Fields as BorshType>⟧.lawful_if };
+    ghost lawful_if = { from (contramap-lawful ⟦<UserId as FromParts>⟧.view)
+        ⟦<Fields as BorshType>⟧.lawful_if };
 
     ghost premises = { Prim.search key_facts };
 
