@@ -2,8 +2,8 @@
 
 from describe import describes_fields
 from emit import TUPLE, generic_group, quote, tree
-from layout import (Group, Term, array, call, flat, function_head, ghost_list, ghost_member, ghost_name, statement, tuple_type,
-                    type_layout)
+from layout import (ARRAY_WIDTH, TUPLE_WIDTH, Group, Term, array, call, flat, function_head, ghost_list,
+                    ghost_member, ghost_name, statement, tuple_type, type_layout)
 
 
 # the widest term in a line of its own
@@ -204,8 +204,12 @@ def fork_described(first, second):
 def enum_call(writer):
     rows = []
     for variant in writer.marked.variants:
-        fields = ', '.join('"%s"' % field.name for field in variant.fields.encoded() if variant.fields.kind == 'named')
-        rows.append('("%s", &[%s])' % (variant.name, fields))
-    names = Group('', '&[', rows, ']', 60)
-    arguments = ['alloc', '"%s"' % writer.marked.name, names, 'map']
+        names = ['"%s"' % field.name for field in variant.fields.encoded() if variant.fields.kind == 'named']
+        rows.append(Group('', '(', ['"%s"' % variant.name, reference_to(names)], ')', TUPLE_WIDTH))
+    arguments = ['alloc', '"%s"' % writer.marked.name, reference_to(rows), 'map']
     return statement('', call('%s::<%s>' % (writer.lib('add_enum'), writer.list_use()), arguments), '', 8)
+
+
+def reference_to(items):
+    """A reference to an array."""
+    return Group('', '&[', items, ']', ARRAY_WIDTH, fills=True)

@@ -243,6 +243,18 @@ class Taken(Cases):
         text = self.written('// derive: borsh\npub struct Wide {\n%s}\n' % fields, 'types_wide')
         self.assertIn('type Fields = Tuple5<[u8; 32], String, Vec<u8>, Option<String>, BTreeMap<String, u64>>;', text)
 
+    def test_arms_that_are_too_wide(self):
+        text = self.written('// derive: borsh\npub enum Message {\n    Numbered10 { label: String, count: u32, where_it_lies: u8 },\n    Other,\n}\n', 'types_message')
+        self.assertIn('                &Tag(0),\n                label,\n', text)
+        names = ''.join('    AVariantOfALongName%d(u8),\n' % index for index in range(16))
+        text = self.written('// derive: borsh\npub enum Message {\n%s}\n' % names, 'types_message')
+        self.assertIn('Case(part0))))) =>\n                Message::AVariantOfALongName0(part0),\n', text)
+
+    def test_names_of_variants_that_are_too_wide(self):
+        fields = ', '.join('%s_field: u8' % name for name in ('first', 'second', 'third', 'fourth'))
+        text = self.written('// derive: borsh, schema\npub enum E {\n    First { %s },\n    Other,\n}\n' % fields, 'types_e')
+        self.assertIn('                (\n                    "First",\n                    &["first_field", ', text)
+
     def test_lines_are_short(self):
         fields = ''.join('    pub a_rather_long_name_%d: std::collections::BTreeMap<String, Vec<u8>>,\n' % index for index in range(12))
         text = self.written('// derive: borsh\npub struct Wide {\n%s}\n' % fields, 'types_wide')
