@@ -244,7 +244,7 @@ class Taken(Cases):
         self.assertIn('type Fields = Tuple5<[u8; 32], String, Vec<u8>, Option<String>, BTreeMap<String, u64>>;', text)
 
     def test_arms_that_are_too_wide(self):
-        text = self.written('// derive: borsh\npub enum Message {\n    Numbered10 { label: String, count: u32, where_it_lies: u8 },\n    Other,\n}\n', 'types_message')
+        text = self.written('// derive: borsh\npub enum Message {\n    NumberedOne { label: String, count: u32 },\n    Other,\n}\n', 'types_message')
         self.assertIn('                &Tag(0),\n                label,\n', text)
         names = ''.join('    AVariantOfALongName%d(u8),\n' % index for index in range(16))
         text = self.written('// derive: borsh\npub enum Message {\n%s}\n' % names, 'types_message')
