@@ -102,7 +102,7 @@ def laid_out(node, indent, used, behind):
     if isinstance(node, str) or (is_narrow(node) and used + len(line) + behind <= WIDTH):
         return line
     if node.opening == '&[' and len(node.items) == 1 and not isinstance(node.items[0], str):
-        return node.opening + laid_out(node.items[0], indent, WIDTH, 0) + node.closing
+        return node.opening + laid_out(node.items[0], indent, used + 2, behind + 1) + node.closing
     inner = indent + 4
     lines = [node.head + node.opening]
     if node.fills and all(is_short(item) for item in node.items):
