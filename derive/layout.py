@@ -106,7 +106,9 @@ def laid_out(node, indent, used, behind):
     inner = indent + 4
     lines = [node.head + node.opening]
     if node.fills and all(is_short(item) for item in node.items):
-        lines.append(filled(', '.join(flat(item) for item in node.items).split(' '), inner, WIDTH - 1) + ',')
+        words = ['%s,' % flat(item) for item in node.items]
+        line = ' ' * inner + ' '.join(words)
+        lines.append(line if len(line) <= WIDTH else filled(words, inner, WIDTH - 1))
     else:
         lines += ['%s%s,' % (' ' * inner, laid_out(item, inner, inner, 1)) for item in node.items]
     return '\n'.join(lines + [' ' * indent + node.closing])
