@@ -41,11 +41,11 @@ class Writer:
     def __init__(self, marked, place):
         self.marked = marked
         self.place = place
-        self.imports = {path for path in user_imports(marked, place) if not is_offered(path)}
-        self.used = set()
+        paths = set(user_imports(marked, place))
+        self.used = {last_name(path) for path in paths if is_offered(path)}
+        self.imports = {path for path in paths if not is_offered(path)}
         self.taken = set(marked.heads()) | {marked.name} | {parameter.name for parameter in marked.parameters}
-        self.taken -= {last_name(path) for path in user_imports(marked, place) if is_offered(path)}
-        self.taken |= {last_name(path) for path in self.imports}
+        self.taken = self.taken - self.used | {last_name(path) for path in self.imports}
         self.alias = free_name('Fields' if marked.variants is None else 'Variants', self.taken)
         self.list = free_name('FieldList' if marked.variants is None else 'VariantList', self.taken)
         self.sink = free_name('W', self.taken)

@@ -151,6 +151,8 @@ class Taken(Cases):
         self.assertIn('use super::types::Book;\nuse borsh::derived::*;\n\n', text)
         text = self.written('use borsh::BorshKey;\n\n// derive: borsh\npub struct Book<K: BorshKey + Ord>(pub Set<K>);\n', 'types_book')
         self.assertIn('use super::types::Book;\nuse borsh::derived::*;\n\n', text)
+        text = self.written('use borsh::BorshKey;\n\n// derive: borsh\npub struct Book<K: BorshKey + Ord>(pub Result<Set<K>, u8>);\n', 'types_book')
+        self.assertIn('use borsh::derived::{\n    BorshDeserialize, BorshKey, ', text)
         text = self.written('use super::other::*;\n\n// derive: borsh\npub struct Book(pub u8);\n', 'types_book')
         self.assertIn('use borsh::derived::{\n', text)
         self.assertNotIn('derived::*', text)
