@@ -2,7 +2,7 @@
 
 import re
 
-from layout import (GHOST_WORDS, Group, Term, arm, binding, call, flat, function_head, ghost_cases, ghost_member,
+from layout import (GHOST_WORDS, WIDTH, Group, Term, arm, binding, call, flat, function_head, ghost_cases, ghost_member,
                     ghost_name, ghost_term, ghost_tuple, impl_head, import_lines, laid_out, pattern, statement, struct_of,
                     tuple_of, tuple_type, type_layout, type_text)
 from rust_types import Array
@@ -14,23 +14,13 @@ NUMBERS = ('zero', 'one', 'two', 'three', 'four', 'five', 'six', 'seven', 'eight
 TUPLE = 12
 WRITTEN = 20
 
-# where the library has what is written here
-BORSH = {
-    'BorshDeserialize': 'borsh', 'BorshKey': 'borsh', 'BorshSerialize': 'borsh', 'BorshType': 'borsh',
-    'EnumExt': 'borsh',
-    'FromParts': 'borsh::de', 'read_parts': 'borsh::de',
-    'Case': 'borsh::de', 'Cases': 'borsh::de', 'Fork': 'borsh::de', 'FromCases': 'borsh::de',
-    'read_enum': 'borsh::de', 'read_variant': 'borsh::de',
-    'Read': 'borsh::io', 'Result': 'borsh::io', 'Write': 'borsh::io',
-    'Tag': 'borsh::ser', 'write_bytes': 'borsh::ser',
-    'BorshSchema': 'borsh', 'Declaration': 'borsh::schema', 'Definition': 'borsh::schema',
-    'FieldTypes': 'borsh::schema', 'SchemaBuildError': 'borsh::schema', 'VariantTypes': 'borsh::schema',
-    'declared': 'borsh::schema', 'declared_with': 'borsh::schema', 'add_enum': 'borsh::schema',
-    'add_named_with': 'borsh::schema', 'add_unnamed_with': 'borsh::schema',
-    'add_named': 'borsh::schema', 'add_unnamed': 'borsh::schema', 'add_unit': 'borsh::schema',
-    'BTreeMap': 'std::collections', 'Global': 'std::alloc',
-}
-BORSH.update({'write_' + number: 'borsh::ser' for number in NUMBERS[2:]})
+# the module of the library that has what is written here, and what it has
+DERIVED = 'borsh::derived'
+OFFERED = set('''BorshDeserialize BorshKey BorshSchema BorshSerialize BorshType Case Cases Chain Declaration DefinitionMap
+    EnumExt FieldTypes Fork FromCases FromParts Global Read Result SchemaResult Tag TupleTypes VariantTypes Write add_enum
+    add_named add_named_with add_unit add_unnamed add_unnamed_with declared declared_with read_enum read_parts
+    read_variant write_bytes'''.split())
+OFFERED |= {'write_' + number for number in NUMBERS[2:]} | {'Tuple%d' % count for count in range(2, TUPLE + 1)}
 
 
 class Place:
@@ -51,9 +41,11 @@ class Writer:
     def __init__(self, marked, place):
         self.marked = marked
         self.place = place
-        self.imports = set(user_imports(marked, place))
+        paths = set(user_imports(marked, place))
+        self.used = {last_name(path) for path in paths if is_offered(path)}
+        self.imports = {path for path in paths if not is_offered(path)}
         self.taken = set(marked.heads()) | {marked.name} | {parameter.name for parameter in marked.parameters}
-        self.taken |= {path.split(' as ')[-1].split('::')[-1] for path in self.imports}
+        self.taken = self.taken - self.used | {last_name(path) for path in self.imports}
         self.alias = free_name('Fields' if marked.variants is None else 'Variants', self.taken)
         self.list = free_name('FieldList' if marked.variants is None else 'VariantList', self.taken)
         self.sink = free_name('W', self.taken)
@@ -62,12 +54,17 @@ class Writer:
     # ---- names
 
     def lib(self, name):
-        """A name of the library, imported unless the type uses that name for something else."""
-        path = '%s::%s' % (BORSH[name], name)
-        if name in self.taken and path not in self.imports:
-            return path
-        self.imports.add(path)
+        """A name of the library, or its path where the type uses that name for something else."""
+        if name in self.taken:
+            return '%s::%s' % (DERIVED, name)
+        self.used.add(name)
         return name
+
+    def all_imports(self):
+        """The imports. The names of the library are listed where `*` could hide a name of the type's module."""
+        is_hidden = self.taken & OFFERED or any(path.endswith('*') for path in self.imports)
+        names = sorted(self.used) if is_hidden else ['*']
+        return self.imports | {'%s::%s' % (DERIVED, name) for name in names}
 
     def arguments(self):
         """The parameters as arguments: `<A, N>` or nothing."""
@@ -139,8 +136,17 @@ class Writer:
         head = '// Written by borsh_derive.py from %s: edit that file, and run the program again.'
         rows = [head % self.place.file()]
         rows += ghost_imports(self, body)
-        rows += [''] + import_lines(self.imports) + ['', body]
+        rows += [''] + import_lines(self.all_imports()) + ['', body]
         return '\n'.join(rows) + '\n'
+
+
+def is_offered(path):
+    """Whether a path of the type's module names what the library's module for generated text has."""
+    return last_name(path) in OFFERED and re.match(r'borsh(_\w+)?::', path) and ' as ' not in path
+
+
+def last_name(path):
+    return path.split(' as ')[-1].split('::')[-1]
 
 
 def key_fact(name):
@@ -195,32 +201,26 @@ def split_bounds(where):
     return found + ([part.strip()] if part.strip() else [])
 
 
+# what the library's specs have for ghost terms, under one path
+GHOST_PATH = 'Rattle.borsh.specs.Derived'
+GHOST_OFFERED = '''IsKey all_more all_one case_described choice_more choice_none codes contramap contramap-lawful
+    contramap_ordered describes_choice describes_contramap describes_elements describes_ordered describes_parts
+    describes_refused_if describes_row describes_sorted describes_stored describes_unit enum_definitions enum_described
+    enum_lawful_if fields first_variant fork_described from key_facts later_variant left name_with no_fields_described
+    option_view refl result_view right struct_described struct_parts unit_entries unit_struct unnamed_struct ◌∷◌ []'''.split()
+
+
 def ghost_imports(writer, body):
     """The imports of ghost terms."""
-    names = {
-        'Rattle.borsh.specs.Laws.OfParts':
-            ('IsKey', 'contramap', 'contramap-lawful', 'contramap_ordered', 'from', 'key_facts'),
-        'Rattle.borsh.specs.Cases': ('fields', 'left', 'right'),
-        'Rattle.borsh.specs.CaseLaws': ('enum_lawful_if',),
-        'Rattle.borsh.specs.Types.Sums': ('option_view', 'result_view'),
-        'Rattle.borsh.specs.Maps': ('unit_entries',),
-        'Rattle.borsh.specs.Schema.Container': ('first_variant', 'later_variant'),
-        'Rattle.borsh.specs.Schema.Cases': ('case_described', 'enum_described', 'fork_described'),
-        'Rattle.borsh.specs.Schema.Laws.Members':
-            ('all_more', 'all_one', 'choice_more', 'choice_none', 'describes_choice', 'describes_contramap',
-             'describes_elements', 'describes_ordered', 'describes_parts', 'describes_refused_if', 'describes_row',
-             'describes_sorted', 'describes_stored', 'describes_unit'),
-        'Rattle.borsh.specs.Schema.Laws.Quoted': ('no_fields_described', 'struct_described', 'struct_parts'),
-        'Rattle.borsh.specs.Schema.Types': ('unit_struct', 'unnamed_struct'),
-        'Rattle.borsh.specs.Schema.Variants': ('enum_definitions', 'name_with'),
-        'Rattle.std.specs.Prelude': ('codes', 'refl', '◌∷◌', '[]'),
-    }
     ghost = ' '.join(re.findall(r'ghost \w+ = \{(.*?)\};', body, re.S))
     rows = []
-    for path, offered in names.items():
-        used = [name for name in offered if is_used(name, ghost)]
-        if used:
-            rows.append('ghost use %s.{%s};' % (path, ', '.join(used)))
+    for name in GHOST_OFFERED:
+        if not is_used(name, ghost):
+            continue
+        if rows and len(rows[-1] + ', ' + name) <= WIDTH:
+            rows[-1] = '%s, %s};' % (rows[-1][:-2], name)
+        else:
+            rows.append('ghost use %s.{%s};' % (GHOST_PATH, name))
     if writer.marked.variants is not None:
         module = writer.place.module_name + '.' if writer.place.module_name else ''
         name = writer.marked.name
@@ -313,7 +313,12 @@ def struct_fields(writer):
     fields = writer.marked.fields.encoded()
     left_out = ' that are encoded' if len(fields) < len(writer.marked.fields.all) else ''
     doc = '/// The fields of [`%s`]%s, in order.' % (writer.marked.name, left_out)
-    return '%s\n%s' % (doc, statement('type %s = ' % writer.alias_head(), type_of_parts(fields), ';', 0))
+    start = 'type %s = ' % writer.alias_head()
+    line = statement(start, type_of_parts(fields), ';', 0)
+    if '\n' in line and len(fields) <= TUPLE:
+        types = [type_layout(field.type) for field in fields]
+        line = statement(start, generic_group(writer.lib('Tuple%d' % len(fields)), types), ';', 0)
+    return '%s\n%s' % (doc, line)
 
 
 def struct_view(writer):

@@ -13,7 +13,7 @@ ARRAY_WIDTH = 60
 TUPLE_WIDTH = 60
 STRUCT_WIDTH = 18
 
-# where all arguments of a call are as short as this, they fill lines
+# where all arguments of a call are as short as this, and none of them is a call, they fill lines
 SHORT = 10
 
 
@@ -101,13 +101,23 @@ def laid_out(node, indent, used, behind):
     line = flat(node)
     if isinstance(node, str) or (is_narrow(node) and used + len(line) + behind <= WIDTH):
         return line
+    if node.opening == '&[' and len(node.items) == 1 and not isinstance(node.items[0], str):
+        return node.opening + laid_out(node.items[0], indent, used + 2, behind + 1) + node.closing
     inner = indent + 4
     lines = [node.head + node.opening]
-    if node.fills and all(len(flat(item)) <= SHORT for item in node.items):
-        lines.append(filled(['%s,' % flat(item) for item in node.items], inner))
+    if node.fills and all(is_short(item) for item in node.items):
+        words = ['%s,' % flat(item) for item in node.items]
+        line = ' ' * inner + ' '.join(words)
+        lines.append(line if len(line) <= WIDTH else filled(words, inner, WIDTH - 1))
     else:
         lines += ['%s%s,' % (' ' * inner, laid_out(item, inner, inner, 1)) for item in node.items]
     return '\n'.join(lines + [' ' * indent + node.closing])
+
+
+def is_short(item):
+    """Whether an argument or an element shares its line with others; a call doesn't."""
+    text = flat(item)
+    return len(text) <= SHORT and '(' not in text
 
 
 def statement(prefix, node, suffix, indent):
@@ -136,9 +146,9 @@ def arm(pattern_node, body, indent):
     line = flat(body)
     if is_narrow(body) and used + len(line) + 1 <= WIDTH:
         return '%s%s => %s,' % (start, text, line)
-    inner = indent + 4
-    if is_narrow(body) and inner + len(line) + 1 <= WIDTH and '\n' not in text:
-        return '%s%s =>\n%s%s,' % (start, text, ' ' * inner, line)
+    is_broken = not isinstance(body, str) and used + len(body.head + body.opening) <= WIDTH
+    if not is_broken and '\n' not in text:
+        return '%s%s =>\n%s%s,' % (start, text, ' ' * (indent + 4), laid_out(body, indent + 4, indent + 4, 1))
     return '%s%s => %s,' % (start, text, laid_out(body, indent, WIDTH, 1))
 
 

@@ -2,8 +2,8 @@
 
 from describe import describes_fields
 from emit import TUPLE, generic_group, quote, tree
-from layout import (Group, Term, array, call, flat, function_head, ghost_list, ghost_member, ghost_name, statement, tuple_type,
-                    type_layout)
+from layout import (ARRAY_WIDTH, TUPLE_WIDTH, Group, Term, array, call, flat, function_head, ghost_list,
+                    ghost_member, ghost_name, statement, tuple_type, type_layout)
 
 
 # the widest term in a line of its own
@@ -26,7 +26,7 @@ def schema(writer, data, adding, describes):
     writer.lib(own.split('(')[0].split(':')[0])
     rows = ['    ghost name = { %s };' % ghost_own_name(writer), ''] + data + ['']
     rows += [head(writer, 'declaration', [], writer.lib('Declaration')), '        ' + own, '    }', '',
-             head(writer, 'add_definitions_recursively', [definitions_of(writer)], '()'),
+             head(writer, 'add_definitions_recursively', ['map: &mut %s' % writer.lib('DefinitionMap')], '()'),
              adding, '    }', '', describes]
     return writer.block('BorshSchema', 'BorshSchema', rows)
 
@@ -48,13 +48,7 @@ def ghost_own_name(writer):
 
 def head(writer, name, more, result):
     parameters = ['alloc: %s' % writer.lib('Global')] + more
-    outcome = 'std::result::Result<%s, %s>' % (result, writer.lib('SchemaBuildError'))
-    return function_head(name, parameters, outcome, 4)
-
-
-def definitions_of(writer):
-    types = tuple(writer.lib(name) for name in ('BTreeMap', 'Declaration', 'Definition'))
-    return 'definitions: &mut %s<%s, %s>' % types
+    return function_head(name, parameters, '%s<%s>' % (writer.lib('SchemaResult'), result), 4)
 
 
 def chain(items, end):
@@ -87,18 +81,30 @@ def fields_described(writer, type_of_fields, fields):
 def struct_schema(writer):
     fields = writer.marked.fields.encoded()
     kind = writer.marked.fields.kind if fields else 'unit'
-    described = fields_described(writer, writer.list_use(), fields)
+    chained = types_in_chain(writer, fields)
+    described = fields_described(writer, chained, fields)
     view = fields_view(['v.' + ghost_name(field.name) for field in fields])
     data = [struct_parts(writer, kind, described), '',
             ghost_member('described', 'struct_described', [view, described, Term('', ['refl'])], 4)]
     describes = '    ghost describes = { Self.described.describes };'
     if named_parameters(writer):
         describes = describes_fields(writer, fields)
-    block = schema(writer, data, struct_call(writer, kind), describes)
-    if not fields:
+    block = schema(writer, data, struct_call(writer, kind, chained), describes)
+    if len(fields) <= TUPLE:
         return [block]
     doc = '/// The fields of [`%s`] as its schema goes through them.' % writer.marked.name
     return ['%s\n%s' % (doc, statement('type %s = ' % writer.list_head(), chain_type(fields), ';', 0)), block]
+
+
+def types_in_chain(writer, fields):
+    """The types of fields one after another, by the alias of their tuple; past twelve by an alias of their own."""
+    if not fields:
+        return '()'
+    if len(fields) == 1:
+        return '(%s, ())' % writer.alias_use()
+    if len(fields) > TUPLE:
+        return writer.list_use()
+    return '%s<%s>' % (writer.lib('Chain'), writer.alias_use())
 
 
 def struct_parts(writer, kind, described):
@@ -113,26 +119,26 @@ def struct_parts(writer, kind, described):
     return ghost_member('parts', 'struct_parts', [name, Term('', ['(%s)' % names]), described], 4)
 
 
-def struct_call(writer, kind):
+def struct_call(writer, kind, chained):
     """The statements that add these definitions; names that don't fit into the call's line are bound before it."""
     parameters = named_parameters(writer)
     name = '"%s"' % writer.marked.name
     if kind == 'unit':
-        return statement('', call(writer.lib('add_unit'), ['alloc', name, 'definitions']), '', 8)
+        return statement('', call(writer.lib('add_unit'), ['alloc', name, 'map']), '', 8)
     function = 'add_named' if kind == 'named' else 'add_unnamed'
-    types = [writer.list_use()]
+    types = [chained]
     if parameters:
         function += '_with'
-        types = [parameters[0], chain(parameters[1:], '()')] + types
+        types = [parameters[0], chain(parameters[1:], '()'), chained]
     function = '%s::<%s>' % (writer.lib(function), ', '.join(types))
     if kind == 'tuple':
-        return statement('', call(function, ['alloc', name, 'definitions']), '', 8)
+        return statement('', call(function, ['alloc', name, 'map']), '', 8)
     names = array(['"%s"' % field.name for field in writer.marked.fields.encoded()])
-    whole = statement('', call(function, ['alloc', name, '&' + flat(names), 'definitions']), '', 8)
+    whole = statement('', call(function, ['alloc', name, '&' + flat(names), 'map']), '', 8)
     if '\n' not in whole:
         return whole
     return '\n'.join([statement('let names = ', names, ';', 8),
-                      statement('', call(function, ['alloc', name, '&names', 'definitions']), '', 8)])
+                      statement('', call(function, ['alloc', name, '&names', 'map']), '', 8)])
 
 
 # ---- enums
@@ -198,8 +204,12 @@ def fork_described(first, second):
 def enum_call(writer):
     rows = []
     for variant in writer.marked.variants:
-        fields = ', '.join('"%s"' % field.name for field in variant.fields.encoded() if variant.fields.kind == 'named')
-        rows.append('("%s", &[%s])' % (variant.name, fields))
-    names = Group('', '&[', rows, ']', 60)
-    arguments = ['alloc', '"%s"' % writer.marked.name, names, 'definitions']
+        names = ['"%s"' % field.name for field in variant.fields.encoded() if variant.fields.kind == 'named']
+        rows.append(Group('', '(', ['"%s"' % variant.name, reference_to(names)], ')', TUPLE_WIDTH))
+    arguments = ['alloc', '"%s"' % writer.marked.name, reference_to(rows), 'map']
     return statement('', call('%s::<%s>' % (writer.lib('add_enum'), writer.list_use()), arguments), '', 8)
+
+
+def reference_to(items):
+    """A reference to an array."""
+    return Group('', '&[', items, ']', ARRAY_WIDTH, fills=True)

@@ -139,11 +139,23 @@ class Taken(Cases):
 
     def test_names_of_the_library(self):
         text = self.written('use super::mine::Write;\n\n// derive: borsh\npub struct Book {\n    pub a: Result<u8, Write>,\n    pub b: u8,\n}\n', 'types_book')
-        self.assertIn('fn serialize<W: borsh::io::Write>(', text)
-        self.assertIn('-> borsh::io::Result<()> {', text)
+        self.assertIn('fn serialize<W: borsh::derived::Write>(', text)
+        self.assertIn('-> borsh::derived::Result<()> {', text)
+        self.assertNotIn('derived::*', text)
         text = self.written('// derive: borsh\npub struct Case<W, R>(pub W, pub R);\n', 'types_case')
         self.assertIn('fn serialize<WType: Write>(', text)
         self.assertIn('fn deserialize_reader<RType: Read>(', text)
+
+    def test_imports_of_the_library(self):
+        text = self.written('// derive: borsh\npub struct Book(pub u8);\n', 'types_book')
+        self.assertIn('use super::types::Book;\nuse borsh::derived::*;\n\n', text)
+        text = self.written('use borsh::BorshKey;\n\n// derive: borsh\npub struct Book<K: BorshKey + Ord>(pub Set<K>);\n', 'types_book')
+        self.assertIn('use super::types::Book;\nuse borsh::derived::*;\n\n', text)
+        text = self.written('use borsh::BorshKey;\n\n// derive: borsh\npub struct Book<K: BorshKey + Ord>(pub Result<Set<K>, u8>);\n', 'types_book')
+        self.assertIn('use borsh::derived::{\n    BorshDeserialize, BorshKey, ', text)
+        text = self.written('use super::other::*;\n\n// derive: borsh\npub struct Book(pub u8);\n', 'types_book')
+        self.assertIn('use borsh::derived::{\n', text)
+        self.assertNotIn('derived::*', text)
 
     def test_keys(self):
         text = self.written('// derive: borsh, key\n#[derive(Drop, PartialEq, Eq, PartialOrd, Ord)]\npub struct Id {\n    pub a: u8,\n    pub b: String,\n    pub c: bool,\n}\n', 'types_id')
@@ -155,13 +167,15 @@ class Taken(Cases):
     def test_schemas(self):
         text = self.written('// derive: borsh, schema\npub struct P {\n    pub x: u8,\n    pub y: String,\n}\n', 'types_p')
         self.assertIn('(codes "x" ∷ codes "y" ∷ [])', text)
-        self.assertIn('type FieldList = (u8, (String, ()));', text)
-        self.assertIn('⟦<FieldList as FieldTypes>⟧.described', text)
-        self.assertIn('add_named::<FieldList>(alloc, "P", &["x", "y"], definitions)', text)
+        self.assertIn('⟦<Chain<Fields> as FieldTypes>⟧.described', text)
+        self.assertIn('add_named::<Chain<Fields>>(alloc, "P", &["x", "y"], map)', text)
         text = self.written('// derive: borsh, schema\npub struct P(pub u8);\n', 'types_p')
-        self.assertIn('add_unnamed::<FieldList>(alloc, "P", definitions)', text)
+        self.assertIn('add_unnamed::<(Fields, ())>(alloc, "P", map)', text)
         text = self.written('// derive: borsh, schema\npub struct P;\n', 'types_p')
-        self.assertIn('add_unit(alloc, "P", definitions)', text)
+        self.assertIn('add_unit(alloc, "P", map)', text)
+        fields = ''.join('    pub f%d: u8,\n' % index for index in range(13))
+        text = self.written('// derive: borsh, schema\npub struct P {\n%s}\n' % fields, 'types_p')
+        self.assertIn('⟦<FieldList as FieldTypes>⟧.described', text)
 
     def test_schemas_of_enums(self):
         text = self.written('// derive: borsh, schema\npub enum E {\n    A,\n    // tag: 7\n    B(u8),\n    C { x: u8, y: u16 },\n}\n', 'types_e')
@@ -217,6 +231,31 @@ class Taken(Cases):
         crate = self.crate('// derive: borsh\npub struct A;\n\n// derive: borsh\npub struct B;\n', root=HEAD + 'mod types_a;\nmod zoo;\n')
         self.assertEqual(crate.run()[0], 0)
         self.assertIn('pub mod types;\nmod types_a;\nmod types_b;\nmod zoo;\n', crate.read('lib'))
+
+    def test_five_fields_with_a_schema(self):
+        rows = [('count', 'u64'), ('label', 'String'), ('image', 'Vec<u8>'), ('notes', 'Option<String>')]
+        for kind in ('u32', '[u8; 32]', 'BTreeMap<String, u64>'):
+            fields = ''.join('    pub %s: %s,\n' % row for row in rows + [('rates', kind)])
+            text = self.written('use std::collections::BTreeMap;\n\n// derive: borsh, schema\npub struct Stock {\n%s}\n' % fields, 'types_stock')
+            self.assertLess(len(text.splitlines()), 90)
+
+    def test_wide_tuples(self):
+        kinds = ('[u8; 32]', 'String', 'Vec<u8>', 'Option<String>', 'BTreeMap<String, u64>')
+        fields = ''.join('    pub f%d: %s,\n' % row for row in enumerate(kinds))
+        text = self.written('// derive: borsh\npub struct Wide {\n%s}\n' % fields, 'types_wide')
+        self.assertIn('type Fields = Tuple5<[u8; 32], String, Vec<u8>, Option<String>, BTreeMap<String, u64>>;', text)
+
+    def test_arms_that_are_too_wide(self):
+        text = self.written('// derive: borsh\npub enum Message {\n    NumberedOne { label: String, count: u32 },\n    Other,\n}\n', 'types_message')
+        self.assertIn('                &Tag(0),\n                label,\n', text)
+        names = ''.join('    AVariantOfALongName%d(u8),\n' % index for index in range(16))
+        text = self.written('// derive: borsh\npub enum Message {\n%s}\n' % names, 'types_message')
+        self.assertIn('Case(part0))))) =>\n                Message::AVariantOfALongName0(part0),\n', text)
+
+    def test_names_of_variants_that_are_too_wide(self):
+        fields = ', '.join('%s_field: u8' % name for name in ('first', 'second', 'third', 'fourth'))
+        text = self.written('// derive: borsh, schema\npub enum E {\n    First { %s },\n    Other,\n}\n' % fields, 'types_e')
+        self.assertIn('                (\n                    "First",\n                    &["first_field", ', text)
 
     def test_lines_are_short(self):
         fields = ''.join('    pub a_rather_long_name_%d: std::collections::BTreeMap<String, Vec<u8>>,\n' % index for index in range(12))

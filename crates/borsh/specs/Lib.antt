@@ -1,4 +1,5 @@
 pub mod Counting
+pub mod Derived
 pub mod Length
 pub mod Schema
 pub mod WithSchema

@@ -11,6 +11,7 @@
 #![tactic(auto)]
 
 pub mod de;
+pub mod derived;
 pub mod error;
 pub mod io;
 mod length;

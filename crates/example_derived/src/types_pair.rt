@@ -1,20 +1,10 @@
 // Written by borsh_derive.py from types.rt: edit that file, and run the program again.
-ghost use Rattle.borsh.specs.Laws.OfParts.{contramap, contramap-lawful, from, key_facts};
-ghost use Rattle.borsh.specs.Schema.Laws.Members.{all_more, all_one, describes_contramap, describes_parts};
-ghost use Rattle.borsh.specs.Schema.Laws.Quoted.{struct_described, struct_parts};
-ghost use Rattle.borsh.specs.Schema.Variants.{name_with};
-ghost use Rattle.std.specs.Prelude.{codes, refl, ◌∷◌, []};
+ghost use Rattle.borsh.specs.Derived.{all_more, all_one, codes, contramap, contramap-lawful};
+ghost use Rattle.borsh.specs.Derived.{describes_contramap, describes_parts, from, key_facts};
+ghost use Rattle.borsh.specs.Derived.{name_with, refl, struct_described, struct_parts, ◌∷◌, []};
 
 use super::types::Pair;
-use borsh::de::{FromParts, read_parts};
-use borsh::io::{Read, Result, Write};
-use borsh::schema::{
-    Declaration, Definition, FieldTypes, SchemaBuildError, add_named_with, declared_with,
-};
-use borsh::ser::write_two;
-use borsh::{BorshDeserialize, BorshSchema, BorshSerialize, BorshType};
-use std::alloc::Global;
-use std::collections::BTreeMap;
+use borsh::derived::*;
 
 /// The fields of [`Pair`], in order.
 type Fields<A, B> = (A, B);
@@ -58,28 +48,21 @@ impl<A: BorshDeserialize, B: BorshDeserialize> BorshDeserialize for Pair<A, B> {
     }
 }
 
-/// The fields of [`Pair`] as its schema goes through them.
-type FieldList<A, B> = (A, (B, ()));
-
 impl<A: BorshSchema, B: BorshSchema> BorshSchema for Pair<A, B> {
     ghost name = { name_with (codes "Pair") A.name (B.name ∷ []) };
 
     ghost parts = { struct_parts (name_with (codes "Pair") A.name (B.name ∷ []))
-        (codes "first" ∷ codes "second" ∷ []) ⟦<FieldList<A, B> as FieldTypes>⟧.described };
+        (codes "first" ∷ codes "second" ∷ []) ⟦<Chain<Fields<A, B>> as FieldTypes>⟧.described };
 
     ghost described = { struct_described (λ v. (v.first, (v.second, tt)))
-        ⟦<FieldList<A, B> as FieldTypes>⟧.described refl };
+        ⟦<Chain<Fields<A, B>> as FieldTypes>⟧.described refl };
 
-    fn declaration(alloc: Global) -> std::result::Result<Declaration, SchemaBuildError> {
+    fn declaration(alloc: Global) -> SchemaResult<Declaration> {
         declared_with::<A, (B, ())>(alloc, "Pair")
     }
 
-    fn add_definitions_recursively(
-        alloc: Global,
-        definitions: &mut BTreeMap<Declaration, Definition>,
-    ) -> std::result::Result<(), SchemaBuildError> {
-        let names = ["first", "second"];
-        add_named_with::<A, (B, ()), FieldList<A, B>>(alloc, "Pair", &names, definitions)
+    fn add_definitions_recursively(alloc: Global, map: &mut DefinitionMap) -> SchemaResult<()> {
+        add_named_with::<A, (B, ()), Chain<Fields<A, B>>>(alloc, "Pair", &["first", "second"], map)
     }
 
     ghost describes = { λ C h. describes_contramap (λ v. (v.first, v.second))

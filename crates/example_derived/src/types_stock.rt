@@ -1,15 +1,9 @@
 // Written by borsh_derive.py from types.rt: edit that file, and run the program again.
-ghost use Rattle.borsh.specs.Laws.OfParts.{contramap, contramap-lawful, from, key_facts};
-ghost use Rattle.borsh.specs.Schema.Laws.Quoted.{struct_described, struct_parts};
-ghost use Rattle.std.specs.Prelude.{codes, refl, ◌∷◌, []};
+ghost use Rattle.borsh.specs.Derived.{codes, contramap, contramap-lawful, from, key_facts, refl};
+ghost use Rattle.borsh.specs.Derived.{struct_described, struct_parts, ◌∷◌, []};
 
 use super::types::Stock;
-use borsh::de::{FromParts, read_parts};
-use borsh::io::{Read, Result, Write};
-use borsh::schema::{Declaration, Definition, FieldTypes, SchemaBuildError, add_named, declared};
-use borsh::ser::write_two;
-use borsh::{BorshDeserialize, BorshSchema, BorshSerialize, BorshType};
-use std::alloc::Global;
+use borsh::derived::*;
 use std::collections::BTreeMap;
 
 /// The fields of [`Stock`], in order.
@@ -54,27 +48,21 @@ impl BorshDeserialize for Stock {
     }
 }
 
-/// The fields of [`Stock`] as its schema goes through them.
-type FieldList = (BTreeMap<String, u32>, (Option<String>, ()));
-
 impl BorshSchema for Stock {
     ghost name = { codes "Stock" };
 
     ghost parts = { struct_parts (codes "Stock") (codes "pieces" ∷ codes "note" ∷ [])
-        ⟦<FieldList as FieldTypes>⟧.described };
+        ⟦<Chain<Fields> as FieldTypes>⟧.described };
 
     ghost described = { struct_described (λ v. (v.pieces, (v.note, tt)))
-        ⟦<FieldList as FieldTypes>⟧.described refl };
+        ⟦<Chain<Fields> as FieldTypes>⟧.described refl };
 
-    fn declaration(alloc: Global) -> std::result::Result<Declaration, SchemaBuildError> {
+    fn declaration(alloc: Global) -> SchemaResult<Declaration> {
         declared(alloc, "Stock")
     }
 
-    fn add_definitions_recursively(
-        alloc: Global,
-        definitions: &mut BTreeMap<Declaration, Definition>,
-    ) -> std::result::Result<(), SchemaBuildError> {
-        add_named::<FieldList>(alloc, "Stock", &["pieces", "note"], definitions)
+    fn add_definitions_recursively(alloc: Global, map: &mut DefinitionMap) -> SchemaResult<()> {
+        add_named::<Chain<Fields>>(alloc, "Stock", &["pieces", "note"], map)
     }
 
     ghost describes = { Self.described.describes };

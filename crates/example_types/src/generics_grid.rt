@@ -1,12 +1,8 @@
 // Written by borsh_derive.py from generics.rt: edit that file, and run the program again.
-ghost use Rattle.borsh.specs.Laws.OfParts.{contramap, contramap-lawful, from, key_facts};
+ghost use Rattle.borsh.specs.Derived.{contramap, contramap-lawful, from, key_facts};
 
 use super::generics::Grid;
-use borsh::de::{FromParts, read_parts};
-use borsh::io::{Read, Result, Write};
-use borsh::ser::write_two;
-use borsh::{BorshDeserialize, BorshSerialize, BorshType};
-use std::alloc::Global;
+use borsh::derived::*;
 
 /// The fields of [`Grid`], in order.
 type Fields<const N: usize> = ([u8; N], bool);

@@ -1,12 +1,8 @@
 // Written by borsh_derive.py from generics.rt: edit that file, and run the program again.
-ghost use Rattle.borsh.specs.Laws.OfParts.{IsKey, contramap, contramap-lawful, from, key_facts};
+ghost use Rattle.borsh.specs.Derived.{IsKey, contramap, contramap-lawful, from, key_facts};
 
 use super::generics::Ledger;
-use borsh::de::{FromParts, read_parts};
-use borsh::io::{Read, Result, Write};
-use borsh::ser::write_two;
-use borsh::{BorshDeserialize, BorshKey, BorshSerialize, BorshType};
-use std::alloc::Global;
+use borsh::derived::*;
 use std::collections::BTreeMap;
 
 /// The fields of [`Ledger`], in order.

@@ -1,21 +1,13 @@
 // Written by borsh_derive.py from generics.rt: edit that file, and run the program again.
-ghost use Rattle.borsh.specs.Laws.OfParts.{contramap, contramap-lawful, from, key_facts};
-ghost use Rattle.borsh.specs.Types.Sums.{option_view};
-ghost use Rattle.borsh.specs.Schema.Container.{first_variant, later_variant};
-ghost use Rattle.borsh.specs.Schema.Laws.Members.{all_more, all_one, choice_more, choice_none, describes_choice, describes_contramap, describes_elements, describes_ordered, describes_parts, describes_refused_if, describes_unit};
-ghost use Rattle.borsh.specs.Schema.Laws.Quoted.{struct_described, struct_parts};
-ghost use Rattle.borsh.specs.Schema.Variants.{name_with};
-ghost use Rattle.std.specs.Prelude.{codes, refl, ◌∷◌, []};
+ghost use Rattle.borsh.specs.Derived.{all_more, all_one, choice_more, choice_none, codes};
+ghost use Rattle.borsh.specs.Derived.{contramap, contramap-lawful, describes_choice};
+ghost use Rattle.borsh.specs.Derived.{describes_contramap, describes_elements, describes_ordered};
+ghost use Rattle.borsh.specs.Derived.{describes_parts, describes_refused_if, describes_unit};
+ghost use Rattle.borsh.specs.Derived.{first_variant, from, key_facts, later_variant, name_with};
+ghost use Rattle.borsh.specs.Derived.{option_view, refl, struct_described, struct_parts, ◌∷◌, []};
 
 use super::generics::Table;
-use borsh::de::{FromParts, read_parts};
-use borsh::io::{Read, Result, Write};
-use borsh::schema::{
-    Declaration, Definition, FieldTypes, SchemaBuildError, add_named_with, declared_with,
-};
-use borsh::ser::write_two;
-use borsh::{BorshDeserialize, BorshSchema, BorshSerialize, BorshType};
-use std::alloc::Global;
+use borsh::derived::*;
 use std::collections::BTreeMap;
 
 /// The fields of [`Table`], in order.
@@ -72,9 +64,6 @@ where
     }
 }
 
-/// The fields of [`Table`] as its schema goes through them.
-type FieldList<T> = (Vec<T>, (BTreeMap<u32, Option<T>>, ()));
-
 impl<T: BorshSchema> BorshSchema for Table<T>
 where
     T: Clone,
@@ -82,20 +71,17 @@ where
     ghost name = { name_with (codes "Table") T.name [] };
 
     ghost parts = { struct_parts (name_with (codes "Table") T.name [])
-        (codes "rows" ∷ codes "by_number" ∷ []) ⟦<FieldList<T> as FieldTypes>⟧.described };
+        (codes "rows" ∷ codes "by_number" ∷ []) ⟦<Chain<Fields<T>> as FieldTypes>⟧.described };
 
     ghost described = { struct_described (λ v. (v.rows, (v.by_number, tt)))
-        ⟦<FieldList<T> as FieldTypes>⟧.described refl };
+        ⟦<Chain<Fields<T>> as FieldTypes>⟧.described refl };
 
-    fn declaration(alloc: Global) -> std::result::Result<Declaration, SchemaBuildError> {
+    fn declaration(alloc: Global) -> SchemaResult<Declaration> {
         declared_with::<T, ()>(alloc, "Table")
     }
 
-    fn add_definitions_recursively(
-        alloc: Global,
-        definitions: &mut BTreeMap<Declaration, Definition>,
-    ) -> std::result::Result<(), SchemaBuildError> {
-        add_named_with::<T, (), FieldList<T>>(alloc, "Table", &["rows", "by_number"], definitions)
+    fn add_definitions_recursively(alloc: Global, map: &mut DefinitionMap) -> SchemaResult<()> {
+        add_named_with::<T, (), Chain<Fields<T>>>(alloc, "Table", &["rows", "by_number"], map)
     }
 
     ghost describes = { λ C h. describes_contramap (λ v. (v.rows, v.by_number))

@@ -1,13 +1,9 @@
 // Written by borsh_derive.py from messages.rt: edit that file, and run the program again.
-ghost use Rattle.borsh.specs.Laws.OfParts.{contramap, contramap-lawful, from, key_facts};
+ghost use Rattle.borsh.specs.Derived.{contramap, contramap-lawful, from, key_facts};
 
 use super::messages::{Envelope, Level, Message};
 use super::records::Name;
-use borsh::de::{FromParts, read_parts};
-use borsh::io::{Read, Result, Write};
-use borsh::ser::write_three;
-use borsh::{BorshDeserialize, BorshSerialize, BorshType};
-use std::alloc::Global;
+use borsh::derived::*;
 
 /// The fields of [`Envelope`], in order.
 type Fields = (Name, Message, Level);

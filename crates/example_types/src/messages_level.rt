@@ -1,21 +1,11 @@
 // Written by borsh_derive.py from messages.rt: edit that file, and run the program again.
-ghost use Rattle.borsh.specs.Laws.OfParts.{contramap, key_facts};
-ghost use Rattle.borsh.specs.Cases.{fields, left, right};
-ghost use Rattle.borsh.specs.CaseLaws.{enum_lawful_if};
-ghost use Rattle.borsh.specs.Schema.Cases.{case_described, enum_described, fork_described};
-ghost use Rattle.borsh.specs.Schema.Laws.Quoted.{no_fields_described};
-ghost use Rattle.borsh.specs.Schema.Variants.{enum_definitions};
-ghost use Rattle.std.specs.Prelude.{codes, refl, ◌∷◌, []};
+ghost use Rattle.borsh.specs.Derived.{case_described, codes, contramap, enum_definitions};
+ghost use Rattle.borsh.specs.Derived.{enum_described, enum_lawful_if, fields, fork_described};
+ghost use Rattle.borsh.specs.Derived.{key_facts, left, no_fields_described, refl, right, ◌∷◌, []};
 ghost use Rattle.example_types.specs.declared.messages.Level.{Level};
 
 use super::messages::Level;
-use borsh::de::{Case, Cases, Fork, FromCases, read_enum, read_variant};
-use borsh::io::{Read, Result, Write};
-use borsh::schema::{Declaration, Definition, SchemaBuildError, VariantTypes, add_enum, declared};
-use borsh::ser::write_bytes;
-use borsh::{BorshDeserialize, BorshSchema, BorshSerialize, BorshType, EnumExt};
-use std::alloc::Global;
-use std::collections::BTreeMap;
+use borsh::derived::*;
 
 /// The variants of [`Level`]: each has a tag and its fields, in order.
 type Variants = Fork<Fork<Case<1, ()>, Case<9, ()>>, Case<10, ()>>;
@@ -101,19 +91,16 @@ impl BorshSchema for Level {
         (case_described (λ _. tt) no_fields_described refl refl))
         (case_described (λ _. tt) no_fields_described refl refl)) };
 
-    fn declaration(alloc: Global) -> std::result::Result<Declaration, SchemaBuildError> {
+    fn declaration(alloc: Global) -> SchemaResult<Declaration> {
         declared(alloc, "Level")
     }
 
-    fn add_definitions_recursively(
-        alloc: Global,
-        definitions: &mut BTreeMap<Declaration, Definition>,
-    ) -> std::result::Result<(), SchemaBuildError> {
+    fn add_definitions_recursively(alloc: Global, map: &mut DefinitionMap) -> SchemaResult<()> {
         add_enum::<VariantList>(
             alloc,
             "Level",
             &[("Low", &[]), ("High", &[]), ("Top", &[])],
-            definitions,
+            map,
         )
     }
 

@@ -1,23 +1,11 @@
 // Written by borsh_derive.py from messages.rt: edit that file, and run the program again.
-ghost use Rattle.borsh.specs.Laws.OfParts.{contramap, key_facts};
-ghost use Rattle.borsh.specs.Cases.{fields, left, right};
-ghost use Rattle.borsh.specs.CaseLaws.{enum_lawful_if};
-ghost use Rattle.borsh.specs.Schema.Cases.{case_described, enum_described, fork_described};
-ghost use Rattle.borsh.specs.Schema.Laws.Quoted.{no_fields_described};
-ghost use Rattle.borsh.specs.Schema.Variants.{enum_definitions};
-ghost use Rattle.std.specs.Prelude.{codes, refl, ◌∷◌, []};
+ghost use Rattle.borsh.specs.Derived.{case_described, codes, contramap, enum_definitions};
+ghost use Rattle.borsh.specs.Derived.{enum_described, enum_lawful_if, fields, fork_described};
+ghost use Rattle.borsh.specs.Derived.{key_facts, left, no_fields_described, refl, right, ◌∷◌, []};
 ghost use Rattle.example_types.specs.declared.messages.Request.{Request};
 
 use super::messages::Request;
-use borsh::de::{Case, Cases, Fork, FromCases, read_enum, read_variant};
-use borsh::io::{Read, Result, Write};
-use borsh::schema::{
-    Declaration, Definition, FieldTypes, SchemaBuildError, VariantTypes, add_enum, declared,
-};
-use borsh::ser::{Tag, write_bytes, write_three, write_two};
-use borsh::{BorshDeserialize, BorshSchema, BorshSerialize, BorshType, EnumExt};
-use std::alloc::Global;
-use std::collections::BTreeMap;
+use borsh::derived::*;
 
 /// The variants of [`Request`]: each has a tag and its fields, in order.
 type Variants = Fork<Fork<Case<7, u64>, Case<8, (u64, Vec<u8>)>>, Case<32, ()>>;
@@ -107,19 +95,16 @@ impl BorshSchema for Request {
         ⟦<(u64, (Vec<u8>, ())) as FieldTypes>⟧.described refl refl))
         (case_described (λ _. tt) no_fields_described refl refl)) };
 
-    fn declaration(alloc: Global) -> std::result::Result<Declaration, SchemaBuildError> {
+    fn declaration(alloc: Global) -> SchemaResult<Declaration> {
         declared(alloc, "Request")
     }
 
-    fn add_definitions_recursively(
-        alloc: Global,
-        definitions: &mut BTreeMap<Declaration, Definition>,
-    ) -> std::result::Result<(), SchemaBuildError> {
+    fn add_definitions_recursively(alloc: Global, map: &mut DefinitionMap) -> SchemaResult<()> {
         add_enum::<VariantList>(
             alloc,
             "Request",
             &[("Get", &[]), ("Put", &["key", "value"]), ("Stop", &[])],
-            definitions,
+            map,
         )
     }
 

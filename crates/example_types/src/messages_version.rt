@@ -1,22 +1,11 @@
 // Written by borsh_derive.py from messages.rt: edit that file, and run the program again.
-ghost use Rattle.borsh.specs.Laws.OfParts.{contramap, key_facts};
-ghost use Rattle.borsh.specs.Cases.{fields};
-ghost use Rattle.borsh.specs.CaseLaws.{enum_lawful_if};
-ghost use Rattle.borsh.specs.Schema.Cases.{case_described, enum_described};
-ghost use Rattle.borsh.specs.Schema.Variants.{enum_definitions};
-ghost use Rattle.std.specs.Prelude.{codes, refl, ◌∷◌, []};
+ghost use Rattle.borsh.specs.Derived.{case_described, codes, contramap, enum_definitions};
+ghost use Rattle.borsh.specs.Derived.{enum_described, enum_lawful_if, fields, key_facts, refl, ◌∷◌};
+ghost use Rattle.borsh.specs.Derived.{[]};
 ghost use Rattle.example_types.specs.declared.messages.Version.{Version};
 
 use super::messages::Version;
-use borsh::de::{Case, Cases, FromCases, read_enum, read_variant};
-use borsh::io::{Read, Result, Write};
-use borsh::schema::{
-    Declaration, Definition, FieldTypes, SchemaBuildError, VariantTypes, add_enum, declared,
-};
-use borsh::ser::{Tag, write_two};
-use borsh::{BorshDeserialize, BorshSchema, BorshSerialize, BorshType, EnumExt};
-use std::alloc::Global;
-use std::collections::BTreeMap;
+use borsh::derived::*;
 
 /// The variants of [`Version`]: each has a tag and its fields, in order.
 type Variants = Case<0, u32>;
@@ -88,15 +77,12 @@ impl BorshSchema for Version {
         ⟦<Version as FromCases>⟧.view
         (case_described (λ v. (v, tt)) ⟦<(u32, ()) as FieldTypes>⟧.described refl refl) };
 
-    fn declaration(alloc: Global) -> std::result::Result<Declaration, SchemaBuildError> {
+    fn declaration(alloc: Global) -> SchemaResult<Declaration> {
         declared(alloc, "Version")
     }
 
-    fn add_definitions_recursively(
-        alloc: Global,
-        definitions: &mut BTreeMap<Declaration, Definition>,
-    ) -> std::result::Result<(), SchemaBuildError> {
-        add_enum::<VariantList>(alloc, "Version", &[("V1", &["number"])], definitions)
+    fn add_definitions_recursively(alloc: Global, map: &mut DefinitionMap) -> SchemaResult<()> {
+        add_enum::<VariantList>(alloc, "Version", &[("V1", &["number"])], map)
     }
 
     ghost describes = { Self.described.describes };

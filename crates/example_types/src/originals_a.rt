@@ -1,16 +1,9 @@
 // Written by borsh_derive.py from originals.rt: edit that file, and run the program again.
-ghost use Rattle.borsh.specs.Laws.OfParts.{contramap, contramap-lawful, from, key_facts};
-ghost use Rattle.borsh.specs.Schema.Laws.Quoted.{struct_described, struct_parts};
-ghost use Rattle.std.specs.Prelude.{codes, refl, ◌∷◌, []};
+ghost use Rattle.borsh.specs.Derived.{codes, contramap, contramap-lawful, from, key_facts, refl};
+ghost use Rattle.borsh.specs.Derived.{struct_described, struct_parts, ◌∷◌, []};
 
 use super::originals::A;
-use borsh::de::{FromParts, read_parts};
-use borsh::io::{Read, Result, Write};
-use borsh::schema::{Declaration, Definition, FieldTypes, SchemaBuildError, add_named, declared};
-use borsh::ser::write_two;
-use borsh::{BorshDeserialize, BorshSchema, BorshSerialize, BorshType};
-use std::alloc::Global;
-use std::collections::BTreeMap;
+use borsh::derived::*;
 
 /// The fields of [`A`], in order.
 type Fields = (u64, String);
@@ -54,27 +47,21 @@ impl BorshDeserialize for A {
     }
 }
 
-/// The fields of [`A`] as its schema goes through them.
-type FieldList = (u64, (String, ()));
-
 impl BorshSchema for A {
     ghost name = { codes "A" };
 
     ghost parts = { struct_parts (codes "A") (codes "x" ∷ codes "y" ∷ [])
-        ⟦<FieldList as FieldTypes>⟧.described };
+        ⟦<Chain<Fields> as FieldTypes>⟧.described };
 
     ghost described = { struct_described (λ v. (v.x, (v.y, tt)))
-        ⟦<FieldList as FieldTypes>⟧.described refl };
+        ⟦<Chain<Fields> as FieldTypes>⟧.described refl };
 
-    fn declaration(alloc: Global) -> std::result::Result<Declaration, SchemaBuildError> {
+    fn declaration(alloc: Global) -> SchemaResult<Declaration> {
         declared(alloc, "A")
     }
 
-    fn add_definitions_recursively(
-        alloc: Global,
-        definitions: &mut BTreeMap<Declaration, Definition>,
-    ) -> std::result::Result<(), SchemaBuildError> {
-        add_named::<FieldList>(alloc, "A", &["x", "y"], definitions)
+    fn add_definitions_recursively(alloc: Global, map: &mut DefinitionMap) -> SchemaResult<()> {
+        add_named::<Chain<Fields>>(alloc, "A", &["x", "y"], map)
     }
 
     ghost describes = { Self.described.describes };

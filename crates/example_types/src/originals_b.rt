@@ -1,16 +1,10 @@
 // Written by borsh_derive.py from originals.rt: edit that file, and run the program again.
-ghost use Rattle.borsh.specs.Laws.OfParts.{contramap, key_facts};
-ghost use Rattle.borsh.specs.Cases.{fields, left, right};
-ghost use Rattle.borsh.specs.CaseLaws.{enum_lawful_if};
-ghost use Rattle.std.specs.Prelude.{refl};
+ghost use Rattle.borsh.specs.Derived.{contramap, enum_lawful_if, fields, key_facts, left, refl};
+ghost use Rattle.borsh.specs.Derived.{right};
 ghost use Rattle.example_types.specs.declared.originals.B.{B};
 
 use super::originals::B;
-use borsh::de::{Case, Cases, Fork, FromCases, read_enum, read_variant};
-use borsh::io::{Read, Result, Write};
-use borsh::ser::{Tag, write_two};
-use borsh::{BorshDeserialize, BorshSerialize, BorshType, EnumExt};
-use std::alloc::Global;
+use borsh::derived::*;
 
 /// The variants of [`B`]: each has a tag and its fields, in order.
 type Variants<W, G> = Fork<Case<0, Vec<W>>, Case<1, Box<G>>>;

@@ -1,17 +1,10 @@
 // Written by borsh_derive.py from originals.rt: edit that file, and run the program again.
-ghost use Rattle.borsh.specs.Laws.OfParts.{contramap, contramap-lawful, from, key_facts};
-ghost use Rattle.borsh.specs.Schema.Laws.Quoted.{struct_described, struct_parts};
-ghost use Rattle.std.specs.Prelude.{codes, refl, ◌∷◌, []};
+ghost use Rattle.borsh.specs.Derived.{codes, contramap, contramap-lawful, from, key_facts, refl};
+ghost use Rattle.borsh.specs.Derived.{struct_described, struct_parts, ◌∷◌, []};
 
 use super::originals::Boxed;
-use borsh::de::{FromParts, read_parts};
-use borsh::io::{Read, Result, Write};
-use borsh::schema::{Declaration, Definition, FieldTypes, SchemaBuildError, add_named, declared};
-use borsh::ser::write_three;
-use borsh::{BorshDeserialize, BorshSchema, BorshSerialize, BorshType};
-use std::alloc::Global;
+use borsh::derived::*;
 use std::boxed::{BoxedSlice, BoxedStr};
-use std::collections::BTreeMap;
 
 /// The fields of [`Boxed`], in order.
 type Fields = (Box<u64>, BoxedStr, BoxedSlice<u8>);
@@ -55,27 +48,21 @@ impl BorshDeserialize for Boxed {
     }
 }
 
-/// The fields of [`Boxed`] as its schema goes through them.
-type FieldList = (Box<u64>, (BoxedStr, (BoxedSlice<u8>, ())));
-
 impl BorshSchema for Boxed {
     ghost name = { codes "Boxed" };
 
     ghost parts = { struct_parts (codes "Boxed") (codes "f1" ∷ codes "f2" ∷ codes "f3" ∷ [])
-        ⟦<FieldList as FieldTypes>⟧.described };
+        ⟦<Chain<Fields> as FieldTypes>⟧.described };
 
     ghost described = { struct_described (λ v. (v.f1, (v.f2, (v.f3, tt))))
-        ⟦<FieldList as FieldTypes>⟧.described refl };
+        ⟦<Chain<Fields> as FieldTypes>⟧.described refl };
 
-    fn declaration(alloc: Global) -> std::result::Result<Declaration, SchemaBuildError> {
+    fn declaration(alloc: Global) -> SchemaResult<Declaration> {
         declared(alloc, "Boxed")
     }
 
-    fn add_definitions_recursively(
-        alloc: Global,
-        definitions: &mut BTreeMap<Declaration, Definition>,
-    ) -> std::result::Result<(), SchemaBuildError> {
-        add_named::<FieldList>(alloc, "Boxed", &["f1", "f2", "f3"], definitions)
+    fn add_definitions_recursively(alloc: Global, map: &mut DefinitionMap) -> SchemaResult<()> {
+        add_named::<Chain<Fields>>(alloc, "Boxed", &["f1", "f2", "f3"], map)
     }
 
     ghost describes = { Self.described.describes };

@@ -1,23 +1,15 @@
 // Written by borsh_derive.py from originals.rt: edit that file, and run the program again.
-ghost use Rattle.borsh.specs.Laws.OfParts.{contramap, contramap-lawful, from, key_facts};
+ghost use Rattle.borsh.specs.Derived.{contramap, contramap-lawful, from, key_facts};
 
 use super::originals::{B, Generic};
-use borsh::de::{FromParts, read_parts};
-use borsh::io::{Read, Write};
-use borsh::ser::write_six;
-use borsh::{BorshDeserialize, BorshSerialize, BorshType};
-use std::alloc::Global;
+use borsh::derived::{
+    BorshDeserialize, BorshSerialize, BorshType, FromParts, Global, Read, Tuple6, Write,
+    read_parts, write_six,
+};
 use std::marker::PhantomData;
 
 /// The fields of [`Generic`], in order.
-type Fields<T, F, G> = (
-    Vec<T>,
-    String,
-    B<F, G>,
-    PhantomData<T>,
-    Result<T, G>,
-    [u64; 5],
-);
+type Fields<T, F, G> = Tuple6<Vec<T>, String, B<F, G>, PhantomData<T>, Result<T, G>, [u64; 5]>;
 
 impl<T: BorshType, F: BorshType, G: BorshType> BorshType for Generic<T, F, G> {
     ghost codec = { contramap (λ v. (v.x, v.y, v.b, v.pd, v.c, v.d))
@@ -38,7 +30,7 @@ impl<T: BorshType, F: BorshType, G: BorshType> BorshType for Generic<T, F, G> {
 }
 
 impl<T: BorshSerialize, F: BorshSerialize, G: BorshSerialize> BorshSerialize for Generic<T, F, G> {
-    fn serialize<W: Write>(&self, alloc: Global, writer: &mut W) -> borsh::io::Result<()> {
+    fn serialize<W: Write>(&self, alloc: Global, writer: &mut W) -> borsh::derived::Result<()> {
         write_six(
             &self.x, &self.y, &self.b, &self.pd, &self.c, &self.d, alloc, writer,
         )
@@ -60,7 +52,7 @@ impl<T: BorshDeserialize, F: BorshDeserialize, G: BorshDeserialize> BorshDeseria
     fn deserialize_reader<R: Read>(
         alloc: Global,
         reader: &mut R,
-    ) -> borsh::io::Result<Generic<T, F, G>> {
+    ) -> borsh::derived::Result<Generic<T, F, G>> {
         read_parts(alloc, reader)
     }
 }

@@ -1,22 +1,11 @@
 // Written by borsh_derive.py from originals.rt: edit that file, and run the program again.
-ghost use Rattle.borsh.specs.Laws.OfParts.{contramap, key_facts};
-ghost use Rattle.borsh.specs.Cases.{fields, left, right};
-ghost use Rattle.borsh.specs.CaseLaws.{enum_lawful_if};
-ghost use Rattle.borsh.specs.Schema.Cases.{case_described, enum_described, fork_described};
-ghost use Rattle.borsh.specs.Schema.Variants.{enum_definitions};
-ghost use Rattle.std.specs.Prelude.{codes, refl, ◌∷◌, []};
+ghost use Rattle.borsh.specs.Derived.{case_described, codes, contramap, enum_definitions};
+ghost use Rattle.borsh.specs.Derived.{enum_described, enum_lawful_if, fields, fork_described};
+ghost use Rattle.borsh.specs.Derived.{key_facts, left, refl, right, ◌∷◌, []};
 ghost use Rattle.example_types.specs.declared.originals.Markers.{Markers};
 
 use super::originals::Markers;
-use borsh::de::{Case, Cases, Fork, FromCases, read_enum, read_variant};
-use borsh::io::{Read, Result, Write};
-use borsh::schema::{
-    Declaration, Definition, FieldTypes, SchemaBuildError, VariantTypes, add_enum, declared,
-};
-use borsh::ser::{Tag, write_two};
-use borsh::{BorshDeserialize, BorshSchema, BorshSerialize, BorshType, EnumExt};
-use std::alloc::Global;
-use std::collections::BTreeMap;
+use borsh::derived::*;
 use std::marker::PhantomData;
 
 /// The variants of [`Markers`]: each has a tag and its fields, in order.
@@ -102,20 +91,12 @@ impl<T, U> BorshSchema for Markers<T, U> {
         (case_described (λ v. (v, tt)) ⟦<(PhantomData<T>, ()) as FieldTypes>⟧.described refl refl)
         (case_described (λ v. (v, tt)) ⟦<(PhantomData<U>, ()) as FieldTypes>⟧.described refl refl)) };
 
-    fn declaration(alloc: Global) -> std::result::Result<Declaration, SchemaBuildError> {
+    fn declaration(alloc: Global) -> SchemaResult<Declaration> {
         declared(alloc, "Markers")
     }
 
-    fn add_definitions_recursively(
-        alloc: Global,
-        definitions: &mut BTreeMap<Declaration, Definition>,
-    ) -> std::result::Result<(), SchemaBuildError> {
-        add_enum::<VariantList<T, U>>(
-            alloc,
-            "Markers",
-            &[("Item", &[]), ("Other", &[])],
-            definitions,
-        )
+    fn add_definitions_recursively(alloc: Global, map: &mut DefinitionMap) -> SchemaResult<()> {
+        add_enum::<VariantList<T, U>>(alloc, "Markers", &[("Item", &[]), ("Other", &[])], map)
     }
 
     ghost describes = { Self.described.describes };

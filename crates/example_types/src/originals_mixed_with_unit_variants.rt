@@ -1,16 +1,10 @@
 // Written by borsh_derive.py from originals.rt: edit that file, and run the program again.
-ghost use Rattle.borsh.specs.Laws.OfParts.{contramap, key_facts};
-ghost use Rattle.borsh.specs.Cases.{fields, left, right};
-ghost use Rattle.borsh.specs.CaseLaws.{enum_lawful_if};
-ghost use Rattle.std.specs.Prelude.{refl};
+ghost use Rattle.borsh.specs.Derived.{contramap, enum_lawful_if, fields, key_facts, left, refl};
+ghost use Rattle.borsh.specs.Derived.{right};
 ghost use Rattle.example_types.specs.declared.originals.MixedWithUnitVariants.{MixedWithUnitVariants};
 
 use super::originals::MixedWithUnitVariants;
-use borsh::de::{Case, Cases, Fork, FromCases, read_enum, read_variant};
-use borsh::io::{Read, Result, Write};
-use borsh::ser::{Tag, write_bytes, write_three, write_two};
-use borsh::{BorshDeserialize, BorshSerialize, BorshType, EnumExt};
-use std::alloc::Global;
+use borsh::derived::*;
 
 /// The variants of [`MixedWithUnitVariants`]: each has a tag and its fields, in order.
 type Variants = Fork<Fork<Case<0, u16>, Case<1, ()>>, Fork<Case<2, (i32, i32)>, Case<3, ()>>>;

@@ -1,20 +1,10 @@
 // Written by borsh_derive.py from originals.rt: edit that file, and run the program again.
-ghost use Rattle.borsh.specs.Laws.OfParts.{contramap, contramap-lawful, from, key_facts};
-ghost use Rattle.borsh.specs.Schema.Laws.Members.{all_more, all_one, describes_contramap, describes_parts};
-ghost use Rattle.borsh.specs.Schema.Laws.Quoted.{struct_described, struct_parts};
-ghost use Rattle.borsh.specs.Schema.Variants.{name_with};
-ghost use Rattle.std.specs.Prelude.{codes, refl, ◌∷◌, []};
+ghost use Rattle.borsh.specs.Derived.{all_more, all_one, codes, contramap, contramap-lawful};
+ghost use Rattle.borsh.specs.Derived.{describes_contramap, describes_parts, from, key_facts};
+ghost use Rattle.borsh.specs.Derived.{name_with, refl, struct_described, struct_parts, ◌∷◌, []};
 
 use super::originals::Parametrized;
-use borsh::de::{FromParts, read_parts};
-use borsh::io::{Read, Result, Write};
-use borsh::schema::{
-    Declaration, Definition, FieldTypes, SchemaBuildError, add_named_with, declared_with,
-};
-use borsh::ser::write_two;
-use borsh::{BorshDeserialize, BorshSchema, BorshSerialize, BorshType};
-use std::alloc::Global;
-use std::collections::BTreeMap;
+use borsh::derived::*;
 use std::marker::PhantomData;
 
 /// The fields of [`Parametrized`], in order.
@@ -59,28 +49,22 @@ impl<K: BorshDeserialize, V> BorshDeserialize for Parametrized<K, V> {
     }
 }
 
-/// The fields of [`Parametrized`] as its schema goes through them.
-type FieldList<K, V> = (K, (PhantomData<V>, ()));
-
 impl<K: BorshSchema, V> BorshSchema for Parametrized<K, V> {
     ghost name = { name_with (codes "Parametrized") K.name [] };
 
     ghost parts = { struct_parts (name_with (codes "Parametrized") K.name [])
-        (codes "field" ∷ codes "another" ∷ []) ⟦<FieldList<K, V> as FieldTypes>⟧.described };
+        (codes "field" ∷ codes "another" ∷ []) ⟦<Chain<Fields<K, V>> as FieldTypes>⟧.described };
 
     ghost described = { struct_described (λ v. (v.field, (v.another, tt)))
-        ⟦<FieldList<K, V> as FieldTypes>⟧.described refl };
+        ⟦<Chain<Fields<K, V>> as FieldTypes>⟧.described refl };
 
-    fn declaration(alloc: Global) -> std::result::Result<Declaration, SchemaBuildError> {
+    fn declaration(alloc: Global) -> SchemaResult<Declaration> {
         declared_with::<K, ()>(alloc, "Parametrized")
     }
 
-    fn add_definitions_recursively(
-        alloc: Global,
-        definitions: &mut BTreeMap<Declaration, Definition>,
-    ) -> std::result::Result<(), SchemaBuildError> {
+    fn add_definitions_recursively(alloc: Global, map: &mut DefinitionMap) -> SchemaResult<()> {
         let names = ["field", "another"];
-        add_named_with::<K, (), FieldList<K, V>>(alloc, "Parametrized", &names, definitions)
+        add_named_with::<K, (), Chain<Fields<K, V>>>(alloc, "Parametrized", &names, map)
     }
 
     ghost describes = { λ C h. describes_contramap (λ v. (v.field, v.another))

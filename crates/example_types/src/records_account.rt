@@ -1,15 +1,9 @@
 // Written by borsh_derive.py from records.rt: edit that file, and run the program again.
-ghost use Rattle.borsh.specs.Laws.OfParts.{contramap, contramap-lawful, from, key_facts};
-ghost use Rattle.borsh.specs.Schema.Laws.Quoted.{struct_described, struct_parts};
-ghost use Rattle.std.specs.Prelude.{codes, refl, ◌∷◌, []};
+ghost use Rattle.borsh.specs.Derived.{codes, contramap, contramap-lawful, from, key_facts, refl};
+ghost use Rattle.borsh.specs.Derived.{struct_described, struct_parts, ◌∷◌, []};
 
 use super::records::Account;
-use borsh::de::{FromParts, read_parts};
-use borsh::io::{Read, Result, Write};
-use borsh::schema::{Declaration, Definition, FieldTypes, SchemaBuildError, add_named, declared};
-use borsh::ser::write_three;
-use borsh::{BorshDeserialize, BorshSchema, BorshSerialize, BorshType};
-use std::alloc::Global;
+use borsh::derived::*;
 use std::collections::BTreeMap;
 
 /// The fields of [`Account`], in order.
@@ -54,27 +48,22 @@ impl BorshDeserialize for Account {
     }
 }
 
-/// The fields of [`Account`] as its schema goes through them.
-type FieldList = (u64, (BTreeMap<String, u64>, (Option<String>, ())));
-
 impl BorshSchema for Account {
     ghost name = { codes "Account" };
 
     ghost parts = { struct_parts (codes "Account")
-        (codes "id" ∷ codes "balances" ∷ codes "note" ∷ []) ⟦<FieldList as FieldTypes>⟧.described };
+        (codes "id" ∷ codes "balances" ∷ codes "note" ∷ [])
+        ⟦<Chain<Fields> as FieldTypes>⟧.described };
 
     ghost described = { struct_described (λ v. (v.id, (v.balances, (v.note, tt))))
-        ⟦<FieldList as FieldTypes>⟧.described refl };
+        ⟦<Chain<Fields> as FieldTypes>⟧.described refl };
 
-    fn declaration(alloc: Global) -> std::result::Result<Declaration, SchemaBuildError> {
+    fn declaration(alloc: Global) -> SchemaResult<Declaration> {
         declared(alloc, "Account")
     }
 
-    fn add_definitions_recursively(
-        alloc: Global,
-        definitions: &mut BTreeMap<Declaration, Definition>,
-    ) -> std::result::Result<(), SchemaBuildError> {
-        add_named::<FieldList>(alloc, "Account", &["id", "balances", "note"], definitions)
+    fn add_definitions_recursively(alloc: Global, map: &mut DefinitionMap) -> SchemaResult<()> {
+        add_named::<Chain<Fields>>(alloc, "Account", &["id", "balances", "note"], map)
     }
 
     ghost describes = { Self.described.describes };

@@ -1,17 +1,9 @@
 // Written by borsh_derive.py from records.rt: edit that file, and run the program again.
-ghost use Rattle.borsh.specs.Laws.OfParts.{contramap, contramap-lawful, from, key_facts};
-ghost use Rattle.borsh.specs.Schema.Laws.Quoted.{no_fields_described, struct_described};
-ghost use Rattle.borsh.specs.Schema.Types.{unit_struct};
-ghost use Rattle.std.specs.Prelude.{codes, refl};
+ghost use Rattle.borsh.specs.Derived.{codes, contramap, contramap-lawful, from, key_facts};
+ghost use Rattle.borsh.specs.Derived.{no_fields_described, refl, struct_described, unit_struct};
 
 use super::records::Marker;
-use borsh::de::{FromParts, read_parts};
-use borsh::io::{Read, Result, Write};
-use borsh::schema::{Declaration, Definition, SchemaBuildError, add_unit, declared};
-use borsh::ser::write_bytes;
-use borsh::{BorshDeserialize, BorshSchema, BorshSerialize, BorshType};
-use std::alloc::Global;
-use std::collections::BTreeMap;
+use borsh::derived::*;
 
 /// The fields of [`Marker`], in order.
 type Fields = ();
@@ -62,15 +54,12 @@ impl BorshSchema for Marker {
 
     ghost described = { struct_described (λ _. tt) no_fields_described refl };
 
-    fn declaration(alloc: Global) -> std::result::Result<Declaration, SchemaBuildError> {
+    fn declaration(alloc: Global) -> SchemaResult<Declaration> {
         declared(alloc, "Marker")
     }
 
-    fn add_definitions_recursively(
-        alloc: Global,
-        definitions: &mut BTreeMap<Declaration, Definition>,
-    ) -> std::result::Result<(), SchemaBuildError> {
-        add_unit(alloc, "Marker", definitions)
+    fn add_definitions_recursively(alloc: Global, map: &mut DefinitionMap) -> SchemaResult<()> {
+        add_unit(alloc, "Marker", map)
     }
 
     ghost describes = { Self.described.describes };

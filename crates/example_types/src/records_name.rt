@@ -1,15 +1,9 @@
 // Written by borsh_derive.py from records.rt: edit that file, and run the program again.
-ghost use Rattle.borsh.specs.Laws.OfParts.{contramap, contramap-lawful, from, key_facts};
-ghost use Rattle.borsh.specs.Schema.Laws.Quoted.{struct_described, struct_parts};
-ghost use Rattle.std.specs.Prelude.{codes, refl, ◌∷◌, []};
+ghost use Rattle.borsh.specs.Derived.{codes, contramap, contramap-lawful, from, key_facts, refl};
+ghost use Rattle.borsh.specs.Derived.{struct_described, struct_parts, ◌∷◌, []};
 
 use super::records::Name;
-use borsh::de::{FromParts, read_parts};
-use borsh::io::{Read, Result, Write};
-use borsh::schema::{Declaration, Definition, FieldTypes, SchemaBuildError, add_named, declared};
-use borsh::{BorshDeserialize, BorshSchema, BorshSerialize, BorshType};
-use std::alloc::Global;
-use std::collections::BTreeMap;
+use borsh::derived::*;
 
 /// The fields of [`Name`], in order.
 type Fields = String;
@@ -53,27 +47,21 @@ impl BorshDeserialize for Name {
     }
 }
 
-/// The fields of [`Name`] as its schema goes through them.
-type FieldList = (String, ());
-
 impl BorshSchema for Name {
     ghost name = { codes "Name" };
 
     ghost parts = { struct_parts (codes "Name") (codes "text" ∷ [])
-        ⟦<FieldList as FieldTypes>⟧.described };
+        ⟦<(Fields, ()) as FieldTypes>⟧.described };
 
-    ghost described = { struct_described (λ v. (v.text, tt)) ⟦<FieldList as FieldTypes>⟧.described
-        refl };
+    ghost described = { struct_described (λ v. (v.text, tt))
+        ⟦<(Fields, ()) as FieldTypes>⟧.described refl };
 
-    fn declaration(alloc: Global) -> std::result::Result<Declaration, SchemaBuildError> {
+    fn declaration(alloc: Global) -> SchemaResult<Declaration> {
         declared(alloc, "Name")
     }
 
-    fn add_definitions_recursively(
-        alloc: Global,
-        definitions: &mut BTreeMap<Declaration, Definition>,
-    ) -> std::result::Result<(), SchemaBuildError> {
-        add_named::<FieldList>(alloc, "Name", &["text"], definitions)
+    fn add_definitions_recursively(alloc: Global, map: &mut DefinitionMap) -> SchemaResult<()> {
+        add_named::<(Fields, ())>(alloc, "Name", &["text"], map)
     }
 
     ghost describes = { Self.described.describes };

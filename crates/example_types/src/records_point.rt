@@ -1,17 +1,9 @@
 // Written by borsh_derive.py from records.rt: edit that file, and run the program again.
-ghost use Rattle.borsh.specs.Laws.OfParts.{contramap, contramap-lawful, from, key_facts};
-ghost use Rattle.borsh.specs.Schema.Laws.Quoted.{struct_described};
-ghost use Rattle.borsh.specs.Schema.Types.{unnamed_struct};
-ghost use Rattle.std.specs.Prelude.{codes, refl};
+ghost use Rattle.borsh.specs.Derived.{codes, contramap, contramap-lawful, from, key_facts, refl};
+ghost use Rattle.borsh.specs.Derived.{struct_described, unnamed_struct};
 
 use super::records::Point;
-use borsh::de::{FromParts, read_parts};
-use borsh::io::{Read, Result, Write};
-use borsh::schema::{Declaration, Definition, FieldTypes, SchemaBuildError, add_unnamed, declared};
-use borsh::ser::write_two;
-use borsh::{BorshDeserialize, BorshSchema, BorshSerialize, BorshType};
-use std::alloc::Global;
-use std::collections::BTreeMap;
+use borsh::derived::*;
 
 /// The fields of [`Point`], in order.
 type Fields = (u32, i32);
@@ -55,27 +47,21 @@ impl BorshDeserialize for Point {
     }
 }
 
-/// The fields of [`Point`] as its schema goes through them.
-type FieldList = (u32, (i32, ()));
-
 impl BorshSchema for Point {
     ghost name = { codes "Point" };
 
-    ghost parts = { unnamed_struct (codes "Point") ⟦<FieldList as FieldTypes>⟧.described.names
-        ⟦<FieldList as FieldTypes>⟧.described.parts };
+    ghost parts = { unnamed_struct (codes "Point") ⟦<Chain<Fields> as FieldTypes>⟧.described.names
+        ⟦<Chain<Fields> as FieldTypes>⟧.described.parts };
 
     ghost described = { struct_described (λ v. (v.0, (v.1, tt)))
-        ⟦<FieldList as FieldTypes>⟧.described refl };
+        ⟦<Chain<Fields> as FieldTypes>⟧.described refl };
 
-    fn declaration(alloc: Global) -> std::result::Result<Declaration, SchemaBuildError> {
+    fn declaration(alloc: Global) -> SchemaResult<Declaration> {
         declared(alloc, "Point")
     }
 
-    fn add_definitions_recursively(
-        alloc: Global,
-        definitions: &mut BTreeMap<Declaration, Definition>,
-    ) -> std::result::Result<(), SchemaBuildError> {
-        add_unnamed::<FieldList>(alloc, "Point", definitions)
+    fn add_definitions_recursively(alloc: Global, map: &mut DefinitionMap) -> SchemaResult<()> {
+        add_unnamed::<Chain<Fields>>(alloc, "Point", map)
     }
 
     ghost describes = { Self.described.describes };

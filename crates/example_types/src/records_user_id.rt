@@ -1,12 +1,9 @@
 // Written by borsh_derive.py from records.rt: edit that file, and run the program again.
-ghost use Rattle.borsh.specs.Laws.OfParts.{contramap, contramap-lawful, contramap_ordered, from, key_facts};
+ghost use Rattle.borsh.specs.Derived.{contramap, contramap-lawful, contramap_ordered, from};
+ghost use Rattle.borsh.specs.Derived.{key_facts};
 
 use super::records::UserId;
-use borsh::de::{FromParts, read_parts};
-use borsh::io::{Read, Result, Write};
-use borsh::ser::write_two;
-use borsh::{BorshDeserialize, BorshKey, BorshSerialize, BorshType};
-use std::alloc::Global;
+use borsh::derived::*;
 
 /// The fields of [`UserId`], in order.
 type Fields = (u8, String);

@@ -1,0 +1,111 @@
+//! What `derive/borsh_derive.py` names in the implementations that it writes, under one path:
+//! `use borsh::derived::*;`. The items are those of the other modules, and names for a few types.
+pub use borsh_de::{BorshDeserialize, EnumExt, FromParts, read_parts};
+pub use borsh_enums::{Case, Cases, Fork, FromCases, Tag, read_enum, read_variant};
+pub use borsh_io::{Read, Result, Write};
+use borsh_schema::SchemaBuildError;
+pub use borsh_schema::{BorshSchema, FieldTypes, add_named, add_unit, add_unnamed, declared};
+pub use borsh_ser::{
+    BorshSerialize, write_bytes, write_eight, write_eighteen, write_eleven, write_fifteen,
+    write_five, write_four, write_fourteen, write_nine, write_nineteen, write_seven,
+    write_seventeen, write_six, write_sixteen, write_ten, write_thirteen, write_three,
+    write_twelve, write_twenty, write_two,
+};
+pub use borsh_types::{BorshKey, BorshType};
+pub use borsh_variants::{VariantTypes, add_enum, add_named_with, add_unnamed_with, declared_with};
+pub use borsh_walks::Declaration;
+use borsh_walks::Definition;
+pub use std::alloc::Global;
+use std::collections::BTreeMap;
+
+/// The definitions that a schema adds to.
+pub type DefinitionMap = BTreeMap<Declaration, Definition>;
+
+/// What a step of building a schema returns.
+pub type SchemaResult<T> = std::result::Result<T, SchemaBuildError>;
+
+/// A tuple of types, and the same types one after another: of `(A, B)` they are `(A, (B, ()))`.
+pub trait TupleTypes {
+    type Chain;
+}
+
+/// The types of a tuple one after another, as [`FieldTypes`] goes through them.
+pub type Chain<T> = <T as TupleTypes>::Chain;
+
+/// A tuple of 2 types.
+pub type Tuple2<A, B> = (A, B);
+
+impl<A, B> TupleTypes for Tuple2<A, B> {
+    type Chain = (A, (B, ()));
+}
+
+/// A tuple of 3 types.
+pub type Tuple3<A, B, C> = (A, B, C);
+
+impl<A, B, C> TupleTypes for Tuple3<A, B, C> {
+    type Chain = (A, (B, (C, ())));
+}
+
+/// A tuple of 4 types.
+pub type Tuple4<A, B, C, D> = (A, B, C, D);
+
+impl<A, B, C, D> TupleTypes for Tuple4<A, B, C, D> {
+    type Chain = (A, (B, (C, (D, ()))));
+}
+
+/// A tuple of 5 types.
+pub type Tuple5<A, B, C, D, E> = (A, B, C, D, E);
+
+impl<A, B, C, D, E> TupleTypes for Tuple5<A, B, C, D, E> {
+    type Chain = (A, (B, (C, (D, (E, ())))));
+}
+
+/// A tuple of 6 types.
+pub type Tuple6<A, B, C, D, E, F> = (A, B, C, D, E, F);
+
+impl<A, B, C, D, E, F> TupleTypes for Tuple6<A, B, C, D, E, F> {
+    type Chain = (A, (B, (C, (D, (E, (F, ()))))));
+}
+
+/// A tuple of 7 types.
+pub type Tuple7<A, B, C, D, E, F, G> = (A, B, C, D, E, F, G);
+
+impl<A, B, C, D, E, F, G> TupleTypes for Tuple7<A, B, C, D, E, F, G> {
+    type Chain = (A, (B, (C, (D, (E, (F, (G, ())))))));
+}
+
+/// A tuple of 8 types.
+pub type Tuple8<A, B, C, D, E, F, G, H> = (A, B, C, D, E, F, G, H);
+
+impl<A, B, C, D, E, F, G, H> TupleTypes for Tuple8<A, B, C, D, E, F, G, H> {
+    type Chain = (A, (B, (C, (D, (E, (F, (G, (H, ()))))))));
+}
+
+/// A tuple of 9 types.
+pub type Tuple9<A, B, C, D, E, F, G, H, I> = (A, B, C, D, E, F, G, H, I);
+
+impl<A, B, C, D, E, F, G, H, I> TupleTypes for Tuple9<A, B, C, D, E, F, G, H, I> {
+    type Chain = (A, (B, (C, (D, (E, (F, (G, (H, (I, ())))))))));
+}
+
+/// A tuple of 10 types.
+pub type Tuple10<A, B, C, D, E, F, G, H, I, J> = (A, B, C, D, E, F, G, H, I, J);
+
+impl<A, B, C, D, E, F, G, H, I, J> TupleTypes for Tuple10<A, B, C, D, E, F, G, H, I, J> {
+    type Chain = (A, (B, (C, (D, (E, (F, (G, (H, (I, (J, ()))))))))));
+}
+
+/// A tuple of 11 types.
+pub type Tuple11<A, B, C, D, E, F, G, H, I, J, K> = (A, B, C, D, E, F, G, H, I, J, K);
+
+impl<A, B, C, D, E, F, G, H, I, J, K> TupleTypes for Tuple11<A, B, C, D, E, F, G, H, I, J, K> {
+    type Chain = (A, (B, (C, (D, (E, (F, (G, (H, (I, (J, (K, ())))))))))));
+}
+
+/// A tuple of 12 types.
+pub type Tuple12<A, B, C, D, E, F, G, H, I, J, K, L> = (A, B, C, D, E, F, G, H, I, J, K, L);
+
+impl<A, B, C, D, E, F, G, H, I, J, K, L> TupleTypes
+    for Tuple12<A, B, C, D, E, F, G, H, I, J, K, L> {
+    type Chain = (A, (B, (C, (D, (E, (F, (G, (H, (I, (J, (K, (L, ()))))))))))));
+}
