@@ -201,30 +201,39 @@ def split_bounds(where):
     return found + ([part.strip()] if part.strip() else [])
 
 
-# what the library's specs have for ghost terms, under one path
-GHOST_PATH = 'Rattle.borsh.specs.Derived'
-GHOST_OFFERED = '''IsKey all_more all_one case_described choice_more choice_none codes contramap contramap-lawful
-    contramap_ordered describes_choice describes_contramap describes_elements describes_ordered describes_parts
-    describes_refused_if describes_row describes_sorted describes_stored describes_unit enum_definitions enum_described
-    enum_lawful_if fields first_variant fork_described from key_facts later_variant left name_with no_fields_described
-    option_view refl result_view right struct_described struct_parts unit_entries unit_struct unnamed_struct ◌∷◌ []'''.split()
+# what specs have for ghost terms: the library's under one path, and std's, of which the gate wants operators from std itself
+GHOST_OFFERED = {
+    'Rattle.borsh.specs.Derived': '''IsKey all_more all_one case_described choice_more choice_none contramap
+        contramap-lawful contramap_ordered describes_choice describes_contramap describes_elements describes_ordered
+        describes_parts describes_refused_if describes_row describes_sorted describes_stored describes_unit
+        enum_definitions enum_described enum_lawful_if fields first_variant fork_described from key_facts
+        later_variant left name_with no_fields_described option_view result_view right struct_described
+        struct_parts unit_entries unit_struct unnamed_struct'''.split(),
+    'Rattle.std.specs.Prelude': ['codes', 'refl', '◌∷◌', '[]'],
+}
 
 
 def ghost_imports(writer, body):
     """The imports of ghost terms."""
     ghost = ' '.join(re.findall(r'ghost \w+ = \{(.*?)\};', body, re.S))
     rows = []
-    for name in GHOST_OFFERED:
-        if not is_used(name, ghost):
-            continue
-        if rows and len(rows[-1] + ', ' + name) <= WIDTH:
-            rows[-1] = '%s, %s};' % (rows[-1][:-2], name)
-        else:
-            rows.append('ghost use %s.{%s};' % (GHOST_PATH, name))
+    for path, offered in GHOST_OFFERED.items():
+        rows += ghost_lines(path, [name for name in offered if is_used(name, ghost)])
     if writer.marked.variants is not None:
         module = writer.place.module_name + '.' if writer.place.module_name else ''
         name = writer.marked.name
         rows.append('ghost use Rattle.%s.specs.declared.%s%s.{%s};' % (writer.place.crate, module, name, name))
+    return rows
+
+
+def ghost_lines(path, names):
+    """The imports of these names, as many in a line as fit."""
+    rows = []
+    for name in names:
+        if rows and len(rows[-1] + ', ' + name) <= WIDTH:
+            rows[-1] = '%s, %s};' % (rows[-1][:-2], name)
+        else:
+            rows.append('ghost use %s.{%s};' % (path, name))
     return rows
 
 

@@ -1,5 +1,4 @@
 -- What the ghost members of generated implementations name, under one path.
-pub use Rattle.std.specs.Prelude.{codes, refl, ◌∷◌, []}
 -- codecs and their laws
 pub use Rattle.borsh_codec.proofs.Laws.OfParts.{IsKey, contramap, contramap-lawful, contramap_ordered, from, key_facts}
 pub use Rattle.borsh_codec.specs.Types.Sums.{option_view, result_view}

@@ -1,10 +1,11 @@
 // Written by borsh_derive.py from generics.rt: edit that file, and run the program again.
-ghost use Rattle.borsh.specs.Derived.{all_more, all_one, choice_more, choice_none, codes};
-ghost use Rattle.borsh.specs.Derived.{contramap, contramap-lawful, describes_choice};
-ghost use Rattle.borsh.specs.Derived.{describes_contramap, describes_elements, describes_ordered};
-ghost use Rattle.borsh.specs.Derived.{describes_parts, describes_refused_if, describes_unit};
-ghost use Rattle.borsh.specs.Derived.{first_variant, from, key_facts, later_variant, name_with};
-ghost use Rattle.borsh.specs.Derived.{option_view, refl, struct_described, struct_parts, ◌∷◌, []};
+ghost use Rattle.borsh.specs.Derived.{all_more, all_one, choice_more, choice_none, contramap};
+ghost use Rattle.borsh.specs.Derived.{contramap-lawful, describes_choice, describes_contramap};
+ghost use Rattle.borsh.specs.Derived.{describes_elements, describes_ordered, describes_parts};
+ghost use Rattle.borsh.specs.Derived.{describes_refused_if, describes_unit, first_variant, from};
+ghost use Rattle.borsh.specs.Derived.{key_facts, later_variant, name_with, option_view};
+ghost use Rattle.borsh.specs.Derived.{struct_described, struct_parts};
+ghost use Rattle.std.specs.Prelude.{codes, refl, ◌∷◌, []};
 
 use super::generics::Table;
 use borsh::derived::*;

@@ -1,7 +1,7 @@
 // Written by borsh_derive.py from messages.rt: edit that file, and run the program again.
-ghost use Rattle.borsh.specs.Derived.{case_described, codes, contramap, enum_definitions};
-ghost use Rattle.borsh.specs.Derived.{enum_described, enum_lawful_if, fields, key_facts, refl, ◌∷◌};
-ghost use Rattle.borsh.specs.Derived.{[]};
+ghost use Rattle.borsh.specs.Derived.{case_described, contramap, enum_definitions, enum_described};
+ghost use Rattle.borsh.specs.Derived.{enum_lawful_if, fields, key_facts};
+ghost use Rattle.std.specs.Prelude.{codes, refl, ◌∷◌, []};
 ghost use Rattle.example_types.specs.declared.messages.Version.{Version};
 
 use super::messages::Version;

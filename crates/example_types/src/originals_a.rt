@@ -1,6 +1,7 @@
 // Written by borsh_derive.py from originals.rt: edit that file, and run the program again.
-ghost use Rattle.borsh.specs.Derived.{codes, contramap, contramap-lawful, from, key_facts, refl};
-ghost use Rattle.borsh.specs.Derived.{struct_described, struct_parts, ◌∷◌, []};
+ghost use Rattle.borsh.specs.Derived.{contramap, contramap-lawful, from, key_facts};
+ghost use Rattle.borsh.specs.Derived.{struct_described, struct_parts};
+ghost use Rattle.std.specs.Prelude.{codes, refl, ◌∷◌, []};
 
 use super::originals::A;
 use borsh::derived::*;

@@ -1,6 +1,6 @@
 // Written by borsh_derive.py from originals.rt: edit that file, and run the program again.
-ghost use Rattle.borsh.specs.Derived.{contramap, enum_lawful_if, fields, key_facts, left, refl};
-ghost use Rattle.borsh.specs.Derived.{right};
+ghost use Rattle.borsh.specs.Derived.{contramap, enum_lawful_if, fields, key_facts, left, right};
+ghost use Rattle.std.specs.Prelude.{refl};
 ghost use Rattle.example_types.specs.declared.originals.B.{B};
 
 use super::originals::B;

@@ -1,7 +1,8 @@
 // Written by borsh_derive.py from originals.rt: edit that file, and run the program again.
-ghost use Rattle.borsh.specs.Derived.{all_more, all_one, codes, contramap, contramap-lawful};
+ghost use Rattle.borsh.specs.Derived.{all_more, all_one, contramap, contramap-lawful};
 ghost use Rattle.borsh.specs.Derived.{describes_contramap, describes_parts, from, key_facts};
-ghost use Rattle.borsh.specs.Derived.{name_with, refl, struct_described, struct_parts, ◌∷◌, []};
+ghost use Rattle.borsh.specs.Derived.{name_with, struct_described, struct_parts};
+ghost use Rattle.std.specs.Prelude.{codes, refl, ◌∷◌, []};
 
 use super::originals::Parametrized;
 use borsh::derived::*;

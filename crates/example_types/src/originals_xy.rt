@@ -1,7 +1,8 @@
 // Written by borsh_derive.py from originals.rt: edit that file, and run the program again.
-ghost use Rattle.borsh.specs.Derived.{case_described, codes, contramap, enum_definitions};
-ghost use Rattle.borsh.specs.Derived.{enum_described, enum_lawful_if, fields, fork_described};
-ghost use Rattle.borsh.specs.Derived.{key_facts, left, no_fields_described, refl, right, ◌∷◌, []};
+ghost use Rattle.borsh.specs.Derived.{case_described, contramap, enum_definitions, enum_described};
+ghost use Rattle.borsh.specs.Derived.{enum_lawful_if, fields, fork_described, key_facts, left};
+ghost use Rattle.borsh.specs.Derived.{no_fields_described, right};
+ghost use Rattle.std.specs.Prelude.{codes, refl, ◌∷◌, []};
 ghost use Rattle.example_types.specs.declared.originals.XY.{XY};
 
 use super::originals::XY;

@@ -1,6 +1,7 @@
 // Written by borsh_derive.py from shapes.rt: edit that file, and run the program again.
 ghost use Rattle.borsh.specs.Derived.{contramap, enum_lawful_if, fields, from, key_facts, left};
-ghost use Rattle.borsh.specs.Derived.{refl, right};
+ghost use Rattle.borsh.specs.Derived.{right};
+ghost use Rattle.std.specs.Prelude.{refl};
 ghost use Rattle.example_types.specs.declared.shapes.Shape.{Shape};
 
 use super::shapes::Shape;
