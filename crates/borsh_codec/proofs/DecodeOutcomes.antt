@@ -13,7 +13,7 @@ use Rattle.borsh_codec.specs.Untouched.{Untouched}
 use Rattle.borsh_codec.specs.Reading.{TakesPrefix, NoPrefix, Decoded, NotDecoded, DecodedAll, NotDecodedAll, ReadFails, WhyNotDecoded, Decodes, DecodesAfterTag, DecodesReader, DecodesAll, IsReEncodable, any_byte}
 use Rattle.borsh_codec.proofs.ReadParts.{reads_contramap, denied_contramap, denied_value, denied_pair_first, denied_pair_second, denied_no_tag, reads_exact, denied_exact, reads_pair, reads_stored, denied_stored, reads_allowed, denied_allowed, denied_refused, reads_tag, denied_tag}
 use Rattle.borsh_codec.proofs.ReadSteps.{took_weaker, refused_map, denied_memory}
-use Rattle.borsh_codec.proofs.ReadWhole.{whole_owed, denied_all, whole_of_all, not_whole_of_all}
+use Rattle.borsh_codec.proofs.ReadWhole.{whole_refused, denied_all, whole_of_all, not_whole_of_all}
 
 -- the outcome at the exit of a `?`
 pub decodes_exit : {A R : Type 0} {c : Codec A} {state : R → ReaderState} {a b : R} (e : Error) {r : Result A Error} → IsErrAnd r (λ y. y ≡ e) → Decodes c state a b (Err e) → Decodes c state a b r
@@ -145,12 +145,12 @@ module _ {A : Type 0} {c : Codec A} (l : Lawful A c) where
   decodes_all strict xs (Ok v) p q u = record {
     ok = p;
     err = tt;
-    exact = whole_owed strict xs l (Ok v) p tt;
+    exact = whole_refused strict xs l (Ok v) p tt;
     canonical = λ s e. l.canonical xs v e (subst (λ m. c.decodes m xs v) s p);
     re_encodable = re_encodable strict xs v p;
     refused = u;
   }
-  decodes_all strict xs (Err e) p q u = record { ok = tt; err = q; exact = whole_owed strict xs l (Err e) tt q; canonical = λ s e. tt; re_encodable = tt; refused = u }
+  decodes_all strict xs (Err e) p q u = record { ok = tt; err = q; exact = whole_refused strict xs l (Err e) tt q; canonical = λ s e. tt; re_encodable = tt; refused = u }
 
   -- at the exit of a `?`
   pub decodes_all_exit : {R : Type 0} {state : R → ReaderState} {a b : R} {strict : Bool} {xs : List ℕ} (e : Error) {r : Result A Error} → IsErrAnd r (λ y. y ≡ e) → Decodes c state a b (Err e) → WhyNotDecoded c strict xs (error_kind e) → DecodesAll c strict xs r

@@ -5,7 +5,7 @@ use Rattle.borsh_io.specs.declared.error.ErrorKind.{ErrorKind}
 use Rattle.borsh_io.specs.Stream.{ReaderState}
 use Rattle.borsh_codec.specs.Codec.{Codec, IsDecodable, Lawful}
 use Rattle.borsh_codec.specs.Shapes.{contramap, by_encoding, unit, refused_if, filtered, allocated, pair, never, variant}
-use Rattle.borsh_codec.proofs.Laws.Lists.{same_front, free_readings, or_left, or_right}
+use Rattle.borsh_codec.proofs.Laws.Lists.{same_front, decodable_prefix_free, or_left, or_right}
 use Rattle.borsh_codec.proofs.Laws.Exact.{Respects}
 use Rattle.borsh_codec.proofs.Laws.Variants.{Avoids}
 use Rattle.borsh_codec.specs.Reading.{TakesPrefix, NoPrefix, IsInvalidData, ReadFails, Decoded, NotDecoded, DecodedAfterTag, NotDecodedAfterTag}
@@ -33,7 +33,7 @@ pub denied_value : {A B : Type 0} (view : B → A) {c : Codec A} {s t : ReaderSt
 denied_value view {c = c} {s = s} {t = t} {v = v} l p r none = record {
   refused = refused_here r p.took (λ front rest e w.
       let o = told_after s.bytes t.bytes (front ++ rest) p.took.front e p.took.takes.bytes in
-      let f = same_front (IsDecodable c s.strict_order) (free_readings l s.strict_order) front rest p.took.front o.0 (view w.0, w.1) (v, p.took.holds) o.2 in
+      let f = same_front (IsDecodable c s.strict_order) (decodable_prefix_free l s.strict_order) front rest p.took.front o.0 (view w.0, w.1) (v, p.took.holds) o.2 in
       none w.0 (l.unambiguous s.strict_order front (view w.0) v w.1 (subst (λ x. c.decodes s.strict_order x v) (sym f.0) p.took.holds)));
 }
 
@@ -74,7 +74,7 @@ pub denied_failed : {A : Type 0} (test : A → Bool) {c : Codec A} {s t : Reader
 denied_failed test {c = c} {s = s} {t = t} {v = v} respects l p r failed = record {
   refused = refused_here r p.took (λ front rest e w.
       let o = told_after s.bytes t.bytes (front ++ rest) p.took.front e p.took.takes.bytes in
-      let f = same_front (IsDecodable c s.strict_order) (free_readings l s.strict_order) front rest p.took.front o.0 (w.0, w.1.decodes) (v, p.took.holds) o.2 in
+      let f = same_front (IsDecodable c s.strict_order) (decodable_prefix_free l s.strict_order) front rest p.took.front o.0 (w.0, w.1.decodes) (v, p.took.holds) o.2 in
       let same = l.unambiguous s.strict_order front w.0 v w.1.decodes (subst (λ x. c.decodes s.strict_order x v) (sym f.0) p.took.holds) in
       failed (sym (respects w.0 v same) ∙ w.1.passed));
 }
@@ -104,7 +104,7 @@ pair_past : {A B : Type 0} {a : Codec A} (b : Codec B) → Lawful A a → (m : B
 pair_past {a = a} b l m v f r front rest p w e =
     let i = w.1 in
     let e' : f ++ r ≡ i.first ++ (i.second ++ rest) = e ∙ ap (λ z. z ++ rest) i.whole ∙ append_assoc i.first i.second rest in
-    let g = same_front (IsDecodable a m) (free_readings l m) f r i.first (i.second ++ rest) (v, p) (w.0.0, i.left) e' in
+    let g = same_front (IsDecodable a m) (decodable_prefix_free l m) f r i.first (i.second ++ rest) (v, p) (w.0.0, i.left) e' in
     record { more = i.second; whole = g.1; holds = (w.0.1, i.right) }
 
 pub denied_pair_second : {A B : Type 0} {a : Codec A} {b : Codec B} {s t u : ReaderState} {v : A} {k : ErrorKind} → Lawful A a → Decoded A a s t v → NotDecoded B b t u k → NotDecoded (A × B) (pair a b) s u k

@@ -4,7 +4,7 @@ use Rattle.borsh_io.specs.declared.error.ErrorKind.{ErrorKind}
 use Rattle.borsh_io.specs.Stream.{ReaderState}
 use Rattle.borsh_codec.specs.Codec.{Codec, IsDecodable, Lawful}
 use Rattle.borsh_codec.specs.Shapes.{unsigned_encoding, unsigned, DecodesEach, array, allocated_array, length_prefixed}
-use Rattle.borsh_codec.proofs.Laws.Lists.{same_front, free_readings}
+use Rattle.borsh_codec.proofs.Laws.Lists.{same_front, decodable_prefix_free}
 use Rattle.borsh_codec.proofs.Laws.Numbers.{unsigned-lawful, number_apart}
 use Rattle.borsh_codec.specs.Reading.{TakesPrefix, NoPrefix, ReadFails, Decoded, NotDecoded}
 use Rattle.borsh_codec.proofs.ReadSteps.{took_weaker, took_nothing, took_then, refused_map, refused_after, Past, reads_at, denied_at}
@@ -47,7 +47,7 @@ next_in_order l m [] (b ∷ ys) x r y rest n p q e =
 next_in_order {c = c} l m (a ∷ xs) (b ∷ ys) x r y rest n p q e =
     let e' : p.first ++ (p.second ++ r) ≡ q.first ++ (q.second ++ rest) =
     sym (append_assoc p.first p.second r) ∙ ap (λ z. z ++ r) (sym p.whole) ∙ e ∙ ap (λ z. z ++ rest) q.whole ∙ append_assoc q.first q.second rest in
-    let f = same_front (IsDecodable c m) (free_readings l m) p.first (p.second ++ r) q.first (q.second ++ rest) (a, p.left) (b, q.left) e' in
+    let f = same_front (IsDecodable c m) (decodable_prefix_free l m) p.first (p.second ++ r) q.first (q.second ++ rest) (a, p.left) (b, q.left) e' in
     next_in_order l m xs ys p.second r q.second rest (omega arith) p.right q.right f.1
 
 -- lists that begin with bytes that decode
@@ -96,7 +96,7 @@ counted_past : {A : Type 0} {c : Codec A} → (m : Bool) (n : ℕ) (f r front re
 counted_past m n f r front rest p w e =
     let j = w.1 in
     let e' : f ++ r ≡ j.first ++ (j.second ++ rest) = e ∙ ap (λ z. z ++ rest) j.whole ∙ append_assoc j.first j.second rest in
-    let g = same_front (IsDecodable (unsigned 4) true) (free_readings (unsigned-lawful 4) true) f r j.first (j.second ++ rest) (n, p) (length w.0, j.left) e' in
+    let g = same_front (IsDecodable (unsigned 4) true) (decodable_prefix_free (unsigned-lawful 4) true) f r j.first (j.second ++ rest) (n, p) (length w.0, j.left) e' in
     let count : length w.0 ≡ n = number_apart 4 (length w.0) n f (j.left ∙ ap Some (sym g.0)) p in
     record { more = j.second; whole = g.1; holds = (w.0, record { long = count; parts = j.right }) }
 

@@ -138,12 +138,12 @@ module _ {A : Type 0} {c : Codec A} {s t : ReaderState} (xs : List ℕ) (told : 
 
 -- ---- what a call over all of the bytes must return
 
-owed : {A : Type 0} {c : Codec A} {m : Bool} {xs : List ℕ} {k : ErrorKind} → IsDecodable c m xs → WhyNotDecoded c m xs k → (k ≡ OutOfMemory) × (c.decoding_allocates ≡ true)
-owed p (not_reading r none) = absurd (none p)
-owed p (not_memory r m) = (r, m)
+refused_though_decodable : {A : Type 0} {c : Codec A} {m : Bool} {xs : List ℕ} {k : ErrorKind} → IsDecodable c m xs → WhyNotDecoded c m xs k → (k ≡ OutOfMemory) × (c.decoding_allocates ≡ true)
+refused_though_decodable p (not_reading r none) = absurd (none p)
+refused_though_decodable p (not_memory r m) = (r, m)
 
 -- a value that the bytes decode to is returned up to `equivalent`, unless memory was refused
-pub whole_owed : {A : Type 0} {c : Codec A} (m : Bool) (xs : List ℕ) → Lawful A c → (r : Result A Error) → IfOk r (λ v. c.decodes m xs v) → IfErr r (λ e. WhyNotDecoded c m xs (error_kind e))
+pub whole_refused : {A : Type 0} {c : Codec A} (m : Bool) (xs : List ℕ) → Lawful A c → (r : Result A Error) → IfOk r (λ v. c.decodes m xs v) → IfErr r (λ e. WhyNotDecoded c m xs (error_kind e))
     → (x : A) → c.decodes m xs x → MatchResult r (λ y. c.equivalent y x) (λ e. (error_kind e ≡ OutOfMemory) × (c.decoding_allocates ≡ true))
-whole_owed m xs l (Ok y) p q x w = l.unambiguous m xs y x p w
-whole_owed m xs l (Err e) p q x w = owed (x, w) q
+whole_refused m xs l (Ok y) p q x w = l.unambiguous m xs y x p w
+whole_refused m xs l (Err e) p q x w = refused_though_decodable (x, w) q

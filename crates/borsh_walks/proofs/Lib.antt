@@ -8,7 +8,7 @@ pub mod SizeWalk
 pub mod Counting
 pub mod SizeExits
 pub mod SizeDue
-pub mod SizeStands
+pub mod SizeExists
 pub mod SizeOutcome
 pub mod ZeroWalk
 pub mod ZeroGlue

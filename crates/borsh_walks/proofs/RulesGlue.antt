@@ -12,7 +12,7 @@ use Rattle.borsh_walks.specs.RulesAnswer.{checked_element, ElementMarked}
 use Rattle.borsh_walks.specs.RulesState.{RulesState, AllSpots, pending}
 use Rattle.borsh_walks.specs.declared.counted.Question.TheVariants.{Zero as ZeroQuestion, Rules}
 use Rattle.borsh_walks.specs.declared.counted.Expansions.{Expansions}
-use Rattle.borsh_walks.specs.declared.way.Spot.{Spot}
+use Rattle.borsh_walks.specs.declared.stack.Spot.{Spot}
 use Rattle.borsh_walks.proofs.Laws.{one_definition}
 use Rattle.borsh_walks.proofs.Names.{next_below, among_get, among_append, among_left, among_right, among_one}
 use Rattle.borsh_walks.proofs.Tables.{Updated, marks_none, marks_start, marks_more, has_mark}
@@ -24,8 +24,8 @@ both_more j k a b e p q = q ∙ ap (λ s. add_to Rules 1 s) p ∙ ap (λ s. add_
 
 module _ (C : List ℕ → Option Shape) (root : List ℕ) where
   -- a name is seen: it is reached, has a definition and keeps its rules
-  pub rules_visit : {seen sn : BTreeMap (Bor (List ℕ)) Bool} {way wn : List Spot} {zeros zn : BTreeMap (Bor (List ℕ)) Bool} (g : Spot) → RulesState C root (g.name.now ∷ []) seen way zeros → Reached C root g.name.now → mark_of seen g.name.now ≡ None → C g.name.now ≡ Some (spot_shape g) → ((r : Rule) → Breaks C r g.name.now → ⊥) → ZeroTable C zn → ElementMarked C (spot_shape g) zeros zn → Updated (mark_of seen) (mark_of sn) g.name.now true → btree_map_len sn ≡ suc (btree_map_len seen) → g.next ≡ 0 → wn ≡ g ∷ way → RulesState C root [] sn wn zn
-  rules_visit {seen} {sn} {way} {wn} {zeros} {zn} g s reached none c keeps table marks u len next pushed =
+  pub rules_visit : {seen sn : BTreeMap (Bor (List ℕ)) Bool} {stack wn : List Spot} {zeros zn : BTreeMap (Bor (List ℕ)) Bool} (g : Spot) → RulesState C root (g.name.now ∷ []) seen stack zeros → Reached C root g.name.now → mark_of seen g.name.now ≡ None → C g.name.now ≡ Some (spot_shape g) → ((r : Rule) → Breaks C r g.name.now → ⊥) → ZeroTable C zn → ElementMarked C (spot_shape g) zeros zn → Updated (mark_of seen) (mark_of sn) g.name.now true → btree_map_len sn ≡ suc (btree_map_len seen) → g.next ≡ 0 → wn ≡ g ∷ stack → RulesState C root [] sn wn zn
+  rules_visit {seen} {sn} {stack} {wn} {zeros} {zn} g s reached none c keeps table marks u len next pushed =
       record {
         names = g.name.now ∷ s.names;
         marks = marks_more s.marks u none (reached, keeps, (spot_shape g, c));
@@ -36,9 +36,9 @@ module _ (C : List ℕ → Option Shape) (root : List ℕ) where
         elements = λ x d e a q k f. elements_new x d e a q k f;
       }
     where
-      closed_new : (x : List ℕ) (d : Shape) (y : List ℕ) → IsIn x (g.name.now ∷ s.names) → C x ≡ Some d → IsIn y (references d) → IsIn y (g.name.now ∷ s.names) ⊎ IsIn y [] ⊎ IsIn y (pending (g ∷ way))
-      closed_new x d y first e m = inr (inr (among_left (drop g.next (references (spot_shape g))) (pending way) (subst (λ k. IsIn y (drop k (references (spot_shape g)))) (sym next) (subst (λ h. IsIn y (references h)) (one_definition e c) m))))
-      closed_new x d y (later a) e m = elim (s.closed x d y a e m) [ inl b ↦ inl (later b) | inr b ↦ (elim b [ inl h ↦ inl (at_one h) | inr h ↦ inr (inr (among_right (drop g.next (references (spot_shape g))) (pending way) h)) ]) ]
+      closed_new : (x : List ℕ) (d : Shape) (y : List ℕ) → IsIn x (g.name.now ∷ s.names) → C x ≡ Some d → IsIn y (references d) → IsIn y (g.name.now ∷ s.names) ⊎ IsIn y [] ⊎ IsIn y (pending (g ∷ stack))
+      closed_new x d y first e m = inr (inr (among_left (drop g.next (references (spot_shape g))) (pending stack) (subst (λ k. IsIn y (drop k (references (spot_shape g)))) (sym next) (subst (λ h. IsIn y (references h)) (one_definition e c) m))))
+      closed_new x d y (later a) e m = elim (s.closed x d y a e m) [ inl b ↦ inl (later b) | inr b ↦ (elim b [ inl h ↦ inl (at_one h) | inr h ↦ inr (inr (among_right (drop g.next (references (spot_shape g))) (pending stack) h)) ]) ]
         where
           at_one : {z n : List ℕ} {xs : List (List ℕ)} → IsIn z (n ∷ []) → IsIn z (n ∷ xs)
           at_one first = first
@@ -122,8 +122,8 @@ module _ (C : List ℕ → Option Shape) (root : List ℕ) where
       ]
 
   -- a reference that was seen before
-  pub rules_seen : {seen zeros : BTreeMap (Bor (List ℕ)) Bool} {way : List Spot} (p : List ℕ) → RulesState C root (p ∷ []) seen way zeros → (mark_of seen p ≡ None → ⊥) → RulesState C root [] seen way zeros
-  rules_seen {seen} {zeros} {way} p s f = record {
+  pub rules_seen : {seen zeros : BTreeMap (Bor (List ℕ)) Bool} {stack : List Spot} (p : List ℕ) → RulesState C root (p ∷ []) seen stack zeros → (mark_of seen p ≡ None → ⊥) → RulesState C root [] seen stack zeros
+  rules_seen {seen} {zeros} {stack} p s f = record {
     names = s.names;
     marks = s.marks;
     len = s.len;
@@ -134,8 +134,8 @@ module _ (C : List ℕ → Option Shape) (root : List ℕ) where
   }
 
   -- nothing is seen yet
-  pub rules_start : (seen zeros : BTreeMap (Bor (List ℕ)) Bool) (way : List Spot) → seen.entries ≡ [] → zeros.entries ≡ [] → way ≡ [] → RulesState C root (root ∷ []) seen way zeros
-  rules_start seen zeros way e z w = record {
+  pub rules_start : (seen zeros : BTreeMap (Bor (List ℕ)) Bool) (stack : List Spot) → seen.entries ≡ [] → zeros.entries ≡ [] → stack ≡ [] → RulesState C root (root ∷ []) seen stack zeros
+  rules_start seen zeros stack e z w = record {
     names = [];
     marks = marks_start (marks_none seen e);
     len = ap length e;
@@ -145,9 +145,9 @@ module _ (C : List ℕ → Option Shape) (root : List ℕ) where
     elements = λ x d k a. elim a [ ];
   }
 
-  pub rules_all : {seen zeros : BTreeMap (Bor (List ℕ)) Bool} (way : List Spot) (s : RulesState C root [] seen way zeros) → way ≡ [] → (mark_of seen root ≡ None → ⊥) → {x : List ℕ} → Reached C root x → IsIn x s.names
-  rules_all {seen} way s w f stays = s.marks.marked root (has_mark (mark_of seen root) f).0 (has_mark (mark_of seen root) f).1
-  rules_all way s w f (onward {y = y} {z = z} d l q a) =
-      let go : IsIn z s.names ⊎ IsIn z [] ⊎ IsIn z (pending way) → IsIn z s.names =
+  pub rules_all : {seen zeros : BTreeMap (Bor (List ℕ)) Bool} (stack : List Spot) (s : RulesState C root [] seen stack zeros) → stack ≡ [] → (mark_of seen root ≡ None → ⊥) → {x : List ℕ} → Reached C root x → IsIn x s.names
+  rules_all {seen} stack s w f stays = s.marks.marked root (has_mark (mark_of seen root) f).0 (has_mark (mark_of seen root) f).1
+  rules_all stack s w f (onward {y = y} {z = z} d l q a) =
+      let go : IsIn z s.names ⊎ IsIn z [] ⊎ IsIn z (pending stack) → IsIn z s.names =
       elim [ inl b ↦ b | inr b ↦ (elim b [ inl c ↦ absurd (no_one c) | inr c ↦ absurd (no_one (subst (λ l. IsIn z (pending l)) w c)) ]) ] in
-      go (s.closed y d z (rules_all way s w f l) q a)
+      go (s.closed y d z (rules_all stack s w f l) q a)

@@ -9,7 +9,7 @@ use Rattle.borsh_walks.specs.Tables.{IsDefined, Visited}
 use Rattle.borsh_walks.specs.declared.sizes.Frame.{Frame}
 use Rattle.borsh_walks.specs.declared.sizes.Mark.{Mark}
 use Rattle.borsh_walks.specs.declared.sizes.Mark.TheVariants.{Open, Finished}
-use Rattle.borsh_walks.specs.declared.way.Spot.{Spot}
+use Rattle.borsh_walks.specs.declared.stack.Spot.{Spot}
 use Rattle.borsh_walks.proofs.Laws.{one_definition, sizes_among, no_cycle, size_partial, sizes_partial}
 use Rattle.borsh_walks.proofs.Names.{among_get, among_left, among_one, other_one, name_cases}
 use Rattle.borsh_walks.proofs.Tables.{Updated, marks_more, marks_again, marks_start}
@@ -90,11 +90,11 @@ module _ (C : List ℕ → Option Shape) where
   sizes_snoc no_sizes s = more_sizes s no_sizes
   sizes_snoc (more_sizes t ts) s = more_sizes t (sizes_snoc ts s)
 
-  partial_zeros : (way ps : List (List ℕ)) → PartialSizes C way ps (replicate (length ps) 0)
-  partial_zeros way [] = no_partial
-  partial_zeros way (p ∷ ps) = more_partial left_out (partial_zeros way ps)
+  partial_zeros : (stack ps : List (List ℕ)) → PartialSizes C stack ps (replicate (length ps) 0)
+  partial_zeros stack [] = no_partial
+  partial_zeros stack (p ∷ ps) = more_partial left_out (partial_zeros stack ps)
 
-  partial_append : {way ps qs : List (List ℕ)} {ms ns : List ℕ} → PartialSizes C way ps ms → PartialSizes C way qs ns → PartialSizes C way (ps ++ qs) (ms ++ ns)
+  partial_append : {stack ps qs : List (List ℕ)} {ms ns : List ℕ} → PartialSizes C stack ps ms → PartialSizes C stack qs ns → PartialSizes C stack (ps ++ qs) (ms ++ ns)
   partial_append no_partial t = t
   partial_append (more_partial s ss) t = more_partial s (partial_append ss t)
 
@@ -124,25 +124,25 @@ module _ (C : List ℕ → Option Shape) where
   lead_trans l (onward d m p a) = onward d (lead_trans l m) p a
 
   -- the finished parts of a frame do not lead back to the stack
-  frame_apart : {f : Frame} (m : Made f) (way : List (List ℕ)) → C f.spot.name.now ≡ Some (shape f) → ((z : List ℕ) → IsIn z (f.spot.name.now ∷ way) → Reaches C size_references z f.spot.name.now) → (y : List ℕ) → IsIn y (take f.spot.next (size_references (shape f))) → (z : List ℕ) → Reaches C size_references y z → IsIn z (f.spot.name.now ∷ way) → ⊥
-  frame_apart {f} m way defined ups y a z l b =
+  frame_apart : {f : Frame} (m : Made f) (stack : List (List ℕ)) → C f.spot.name.now ≡ Some (shape f) → ((z : List ℕ) → IsIn z (f.spot.name.now ∷ stack) → Reaches C size_references z f.spot.name.now) → (y : List ℕ) → IsIn y (take f.spot.next (size_references (shape f))) → (z : List ℕ) → Reaches C size_references y z → IsIn z (f.spot.name.now ∷ stack) → ⊥
+  frame_apart {f} m stack defined ups y a z l b =
       let s = sizes_among C a m.are in
       let in_needs = subst (λ l. IsIn y l) (take-append-drop f.spot.next (size_references (shape f))) (among_left (take f.spot.next (size_references (shape f))) (drop f.spot.next (size_references (shape f))) a) in
       no_cycle C s.1 (f.spot.name.now, shape f, lead_trans l (ups z b), defined, in_needs)
 
   -- a partial size of a frame's name, from one of its next part
-  frame_partial : {f : Frame} (m : Made f) (limit : ℕ) (way : List (List ℕ)) (p : List ℕ) (k : ℕ) → C f.spot.name.now ≡ Some (shape f) → ((z : List ℕ) → IsIn z (f.spot.name.now ∷ way) → Reaches C size_references z f.spot.name.now) → (IsIn f.spot.name.now way → ⊥) → slice_get (size_references (shape f)) f.spot.next ≡ Some p → PartialSize C (f.spot.name.now ∷ way) p k → limit ≤ partial_size (shape f) (m.sizes ++ k ∷ []) → (n : ℕ) × PartialSize C way f.spot.name.now n × (limit ≤ n)
-  frame_partial {f} m limit way p k defined ups far e s low =
+  frame_partial : {f : Frame} (m : Made f) (limit : ℕ) (stack : List (List ℕ)) (p : List ℕ) (k : ℕ) → C f.spot.name.now ≡ Some (shape f) → ((z : List ℕ) → IsIn z (f.spot.name.now ∷ stack) → Reaches C size_references z f.spot.name.now) → (IsIn f.spot.name.now stack → ⊥) → slice_get (size_references (shape f)) f.spot.next ≡ Some p → PartialSize C (f.spot.name.now ∷ stack) p k → limit ≤ partial_size (shape f) (m.sizes ++ k ∷ []) → (n : ℕ) × PartialSize C stack f.spot.name.now n × (limit ≤ n)
+  frame_partial {f} m limit stack p k defined ups far e s low =
       let i = f.spot.next in
       let ps = size_references (shape f) in
       let rest = drop (i + 1) ps in
       let ns = (m.sizes ++ k ∷ []) ++ replicate (length rest) 0 in
       let whole : ps ≡ (take i ps ++ p ∷ []) ++ rest = sym (take-append-drop (i + 1) ps) ∙ ap (λ u. u ++ rest) (take_more ps i e) in
-      let front = sizes_partial C (f.spot.name.now ∷ way) m.are (frame_apart m way defined ups) in
-      let all = partial_append (partial_append front (more_partial s no_partial)) (partial_zeros (f.spot.name.now ∷ way) rest) in
+      let front = sizes_partial C (f.spot.name.now ∷ stack) m.are (frame_apart m stack defined ups) in
+      let all = partial_append (partial_append front (more_partial s no_partial)) (partial_zeros (f.spot.name.now ∷ stack) rest) in
       let large = gathered-le_total (shape f) ns (among_get ps i e) in
       let same = gathered-zeros (shape f) (m.sizes ++ k ∷ []) (length rest) in
-      (size_from_parts (shape f) ns, taken (shape f) far defined (subst (λ u. PartialSizes C (f.spot.name.now ∷ way) u ns) (sym whole) all), omega (arith, large, same, low))
+      (size_from_parts (shape f) ns, taken (shape f) far defined (subst (λ u. PartialSizes C (f.spot.name.now ∷ stack) u ns) (sym whole) all), omega (arith, large, same, low))
 
   part_large : (d : Shape) (ms : List ℕ) (k : ℕ) → k ≤ partial_size d (ms ++ k ∷ [])
   part_large (primitive n) ms k = rw sum-more (omega arith)

@@ -5,7 +5,7 @@ use Rattle.borsh_walks.specs.Container.{Shape, IsIn, first, later, Reaches, stay
 use Rattle.borsh_walks.specs.Definitions.{spot_shape}
 use Rattle.borsh_walks.specs.ZeroAnswer.{asked}
 use Rattle.borsh_walks.specs.Tables.{IsDefined, Visited}
-use Rattle.borsh_walks.specs.declared.way.Spot.{Spot}
+use Rattle.borsh_walks.specs.declared.stack.Spot.{Spot}
 use Rattle.borsh_walks.proofs.Laws.{one_definition, lead_out}
 use Rattle.borsh_walks.proofs.Names.{among_get, among_one, other_one, name_cases}
 use Rattle.borsh_walks.proofs.Tables.{Updated, marks_more, marks_again}

@@ -12,7 +12,7 @@ use Rattle.borsh_walks.specs.RulesAnswer.{RulesFault, checked_element}
 use Rattle.borsh_walks.specs.declared.counted.Counted.{Counted}
 use Rattle.borsh_walks.specs.declared.counted.Expansions.{Expansions}
 use Rattle.borsh_walks.specs.declared.counted.Question.TheVariants.{Zero, Rules}
-use Rattle.borsh_walks.specs.declared.way.Spot.{Spot}
+use Rattle.borsh_walks.specs.declared.stack.Spot.{Spot}
 use Rattle.borsh_walks.specs.declared.error.SchemaContainerValidateError.{SchemaContainerValidateError}
 
 -- the references that wait on the stack, the top first
@@ -26,12 +26,12 @@ module _ (C : List ℕ → Option Shape) (root : List ℕ) where
   AllSpots (f ∷ fs) = ((C f.name.now ≡ Some (spot_shape f)) × Reached C root f.name.now × (f.next ≤ length (references (spot_shape f)))) × AllSpots fs
 
   -- the names seen are reached and keep their rules, and what they refer to is seen, waits on the stack, or is among `extra`
-  pub record RulesState (extra : List (List ℕ)) (seen : BTreeMap (Bor (List ℕ)) Bool) (way : List Spot) (zeros : BTreeMap (Bor (List ℕ)) Bool) : Type 0 where
+  pub record RulesState (extra : List (List ℕ)) (seen : BTreeMap (Bor (List ℕ)) Bool) (stack : List Spot) (zeros : BTreeMap (Bor (List ℕ)) Bool) : Type 0 where
     pub names : List (List ℕ)
     pub marks : Visited (λ x. Reached C root x × ((r : Rule) → Breaks C r x → ⊥) × IsDefined C x) (mark_of seen) names
     pub len : btree_map_len seen ≡ length names
-    pub spots : AllSpots way
-    pub closed : (x : List ℕ) (d : Shape) (y : List ℕ) → IsIn x names → C x ≡ Some d → IsIn y (references d) → IsIn y names ⊎ IsIn y extra ⊎ IsIn y (pending way)
+    pub spots : AllSpots stack
+    pub closed : (x : List ℕ) (d : Shape) (y : List ℕ) → IsIn x names → C x ≡ Some d → IsIn y (references d) → IsIn y names ⊎ IsIn y extra ⊎ IsIn y (pending stack)
     pub zero : ZeroTable C zeros
     pub elements : (x : List ℕ) (d : Shape) (e : List ℕ) → IsIn x names → C x ≡ Some d → checked_element d ≡ Some e → (C e ≡ None → ⊥) → mark_of zeros e ≡ None → ⊥
 
@@ -56,18 +56,18 @@ HasPushed c old new name = (f : Spot) × (new ≡ f ∷ old) × (f.next ≡ 0) �
 
 -- what a visit makes of the state
 abbrev pub IsVisited : Counted → Counted → List ℕ → BTreeMap (Bor (List ℕ)) Bool → BTreeMap (Bor (List ℕ)) Bool → List Spot → List Spot → BTreeMap (Bor (List ℕ)) Bool → BTreeMap (Bor (List ℕ)) Bool → List ℕ → Result (Unit {0}) SchemaContainerValidateError → Type 0
-IsVisited old new name s t way ways u v root (Ok _) = RulesState (definitions_of old) root [] t ways v × HasSeen name s t × HasPushed old way ways name
-IsVisited old new name s t way ways u v root (Err e) = RulesFault (definitions_of old) root e
+IsVisited old new name s t stack stack_after u v root (Ok _) = RulesState (definitions_of old) root [] t stack_after v × HasSeen name s t × HasPushed old stack stack_after name
+IsVisited old new name s t stack stack_after u v root (Err e) = RulesFault (definitions_of old) root e
 
 -- the name is visited for the first time: what the visit makes of the state, for every root that reaches the name
 abbrev pub Visits : Counted → Counted → List ℕ → BTreeMap (Bor (List ℕ)) Bool → BTreeMap (Bor (List ℕ)) Bool → List Spot → List Spot → BTreeMap (Bor (List ℕ)) Bool → BTreeMap (Bor (List ℕ)) Bool → Result (Unit {0}) SchemaContainerValidateError → Type 0
-Visits old new name s t way ways u v r =
-    (root : List ℕ) → RulesState (definitions_of old) root (name ∷ []) s way u → Reached (definitions_of old) root name → mark_of s name ≡ None → IsVisited old new name s t way ways u v root r
+Visits old new name s t stack stack_after u v r =
+    (root : List ℕ) → RulesState (definitions_of old) root (name ∷ []) s stack u → Reached (definitions_of old) root name → mark_of s name ≡ None → IsVisited old new name s t stack stack_after u v root r
 
 -- and what it counts
 abbrev pub CountsVisit : Counted → Counted → List ℕ → BTreeMap (Bor (List ℕ)) Bool → BTreeMap (Bor (List ℕ)) Bool → List Spot → BTreeMap (Bor (List ℕ)) Bool → BTreeMap (Bor (List ℕ)) Bool → Result (Unit {0}) SchemaContainerValidateError → Type 0
-CountsVisit old new name s t way u v r =
-    (root : List ℕ) → RulesState (definitions_of old) root (name ∷ []) s way u → Reached (definitions_of old) root name → mark_of s name ≡ None → RulesCounted root old new s t u v r
+CountsVisit old new name s t stack u v r =
+    (root : List ℕ) → RulesState (definitions_of old) root (name ∷ []) s stack u → Reached (definitions_of old) root name → mark_of s name ≡ None → RulesCounted root old new s t u v r
 
 -- on a yes `rules` rises by the number of reached names, and `zero` by at least the number of elements that are checked
 abbrev pub RulesCountedOnYes : Counted → Counted → List ℕ → Type 0

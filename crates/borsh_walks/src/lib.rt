@@ -12,7 +12,7 @@ pub mod error;
 pub mod parts;
 pub mod rules;
 pub mod sizes;
-mod way;
+mod stack;
 pub mod zero;
 
 pub use counted::{Counted, Expansions, Question};

@@ -10,7 +10,7 @@ use crate::counted::{Counted, Question};
 use crate::definition::Definition;
 use crate::error::SchemaContainerValidateError;
 use crate::parts::mentioned_part;
-use crate::way::Spot;
+use crate::stack::Spot;
 use crate::zero::is_zero;
 use std::alloc::{AllocError, Global};
 use std::collections::BTreeMap;
@@ -151,16 +151,16 @@ fn visit<'a>(
     alloc: Global,
     name: &'a str,
     seen: &mut BTreeMap<&'a str, bool>,
-    way: &mut Vec<Spot<'a>>,
+    stack: &mut Vec<Spot<'a>>,
     table: &mut BTreeMap<&'a str, bool>,
     counted: &mut Counted<'a, '_>,
 ) -> Result<(), SchemaContainerValidateError>
     requires { ZeroTable (definitions_of counted.old) table.old }
     ensures same { LooksOn counted.old counted.new }
     ensures visited { Visits counted.old counted.new name.now seen.old seen.new
-        (reverse way.old.items) (reverse way.new.items) table.old table.new result }
+        (reverse stack.old.items) (reverse stack.new.items) table.old table.new result }
     ensures counts { CountsVisit counted.old counted.new name.now seen.old seen.new
-        (reverse way.old.items) table.old table.new result }
+        (reverse stack.old.items) table.old table.new result }
 {
     let Some(definition) = counted.look(Question::Rules, name) else {
         return Err(error_of(alloc, Broken::Missing, name));
@@ -169,7 +169,7 @@ fn visit<'a>(
         return Err(error_of(alloc, broken, name));
     }
     seen.insert(name, true)?;
-    way.push(Spot::at(name, definition))?;
+    stack.push(Spot::at(name, definition))?;
     Ok(())
 }
 
@@ -203,7 +203,7 @@ pub fn check_rules(
     walk_rules(alloc, root, &mut lent)
 }
 
-// The walk over the names that are reached. A name that was visited waits on the stack `way` until each
+// The walk over the names that are reached. A name that was visited waits on the stack `stack` until each
 // name that it refers to was visited.
 fn walk_rules<'a>(
     alloc: Global,
@@ -218,16 +218,16 @@ fn walk_rules<'a>(
 {
     let mut table: BTreeMap<&'a str, bool> = BTreeMap::new(alloc);
     let mut seen: BTreeMap<&'a str, bool> = BTreeMap::new(alloc);
-    let mut way: Vec<Spot<'a>> = Vec::new(alloc);
-    visit(alloc, root, &mut seen, &mut way, &mut table, counted)?;
-    while let Some(mut spot) = way.pop() {
+    let mut stack: Vec<Spot<'a>> = Vec::new(alloc);
+    visit(alloc, root, &mut seen, &mut stack, &mut table, counted)?;
+    while let Some(mut spot) = stack.pop() {
         let Some(part) = mentioned_part(spot.definition, spot.next) else {
             continue;
         };
         spot.next += 1;
-        way.push(spot)?;
+        stack.push(spot)?;
         if !seen.contains_key(part) {
-            visit(alloc, part, &mut seen, &mut way, &mut table, counted)?;
+            visit(alloc, part, &mut seen, &mut stack, &mut table, counted)?;
         }
     }
     Ok(())

@@ -10,7 +10,7 @@ use crate::counted::{Counted, Question};
 use crate::definition::Definition;
 use crate::error::SchemaMaxSerializedSizeError;
 use crate::parts::needed_part;
-use crate::way::Spot;
+use crate::stack::Spot;
 use std::alloc::Global;
 use std::collections::BTreeMap;
 
@@ -107,7 +107,7 @@ fn walk_sizes<'a>(
         return Err(missing(alloc, root));
     };
     let mut table: BTreeMap<&'a str, Mark> = BTreeMap::new(alloc);
-    let mut way: Vec<Frame<'a>> = Vec::new(alloc);
+    let mut stack: Vec<Frame<'a>> = Vec::new(alloc);
     table.insert(root, Mark::Open)?;
     let mut frame = Frame {
         spot: Spot::at(root, definition),
@@ -129,7 +129,7 @@ fn walk_sizes<'a>(
                         return Err(missing(alloc, part));
                     };
                     table.insert(part, Mark::Open)?;
-                    way.push(frame)?;
+                    stack.push(frame)?;
                     frame = Frame {
                         spot: Spot::at(part, definition),
                         gathered: 0,
@@ -141,7 +141,7 @@ fn walk_sizes<'a>(
                     return Err(SchemaMaxSerializedSizeError::Overflow);
                 };
                 table.insert(frame.spot.name, Mark::Finished(size))?;
-                match way.pop() {
+                match stack.pop() {
                     Some(above) => frame = above,
                     None => return Ok(size),
                 }

@@ -8,7 +8,7 @@ ghost use Rattle.std.specs.Prelude.{◌≡◌, IfOk, OnOk, is_none};
 use crate::counted::{Counted, Question};
 use crate::definition::Definition;
 use crate::parts::asked_part;
-use crate::way::Spot;
+use crate::stack::Spot;
 use std::alloc::{AllocError, Global};
 use std::collections::BTreeMap;
 
@@ -46,7 +46,7 @@ pub fn is_zero<'a>(
         return Ok(false);
     };
     table.insert(name, false)?;
-    let mut way: Vec<Spot<'a>> = Vec::new(alloc);
+    let mut stack: Vec<Spot<'a>> = Vec::new(alloc);
     let mut spot = Spot::at(name, definition);
     loop {
         if never_zero(spot.definition) {
@@ -61,13 +61,13 @@ pub fn is_zero<'a>(
                         return Ok(false);
                     };
                     table.insert(part, false)?;
-                    way.push(spot)?;
+                    stack.push(spot)?;
                     spot = Spot::at(part, definition);
                 }
             },
             None => {
                 table.insert(spot.name, true)?;
-                match way.pop() {
+                match stack.pop() {
                     Some(above) => spot = above,
                     None => return Ok(true),
                 }

@@ -35,8 +35,8 @@ same_front P free x y u v p q e =
           (s.front ∙ ap (λ z. u ++ z) none ∙ append-nil u, sym (s.rest ∙ ap (λ z. z ++ y) none)))
     ]
 
-pub free_readings : {A : Type 0} {c : Codec A} → Lawful A c → (strict : Bool) → PrefixFree (IsDecodable c strict)
-free_readings l strict x z p q = l.prefix_free strict x z p.0 q.0 p.1 q.1
+pub decodable_prefix_free : {A : Type 0} {c : Codec A} → Lawful A c → (strict : Bool) → PrefixFree (IsDecodable c strict)
+decodable_prefix_free l strict x z p q = l.prefix_free strict x z p.0 q.0 p.1 q.1
 
 pub nil_of_length : (x : List ℕ) → length x ≡ 0 → x ≡ []
 nil_of_length [] e = refl

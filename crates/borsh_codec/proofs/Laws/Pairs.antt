@@ -2,11 +2,11 @@
 use Rattle.std.proofs.Common.{◌≡◌, ℕ, Bool, List, ◌++◌, Some, sym, ◌∙◌, ap, subst, inl, inr, append_assoc}
 use Rattle.borsh_codec.specs.Codec.{Codec, IsDecodable, Lawful}
 use Rattle.borsh_codec.specs.Shapes.{append_encodings, pair}
-use Rattle.borsh_codec.proofs.Laws.Lists.{same_front, free_readings, nil_parts, and_true, and_false, joined_some, joined_is}
+use Rattle.borsh_codec.proofs.Laws.Lists.{same_front, decodable_prefix_free, nil_parts, and_true, and_false, joined_some, joined_is}
 
 module _ {A B : Type 0} {a : Codec A} {b : Codec B} (la : Lawful A a) (lb : Lawful B b) where
   fronts : (m : Bool) (x y u v : List ℕ) (s t : A) → a.decodes m x s → a.decodes m u t → x ++ y ≡ u ++ v → (x ≡ u) × (y ≡ v)
-  fronts m x y u v s t p q e = same_front (IsDecodable a m) (free_readings la m) x y u v (s, p) (t, q) e
+  fronts m x y u v s t p q e = same_front (IsDecodable a m) (decodable_prefix_free la m) x y u v (s, p) (t, q) e
 
   round_trip : (m : Bool) (v : A × B) (x : List ℕ) → (pair a b).encoding v ≡ Some x → (pair a b).decodes m x v
   round_trip m v x e =

@@ -3,7 +3,7 @@ use Rattle.std.proofs.Common.{◌≡◌, ℕ, suc, ◌+◌, Bool, true, false, c
 use Rattle.std.specs.List.{AllZip}
 use Rattle.borsh_codec.specs.Codec.{Codec, IsDecodable, Lawful}
 use Rattle.borsh_codec.specs.Shapes.{is_zero, unsigned_encoding, unsigned, append_encodings, concat_encodings, DecodesEach, ArrayDecodes, array, allocated_array, length_prefixed, list}
-use Rattle.borsh_codec.proofs.Laws.Lists.{same_front, free_readings, nil_parts, or_true, or_false, joined_some, joined_is}
+use Rattle.borsh_codec.proofs.Laws.Lists.{same_front, decodable_prefix_free, nil_parts, or_true, or_false, joined_some, joined_is}
 use Rattle.borsh_codec.proofs.Laws.Exact.{zero_of, positive_of, refused_if-lawful}
 use Rattle.borsh_codec.proofs.Laws.Numbers.{unsigned-lawful, number_apart, length-number}
 
@@ -17,7 +17,7 @@ module _ {A : Type 0} {c : Codec A} (l : Lawful A c) where
   in_order_fronts m x y u v (a ∷ xs) (b ∷ ys) n p q e =
       let e' : p.first ++ (p.second ++ y) ≡ q.first ++ (q.second ++ v) =
       sym (append_assoc p.first p.second y) ∙ ap (λ z. z ++ y) (sym p.whole) ∙ e ∙ ap (λ z. z ++ v) q.whole ∙ append_assoc q.first q.second v in
-      let f = same_front (IsDecodable c m) (free_readings l m) p.first (p.second ++ y) q.first (q.second ++ v) (a, p.left) (b, q.left) e' in
+      let f = same_front (IsDecodable c m) (decodable_prefix_free l m) p.first (p.second ++ y) q.first (q.second ++ v) (a, p.left) (b, q.left) e' in
       let g = in_order_fronts m p.second y q.second v xs ys (omega arith) p.right q.right f.1 in
       let w : x ≡ u = cc (p.whole, q.whole, f.0, g.0) in
       (w, g.1, (l.unambiguous m q.first a b (subst (λ z. c.decodes m z a) f.0 p.left) q.left, g.2))
@@ -142,7 +142,7 @@ module _ {A : Type 0} {c : Codec A} (l : Lawful A c) where
   counted_fronts m x y u v xs ys p q e =
       let e' : p.first ++ (p.second ++ y) ≡ q.first ++ (q.second ++ v) =
       sym (append_assoc p.first p.second y) ∙ ap (λ z. z ++ y) (sym p.whole) ∙ e ∙ ap (λ z. z ++ v) q.whole ∙ append_assoc q.first q.second v in
-      let f = same_front (IsDecodable (unsigned 4) m) (free_readings (unsigned-lawful 4) m) p.first (p.second ++ y) q.first (q.second ++ v) (length xs, p.left) (length ys, q.left) e' in
+      let f = same_front (IsDecodable (unsigned 4) m) (decodable_prefix_free (unsigned-lawful 4) m) p.first (p.second ++ y) q.first (q.second ++ v) (length xs, p.left) (length ys, q.left) e' in
       let n = number_apart 4 (length xs) (length ys) q.first (p.left ∙ ap Some f.0) q.left in
       let g = in_order_fronts l m p.second y q.second v xs ys n p.right q.right f.1 in
       (g.1, g.2)

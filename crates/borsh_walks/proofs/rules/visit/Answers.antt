@@ -7,7 +7,7 @@ use Rattle.borsh_walks.specs.Definitions.{definitions_in, shape_of}
 use Rattle.borsh_walks.specs.declared.counted.Question.TheVariants.{Rules, Zero}
 use Rattle.borsh_walks.specs.ZeroAnswer.{ZeroTable}
 use Rattle.borsh_walks.specs.RulesAnswer.{RuleAnswer, ElementMarked, rule_of}
-use Rattle.borsh_walks.specs.declared.way.Spot.{Spot}
+use Rattle.borsh_walks.specs.declared.stack.Spot.{Spot}
 use Rattle.borsh_walks.proofs.RulesLaws.{rules_fault}
 use Rattle.borsh_walks.proofs.Names.{found_shape, found_none, also_known}
 use Rattle.borsh_walks.proofs.Tables.{updated_by, still, grown, few_names, more_names}
@@ -96,7 +96,7 @@ returns-clause-visited c = λ root s r n.
     let u = updated_by c.args.name.now c.args.seen.now c.insert.new.self true c.in_ok-insert.ensures.updates in
     let len = grown c.in_ok-insert.field-0 c.in_ok-insert.ensures.len (c.in_ok-insert.ensures.old ∙ n) in
     let g : Spot = record { name = c.args.name; definition = c.in-Some.definition; next = 0 } in
-    let items = last_first c.args.way.now.items c.push.new.self.items c.at.result c.in_ok-push.ensures.items ∙ ap (λ f. f ∷ reverse c.args.way.now.items) c.at.ensures in (
+    let items = last_first c.args.stack.now.items c.push.new.self.items c.at.result c.in_ok-push.ensures.items ∙ ap (λ f. f ∷ reverse c.args.stack.now.items) c.at.ensures in (
       rules_visit C root g s r n e (keeps c.args.name.now e) t marks u len refl items,
       (still u, (λ h. let b = u.here in cc), omega (arith, len)),
       (g, items, refl, sym c.in-Some.ensures.found),

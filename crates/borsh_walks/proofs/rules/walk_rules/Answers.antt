@@ -43,7 +43,7 @@ pub loop-spot-init : goal.loop-spot-init
 loop-spot-init c =
     let C = definitions_of c.args.counted.now in
     let root = c.args.root.now in
-    let s = rules_start C root c.new-seen.result c.new-table.result (reverse c.new-way.result.items) c.new-seen.ensures.empty c.new-table.ensures.empty (ap (λ l. reverse l) c.new-way.ensures.items) in
+    let s = rules_start C root c.new-seen.result c.new-table.result (reverse c.new-stack.result.items) c.new-seen.ensures.empty c.new-table.ensures.empty (ap (λ l. reverse l) c.new-stack.ensures.items) in
     let n = marks_none c.new-seen.result c.new-seen.ensures.empty root in
     let v = c.in_ok-visit.ensures.visited root s stays n in
     let k = c.in_ok-visit.ensures.counts root s stays n (counts_of c.args.counted.now) (both_none (btree_map_len c.new-seen.result) (btree_map_len c.new-table.result) (counts_of c.args.counted.now) c.new-seen.ensures.len c.new-table.ensures.len) in
@@ -53,7 +53,7 @@ pub returns-in_err-visit-clause-answer : goal.returns-in_err-visit-clause-answer
 returns-in_err-visit-clause-answer c =
     let C = definitions_of c.args.counted.now in
     let root = c.args.root.now in
-    let s = rules_start C root c.new-seen.result c.new-table.result (reverse c.new-way.result.items) c.new-seen.ensures.empty c.new-table.ensures.empty (ap (λ l. reverse l) c.new-way.ensures.items) in
+    let s = rules_start C root c.new-seen.result c.new-table.result (reverse c.new-stack.result.items) c.new-seen.ensures.empty c.new-table.ensures.empty (ap (λ l. reverse l) c.new-stack.ensures.items) in
     let n = marks_none c.new-seen.result c.new-seen.ensures.empty root in
     err_is (λ x. IsValid C root) (RulesFault C root) c.from_residual.result c.in_err-visit.field-0.0 c.from_residual.ensures.0 c.from_residual.ensures.1 (c.in_err-visit.ensures.visited root s stays n)
 
@@ -61,7 +61,7 @@ pub returns-in_err-visit-clause-work : goal.returns-in_err-visit-clause-work
 returns-in_err-visit-clause-work c =
     let C = definitions_of c.args.counted.now in
     let root = c.args.root.now in
-    let s = rules_start C root c.new-seen.result c.new-table.result (reverse c.new-way.result.items) c.new-seen.ensures.empty c.new-table.ensures.empty (ap (λ l. reverse l) c.new-way.ensures.items) in
+    let s = rules_start C root c.new-seen.result c.new-table.result (reverse c.new-stack.result.items) c.new-seen.ensures.empty c.new-table.ensures.empty (ap (λ l. reverse l) c.new-stack.ensures.items) in
     let n = marks_none c.new-seen.result c.new-seen.ensures.empty root in
     let k = c.in_err-visit.ensures.counts root s stays n (counts_of c.args.counted.now) (both_none (btree_map_len c.new-seen.result) (btree_map_len c.new-table.result) (counts_of c.args.counted.now) c.new-seen.ensures.len c.new-table.ensures.len) in
     record { names = k.0; zeros = k.1; once = k.2.0; reached = λ x a. (k.2.1 x a).0; few = names_within c.args.counted.now.map.now k.0 k.2.0 (λ x a. (k.2.1 x a).1); few_zeros = k.3; counts = k.4 }
@@ -70,15 +70,15 @@ pub loop-spot-smaller-in_default-mentioned_part : goal.loop-spot-smaller-in_defa
 loop-spot-smaller-in_default-mentioned_part c =
     let i = c.loop-spot.invariant in
     let C = definitions_of c.args.counted.now in
-    let items = last_first c.pop.new.self.items c.loop-spot.way.items c.in-Some.spot c.in-Some.ensures.items in
+    let items = last_first c.pop.new.self.items c.loop-spot.stack.items c.in-Some.spot c.in-Some.ensures.items in
     let s = subst (λ l. RulesState C c.args.root.now [] c.loop-spot.seen l c.loop-spot.table) items i.state in
-    left_popped references c.loop-spot.counted.map.now (btree_map_len c.loop-spot.seen) (btree_map_len c.loop-spot.seen) c.in-Some.spot (reverse c.pop.new.self.items) (reverse c.loop-spot.way.items) refl items s.spots.0.2
+    left_popped references c.loop-spot.counted.map.now (btree_map_len c.loop-spot.seen) (btree_map_len c.loop-spot.seen) c.in-Some.spot (reverse c.pop.new.self.items) (reverse c.loop-spot.stack.items) refl items s.spots.0.2
 
 pub loop-spot-preserved-in_default-mentioned_part : goal.loop-spot-preserved-in_default-mentioned_part
 loop-spot-preserved-in_default-mentioned_part c =
     let i = c.loop-spot.invariant in
     let C = definitions_of c.args.counted.now in
-    let items = last_first c.pop.new.self.items c.loop-spot.way.items c.in-Some.spot c.in-Some.ensures.items in
+    let items = last_first c.pop.new.self.items c.loop-spot.stack.items c.in-Some.spot c.in-Some.ensures.items in
     let s = subst (λ l. RulesState C c.args.root.now [] c.loop-spot.seen l c.loop-spot.table) items i.state in
     record { state = rules_pop C c.args.root.now (reverse c.pop.new.self.items) c.in-Some.spot s (sym c.in_default-mentioned_part.ensures.part); root_seen = i.root_seen; looks = i.looks; same = (i.same.0, i.same.1) }
 
@@ -88,7 +88,7 @@ visit-requires-then-not-contains_key c = let i = c.loop-spot.invariant in
 
 pub loop-spot-smaller : goal.loop-spot-smaller
 loop-spot-smaller c =
-    let items = last_first c.pop.new.self.items c.loop-spot.way.items c.in-Some.spot c.in-Some.ensures.items in
+    let items = last_first c.pop.new.self.items c.loop-spot.stack.items c.in-Some.spot c.in-Some.ensures.items in
     let back = last_first c.pop.new.self.items c.push.new.self.items (moved c.in-Some.spot) c.in_ok-push.ensures.items in
     let step = rests_moved references ((btree_map_len c.loop-spot.counted.map.now - btree_map_len c.loop-spot.seen) * (2 + work references c.loop-spot.counted.map.now.entries)) c.in-Some.spot (reverse c.pop.new.self.items) c.in-Some-mentioned_part.part.now (sym c.in-Some-mentioned_part.ensures.part) in
     omega (arith, step, ap (λ l. rests references l) items, ap (λ l. rests references l) back)
@@ -98,7 +98,7 @@ loop-spot-preserved c =
     let i = c.loop-spot.invariant in
     let C = definitions_of c.args.counted.now in
     let p = c.in-Some-mentioned_part.part.now in
-    let items = last_first c.pop.new.self.items c.loop-spot.way.items c.in-Some.spot c.in-Some.ensures.items in
+    let items = last_first c.pop.new.self.items c.loop-spot.stack.items c.in-Some.spot c.in-Some.ensures.items in
     let s = subst (λ l. RulesState C c.args.root.now [] c.loop-spot.seen l c.loop-spot.table) items i.state in
     let back = last_first c.pop.new.self.items c.push.new.self.items (moved c.in-Some.spot) c.in_ok-push.ensures.items in
     let t = rules_take C c.args.root.now (reverse c.pop.new.self.items) (reverse c.push.new.self.items) c.in-Some.spot p s (sym c.in-Some-mentioned_part.ensures.part) back in
@@ -110,7 +110,7 @@ loop-spot-smaller-in-Continue-branch-3 c =
     let C = definitions_of c.args.counted.now in
     let root = c.args.root.now in
     let p = c.in-Some-mentioned_part.part.now in
-    let items = last_first c.pop.new.self.items c.loop-spot.way.items c.in-Some.spot c.in-Some.ensures.items in
+    let items = last_first c.pop.new.self.items c.loop-spot.stack.items c.in-Some.spot c.in-Some.ensures.items in
     let s = subst (λ l. RulesState C root [] c.loop-spot.seen l c.loop-spot.table) items i.state in
     let back = last_first c.pop.new.self.items c.push.new.self.items (moved c.in-Some.spot) c.in_ok-push.ensures.items in
     let t = rules_take C root (reverse c.pop.new.self.items) (reverse c.push.new.self.items) c.in-Some.spot p s (sym c.in-Some-mentioned_part.ensures.part) back in
@@ -124,8 +124,8 @@ loop-spot-smaller-in-Continue-branch-3 c =
     let few = few_more c.args.counted.now.map.now (λ x k. k.2) i.state.marks n e in
     let room : suc (btree_map_len c.loop-spot.seen) ≤ btree_map_len c.loop-spot.counted.map.now = omega (arith, few, i.state.len, ap (λ m. btree_map_len m.now) i.same.0) in
     let moves = rests_moved references 0 c.in-Some.spot (reverse c.pop.new.self.items) p (sym c.in-Some-mentioned_part.ensures.part) in
-    let fewer : rests references (reverse c.push.new.self.items) ≤ rests references (reverse c.loop-spot.way.items) = omega (arith, moves, ap (λ l. rests references l) items, ap (λ l. rests references l) back) in
-    left_pushed references c.loop-spot.counted.map.now c.visit-then-not-contains_key.new.counted.map.now p (btree_map_len c.loop-spot.seen) (btree_map_len c.visit-then-not-contains_key.new.seen) f (reverse c.loop-spot.way.items) (reverse c.push.new.self.items) (reverse c.visit-then-not-contains_key.new.way.items) (ap (λ m. m.now) c.in_ok-visit-2.ensures.same.0) (v.1.2 ∙ add-one _) room v.2.3 v.2.2 fewer v.2.1
+    let fewer : rests references (reverse c.push.new.self.items) ≤ rests references (reverse c.loop-spot.stack.items) = omega (arith, moves, ap (λ l. rests references l) items, ap (λ l. rests references l) back) in
+    left_pushed references c.loop-spot.counted.map.now c.visit-then-not-contains_key.new.counted.map.now p (btree_map_len c.loop-spot.seen) (btree_map_len c.visit-then-not-contains_key.new.seen) f (reverse c.loop-spot.stack.items) (reverse c.push.new.self.items) (reverse c.visit-then-not-contains_key.new.stack.items) (ap (λ m. m.now) c.in_ok-visit-2.ensures.same.0) (v.1.2 ∙ add-one _) room v.2.3 v.2.2 fewer v.2.1
 
 pub loop-spot-preserved-in-Continue-branch-3 : goal.loop-spot-preserved-in-Continue-branch-3
 loop-spot-preserved-in-Continue-branch-3 c =
@@ -133,7 +133,7 @@ loop-spot-preserved-in-Continue-branch-3 c =
     let C = definitions_of c.args.counted.now in
     let root = c.args.root.now in
     let p = c.in-Some-mentioned_part.part.now in
-    let items = last_first c.pop.new.self.items c.loop-spot.way.items c.in-Some.spot c.in-Some.ensures.items in
+    let items = last_first c.pop.new.self.items c.loop-spot.stack.items c.in-Some.spot c.in-Some.ensures.items in
     let s = subst (λ l. RulesState C root [] c.loop-spot.seen l c.loop-spot.table) items i.state in
     let back = last_first c.pop.new.self.items c.push.new.self.items (moved c.in-Some.spot) c.in_ok-push.ensures.items in
     let t = rules_take C root (reverse c.pop.new.self.items) (reverse c.push.new.self.items) c.in-Some.spot p s (sym c.in-Some-mentioned_part.ensures.part) back in
@@ -143,7 +143,7 @@ loop-spot-preserved-in-Continue-branch-3 c =
     let n = seen_none _ c.if-not-contains_key.ensures in
     let v = c.in_ok-visit-2.ensures.visited root t' r' n in
     let k = c.in_ok-visit-2.ensures.counts root t' r' n (counts_of c.args.counted.now) i.looks in
-    let b = subst (λ m. RulesState (definitions_in m.now) root [] c.visit-then-not-contains_key.new.seen (reverse c.visit-then-not-contains_key.new.way.items) c.visit-then-not-contains_key.new.table) i.same.0 v.0 in
+    let b = subst (λ m. RulesState (definitions_in m.now) root [] c.visit-then-not-contains_key.new.seen (reverse c.visit-then-not-contains_key.new.stack.items) c.visit-then-not-contains_key.new.table) i.same.0 v.0 in
     record {
       state = b;
       root_seen = v.1.0 root i.root_seen;
@@ -157,7 +157,7 @@ returns-in_err-visit-2-clause-answer c =
     let C = definitions_of c.args.counted.now in
     let root = c.args.root.now in
     let p = c.in-Some-mentioned_part.part.now in
-    let items = last_first c.pop.new.self.items c.loop-spot.way.items c.in-Some.spot c.in-Some.ensures.items in
+    let items = last_first c.pop.new.self.items c.loop-spot.stack.items c.in-Some.spot c.in-Some.ensures.items in
     let s = subst (λ l. RulesState C root [] c.loop-spot.seen l c.loop-spot.table) items i.state in
     let back = last_first c.pop.new.self.items c.push.new.self.items (moved c.in-Some.spot) c.in_ok-push.ensures.items in
     let t = rules_take C root (reverse c.pop.new.self.items) (reverse c.push.new.self.items) c.in-Some.spot p s (sym c.in-Some-mentioned_part.ensures.part) back in
@@ -175,7 +175,7 @@ returns-in_err-visit-2-clause-work c =
     let C = definitions_of c.args.counted.now in
     let root = c.args.root.now in
     let p = c.in-Some-mentioned_part.part.now in
-    let items = last_first c.pop.new.self.items c.loop-spot.way.items c.in-Some.spot c.in-Some.ensures.items in
+    let items = last_first c.pop.new.self.items c.loop-spot.stack.items c.in-Some.spot c.in-Some.ensures.items in
     let s = subst (λ l. RulesState C root [] c.loop-spot.seen l c.loop-spot.table) items i.state in
     let back = last_first c.pop.new.self.items c.push.new.self.items (moved c.in-Some.spot) c.in_ok-push.ensures.items in
     let t = rules_take C root (reverse c.pop.new.self.items) (reverse c.push.new.self.items) c.in-Some.spot p s (sym c.in-Some-mentioned_part.ensures.part) back in
@@ -191,8 +191,8 @@ pub returns-clause-answer : goal.returns-clause-answer
 returns-clause-answer c =
     let i = c.loop-spot.invariant in
     let C = definitions_of c.args.counted.now in
-    let none = ap (λ l. reverse l) (no_items c.loop-spot.way.items (omega (arith, c.in_default.ensures.cases.0, c.loop-spot.way.ok.0))) in
-    λ x r. (i.state.marks.looked x (rules_all C c.args.root.now (reverse c.loop-spot.way.items) i.state none i.root_seen r)).1.1
+    let none = ap (λ l. reverse l) (no_items c.loop-spot.stack.items (omega (arith, c.in_default.ensures.cases.0, c.loop-spot.stack.ok.0))) in
+    λ x r. (i.state.marks.looked x (rules_all C c.args.root.now (reverse c.loop-spot.stack.items) i.state none i.root_seen r)).1.1
 
 pub returns-clause-work : goal.returns-clause-work
 returns-clause-work c =
@@ -207,8 +207,8 @@ returns-clause-counts c =
     let i = c.loop-spot.invariant in
     let st = i.state in
     let C = definitions_of c.args.counted.now in
-    let none = ap (λ l. reverse l) (no_items c.loop-spot.way.items (omega (arith, c.in_default.ensures.cases.0, c.loop-spot.way.ok.0))) in
-    let all : (x : List ℕ) → Reached C c.args.root.now x → IsIn x st.names = λ x r. rules_all C c.args.root.now (reverse c.loop-spot.way.items) st none i.root_seen r in (
+    let none = ap (λ l. reverse l) (no_items c.loop-spot.stack.items (omega (arith, c.in_default.ensures.cases.0, c.loop-spot.stack.ok.0))) in
+    let all : (x : List ℕ) → Reached C c.args.root.now x → IsIn x st.names = λ x r. rules_all C c.args.root.now (reverse c.loop-spot.stack.items) st none i.root_seen r in (
       st.names,
       st.zero.names,
       st.marks.distinct,

@@ -9,11 +9,11 @@ use Rattle.borsh_walks.proofs.rules.walk_rules.Given as goal
 
 abbrev pub invariant-loop-spot : goal.invariant-loop-spot
 invariant-loop-spot l = record {
-  state : RulesState (definitions_of l.fn.counted) l.root [] l.seen (reverse l.way.items) l.table;
+  state : RulesState (definitions_of l.fn.counted) l.root [] l.seen (reverse l.stack.items) l.table;
   root_seen : mark_of l.seen l.root ≡ None → ⊥;
   looks : IsBothCount l.counted (btree_map_len l.seen) (btree_map_len l.table) (counts_of l.fn.counted);
   same : LooksOn l.fn.counted l.counted;
 }
 
 abbrev pub decreases-loop-spot : goal.decreases-loop-spot
-decreases-loop-spot l = left references l.counted.map.now (btree_map_len l.seen) (reverse l.way.items)
+decreases-loop-spot l = left references l.counted.map.now (btree_map_len l.seen) (reverse l.stack.items)

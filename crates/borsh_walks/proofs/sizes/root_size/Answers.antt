@@ -4,7 +4,7 @@ use Rattle.borsh_walks.specs.Counts.{counts_of, definitions_of, add_to}
 use Rattle.borsh_walks.specs.declared.counted.Question.TheVariants.{Size}
 use Rattle.borsh_walks.specs.SizeAnswer.{AreSizeReached}
 use Rattle.borsh_walks.proofs.SizeOutcome.{answers_size}
-use Rattle.borsh_walks.proofs.SizeStands.{has_size}
+use Rattle.borsh_walks.proofs.SizeExists.{has_size}
 use Rattle.borsh_walks.proofs.Names.{names_within}
 use Rattle.borsh_walks.proofs.sizes.root_size.Goals as goal
 

@@ -34,7 +34,7 @@ loop-part-init c =
     let u = updated_by c.args.root.now c.new-table.result c.insert.new.self Open c.in_ok-insert.ensures.updates in
     let f : Frame = record { spot = record { name = c.args.root; definition = c.in-Some.definition; next = 0 }; gathered = 0 } in
     let s = step_start C {f = f} (marks_none c.new-table.result c.new-table.ensures.empty) u e refl refl in
-    record { names = c.args.root.now ∷ []; state = subst (λ l. State C c.args.root.now (mark_of c.insert.new.self) (reverse l) (record { spot = c.at.result; gathered = 0 }) (c.args.root.now ∷ [])) (sym c.new-way.ensures.items) (subst (λ g. State C c.args.root.now (mark_of c.insert.new.self) [] (record { spot = g; gathered = 0 }) (c.args.root.now ∷ [])) (sym c.at.ensures) s); looks = c.in-Some.ensures.counts; same = (c.in-Some.ensures.same.0, c.in-Some.ensures.same.1); table_len = grown c.in_ok-insert.field-0 c.in_ok-insert.ensures.len (c.in_ok-insert.ensures.old ∙ marks_none c.new-table.result c.new-table.ensures.empty c.args.root.now) ∙ ap (λ k. suc k) c.new-table.ensures.len }
+    record { names = c.args.root.now ∷ []; state = subst (λ l. State C c.args.root.now (mark_of c.insert.new.self) (reverse l) (record { spot = c.at.result; gathered = 0 }) (c.args.root.now ∷ [])) (sym c.new-stack.ensures.items) (subst (λ g. State C c.args.root.now (mark_of c.insert.new.self) [] (record { spot = g; gathered = 0 }) (c.args.root.now ∷ [])) (sym c.at.ensures) s); looks = c.in-Some.ensures.counts; same = (c.in-Some.ensures.same.0, c.in-Some.ensures.same.1); table_len = grown c.in_ok-insert.field-0 c.in_ok-insert.ensures.len (c.in_ok-insert.ensures.old ∙ marks_none c.new-table.result c.new-table.ensures.empty c.args.root.now) ∙ ap (λ k. suc k) c.new-table.ensures.len }
 
 pub returns-in_default-gather-clause-answer : goal.returns-in_default-gather-clause-answer
 returns-in_default-gather-clause-answer c =
@@ -46,7 +46,7 @@ returns-in_default-gather-clause-answer c =
     fault_gather (definitions_of c.args.counted.now) 18446744073709551616 c.in-Some-needed_part.part.now c.in-Some-Finished.size i.state (sym p) (sym t ∙ ap Some q) (rw z at c.in_default-gather.ensures)
 
 pub loop-part-smaller-in-Some-Finished : goal.loop-part-smaller-in-Some-Finished
-loop-part-smaller-in-Some-Finished c = rests_moved size_references _ c.loop-part.frame.spot (spots_of (reverse c.loop-part.way.items)) c.in-Some-needed_part.part.now (sym c.in-Some-needed_part.ensures.part)
+loop-part-smaller-in-Some-Finished c = rests_moved size_references _ c.loop-part.frame.spot (spots_of (reverse c.loop-part.stack.items)) c.in-Some-needed_part.part.now (sym c.in-Some-needed_part.ensures.part)
 
 pub loop-part-preserved-in-Some-Finished : goal.loop-part-preserved-in-Some-Finished
 loop-part-preserved-in-Some-Finished c =
@@ -106,8 +106,8 @@ loop-part-smaller-in-None-get c =
     let room_here : suc (btree_map_len c.loop-part.table) ≤ btree_map_len c.loop-part.counted.map.now = omega (arith, room, i.table_len, ap (λ m. btree_map_len m.now) i.same.0) in
     let f = c.loop-part.frame in
     let g : Frame = record { spot = record { name = c.in-Some-needed_part.part; definition = c.in-Some-look.definition; next = 0 }; gathered = 0 } in
-    let same = ap (λ l. rests size_references (spots_of l)) (last_first c.loop-part.way.items c.push.new.self.items f c.in_ok-push-in-None-get.ensures.items) in
-    left_pushed size_references c.loop-part.counted.map.now c.look-in-None-get.new.self.map.now p (btree_map_len c.loop-part.table) (btree_map_len c.insert-in-None-get.new.self) g.spot (spots_of (f ∷ reverse c.loop-part.way.items)) (spots_of (reverse c.push.new.self.items)) (c.at-in-None-get.result ∷ spots_of (reverse c.push.new.self.items)) (ap (λ m. m.now) c.in-Some-look.ensures.same.0) len room_here (sym c.in-Some-look.ensures.found) refl (omega (arith, same)) (ap (λ v. v ∷ spots_of (reverse c.push.new.self.items)) c.at-in-None-get.ensures)
+    let same = ap (λ l. rests size_references (spots_of l)) (last_first c.loop-part.stack.items c.push.new.self.items f c.in_ok-push-in-None-get.ensures.items) in
+    left_pushed size_references c.loop-part.counted.map.now c.look-in-None-get.new.self.map.now p (btree_map_len c.loop-part.table) (btree_map_len c.insert-in-None-get.new.self) g.spot (spots_of (f ∷ reverse c.loop-part.stack.items)) (spots_of (reverse c.push.new.self.items)) (c.at-in-None-get.result ∷ spots_of (reverse c.push.new.self.items)) (ap (λ m. m.now) c.in-Some-look.ensures.same.0) len room_here (sym c.in-Some-look.ensures.found) refl (omega (arith, same)) (ap (λ v. v ∷ spots_of (reverse c.push.new.self.items)) c.at-in-None-get.ensures)
 
 pub loop-part-preserved-in-None-get : goal.loop-part-preserved-in-None-get
 loop-part-preserved-in-None-get c =
@@ -118,11 +118,11 @@ loop-part-preserved-in-None-get c =
     let u = updated_by p c.loop-part.table c.insert-in-None-get.new.self Open c.in_ok-insert-in-None-get.ensures.updates in
     let len = grown c.in_ok-insert-in-None-get.field-0 c.in_ok-insert-in-None-get.ensures.len (c.in_ok-insert-in-None-get.ensures.old ∙ sym c.in-None-get.ensures.value) in
     let g : Frame = record { spot = record { name = c.in-Some-needed_part.part; definition = c.in-Some-look.definition; next = 0 }; gathered = 0 } in
-    let back = last_first c.loop-part.way.items c.push.new.self.items c.loop-part.frame c.in_ok-push-in-None-get.ensures.items in
+    let back = last_first c.loop-part.stack.items c.push.new.self.items c.loop-part.frame c.in_ok-push-in-None-get.ensures.items in
     let s = step_push C {g = g} i.state (sym c.in-Some-needed_part.ensures.part) (sym c.in-None-get.ensures.value) e u refl refl in
     record {
       names = p ∷ i.names;
-      state = subst (λ l. State C c.args.root.now (mark_of c.insert-in-None-get.new.self) l (record { spot = c.at-in-None-get.result; gathered = 0 }) (p ∷ i.names)) (sym back) (subst (λ v. State C c.args.root.now (mark_of c.insert-in-None-get.new.self) (c.loop-part.frame ∷ reverse c.loop-part.way.items) (record { spot = v; gathered = 0 }) (p ∷ i.names)) (sym c.at-in-None-get.ensures) s);
+      state = subst (λ l. State C c.args.root.now (mark_of c.insert-in-None-get.new.self) l (record { spot = c.at-in-None-get.result; gathered = 0 }) (p ∷ i.names)) (sym back) (subst (λ v. State C c.args.root.now (mark_of c.insert-in-None-get.new.self) (c.loop-part.frame ∷ reverse c.loop-part.stack.items) (record { spot = v; gathered = 0 }) (p ∷ i.names)) (sym c.at-in-None-get.ensures) s);
       looks = raised_once_more Size (length i.names) (counts_of c.loop-part.counted) (counts_of c.look-in-None-get.new.self) (counts_of c.args.counted.now) i.looks c.in-Some-look.ensures.counts;
       same = (c.in-Some-look.ensures.same.0 ∙ i.same.0, c.in-Some-look.ensures.same.1 ∙ i.same.1);
       table_len = len ∙ ap (λ k. suc k) i.table_len;
@@ -137,8 +137,8 @@ loop-part-smaller c =
     let i = c.loop-part.invariant in
     let C = definitions_of c.args.counted.now in
     let len = kept c.in_ok-insert-in-None.field-0 c.in_ok-insert-in-None.ensures.len (λ h. let o = c.in_ok-insert-in-None.ensures.old ∙ i.state.opened c.loop-part.frame.spot.name.now first in cc) in
-    let items = last_first c.pop.new.self.items c.loop-part.way.items c.in-Some-pop.above c.in-Some-pop.ensures.items in
-    left_popped size_references c.loop-part.counted.map.now (btree_map_len c.loop-part.table) (btree_map_len c.insert-in-None.new.self) c.loop-part.frame.spot (spots_of (c.in-Some-pop.above ∷ reverse c.pop.new.self.items)) (spots_of (c.loop-part.frame ∷ reverse c.loop-part.way.items)) len (ap (λ l. spots_of (c.loop-part.frame ∷ l)) items) i.state.ok.low
+    let items = last_first c.pop.new.self.items c.loop-part.stack.items c.in-Some-pop.above c.in-Some-pop.ensures.items in
+    left_popped size_references c.loop-part.counted.map.now (btree_map_len c.loop-part.table) (btree_map_len c.insert-in-None.new.self) c.loop-part.frame.spot (spots_of (c.in-Some-pop.above ∷ reverse c.pop.new.self.items)) (spots_of (c.loop-part.frame ∷ reverse c.loop-part.stack.items)) len (ap (λ l. spots_of (c.loop-part.frame ∷ l)) items) i.state.ok.low
 
 pub loop-part-preserved : goal.loop-part-preserved
 loop-part-preserved c =
@@ -146,7 +146,7 @@ loop-part-preserved c =
     let C = definitions_of c.args.counted.now in
     let u = updated_by c.loop-part.frame.spot.name.now c.loop-part.table c.insert-in-None.new.self (Finished c.in-Some-finish.size) c.in_ok-insert-in-None.ensures.updates in
     let len = kept c.in_ok-insert-in-None.field-0 c.in_ok-insert-in-None.ensures.len (λ h. let o = c.in_ok-insert-in-None.ensures.old ∙ i.state.opened c.loop-part.frame.spot.name.now first in cc) in
-    let items = last_first c.pop.new.self.items c.loop-part.way.items c.in-Some-pop.above c.in-Some-pop.ensures.items in
+    let items = last_first c.pop.new.self.items c.loop-part.stack.items c.in-Some-pop.above c.in-Some-pop.ensures.items in
     let s = subst (λ l. State C c.args.root.now (mark_of c.loop-part.table) l c.loop-part.frame i.names) items i.state in
     record {
       names = i.names;
@@ -161,7 +161,7 @@ returns-in-None-pop-clause-answer c =
     let i = c.loop-part.invariant in
     let C = definitions_of c.args.counted.now in
     let u = updated_by c.loop-part.frame.spot.name.now c.loop-part.table c.insert-in-None.new.self (Finished c.in-Some-finish.size) c.in_ok-insert-in-None.ensures.updates in
-    let none = no_items c.loop-part.way.items (omega (arith, c.in-None-pop.ensures.cases.0, c.loop-part.way.ok.0)) in
+    let none = no_items c.loop-part.stack.items (omega (arith, c.in-None-pop.ensures.cases.0, c.loop-part.stack.ok.0)) in
     let s = subst (λ l. State C c.args.root.now (mark_of c.loop-part.table) (reverse l) c.loop-part.frame i.names) none i.state in
     (step_end C c.in-Some-finish.size s (sym c.in-None.ensures.part) c.in-Some-finish.ensures u).0
 
@@ -170,6 +170,6 @@ returns-in-None-pop-clause-counts c =
     let i = c.loop-part.invariant in
     let C = definitions_of c.args.counted.now in
     let u = updated_by c.loop-part.frame.spot.name.now c.loop-part.table c.insert-in-None.new.self (Finished c.in-Some-finish.size) c.in_ok-insert-in-None.ensures.updates in
-    let none = no_items c.loop-part.way.items (omega (arith, c.in-None-pop.ensures.cases.0, c.loop-part.way.ok.0)) in
+    let none = no_items c.loop-part.stack.items (omega (arith, c.in-None-pop.ensures.cases.0, c.loop-part.stack.ok.0)) in
     let s = subst (λ l. State C c.args.root.now (mark_of c.loop-part.table) (reverse l) c.loop-part.frame i.names) none i.state in
     (i.names, i.state.marks.distinct, (λ x a. (i.state.marks.looked x a).1), i.looks, (step_end C c.in-Some-finish.size s (sym c.in-None.ensures.part) c.in-Some-finish.ensures u).1)

@@ -11,11 +11,11 @@ use Rattle.borsh_walks.proofs.sizes.walk_sizes.Given as goal
 abbrev pub invariant-loop-part : goal.invariant-loop-part
 invariant-loop-part l = record {
   names : List (List ℕ);
-  state : State (definitions_of l.fn.counted) l.root (mark_of l.table) (reverse l.way.items) l.frame names;
+  state : State (definitions_of l.fn.counted) l.root (mark_of l.table) (reverse l.stack.items) l.frame names;
   looks : counts_of l.counted ≡ add_to Size (length names) (counts_of l.fn.counted);
   same : LooksOn l.fn.counted l.counted;
   table_len : btree_map_len l.table ≡ length names;
 }
 
 abbrev pub decreases-loop-part : goal.decreases-loop-part
-decreases-loop-part l = left size_references l.counted.map.now (btree_map_len l.table) (spots_of (l.frame ∷ reverse l.way.items))
+decreases-loop-part l = left size_references l.counted.map.now (btree_map_len l.table) (spots_of (l.frame ∷ reverse l.stack.items))

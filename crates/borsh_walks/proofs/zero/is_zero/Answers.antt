@@ -4,7 +4,7 @@ use Rattle.borsh_walks.specs.Container.{first}
 use Rattle.borsh_walks.specs.Counts.{counts_of, definitions_of}
 use Rattle.borsh_walks.specs.ZeroAnswer.{asked, IsZeroCount}
 use Rattle.borsh_walks.specs.Tables.{mark_of}
-use Rattle.borsh_walks.specs.declared.way.Spot.{Spot}
+use Rattle.borsh_walks.specs.declared.stack.Spot.{Spot}
 use Rattle.borsh_walks.specs.declared.counted.Question.TheVariants.{Zero as ZeroQuestion}
 use Rattle.borsh_walks.proofs.Names.{found_shape, found_none}
 use Rattle.borsh_walks.proofs.Tables.{updated_by, still, grown, kept, no_items, few_names, few_more}
@@ -46,7 +46,7 @@ loop-spot-init c =
     let s = zero_start C {f = f} r.marks r.zero_is r.not_zero_is none u e refl in
     record {
       names = c.args.name.now ∷ r.names;
-      state = subst (λ l. ZeroState C c.args.name.now (mark_of c.insert.new.self) (reverse l) c.at-spot.result (c.args.name.now ∷ r.names)) (sym c.new-way.ensures.items) (subst (λ g. ZeroState C c.args.name.now (mark_of c.insert.new.self) [] g (c.args.name.now ∷ r.names)) (sym c.at-spot.ensures) s);
+      state = subst (λ l. ZeroState C c.args.name.now (mark_of c.insert.new.self) (reverse l) c.at-spot.result (c.args.name.now ∷ r.names)) (sym c.new-stack.ensures.items) (subst (λ g. ZeroState C c.args.name.now (mark_of c.insert.new.self) [] g (c.args.name.now ∷ r.names)) (sym c.at-spot.ensures) s);
       looks = λ base h. raised_once_more ZeroQuestion (length r.names) (counts_of c.args.counted.now) (counts_of c.look.new.self) base (subst (λ k. IsZeroCount c.args.counted.now k base) r.len h) c.in-Some-look.ensures.counts;
       same = (c.in-Some-look.ensures.same.0, c.in-Some-look.ensures.same.1);
       table_len = grown c.in_ok-insert.field-0 c.in_ok-insert.ensures.len (c.in_ok-insert.ensures.old ∙ none) ∙ ap (λ k. suc k) r.len;
@@ -66,7 +66,7 @@ returns-then-never_zero-clause-counts c = λ base h.
     (length i.names, few_names c.args.counted.now.map.now (λ x k. k) i.state.marks, i.looks base h, sym i.table_len)
 
 pub loop-spot-smaller-in-Some-true : goal.loop-spot-smaller-in-Some-true
-loop-spot-smaller-in-Some-true c = rests_moved asked _ c.loop-spot.spot (reverse c.loop-spot.way.items) c.in-Some-asked_part.part.now (sym c.in-Some-asked_part.ensures.part)
+loop-spot-smaller-in-Some-true c = rests_moved asked _ c.loop-spot.spot (reverse c.loop-spot.stack.items) c.in-Some-asked_part.part.now (sym c.in-Some-asked_part.ensures.part)
 
 pub loop-spot-preserved-in-Some-true : goal.loop-spot-preserved-in-Some-true
 loop-spot-preserved-in-Some-true c =
@@ -134,8 +134,8 @@ loop-spot-smaller-in-None-get c =
     let len = grown c.in_ok-insert-in-None-get.field-0 c.in_ok-insert-in-None-get.ensures.len (c.in_ok-insert-in-None-get.ensures.old ∙ sym c.in-None-get.ensures.value) in
     let room : suc (btree_map_len c.loop-spot.table) ≤ btree_map_len c.loop-spot.counted.map.now = omega (arith, few, i.table_len, ap (λ m. btree_map_len m.now) i.same.0) in
     let g : Spot = record { name = c.in-Some-asked_part.part; definition = c.in-Some-look-2.definition; next = 0 } in
-    let same = ap (λ l. rests asked l) (last_first c.loop-spot.way.items c.push.new.self.items c.loop-spot.spot c.in_ok-push-in-None-get.ensures.items) in
-    left_pushed asked c.loop-spot.counted.map.now c.look-in-None-get.new.self.map.now p (btree_map_len c.loop-spot.table) (btree_map_len c.insert-in-None-get.new.self) g (c.loop-spot.spot ∷ reverse c.loop-spot.way.items) (reverse c.push.new.self.items) (c.at-spot-in-None-get.result ∷ reverse c.push.new.self.items) (ap (λ m. m.now) c.in-Some-look-2.ensures.same.0) len room (sym c.in-Some-look-2.ensures.found) refl (omega (arith, same)) (ap (λ f. f ∷ reverse c.push.new.self.items) c.at-spot-in-None-get.ensures)
+    let same = ap (λ l. rests asked l) (last_first c.loop-spot.stack.items c.push.new.self.items c.loop-spot.spot c.in_ok-push-in-None-get.ensures.items) in
+    left_pushed asked c.loop-spot.counted.map.now c.look-in-None-get.new.self.map.now p (btree_map_len c.loop-spot.table) (btree_map_len c.insert-in-None-get.new.self) g (c.loop-spot.spot ∷ reverse c.loop-spot.stack.items) (reverse c.push.new.self.items) (c.at-spot-in-None-get.result ∷ reverse c.push.new.self.items) (ap (λ m. m.now) c.in-Some-look-2.ensures.same.0) len room (sym c.in-Some-look-2.ensures.found) refl (omega (arith, same)) (ap (λ f. f ∷ reverse c.push.new.self.items) c.at-spot-in-None-get.ensures)
 
 pub loop-spot-preserved-in-None-get : goal.loop-spot-preserved-in-None-get
 loop-spot-preserved-in-None-get c =
@@ -147,11 +147,11 @@ loop-spot-preserved-in-None-get c =
     let u = updated_by p c.loop-spot.table c.insert-in-None-get.new.self false c.in_ok-insert-in-None-get.ensures.updates in
     let len = grown c.in_ok-insert-in-None-get.field-0 c.in_ok-insert-in-None-get.ensures.len (c.in_ok-insert-in-None-get.ensures.old ∙ none) in
     let g : Spot = record { name = c.in-Some-asked_part.part; definition = c.in-Some-look-2.definition; next = 0 } in
-    let back = last_first c.loop-spot.way.items c.push.new.self.items c.loop-spot.spot c.in_ok-push-in-None-get.ensures.items in
+    let back = last_first c.loop-spot.stack.items c.push.new.self.items c.loop-spot.spot c.in_ok-push-in-None-get.ensures.items in
     let s = zero_push C {g = g} i.state (sym c.in-Some-asked_part.ensures.part) none e u refl in
     record {
       names = p ∷ i.names;
-      state = subst (λ l. ZeroState C c.args.name.now (mark_of c.insert-in-None-get.new.self) l c.at-spot-in-None-get.result (p ∷ i.names)) (sym back) (subst (λ f. ZeroState C c.args.name.now (mark_of c.insert-in-None-get.new.self) (c.loop-spot.spot ∷ reverse c.loop-spot.way.items) f (p ∷ i.names)) (sym c.at-spot-in-None-get.ensures) s);
+      state = subst (λ l. ZeroState C c.args.name.now (mark_of c.insert-in-None-get.new.self) l c.at-spot-in-None-get.result (p ∷ i.names)) (sym back) (subst (λ f. ZeroState C c.args.name.now (mark_of c.insert-in-None-get.new.self) (c.loop-spot.spot ∷ reverse c.loop-spot.stack.items) f (p ∷ i.names)) (sym c.at-spot-in-None-get.ensures) s);
       looks = λ base h. raised_once_more ZeroQuestion (length i.names) (counts_of c.loop-spot.counted) (counts_of c.look-in-None-get.new.self) base (i.looks base h) c.in-Some-look-2.ensures.counts;
       same = (c.in-Some-look-2.ensures.same.0 ∙ i.same.0, c.in-Some-look-2.ensures.same.1 ∙ i.same.1);
       table_len = len ∙ ap (λ k. suc k) i.table_len;
@@ -169,8 +169,8 @@ loop-spot-smaller c =
     let i = c.loop-spot.invariant in
     let C = definitions_of c.args.counted.now in
     let len = kept c.in_ok-insert-in-None.field-0 c.in_ok-insert-in-None.ensures.len (λ h. (i.state.marks.looked c.loop-spot.spot.name.now (i.state.inside c.loop-spot.spot.name.now first)).0 (sym c.in_ok-insert-in-None.ensures.old ∙ h)) in
-    let items = last_first c.pop.new.self.items c.loop-spot.way.items c.in-Some-pop.above c.in-Some-pop.ensures.items in
-    left_popped asked c.loop-spot.counted.map.now (btree_map_len c.loop-spot.table) (btree_map_len c.insert-in-None.new.self) c.loop-spot.spot (c.in-Some-pop.above ∷ reverse c.pop.new.self.items) (c.loop-spot.spot ∷ reverse c.loop-spot.way.items) len (ap (λ l. c.loop-spot.spot ∷ l) items) i.state.ok.low
+    let items = last_first c.pop.new.self.items c.loop-spot.stack.items c.in-Some-pop.above c.in-Some-pop.ensures.items in
+    left_popped asked c.loop-spot.counted.map.now (btree_map_len c.loop-spot.table) (btree_map_len c.insert-in-None.new.self) c.loop-spot.spot (c.in-Some-pop.above ∷ reverse c.pop.new.self.items) (c.loop-spot.spot ∷ reverse c.loop-spot.stack.items) len (ap (λ l. c.loop-spot.spot ∷ l) items) i.state.ok.low
 
 pub loop-spot-preserved : goal.loop-spot-preserved
 loop-spot-preserved c =
@@ -178,7 +178,7 @@ loop-spot-preserved c =
     let C = definitions_of c.args.counted.now in
     let len = kept c.in_ok-insert-in-None.field-0 c.in_ok-insert-in-None.ensures.len (λ h. (i.state.marks.looked c.loop-spot.spot.name.now (i.state.inside c.loop-spot.spot.name.now first)).0 (sym c.in_ok-insert-in-None.ensures.old ∙ h)) in
     let u = updated_by c.loop-spot.spot.name.now c.loop-spot.table c.insert-in-None.new.self true c.in_ok-insert-in-None.ensures.updates in
-    let items = last_first c.pop.new.self.items c.loop-spot.way.items c.in-Some-pop.above c.in-Some-pop.ensures.items in
+    let items = last_first c.pop.new.self.items c.loop-spot.stack.items c.in-Some-pop.above c.in-Some-pop.ensures.items in
     let s = subst (λ l. ZeroState C c.args.name.now (mark_of c.loop-spot.table) l c.loop-spot.spot i.names) items i.state in
     record {
       names = i.names;
@@ -195,7 +195,7 @@ returns-in-None-pop-clause-answer c =
     let i = c.loop-spot.invariant in
     let C = definitions_of c.args.counted.now in
     let u = updated_by c.loop-spot.spot.name.now c.loop-spot.table c.insert-in-None.new.self true c.in_ok-insert-in-None.ensures.updates in
-    let none = no_items c.loop-spot.way.items (omega (arith, c.in-None-pop.ensures.cases.0, c.loop-spot.way.ok.0)) in
+    let none = no_items c.loop-spot.stack.items (omega (arith, c.in-None-pop.ensures.cases.0, c.loop-spot.stack.ok.0)) in
     let s = subst (λ l. ZeroState C c.args.name.now (mark_of c.loop-spot.table) (reverse l) c.loop-spot.spot i.names) none i.state in
     let r = zero_end C s (some_is _ c.if-never_zero.ensures) (sym c.in-None.ensures.part) u in
     ((λ e. r.0), λ z. refl)
@@ -206,7 +206,7 @@ returns-in-None-pop-clause-table c =
     let C = definitions_of c.args.counted.now in
     let len = kept c.in_ok-insert-in-None.field-0 c.in_ok-insert-in-None.ensures.len (λ h. (i.state.marks.looked c.loop-spot.spot.name.now (i.state.inside c.loop-spot.spot.name.now first)).0 (sym c.in_ok-insert-in-None.ensures.old ∙ h)) in
     let u = updated_by c.loop-spot.spot.name.now c.loop-spot.table c.insert-in-None.new.self true c.in_ok-insert-in-None.ensures.updates in
-    let none = no_items c.loop-spot.way.items (omega (arith, c.in-None-pop.ensures.cases.0, c.loop-spot.way.ok.0)) in
+    let none = no_items c.loop-spot.stack.items (omega (arith, c.in-None-pop.ensures.cases.0, c.loop-spot.stack.ok.0)) in
     let s = subst (λ l. ZeroState C c.args.name.now (mark_of c.loop-spot.table) (reverse l) c.loop-spot.spot i.names) none i.state in
     let r = zero_end C s (some_is _ c.if-never_zero.ensures) (sym c.in-None.ensures.part) u in
     record { names = i.names; marks = r.3; len = len ∙ i.table_len; zero_is = r.1; not_zero_is = r.2 }

@@ -11,7 +11,7 @@ use Rattle.borsh_walks.proofs.zero.is_zero.Given as goal
 abbrev pub invariant-loop-spot : goal.invariant-loop-spot
 invariant-loop-spot l = record {
   names : List (List ℕ);
-  state : ZeroState (definitions_of l.fn.counted) l.name (mark_of l.table) (reverse l.way.items) l.spot names;
+  state : ZeroState (definitions_of l.fn.counted) l.name (mark_of l.table) (reverse l.stack.items) l.spot names;
   looks : (base : Expansions) → IsZeroCount l.fn.counted (btree_map_len l.fn.table) base → IsZeroCount l.counted (length names) base;
   same : LooksOn l.fn.counted l.counted;
   table_len : btree_map_len l.table ≡ length names;
@@ -20,4 +20,4 @@ invariant-loop-spot l = record {
 }
 
 abbrev pub decreases-loop-spot : goal.decreases-loop-spot
-decreases-loop-spot l = left asked l.counted.map.now (btree_map_len l.table) (l.spot ∷ reverse l.way.items)
+decreases-loop-spot l = left asked l.counted.map.now (btree_map_len l.table) (l.spot ∷ reverse l.stack.items)
