@@ -10,13 +10,16 @@ use Rattle.borsh_walks.specs.declared.error.SchemaContainerValidateError.{Schema
 use Rattle.borsh_walks.specs.declared.error.SchemaContainerValidateError.TheVariants.{OutOfMemory as NoRules}
 use Rattle.borsh_walks.specs.declared.error.SchemaMaxSerializedSizeError.{SchemaMaxSerializedSizeError}
 use Rattle.borsh_walks.specs.declared.error.SchemaMaxSerializedSizeError.TheVariants.{OutOfMemory as NoMemory}
+use Rattle.borsh_values.proofs.Valid.{none_ambiguous}
+use Rattle.borsh_json.specs.declared.error.JsonError.{JsonError}
+use Rattle.borsh_json.specs.Errors.{IsReason, IsTextReason}
 use Rattle.borsh_c.specs.declared.refusal.Refusal.{Refusal}
 use Rattle.borsh_c.specs.declared.refusal.Refusal.TheVariants.{No, Malformed, OutOfMemory, Undecided}
-use Rattle.borsh_c.specs.Answers.{Saying, About, Anything, GivesBytes, GivesJson, HasNoSize, IsInvalid, IsRefused, Never}
+use Rattle.borsh_c.specs.Answers.{Saying, About, Anything, GivesBytes, GivesJson, HasNoSize, IsInvalid, IsRefused, IsUnclear, Never}
 use Rattle.borsh_c.specs.Answers.Answers.{yes}
 use Rattle.borsh_c.specs.Room.{IsGiven}
 use Rattle.json.specs.Json.{document}
-use Rattle.borsh_c.specs.Texts.{IsNo, IsNotMalformed, IsUndecided, TellsBroken, TellsNoSize}
+use Rattle.borsh_c.specs.Texts.{IsNo, IsUndecided, TellsBroken, TellsNoSize, TellsNoValue}
 
 -- ---- what is said of the container whose encoding the bytes are, and of the name of its root
 
@@ -51,11 +54,17 @@ module _ {schema : List ℕ} (c : String Global × BTreeMap (String Global) Defi
   undecided_told N U u OutOfMemory told = tt
   undecided_told N U u (Undecided t) told = about_told U u
 
-  pub refusal_told : (r : Refusal) → IsNotMalformed r → IsRefused schema Anything Anything r
-  refusal_told (No t) told = about_told Anything tt
-  refusal_told (Malformed t) told = absurd told
-  refusal_told OutOfMemory told = tt
-  refusal_told (Undecided t) told = about_told Anything tt
+  pub bytes_refused : {value : List ℕ} {e : JsonError} → IsReason C root value e → (r : Refusal) → TellsNoValue e r → IsRefused schema Anything IsUnclear r
+  bytes_refused reason (No t) told = about_told Anything tt
+  bytes_refused reason (Malformed t) told = absurd told
+  bytes_refused reason OutOfMemory told = tt
+  bytes_refused {value} reason (Undecided t) told = about_told IsUnclear (λ v u. none_ambiguous C told.0.now v u (subst (IsReason C root value) told.1 reason))
+
+  pub text_refused : {text : List ℕ} {e : JsonError} → IsTextReason C root text e → (r : Refusal) → TellsNoValue e r → IsRefused schema Anything IsUnclear r
+  text_refused reason (No t) told = about_told Anything tt
+  text_refused reason (Malformed t) told = absurd told
+  text_refused reason OutOfMemory told = tt
+  text_refused {text} reason (Undecided t) told = about_told IsUnclear (λ v u. none_ambiguous C told.0.now v u (subst (IsTextReason C root text) told.1 reason).1)
 
 -- ---- what was given
 

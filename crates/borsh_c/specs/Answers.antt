@@ -86,10 +86,10 @@ AnswersSize schema most = Answers schema (λ C root. MaxSize C root most) HasNoS
 abbrev pub AnswersMember : List ℕ → List ℕ → ℕ → Type 0
 AnswersMember schema value = Answers schema (λ C root. Member C root value) (IsNoMember value) IsUnclear
 
--- the bytes are a value, and JSON is given
+-- the bytes are a value, and JSON is given; undecided only where the container breaks a rule or is ambiguous
 abbrev pub GivesJson : List ℕ → List ℕ → List ℕ → ℕ → ℕ → Type 0
-GivesJson schema value room needed = Answers schema (λ C root. Member C root value × Gives (λ text. IsSome (document text)) room needed) Anything Anything
+GivesJson schema value room needed = Answers schema (λ C root. Member C root value × Gives (λ text. IsSome (document text)) room needed) Anything IsUnclear
 
--- bytes of a value are given
+-- bytes of a value are given; undecided only where the container breaks a rule or is ambiguous
 abbrev pub GivesBytes : List ℕ → List ℕ → ℕ → ℕ → Type 0
-GivesBytes schema room needed = Answers schema (λ C root. Gives (Member C root) room needed) Anything Anything
+GivesBytes schema room needed = Answers schema (λ C root. Gives (Member C root) room needed) Anything IsUnclear

@@ -1,11 +1,14 @@
 -- How the errors of other crates become refusals.
-use Rattle.std.specs.Prelude.{◌≡◌, ⊤}
+use Rattle.std.specs.Prelude.{◌≡◌, ⊤, ℕ, List}
+use Rattle.std.specs.Borrow.{Bor}
 use Rattle.borsh_io.specs.declared.error.ErrorKind.{ErrorKind}
 use Rattle.borsh_io.specs.declared.error.ErrorKind.TheVariants.{OutOfMemory as NoRoom}
 use Rattle.borsh_walks.specs.declared.error.SchemaContainerValidateError.{SchemaContainerValidateError}
 use Rattle.borsh_walks.specs.declared.error.SchemaContainerValidateError.TheVariants.{OutOfMemory as NoRules}
 use Rattle.borsh_walks.specs.declared.error.SchemaMaxSerializedSizeError.{SchemaMaxSerializedSizeError}
 use Rattle.borsh_walks.specs.declared.error.SchemaMaxSerializedSizeError.TheVariants.{OutOfMemory as NoMemory}
+use Rattle.borsh_json.specs.declared.error.JsonError.{JsonError}
+use Rattle.borsh_json.specs.declared.error.JsonError.TheVariants.{Ambiguous}
 use Rattle.borsh_c.specs.declared.refusal.Refusal.{Refusal}
 use Rattle.borsh_c.specs.declared.refusal.Refusal.TheVariants.{No, Malformed, OutOfMemory, Undecided}
 
@@ -44,8 +47,9 @@ IsUndecided (Malformed t) = ⊥
 IsUndecided OutOfMemory = ⊤
 IsUndecided (Undecided t) = ⊤
 
-abbrev pub IsNotMalformed : Refusal → Type 0
-IsNotMalformed (No t) = ⊤
-IsNotMalformed (Malformed t) = ⊥
-IsNotMalformed OutOfMemory = ⊤
-IsNotMalformed (Undecided t) = ⊤
+-- no, or undecided where a name is undecided, unless memory was refused
+abbrev pub TellsNoValue : JsonError → Refusal → Type 0
+TellsNoValue e (No t) = ⊤
+TellsNoValue e (Malformed t) = ⊥
+TellsNoValue e OutOfMemory = ⊤
+TellsNoValue e (Undecided t) = (name : Bor (List ℕ)) × (e ≡ Ambiguous name)

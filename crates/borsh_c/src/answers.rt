@@ -1,7 +1,7 @@
 // What is asked of a container, and of bytes by it.
 ghost use Rattle.std.specs.Prelude.{◌≡◌, IfErr, IfOk, IsSome, OnOk, Some, string_bytes};
 ghost use Rattle.borsh_c.specs.Answers.{About, Anything, HasNoSize, IsInvalid, IsNoMember, IsRefused, IsUnclear, Never};
-ghost use Rattle.borsh_c.specs.Texts.{IsNo, IsNotMalformed, IsUndecided, TellsBroken, TellsNoSize, TellsUnread};
+ghost use Rattle.borsh_c.specs.Texts.{IsNo, IsUndecided, TellsBroken, TellsNoSize, TellsNoValue, TellsUnread};
 ghost use Rattle.borsh_definitions.specs.Codecs.{root_and_map};
 ghost use Rattle.borsh_io.specs.Errors.{error_kind};
 ghost use Rattle.borsh_walks.specs.Container.{IsValid, MaxSize, Member};
@@ -194,7 +194,7 @@ pub fn json_of(
 ) -> Result<String, Refusal>
     ensures member { OnOk result (About schema.now (λ C root. Member C root value.now)) }
     ensures json { IfOk result (λ text. IsSome (document (string_bytes text))) }
-    ensures err { IfErr result (λ e. IsRefused schema.now Anything Anything e) }
+    ensures err { IfErr result (λ e. IsRefused schema.now Anything IsUnclear e) }
 {
     let (root, definitions) = container_from(alloc, schema)?;
     match to_json(alloc, root.as_str(), &definitions, value, layout) {
@@ -207,7 +207,7 @@ pub fn json_of(
 pub fn value_of(alloc: Global, schema: &[u8], json: &[u8]) -> Result<Vec<u8>, Refusal>
     ensures ok { IfOk result
         (λ bytes. About schema.now (λ C root. Member C root bytes.items)) }
-    ensures err { IfErr result (λ e. IsRefused schema.now Anything Anything e) }
+    ensures err { IfErr result (λ e. IsRefused schema.now Anything IsUnclear e) }
 {
     let (root, definitions) = container_from(alloc, schema)?;
     let Ok(text) = str::from_utf8(json) else {
@@ -221,7 +221,7 @@ pub fn value_of(alloc: Global, schema: &[u8], json: &[u8]) -> Result<Vec<u8>, Re
 
 /// Why there is no JSON, or no value.
 fn no_value(alloc: Global, error: &JsonError<'_>) -> Refusal
-    ensures { IsNotMalformed result }
+    ensures { TellsNoValue error.now result }
 {
     match error {
         JsonError::OutOfMemory => Refusal::OutOfMemory,

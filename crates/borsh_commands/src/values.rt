@@ -235,7 +235,9 @@ pub fn shown<'a>(
     bytes: &[u8],
     is_colored: bool,
 ) -> Result<ColoredText, Failure<'a>>
-    ensures { IfOk result (λ t. IsPainted is_colored (printed_colors t)) }
+    ensures member { OnOk result (Member (definitions_in schema.now.definitions)
+        (string_bytes schema.now.root) bytes.now) }
+    ensures colors { IfOk result (λ t. IsPainted is_colored (printed_colors t)) }
 {
     match rows_of(alloc, schema.root.as_str(), &schema.definitions, bytes) {
         Ok(rows) => Ok(text_of_rows(alloc, rows.as_slice(), is_colored)?),

@@ -7,10 +7,10 @@ use Rattle.borsh_codec.specs.Maps.{unit_entries, btree_map, btree_set, hash_map,
 use Rattle.borsh_codec.specs.Types.Sums.{bool, option_view, option, result_view, result_of}
 use Rattle.borsh_codec.specs.Types.Texts.{text}
 use Rattle.borsh_walks.specs.Container.{product, first_variant, later_variant}
-use Rattle.borsh_definitions.specs.Described.{NamedDefinition, shape, list as list_definition, DefinitionTree, none, defined, both}
+use Rattle.borsh_definitions.specs.Described.{NamedDefinition, shape, list as list_definition, named, unnamed, DefinitionTree, none, defined, both}
 use Rattle.borsh_definitions.specs.Language.{DescribedCodec, DescribedFields}
-use Rattle.borsh_definitions.specs.Names.{applied, applied_to_two, array_name}
-use Rattle.borsh_definitions.specs.Types.{primitive_definitions, list_definitions, text_definitions, unit_definitions, option_of, range_of, result_of as result_definition, map_definitions, named_struct, tuple_definitions}
+use Rattle.borsh_definitions.specs.Names.{applied, applied_to_two, array_name, beside}
+use Rattle.borsh_definitions.specs.Types.{primitive_definitions, list_definitions, text_definitions, unit_definitions, option_of, range_of, result_of as result_definition, map_definitions, named_struct, unnamed_struct, tuple_definitions}
 use Rattle.borsh_definitions.proofs.Laws.Members.{describes_contramap, describes_number, describes_signed, describes_unit, describes_bool, describes_text, describes_stored, describes_counted, describes_elements, describes_row, describes_refused_if, describes_ordered, describes_sorted, describes_parts, describes_choice, choice_more, choice_none, all_none, all_one, all_more, all_contramap}
 
 -- ---- one value
@@ -132,3 +132,11 @@ struct_described view fields e = record {
   codec = contramap view fields.codec;
   describes = λ C h. describes_contramap view (describes_parts (h.0 ∙ ap Some e) (fields.describes C h.1));
 }
+
+-- the same with the definition given, so that the prover needn't find it: a struct whose fields have these names, as many
+-- as there are types, and one whose fields have none
+abbrev pub named_described : {S A : Type 0} {name : List ℕ} → (S → A) → (labels : List (List ℕ)) → (fields : DescribedFields A) → shape (named (beside labels fields.names)) ≡ product fields.names → DescribedCodec S name (struct_parts name labels fields)
+named_described view labels fields e = struct_described {d = named (beside labels fields.names)} view fields e
+
+abbrev pub unnamed_described : {S A : Type 0} {name : List ℕ} → (S → A) → (fields : DescribedFields A) → DescribedCodec S name (unnamed_struct name fields.names fields.parts)
+unnamed_described view fields = struct_described {d = unnamed fields.names} view fields refl
