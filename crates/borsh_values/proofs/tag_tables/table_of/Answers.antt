@@ -1,4 +1,4 @@
-use Rattle.std.proofs.Common.{◌≡◌, ℕ, length, take, List, sym, ap, subst, arith, ◌<◌, [], length-take-le, false, ℤ}
+use Rattle.std.proofs.Common.{◌≡◌, ℕ, length, take, List, sym, ap, subst, arith, [], length-take-le, false, ℤ}
 use Rattle.std.specs.Prelude.{string_bytes, None}
 use Rattle.std.specs.Ordering.{nat_cmp, is_eq}
 use Rattle.std.specs.Map.{lookup}

@@ -1,4 +1,4 @@
-use Rattle.std.proofs.Common.{◌≡◌, ◌+◌, length, take, refl, sym, ◌∙◌, ap, subst, arith, ◌<◌, ◌∷◌, [], ◌++◌, Some, true, false}
+use Rattle.std.proofs.Common.{◌≡◌, ◌+◌, take, refl, sym, ◌∙◌, ap, subst, arith, ◌∷◌, [], ◌++◌, Some, true, false}
 use Rattle.std.specs.Prelude.{string_bytes}
 use Rattle.borsh_values.specs.Steps.{FoundAs}
 use Rattle.borsh_values.proofs.FoundLaws.{unnamed, got, got_none, found_more, found_same, take_next}

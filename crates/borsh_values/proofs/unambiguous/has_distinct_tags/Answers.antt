@@ -1,4 +1,4 @@
-use Rattle.std.proofs.Common.{◌≡◌, ℕ, suc, zero, ◌+◌, length, take, drop, List, refl, sym, ap, subst, arith, ◌<◌, ◌∷◌, [], ◌++◌, ℤ, true, false, Bool}
+use Rattle.std.proofs.Common.{◌≡◌, ℕ, suc, zero, ◌+◌, take, drop, List, refl, sym, ap, subst, arith, ◌∷◌, [], ◌++◌, ℤ, true, false, Bool}
 use Rattle.std.specs.Prelude.{string_bytes, not}
 use Rattle.std.specs.Ordering.{nat_cmp, is_eq}
 use Rattle.std.specs.List.{list_any}
