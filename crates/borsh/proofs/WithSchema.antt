@@ -1,5 +1,5 @@
 -- Values that are sent behind the container of their type.
-use Rattle.std.proofs.Common.{◌≡◌, Bool, true, false, List, ℕ, Option, Some, None, refl, sym, ◌∙◌, ap, subst, true≢false, Decides, Vec, Global, Result, Ok, Err}
+use Rattle.std.proofs.Common.{◌≡◌, Bool, true, false, List, ℕ, Option, refl, sym, ◌∙◌, subst, true≢false, Decides, Vec, Global, Ok, Err}
 use Rattle.borsh_io.specs.declared.error.ErrorKind.{ErrorKind}
 use Rattle.borsh_io.specs.declared.error.ErrorKind.TheVariants.{InvalidData, OutOfMemory}
 use Rattle.borsh_codec.specs.Codec.{Codec, IsDecodable, Lawful}
@@ -19,7 +19,7 @@ use Rattle.borsh_io.specs.declared.error.Error.{Error}
 use Rattle.borsh_io.specs.Errors.{error_kind}
 use Rattle.borsh_definitions.specs.Described.{DefinitionTree}
 use Rattle.borsh_schema.proofs.Laws.Sameness.{container-lawful, container_same, given_in, encoded_once, one_encoding}
-use Rattle.borsh.specs.WithSchema.{FollowsSchema, IsWithSchema, HasClash, EncodesWithSchema, DecodesWithSchema, IsReadWithSchema, IsPairRead, WhyNoContainer, WhyNotWritten, WhyNotRead}
+use Rattle.borsh.specs.WithSchema.{IsWithSchema, HasClash, EncodesWithSchema, DecodesWithSchema, IsReadWithSchema, IsPairRead, WhyNoContainer, WhyNotWritten, WhyNotRead}
 use Rattle.borsh.specs.WithSchema.WhyNoContainer.{clashing, memory}
 use Rattle.borsh.specs.WithSchema.WhyNotWritten.{clashes as unwritten_clashes, no_container, no_encoding, no_memory as unwritten_memory}
 use Rattle.borsh.specs.WithSchema.WhyNotRead.{malformed, other_schema, clashes, no_memory as unread_memory}

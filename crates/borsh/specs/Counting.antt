@@ -1,5 +1,5 @@
 -- A writer that counts.
-use Rattle.std.specs.Prelude.{◌≡◌, ℕ, ◌+◌, ◌-◌, ◌^◌, min, false, List, length}
+use Rattle.std.specs.Prelude.{◌≡◌, ℕ, ◌+◌, ◌-◌, ◌^◌, min, false, length}
 use Rattle.std.proofs.Common.{arith, length-append}
 use Rattle.borsh_io.specs.Sink.{WriterModel, WriterLaws, no_faults}
 use Rattle.borsh.specs.declared.length.LengthWriter.{LengthWriter}

@@ -1,5 +1,5 @@
 -- Values that are sent behind the container of their type.
-use Rattle.std.specs.Prelude.{◌≡◌, ℕ, Bool, true, List, ◌++◌, Option, Some, None, MatchBool, MatchResult, Result, IfOk, IfErr, Vec}
+use Rattle.std.specs.Prelude.{◌≡◌, ℕ, true, List, ◌++◌, Option, Some, None, MatchResult, Result, IfOk, IfErr, Vec}
 use Rattle.std.specs.Global.{Global}
 use Rattle.std.specs.String.{string_cmp}
 use Rattle.std.specs.BTreeMap.{IsOrdered}

@@ -1,5 +1,4 @@
-use Rattle.std.proofs.Common.{ap, rules, IfOk, ◌≡◌, ◌+◌, ◌-◌, ◌^◌, min, length}
-use Rattle.borsh_io.specs.Errors.{error_kind}
+use Rattle.std.proofs.Common.{rules, IfOk, ◌-◌}
 use Rattle.borsh.specs.Length.{IsLength}
 use Rattle.borsh.proofs.Lengths.{no_length}
 use Rattle.borsh.proofs.ser.object_length.Goals as goal
