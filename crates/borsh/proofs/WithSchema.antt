@@ -4,7 +4,7 @@ use Rattle.borsh_io.specs.declared.error.ErrorKind.{ErrorKind}
 use Rattle.borsh_io.specs.declared.error.ErrorKind.TheVariants.{InvalidData, OutOfMemory}
 use Rattle.borsh_codec.specs.Codec.{Codec, IsDecodable, Lawful}
 use Rattle.borsh_codec.specs.Shapes.{pair}
-use Rattle.borsh_codec.proofs.Laws.Lists.{same_front, free_readings, some_same}
+use Rattle.borsh_codec.proofs.Laws.Lists.{same_front, decodable_prefix_free, some_same}
 use Rattle.borsh_codec.proofs.Laws.Pairs.{pair-lawful}
 use Rattle.borsh_codec.specs.Reading.{WhyNotDecoded}
 use Rattle.borsh_codec.specs.Reading.WhyNotDecoded.{malformed as no_whole, no_memory as whole_memory}
@@ -98,7 +98,7 @@ module _ {B : Type 0} {name : List ℕ} {ps : DefinitionTree} {c : Codec B} {byt
     not_read_is_memory (malformed r n) = absurd (n ((w.sent.own, x), both_decode))
     not_read_is_memory (other_schema e o) =
         let r = container-lawful.round_trip true o.sent o.front o.encoded in
-        let f = same_front (IsDecodable container true) (free_readings container-lawful true) o.front o.rest w.sent.front w.rest (o.sent, r) (w.sent.own, front_decodes) (sym o.whole ∙ w.sent.whole) in
+        let f = same_front (IsDecodable container true) (decodable_prefix_free container-lawful true) o.front o.rest w.sent.front w.rest (o.sent, r) (w.sent.own, front_decodes) (sym o.whole ∙ w.sent.whole) in
         let s = container-lawful.unambiguous true o.front o.sent w.sent.own r (subst (λ y. container.decodes true y w.sent.own) (sym f.0) front_decodes) in
         absurd (o.other (container_same o.sent w.sent.own s w.sent.is))
     not_read_is_memory (clashes r h d) =
