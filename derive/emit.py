@@ -207,8 +207,8 @@ GHOST_OFFERED = {
         contramap-lawful contramap_ordered describes_choice describes_contramap describes_elements describes_ordered
         describes_parts describes_refused_if describes_row describes_sorted describes_stored describes_unit
         enum_definitions enum_described enum_lawful_if fields first_variant fork_described from key_facts
-        later_variant left name_with no_fields_described option_view result_view right struct_described
-        struct_parts unit_entries unit_struct unnamed_struct'''.split(),
+        later_variant left name_with named_described no_fields_described option_view result_view right
+        struct_described struct_parts unit_entries unit_struct unnamed_described unnamed_struct'''.split(),
     'Rattle.std.specs.Prelude': ['codes', 'refl', '◌∷◌', '[]'],
 }
 

@@ -84,8 +84,7 @@ def struct_schema(writer):
     chained = types_in_chain(writer, fields)
     described = fields_described(writer, chained, fields)
     view = fields_view(['v.' + ghost_name(field.name) for field in fields])
-    data = [struct_parts(writer, kind, described), '',
-            ghost_member('described', 'struct_described', [view, described, Term('', ['refl'])], 4)]
+    data = [struct_parts(writer, kind, described), '', struct_described(writer, kind, view, described)]
     describes = '    ghost describes = { Self.described.describes };'
     if named_parameters(writer):
         describes = describes_fields(writer, fields)
@@ -107,6 +106,20 @@ def types_in_chain(writer, fields):
     return '%s<%s>' % (writer.lib('Chain'), writer.alias_use())
 
 
+def struct_described(writer, kind, view, described):
+    """The codec, and that the definitions describe it."""
+    if kind == 'named':
+        return ghost_member('described', 'named_described', [view, labels(writer), described, Term('', ['refl'])], 4)
+    if kind == 'tuple':
+        return ghost_member('described', 'unnamed_described', [view, described], 4)
+    return ghost_member('described', 'struct_described', [view, described, Term('', ['refl'])], 4)
+
+
+def labels(writer):
+    """The names of the fields."""
+    return Term('', ['(%s)' % ghost_list(['codes "%s"' % field.name for field in writer.marked.fields.encoded()])])
+
+
 def struct_parts(writer, kind, described):
     """The definitions that the name leads to."""
     name = Term('', ['(%s)' % ghost_own_name(writer)])
@@ -115,8 +128,7 @@ def struct_parts(writer, kind, described):
     if kind == 'tuple':
         members = [described.within('', one) for one in ('.names', '.parts')]
         return ghost_member('parts', 'unnamed_struct', [name] + members, 4)
-    names = ghost_list(['codes "%s"' % field.name for field in writer.marked.fields.encoded()])
-    return ghost_member('parts', 'struct_parts', [name, Term('', ['(%s)' % names]), described], 4)
+    return ghost_member('parts', 'struct_parts', [name, labels(writer), described], 4)
 
 
 def struct_call(writer, kind, chained):

@@ -100,11 +100,22 @@ abbrev pub unnamed : List Listed → List (ℤ × List ℕ)
 unnamed items = map {A = Listed} (λ v. (v.0, string_bytes v.2)) items
 
 -- what was got of the variants, seen as a slice
-pub got_within : (items xs : List Listed) (n : ℕ) → xs ≡ items → n < length xs → n < length items
+got_within : (items xs : List Listed) (n : ℕ) → xs ≡ items → n < length xs → n < length items
 got_within items xs n d h = let e = ap (λ l. length l) d in omega (arith, h, e)
 
-pub got_variant : (items xs : List Listed) (n : ℕ) (f : Listed) → xs ≡ items → n < length xs → f ≡ get_or xs n f → slice_get (unnamed items) n ≡ Some (f.0, string_bytes f.2)
+got_variant : (items xs : List Listed) (n : ℕ) (f : Listed) → xs ≡ items → n < length xs → f ≡ get_or xs n f → slice_get (unnamed items) n ≡ Some (f.0, string_bytes f.2)
 got_variant items xs n f d h e = slice_get-map {A = Listed} (λ v. (v.0, string_bytes v.2)) items n ∙ ap (λ o. option_map (λ v. (v.0, string_bytes v.2)) o) (slice_get_read items (length items) n f refl (got_within items xs n d h) (e ∙ ap (λ l. get_or l n f) d))
+
+-- a variant that was got of the list, and the variants as far as it
+pub record IsGot (items : List Listed) (n : ℕ) (f : Listed) : Type 0 where
+  pub within : n < length items
+  pub listed : slice_get (unnamed items) n ≡ Some (f.0, string_bytes f.2)
+  pub next : take (n + 1) (unnamed items) ≡ take n (unnamed items) ++ (f.0, string_bytes f.2) ∷ []
+
+pub got : (items xs : List Listed) (n : ℕ) (f : Listed) → xs ≡ items → n < length xs → f ≡ get_or xs n f → IsGot items n f
+got items xs n f d h e =
+    let l = got_variant items xs n f d h e in
+    record { within = got_within items xs n d h; listed = l; next = take_next (unnamed items) n (f.0, string_bytes f.2) l }
 
 pub got_none : (items xs : List Listed) (n : ℕ) → xs ≡ items → length xs ≤ n → take n (unnamed items) ≡ unnamed items
 got_none items xs n d h = let e = ap (λ l. length l) d in let k = length-map {B = ℤ × List ℕ} items (λ v. (v.0, string_bytes v.2)) in take_whole (unnamed items) n (omega (arith, h, e, k))

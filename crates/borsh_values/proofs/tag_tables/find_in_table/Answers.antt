@@ -4,7 +4,7 @@ use Rattle.std.proofs.lemmas.List.{length-map}
 use Rattle.std.proofs.lemmas.Option.{slice_get_past}
 use Rattle.borsh_values.specs.TagTables.{at_key}
 use Rattle.borsh_values.specs.declared.tag_tables.AtKey.TheVariants.{One as AtOne, Several as AtSeveral}
-use Rattle.borsh_values.proofs.FoundLaws.{unnamed, got_variant}
+use Rattle.borsh_values.proofs.FoundLaws.{unnamed, got}
 use Rattle.borsh_values.proofs.TableLaws.{table_nothing, table_several, table_within, table_one, table_other}
 use Rattle.borsh_values.proofs.tag_tables.find_in_table.Goals as goal
 
@@ -13,21 +13,19 @@ returns-then-is_tag c =
     let items = c.args.variants.now.items in
     let n = c.in-Some-One.index in
     let f = c.in-Some.field-0.now in
-    let l = c.in-Some.ensures.lookup in
-    let e = got_variant items _ n f c.deref.ensures.value l.3.0 l.1 in
+    let v = got items _ n f c.deref.ensures.value c.in-Some.ensures.lookup.3.0 c.in-Some.ensures.lookup.1 in
     let at : at_key c.args.table.now c.key_of.result ≡ Some (AtOne n) = sym c.in-Some-One.ensures.value ∙ ap (λ a. Some a) c.in-Some-One.field-0-is in
     let p = c.as_str.result in
-    table_one c.args.tag.now c.requires.table c.key_of.result c.key_of.ensures c.requires.some n at f.0 p (e ∙ ap (λ s. Some (f.0, s)) (sym c.as_str.ensures.value)) (c.if-is_tag.ensures.0 refl)
+    table_one c.args.tag.now c.requires.table c.key_of.result c.key_of.ensures c.requires.some n at f.0 p (v.listed ∙ ap (λ s. Some (f.0, s)) (sym c.as_str.ensures.value)) (c.if-is_tag.ensures.0 refl)
 
 pub returns-else-is_tag : goal.returns-else-is_tag
 returns-else-is_tag c =
     let items = c.args.variants.now.items in
     let n = c.in-Some-One.index in
     let f = c.in-Some.field-0.now in
-    let l = c.in-Some.ensures.lookup in
-    let e = got_variant items _ n f c.deref.ensures.value l.3.0 l.1 in
+    let v = got items _ n f c.deref.ensures.value c.in-Some.ensures.lookup.3.0 c.in-Some.ensures.lookup.1 in
     let at : at_key c.args.table.now c.key_of.result ≡ Some (AtOne n) = sym c.in-Some-One.ensures.value ∙ ap (λ a. Some a) c.in-Some-One.field-0-is in
-    table_other c.args.tag.now c.requires.table c.key_of.result c.key_of.ensures c.requires.some n at f.0 (string_bytes f.2) e (λ q. (let t = c.if-is_tag.ensures.1 q in cc))
+    table_other c.args.tag.now c.requires.table c.key_of.result c.key_of.ensures c.requires.some n at f.0 (string_bytes f.2) v.listed (λ q. (let t = c.if-is_tag.ensures.1 q in cc))
 
 pub returns-in-None-get : goal.returns-in-None-get
 returns-in-None-get c =

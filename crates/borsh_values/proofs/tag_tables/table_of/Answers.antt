@@ -1,4 +1,4 @@
-use Rattle.std.proofs.Common.{◌≡◌, ℕ, length, take, List, sym, ap, subst, arith, ◌<◌, [], length-take-le, false, ℤ}
+use Rattle.std.proofs.Common.{◌≡◌, ℕ, length, take, List, sym, ap, subst, arith, [], length-take-le, false, ℤ}
 use Rattle.std.specs.Prelude.{string_bytes, None}
 use Rattle.std.specs.Ordering.{nat_cmp, is_eq}
 use Rattle.std.specs.Map.{lookup}
@@ -7,7 +7,7 @@ use Rattle.std.proofs.lemmas.Bool.Decides.{nat_tests}
 use Rattle.std.proofs.lemmas.List.{length-map}
 use Rattle.borsh_values.specs.TagTables.{IsTagTable, at_key}
 use Rattle.borsh_values.specs.declared.tag_tables.AtKey.{AtKey}
-use Rattle.borsh_values.proofs.FoundLaws.{unnamed, got_within, got_variant, got_none, take_next}
+use Rattle.borsh_values.proofs.FoundLaws.{unnamed, got, got_none}
 use Rattle.borsh_values.proofs.TableLaws.{table_none, table_more}
 use Rattle.borsh_values.proofs.tag_tables.table_of.Goals as goal
 
@@ -26,19 +26,15 @@ loop-discriminant-preserved c =
     let vs = unnamed items in
     let n = c.loop-discriminant.index in
     let f = c.in-Some.field-0.now in
-    let l = c.in-Some.ensures.lookup in
-    let d = c.deref.ensures.value in
-    let lt : n < length items = got_within items _ n d l.3.0 in
-    let e = got_variant items _ n f d l.3.0 l.1 in
-    let t = take_next vs n (f.0, string_bytes f.2) e in
+    let v = got items _ n f c.deref.ensures.value c.in-Some.ensures.lookup.3.0 c.in-Some.ensures.lookup.1 in
     let k = length-map {B = ℤ × List ℕ} items (λ v. (v.0, string_bytes v.2)) in
-    let long : length (take n vs) ≡ n = length-take-le n vs (omega (arith, lt, k)) in
+    let long : length (take n vs) ≡ n = length-take-le n vs (omega (arith, v.within, k)) in
     let key = c.tag_key-key.result in
     let new = c.insert.new.self in
     let u = c.in_ok-insert.ensures.updates in
     record {
-      within = omega (arith, lt);
-      table = subst (λ l. IsTagTable c.args.width l (at_key new)) (sym t) (table_more c.loop-discriminant.invariant.table f.0 (string_bytes f.2) key c.tag_key-key.ensures n c.entry_for-entry.result long c.entry_for-entry.ensures u.1 (λ m g. u.2 m (other_key m key g)));
+      within = omega (arith, v.within);
+      table = subst (λ l. IsTagTable c.args.width l (at_key new)) (sym v.next) (table_more c.loop-discriminant.invariant.table f.0 (string_bytes f.2) key c.tag_key-key.ensures n c.entry_for-entry.result long c.entry_for-entry.ensures u.1 (λ m g. u.2 m (other_key m key g)));
     }
 
 pub returns : goal.returns

@@ -1,7 +1,7 @@
-use Rattle.std.proofs.Common.{◌≡◌, ℕ, length, take, List, refl, sym, subst, arith, ◌<◌, ◌∷◌, [], ℤ, true, false, inl, inr}
+use Rattle.std.proofs.Common.{◌≡◌, ℕ, length, take, List, refl, sym, subst, arith, ◌∷◌, [], ℤ, true, false, inl, inr}
 use Rattle.std.specs.Prelude.{string_bytes}
 use Rattle.borsh_walks.specs.Container.{IsListedVariant, first_variant, later_variant, tag}
-use Rattle.borsh_values.proofs.FoundLaws.{unnamed, got_within, got_variant, got_none, take_next, listed_append}
+use Rattle.borsh_values.proofs.FoundLaws.{unnamed, got, got_none, listed_append}
 use Rattle.borsh_values.proofs.tags.variant_at.Goals as goal
 
 no_true : false ≡ true → ⊥
@@ -17,14 +17,10 @@ loop-discriminant-preserved c =
     let vs = unnamed items in
     let n = c.loop-discriminant.index in
     let f = c.in-Some.field-0.now in
-    let l = c.in-Some.ensures.lookup in
-    let d = c.deref.ensures.value in
-    let lt : n < length items = got_within items _ n d l.3.0 in
-    let e = got_variant items _ n f d l.3.0 l.1 in
-    let t = take_next vs n (f.0, string_bytes f.2) e in
+    let v = got items _ n f c.deref.ensures.value c.in-Some.ensures.lookup.3.0 c.in-Some.ensures.lookup.1 in
     record {
-      within = omega (arith, lt);
-      none = λ k p a b. elim (listed_append (take n vs) ((f.0, string_bytes f.2) ∷ []) (subst (λ l. IsListedVariant k p l) t a)) [
+      within = omega (arith, v.within);
+      none = λ k p a b. elim (listed_append (take n vs) ((f.0, string_bytes f.2) ∷ []) (subst (λ l. IsListedVariant k p l) v.next a)) [
         | inl i ↦ c.loop-discriminant.invariant.none k p i b
         | inr i ↦ last_off {p = string_bytes f.2} i (λ q. no_true (c.if-is_tag.ensures.1 q)) b
       ];
@@ -33,14 +29,10 @@ loop-discriminant-preserved c =
 pub returns-then-is_tag : goal.returns-then-is_tag
 returns-then-is_tag c =
     let items = c.args.variants.now.items in
-    let vs = unnamed items in
     let n = c.loop-discriminant.index in
     let f = c.in-Some.field-0.now in
-    let l = c.in-Some.ensures.lookup in
-    let d = c.deref.ensures.value in
-    let lt : n < length items = got_within items _ n d l.3.0 in
-    let e = got_variant items _ n f d l.3.0 l.1 in
-    (f.0, string_bytes f.2, e, c.if-is_tag.ensures.0 refl)
+    let v = got items _ n f c.deref.ensures.value c.in-Some.ensures.lookup.3.0 c.in-Some.ensures.lookup.1 in
+    (f.0, string_bytes f.2, v.listed, c.if-is_tag.ensures.0 refl)
 
 pub returns : goal.returns
 returns c =

@@ -1,4 +1,4 @@
-use Rattle.std.proofs.Common.{◌≡◌, ℕ, suc, zero, ◌+◌, length, take, drop, List, refl, sym, ap, subst, arith, ◌<◌, ◌∷◌, [], ◌++◌, ℤ, true, false, Bool}
+use Rattle.std.proofs.Common.{◌≡◌, ℕ, suc, zero, ◌+◌, take, drop, List, refl, sym, ap, subst, arith, ◌∷◌, [], ◌++◌, ℤ, true, false, Bool}
 use Rattle.std.specs.Prelude.{string_bytes, not}
 use Rattle.std.specs.Ordering.{nat_cmp, is_eq}
 use Rattle.std.specs.List.{list_any}
@@ -6,7 +6,7 @@ use Rattle.std.specs.BTreeSet.{BTreeSet, contains}
 use Rattle.std.specs.BTreeMap.{is_at}
 use Rattle.std.proofs.lemmas.Bool.Decides.{nat_tests}
 use Rattle.borsh_values.specs.Unambiguous.{DistinctTags}
-use Rattle.borsh_values.proofs.FoundLaws.{unnamed, got_within, got_variant, got_none, take_next, distinct_left}
+use Rattle.borsh_values.proofs.FoundLaws.{unnamed, got, got_none, distinct_left}
 use Rattle.borsh_values.proofs.DistinctLaws.{Keyed, keyed_none, keyed_more, keyed_twice}
 use Rattle.borsh_values.proofs.unambiguous.has_distinct_tags.Goals as goal
 
@@ -35,21 +35,16 @@ other_key m n f = grind (arith, nat_tests)
 pub loop-discriminant-preserved : goal.loop-discriminant-preserved
 loop-discriminant-preserved c =
     let items = c.args.variants.now.items in
-    let vs = unnamed items in
     let n = c.loop-discriminant.index in
     let f = c.in-Some.field-0.now in
-    let l = c.in-Some.ensures.lookup in
-    let d = c.deref.ensures.value in
-    let lt : n < length items = got_within items _ n d l.3.0 in
-    let e = got_variant items _ n f d l.3.0 l.1 in
-    let t = take_next vs n (f.0, string_bytes f.2) e in
+    let v = got items _ n f c.deref.ensures.value c.in-Some.ensures.lookup.3.0 c.in-Some.ensures.lookup.1 in
     let key = c.tag_key-key.result in
     let old = c.loop-discriminant.keys in
     let new = c.insert.new.self in
     let u = c.in_ok-insert.ensures.updates in
     record {
-      within = omega (arith, lt);
-      keyed = subst (λ l. Keyed c.args.width l (λ n. contains nat_cmp new n)) (sym t) (keyed_more (string_bytes f.2) c.loop-discriminant.invariant.keyed c.tag_key-key.ensures
+      within = omega (arith, v.within);
+      keyed = subst (λ l. Keyed c.args.width l (λ n. contains nat_cmp new n)) (sym v.next) (keyed_more (string_bytes f.2) c.loop-discriminant.invariant.keyed c.tag_key-key.ensures
           (off_of c.in_ok-insert.field-0 (contains nat_cmp old key) c.in_ok-insert.ensures.added c.if-not-branch.false)
           u.1
           (λ m g. u.2 m (other_key m key g)));
@@ -61,17 +56,13 @@ returns-then-not-branch c =
     let vs = unnamed items in
     let n = c.loop-discriminant.index in
     let f = c.in-Some.field-0.now in
-    let l = c.in-Some.ensures.lookup in
-    let d = c.deref.ensures.value in
-    let lt : n < length items = got_within items _ n d l.3.0 in
-    let e = got_variant items _ n f d l.3.0 l.1 in
-    let t = take_next vs n (f.0, string_bytes f.2) e in
+    let v = got items _ n f c.deref.ensures.value c.in-Some.ensures.lookup.3.0 c.in-Some.ensures.lookup.1 in
     let key = c.tag_key-key.result in
     let old = c.loop-discriminant.keys in
     let on : contains nat_cmp old key ≡ true = on_of c.in_ok-insert.field-0 (contains nat_cmp old key) c.in_ok-insert.ensures.added c.if-not-branch.true in (
       (λ e. cc),
       λ h. absurd (keyed_twice (string_bytes f.2) c.loop-discriminant.invariant.keyed c.tag_key-key.ensures on
-          (subst (λ l. DistinctTags c.args.width l) t (distinct_left c.args.width (take (n + 1) vs) (drop (n + 1) vs) (subst (λ l. DistinctTags c.args.width l) (sym (take_drop vs (n + 1))) h)))),
+          (subst (λ l. DistinctTags c.args.width l) v.next (distinct_left c.args.width (take (n + 1) vs) (drop (n + 1) vs) (subst (λ l. DistinctTags c.args.width l) (sym (take_drop vs (n + 1))) h)))),
     )
 
 pub returns : goal.returns
