@@ -54,17 +54,17 @@ module _ {schema : List ℕ} (c : String Global × BTreeMap (String Global) Defi
   undecided_told N U u OutOfMemory told = tt
   undecided_told N U u (Undecided t) told = about_told U u
 
-  pub bytes_refused : {value : List ℕ} {e : JsonError} → IsReason C root value e → (r : Refusal) → TellsNoValue e r → IsRefused schema Anything IsUnclear r
-  bytes_refused reason (No t) told = about_told Anything tt
-  bytes_refused reason (Malformed t) told = absurd told
-  bytes_refused reason OutOfMemory told = tt
-  bytes_refused {value} reason (Undecided t) told = about_told IsUnclear (λ v u. none_ambiguous C told.0.now v u (subst (IsReason C root value) told.1 reason))
+  pub bytes_refused : (value : List ℕ) (e : JsonError) → IsReason C root value e → (r : Refusal) → TellsNoValue e r → IsRefused schema Anything IsUnclear r
+  bytes_refused value e reason (No t) told = about_told Anything tt
+  bytes_refused value e reason (Malformed t) told = absurd told
+  bytes_refused value e reason OutOfMemory told = tt
+  bytes_refused value e reason (Undecided t) told = about_told IsUnclear (λ v u. none_ambiguous C told.0.now v u (subst (IsReason C root value) told.1 reason))
 
-  pub text_refused : {text : List ℕ} {e : JsonError} → IsTextReason C root text e → (r : Refusal) → TellsNoValue e r → IsRefused schema Anything IsUnclear r
-  text_refused reason (No t) told = about_told Anything tt
-  text_refused reason (Malformed t) told = absurd told
-  text_refused reason OutOfMemory told = tt
-  text_refused {text} reason (Undecided t) told = about_told IsUnclear (λ v u. none_ambiguous C told.0.now v u (subst (IsTextReason C root text) told.1 reason).1)
+  pub text_refused : (text : List ℕ) (e : JsonError) → IsTextReason C root text e → (r : Refusal) → TellsNoValue e r → IsRefused schema Anything IsUnclear r
+  text_refused text e reason (No t) told = about_told Anything tt
+  text_refused text e reason (Malformed t) told = absurd told
+  text_refused text e reason OutOfMemory told = tt
+  text_refused text e reason (Undecided t) told = about_told IsUnclear (λ v u. none_ambiguous C told.0.now v u (subst (IsTextReason C root text) told.1 reason).1)
 
 -- ---- what was given
 
