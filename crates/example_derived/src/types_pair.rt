@@ -1,7 +1,7 @@
 // Written by borsh_derive.py from types.rt: edit that file, and run the program again.
 ghost use Rattle.borsh.specs.Derived.{all_more, all_one, contramap, contramap-lawful};
 ghost use Rattle.borsh.specs.Derived.{describes_contramap, describes_parts, from, key_facts};
-ghost use Rattle.borsh.specs.Derived.{name_with, struct_described, struct_parts};
+ghost use Rattle.borsh.specs.Derived.{name_with, named_described, struct_parts};
 ghost use Rattle.std.specs.Prelude.{codes, refl, ◌∷◌, []};
 
 use super::types::Pair;
@@ -55,8 +55,9 @@ impl<A: BorshSchema, B: BorshSchema> BorshSchema for Pair<A, B> {
     ghost parts = { struct_parts (name_with (codes "Pair") A.name (B.name ∷ []))
         (codes "first" ∷ codes "second" ∷ []) ⟦<Chain<Fields<A, B>> as FieldTypes>⟧.described };
 
-    ghost described = { struct_described (λ v. (v.first, (v.second, tt)))
-        ⟦<Chain<Fields<A, B>> as FieldTypes>⟧.described refl };
+    ghost described = { named_described (λ v. (v.first, (v.second, tt)))
+        (codes "first" ∷ codes "second" ∷ []) ⟦<Chain<Fields<A, B>> as FieldTypes>⟧.described
+        refl };
 
     fn declaration(alloc: Global) -> SchemaResult<Declaration> {
         declared_with::<A, (B, ())>(alloc, "Pair")

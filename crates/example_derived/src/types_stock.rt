@@ -1,6 +1,6 @@
 // Written by borsh_derive.py from types.rt: edit that file, and run the program again.
 ghost use Rattle.borsh.specs.Derived.{contramap, contramap-lawful, from, key_facts};
-ghost use Rattle.borsh.specs.Derived.{struct_described, struct_parts};
+ghost use Rattle.borsh.specs.Derived.{named_described, struct_parts};
 ghost use Rattle.std.specs.Prelude.{codes, refl, ◌∷◌, []};
 
 use super::types::Stock;
@@ -55,8 +55,8 @@ impl BorshSchema for Stock {
     ghost parts = { struct_parts (codes "Stock") (codes "pieces" ∷ codes "note" ∷ [])
         ⟦<Chain<Fields> as FieldTypes>⟧.described };
 
-    ghost described = { struct_described (λ v. (v.pieces, (v.note, tt)))
-        ⟦<Chain<Fields> as FieldTypes>⟧.described refl };
+    ghost described = { named_described (λ v. (v.pieces, (v.note, tt)))
+        (codes "pieces" ∷ codes "note" ∷ []) ⟦<Chain<Fields> as FieldTypes>⟧.described refl };
 
     fn declaration(alloc: Global) -> SchemaResult<Declaration> {
         declared(alloc, "Stock")

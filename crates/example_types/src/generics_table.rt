@@ -3,8 +3,8 @@ ghost use Rattle.borsh.specs.Derived.{all_more, all_one, choice_more, choice_non
 ghost use Rattle.borsh.specs.Derived.{contramap-lawful, describes_choice, describes_contramap};
 ghost use Rattle.borsh.specs.Derived.{describes_elements, describes_ordered, describes_parts};
 ghost use Rattle.borsh.specs.Derived.{describes_refused_if, describes_unit, first_variant, from};
-ghost use Rattle.borsh.specs.Derived.{key_facts, later_variant, name_with, option_view};
-ghost use Rattle.borsh.specs.Derived.{struct_described, struct_parts};
+ghost use Rattle.borsh.specs.Derived.{key_facts, later_variant, name_with, named_described};
+ghost use Rattle.borsh.specs.Derived.{option_view, struct_parts};
 ghost use Rattle.std.specs.Prelude.{codes, refl, ◌∷◌, []};
 
 use super::generics::Table;
@@ -74,8 +74,8 @@ where
     ghost parts = { struct_parts (name_with (codes "Table") T.name [])
         (codes "rows" ∷ codes "by_number" ∷ []) ⟦<Chain<Fields<T>> as FieldTypes>⟧.described };
 
-    ghost described = { struct_described (λ v. (v.rows, (v.by_number, tt)))
-        ⟦<Chain<Fields<T>> as FieldTypes>⟧.described refl };
+    ghost described = { named_described (λ v. (v.rows, (v.by_number, tt)))
+        (codes "rows" ∷ codes "by_number" ∷ []) ⟦<Chain<Fields<T>> as FieldTypes>⟧.described refl };
 
     fn declaration(alloc: Global) -> SchemaResult<Declaration> {
         declared_with::<T, ()>(alloc, "Table")

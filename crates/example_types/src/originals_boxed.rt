@@ -1,6 +1,6 @@
 // Written by borsh_derive.py from originals.rt: edit that file, and run the program again.
 ghost use Rattle.borsh.specs.Derived.{contramap, contramap-lawful, from, key_facts};
-ghost use Rattle.borsh.specs.Derived.{struct_described, struct_parts};
+ghost use Rattle.borsh.specs.Derived.{named_described, struct_parts};
 ghost use Rattle.std.specs.Prelude.{codes, refl, ◌∷◌, []};
 
 use super::originals::Boxed;
@@ -55,8 +55,9 @@ impl BorshSchema for Boxed {
     ghost parts = { struct_parts (codes "Boxed") (codes "f1" ∷ codes "f2" ∷ codes "f3" ∷ [])
         ⟦<Chain<Fields> as FieldTypes>⟧.described };
 
-    ghost described = { struct_described (λ v. (v.f1, (v.f2, (v.f3, tt))))
-        ⟦<Chain<Fields> as FieldTypes>⟧.described refl };
+    ghost described = { named_described (λ v. (v.f1, (v.f2, (v.f3, tt))))
+        (codes "f1" ∷ codes "f2" ∷ codes "f3" ∷ []) ⟦<Chain<Fields> as FieldTypes>⟧.described
+        refl };
 
     fn declaration(alloc: Global) -> SchemaResult<Declaration> {
         declared(alloc, "Boxed")

@@ -1,7 +1,7 @@
 // Written by borsh_derive.py from originals.rt: edit that file, and run the program again.
 ghost use Rattle.borsh.specs.Derived.{all_more, all_one, contramap, contramap-lawful};
 ghost use Rattle.borsh.specs.Derived.{describes_contramap, describes_parts, from, key_facts};
-ghost use Rattle.borsh.specs.Derived.{name_with, struct_described, struct_parts};
+ghost use Rattle.borsh.specs.Derived.{name_with, named_described, struct_parts};
 ghost use Rattle.std.specs.Prelude.{codes, refl, ◌∷◌, []};
 
 use super::originals::Parametrized;
@@ -56,8 +56,9 @@ impl<K: BorshSchema, V> BorshSchema for Parametrized<K, V> {
     ghost parts = { struct_parts (name_with (codes "Parametrized") K.name [])
         (codes "field" ∷ codes "another" ∷ []) ⟦<Chain<Fields<K, V>> as FieldTypes>⟧.described };
 
-    ghost described = { struct_described (λ v. (v.field, (v.another, tt)))
-        ⟦<Chain<Fields<K, V>> as FieldTypes>⟧.described refl };
+    ghost described = { named_described (λ v. (v.field, (v.another, tt)))
+        (codes "field" ∷ codes "another" ∷ []) ⟦<Chain<Fields<K, V>> as FieldTypes>⟧.described
+        refl };
 
     fn declaration(alloc: Global) -> SchemaResult<Declaration> {
         declared_with::<K, ()>(alloc, "Parametrized")

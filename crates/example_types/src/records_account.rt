@@ -1,6 +1,6 @@
 // Written by borsh_derive.py from records.rt: edit that file, and run the program again.
 ghost use Rattle.borsh.specs.Derived.{contramap, contramap-lawful, from, key_facts};
-ghost use Rattle.borsh.specs.Derived.{struct_described, struct_parts};
+ghost use Rattle.borsh.specs.Derived.{named_described, struct_parts};
 ghost use Rattle.std.specs.Prelude.{codes, refl, ◌∷◌, []};
 
 use super::records::Account;
@@ -56,7 +56,8 @@ impl BorshSchema for Account {
         (codes "id" ∷ codes "balances" ∷ codes "note" ∷ [])
         ⟦<Chain<Fields> as FieldTypes>⟧.described };
 
-    ghost described = { struct_described (λ v. (v.id, (v.balances, (v.note, tt))))
+    ghost described = { named_described (λ v. (v.id, (v.balances, (v.note, tt))))
+        (codes "id" ∷ codes "balances" ∷ codes "note" ∷ [])
         ⟦<Chain<Fields> as FieldTypes>⟧.described refl };
 
     fn declaration(alloc: Global) -> SchemaResult<Declaration> {

@@ -1,7 +1,7 @@
 // Written by borsh_derive.py from records.rt: edit that file, and run the program again.
 ghost use Rattle.borsh.specs.Derived.{contramap, contramap-lawful, from, key_facts};
-ghost use Rattle.borsh.specs.Derived.{struct_described, unnamed_struct};
-ghost use Rattle.std.specs.Prelude.{codes, refl};
+ghost use Rattle.borsh.specs.Derived.{unnamed_described, unnamed_struct};
+ghost use Rattle.std.specs.Prelude.{codes};
 
 use super::records::Point;
 use borsh::derived::*;
@@ -54,8 +54,8 @@ impl BorshSchema for Point {
     ghost parts = { unnamed_struct (codes "Point") ⟦<Chain<Fields> as FieldTypes>⟧.described.names
         ⟦<Chain<Fields> as FieldTypes>⟧.described.parts };
 
-    ghost described = { struct_described (λ v. (v.0, (v.1, tt)))
-        ⟦<Chain<Fields> as FieldTypes>⟧.described refl };
+    ghost described = { unnamed_described (λ v. (v.0, (v.1, tt)))
+        ⟦<Chain<Fields> as FieldTypes>⟧.described };
 
     fn declaration(alloc: Global) -> SchemaResult<Declaration> {
         declared(alloc, "Point")

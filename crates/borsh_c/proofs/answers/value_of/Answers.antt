@@ -11,4 +11,4 @@ pub returns-in-Ok-from_json-clause-ok : goal.returns-in-Ok-from_json-clause-ok
 returns-in-Ok-from_json-clause-ok c = about_told (c.in_ok-root.root, c.in_ok-root.definitions) c.in_ok-root.ensures.ok c.as_str.result.now c.as_str.ensures.value (λ C root. Member C root c.in-Ok-from_json.bytes.items) c.in-Ok-from_json.ensures.member
 
 pub returns-clause-err : goal.returns-clause-err
-returns-clause-err c = text_refused (c.in_ok-root.root, c.in_ok-root.definitions) c.in_ok-root.ensures.ok c.as_str.result.now c.as_str.ensures.value c.in-from_utf8.text.now c.in-Err.error c.in-Err.ensures.reason c.no_value.result c.no_value.ensures
+returns-clause-err c = text_refused (c.in_ok-root.root, c.in_ok-root.definitions) c.in_ok-root.ensures.ok c.as_str.result.now c.as_str.ensures.value c.in-Ok.text.now c.in-Err.error c.in-Err.ensures.reason c.no_value.result c.no_value.ensures
