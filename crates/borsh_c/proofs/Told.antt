@@ -71,5 +71,5 @@ module _ {schema : List ℕ} (c : String Global × BTreeMap (String Global) Defi
 pub json_told : {schema value room text bytes : List ℕ} {needed : ℕ} → About schema (λ C root. Member C root value) → IsSome (document text) → bytes ≡ text → IsGiven bytes room needed → GivesJson schema value room needed 0
 json_told {bytes = bytes} m json same given = yes (m.0, m.1, (m.2, (bytes, subst (λ (t : List ℕ). IsSome (document t)) (sym same) json, given))) refl
 
-pub bytes_told : {schema room value bytes : List ℕ} {needed : ℕ} → About schema (λ C root. Member C root value) → bytes ≡ value → IsGiven bytes room needed → GivesBytes schema room needed 0
-bytes_told {bytes = bytes} m same given = yes (m.0, m.1, (bytes, subst (λ (v : List ℕ). Member (definitions_in m.0.1) (string_bytes m.0.0) v) (sym same) m.2, given)) refl
+pub bytes_told : {schema room value bytes : List ℕ} {needed : ℕ} (json : List ℕ) → About schema (λ C root. Member C root value) → IsSome (document json) → bytes ≡ value → IsGiven bytes room needed → GivesBytes schema json room needed 0
+bytes_told {bytes = bytes} json m is_json same given = yes (m.0, m.1, (is_json, (bytes, subst (λ (v : List ℕ). Member (definitions_in m.0.1) (string_bytes m.0.0) v) (sym same) m.2, given))) refl

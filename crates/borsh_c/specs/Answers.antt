@@ -90,6 +90,6 @@ AnswersMember schema value = Answers schema (λ C root. Member C root value) (Is
 abbrev pub GivesJson : List ℕ → List ℕ → List ℕ → ℕ → ℕ → Type 0
 GivesJson schema value room needed = Answers schema (λ C root. Member C root value × Gives (λ text. IsSome (document text)) room needed) Anything IsUnclear
 
--- bytes of a value are given; undecided only where the container breaks a rule or is ambiguous
-abbrev pub GivesBytes : List ℕ → List ℕ → ℕ → ℕ → Type 0
-GivesBytes schema room needed = Answers schema (λ C root. Gives (Member C root) room needed) Anything IsUnclear
+-- the text is JSON, and bytes of a value are given; undecided only where the container breaks a rule or is ambiguous
+abbrev pub GivesBytes : List ℕ → List ℕ → List ℕ → ℕ → ℕ → Type 0
+GivesBytes schema json room needed = Answers schema (λ C root. IsSome (document json) × Gives (Member C root) room needed) Anything IsUnclear

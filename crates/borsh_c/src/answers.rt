@@ -122,7 +122,7 @@ fn no(text: Result<String, AllocError>) -> Refusal
     }
 }
 
-/// The length of the longest encoding of the root.
+/// The greatest size of the root: no encoding is longer.
 pub fn greatest_size(alloc: Global, schema: &[u8]) -> Result<usize, Refusal>
     ensures ok { IfOk result (λ n. About schema.now (λ C root. MaxSize C root n)) }
     ensures err { IfErr result (λ e. IsRefused schema.now HasNoSize Never e) }
@@ -207,6 +207,7 @@ pub fn json_of(
 pub fn value_of(alloc: Global, schema: &[u8], json: &[u8]) -> Result<Vec<u8>, Refusal>
     ensures ok { IfOk result
         (λ bytes. About schema.now (λ C root. Member C root bytes.items)) }
+    ensures json { OnOk result (IsSome (document json.now)) }
     ensures err { IfErr result (λ e. IsRefused schema.now Anything IsUnclear e) }
 {
     let (root, definitions) = container_from(alloc, schema)?;

@@ -13,6 +13,7 @@ mod room;
 #[cfg(test)]
 mod tests;
 
+ghost use Rattle.std.specs.Prelude.{◌≡◌, ◌≢◌};
 ghost use Rattle.borsh_c.specs.Answers.{AnswersMember, AnswersSize, AnswersValid, GivesBytes, GivesJson};
 
 use answers::{greatest_size, json_of, membership, rules, value_of};
@@ -44,8 +45,8 @@ pub extern "C" fn borsh_c_valid(
     }
 }
 
-/// The length of the longest encoding of the container's root in bytes, which is written to `size`. After any other code than
-/// [`YES`] `size` is unchanged.
+/// The greatest size of the container's root in bytes, which is written to `size`: no encoding is longer. After any other
+/// code than [`YES`] `size` is unchanged.
 ///
 /// ```c
 /// uint32_t code = borsh_c_size(schema, schema_length, &size, room, room_length, &needed);
@@ -58,7 +59,8 @@ pub extern "C" fn borsh_c_size(
     room: &mut [u8],
     needed: &mut usize,
 ) -> u32
-    ensures { AnswersSize schema.now size.new result }
+    ensures answer { AnswersSize schema.now size.new result }
+    ensures unchanged { result ≢ 0 → size.new ≡ size.old }
 {
     match greatest_size(alloc, schema) {
         Ok(most) => {
@@ -137,7 +139,7 @@ pub extern "C" fn borsh_c_from_json(
     room: &mut [u8],
     needed: &mut usize,
 ) -> u32
-    ensures { GivesBytes schema.now room.new needed.new result }
+    ensures { GivesBytes schema.now json.now room.new needed.new result }
 {
     match value_of(alloc, schema, json) {
         Ok(bytes) => {
