@@ -35,7 +35,7 @@ IsVariantOf (choice w vs) own found = IsVariantIndex vs own found
 abbrev pub IsCountOf : Shape → List ℕ → Option ℕ → Type 0
 IsCountOf (primitive n) own found = found ≡ None
 IsCountOf (sequence zero lo hi e) own found = found ≡ Some lo
-IsCountOf (sequence (suc w) lo hi e) own found = MatchOption found (suc w ≤ length own → suc w ≤ 8 → ⊥) (λ k. (k ≡ value_of (take (suc w) own)) × (suc w ≤ length own))
+IsCountOf (sequence (suc w) lo hi e) own found = MatchOption found (suc w ≤ length own → suc w ≤ 8 → ⊥) (λ k. (k ≡ value_of (take (suc w) own)) × (suc w ≤ length own) × (suc w ≤ 8))
 IsCountOf (product ps) own found = found ≡ None
 IsCountOf (choice w vs) own found = found ≡ None
 
