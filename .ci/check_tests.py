@@ -29,7 +29,7 @@ def read_original_tests(path):
 
 
 def read_rows(path):
-    """The rows of the table, with the original's file that they stand under."""
+    """The rows of the table, with the original's file that they are listed under."""
     current = None
     for number, line in enumerate(path.read_text(encoding="utf-8").splitlines(), 1):
         cells = [cell.strip() for cell in line.strip().strip("|").split("|")]

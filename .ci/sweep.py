@@ -2,7 +2,7 @@
 """Refuses each request for memory of borsh_check in turn: sweep.py PROGRAM ROWS
 
 PROGRAM is borsh_check, linked over heap.c. Each line of ROWS is a line of input and its answer, as `INPUT => ANSWER`; a
-`*` in an answer stands for any text. The n-th request is refused, for each n, and then all requests from the n-th on. The
+`*` in an answer matches any text. The n-th request is refused, for each n, and then all requests from the n-th on. The
 program either answers all lines, or it says that it is out of memory, its status is 1, and what it wrote is whole answers to
 the first lines, all among them that were answered before the refusal. It never leaks a block.
 """

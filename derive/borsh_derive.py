@@ -203,7 +203,7 @@ def refuse_bare_parameter(marked, field):
     for parameter in marked.parameters:
         if parameter.name in names:
             instead = 'the length as a number' if parameter.constant else '`Box<%s>`' % parameter.name
-            reason = ('the parameter `%s` stands by itself in a variant, and the proofs need an enum of a known size: '
+            reason = ('the parameter `%s` is by itself in a variant, and the proofs need an enum of a known size: '
                       'write %s')
             raise Refusal(field.line, reason % (parameter.name, instead))
 

@@ -238,7 +238,7 @@ def ghost_lines(path, names):
 
 
 def is_used(name, ghost):
-    """Whether ghost terms have a name; an operator `◌∷◌` stands without its circles."""
+    """Whether ghost terms have a name; an operator `◌∷◌` is named without its circles."""
     if not re.search(r'\w', name):
         return name.strip('◌') in ghost
     return re.search(r'(?<![\w.-])%s(?![\w-])' % re.escape(name), ghost)

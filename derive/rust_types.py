@@ -128,7 +128,7 @@ HELD = ('Box', 'Rc', 'Vec', 'VecDeque', 'LinkedList', 'BTreeMap', 'BTreeSet', 'H
 
 
 def bare_names(tree):
-    """The names in a type that don't stand within a type of `HELD`."""
+    """The names in a type that aren't within a type of `HELD`."""
     if isinstance(tree, Path):
         name, arguments = tree.segments[-1]
         if name in HELD:

@@ -173,7 +173,7 @@ class Reader:
                 return self.tokens[start:self.place]
 
     def until(self, *ends):
-        """The tokens before one of these texts that stands in no bracket."""
+        """The tokens before the first of these texts outside brackets."""
         start = self.place
         while not self.peek().text in ends:
             if self.peek().text in '([{':
@@ -240,7 +240,7 @@ def mark_above(reader, seen):
         if reader.at_end():
             raise Refusal(comment.line, 'no type is below the comment')
         if comment.line == reader.last_line():
-            raise Refusal(comment.line, 'the comment stands behind code: write it above the type')
+            raise Refusal(comment.line, 'the comment is behind code: write it above the type')
         if found is not None:
             raise Refusal(comment.line, 'a second comment of this kind above one type')
         check_options(options, comment.line)
@@ -268,7 +268,7 @@ def refuse_stray_marks(reader, seen):
     for comments in reader.before.values():
         for comment in comments:
             if mark_of(comment) is not None and comment not in seen:
-                reason = 'the comment stands within an item: only types at the top of a file are taken'
+                reason = 'the comment is within an item: only types at the top of a file are taken'
                 raise Refusal(comment.line, reason)
 
 
@@ -453,7 +453,7 @@ def read_parameters(reader):
 
 
 def angle_until(reader, *ends):
-    """The tokens before one of these texts that stands in no bracket, angle brackets among them."""
+    """The tokens before the first of these texts outside brackets, angle brackets among them."""
     start = reader.place
     depth = 0
     while depth > 0 or reader.peek().text not in ends:
@@ -510,11 +510,11 @@ def read_tuple_fields(reader, public=False):
 
 
 def is_skipped(reader):
-    """Whether `// skip` stands above the next field."""
+    """Whether `// skip` is above the next field."""
     for comment in reader.comments():
         if re.match(r'//(?![/!])\s*skip\s*$', comment.text):
             if comment.line == reader.last_line():
-                raise Refusal(comment.line, '`// skip` stands behind code: write it above the field')
+                raise Refusal(comment.line, '`// skip` is behind code: write it above the field')
             return True
     return False
 
@@ -560,7 +560,7 @@ def tag_above(reader):
         if match is None:
             continue
         if comment.line == reader.last_line():
-            raise Refusal(comment.line, '`// tag: ..` stands behind code: write it above the variant')
+            raise Refusal(comment.line, '`// tag: ..` is behind code: write it above the variant')
         found = parse_number(match[1], comment.line)
     return found
 

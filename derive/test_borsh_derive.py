@@ -213,7 +213,7 @@ class Taken(Cases):
         self.assertEqual(crate.run(), (0, ''))
         self.assertEqual(crate.files(), ['lib.rt', 'types.rt'])
 
-    def test_what_stands_between_mark_and_type(self):
+    def test_what_is_between_mark_and_type(self):
         text = self.written('// derive: borsh\n/// A point; // derive: borsh\n// More.\n#[derive(Drop, Clone)]\npub struct Point {\n    /// The first: `pub x: u8,`\n    pub x: u8, // pub y: u8,\n    /* pub z: u8, */\n}\n', 'types_point')
         self.assertIn('type Fields = u8;', text)
 
@@ -387,7 +387,7 @@ class Refused(Cases):
         self.one('pub struct A<T = u8>(pub T);\n', 2, 'the parameter `T` has a default')
 
     def test_parameters_of_enums(self):
-        self.one('pub enum A<T> {\n    B(Vec<T>),\n    C(Option<T>),\n}\n', 4, 'the parameter `T` stands by itself in a variant')
+        self.one('pub enum A<T> {\n    B(Vec<T>),\n    C(Option<T>),\n}\n', 4, 'the parameter `T` is by itself in a variant')
         self.one('pub enum A<const N: usize> {\n    B([u8; N]),\n}\n', 3, 'write the length as a number')
         self.written('// derive: borsh\npub enum A<T> {\n    B(Vec<(T, T)>),\n    C(Option<Box<T>>),\n}\n', 'types_a')
 

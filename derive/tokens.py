@@ -82,7 +82,7 @@ def is_prime(source, place):
 
 
 def end_of_block_comment(source, place, line):
-    """Behind a comment `/* .. */`; such comments may stand in one another."""
+    """Behind a comment `/* .. */`; such comments may be nested."""
     depth = 0
     while place < len(source):
         if source.startswith('/*', place):

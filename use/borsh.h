@@ -1,4 +1,4 @@
-/* The Borsh library for C: what an encoded schema container says, and what bytes say by it.
+/* The Borsh library for C: what an encoded schema container says, and what bytes mean by it.
  *
  * A container is given by its encoding, as `to_vec` of a `BorshSchemaContainer` makes it, in Rust or in Rattle.
  *
@@ -53,8 +53,8 @@ void borsh_free(struct borsh_buffer *buffer);
 /* Whether the container keeps the rules of schemas. After BORSH_NO the text is `invalid`, the rule and a name. */
 uint32_t borsh_valid(const uint8_t *schema, size_t schema_length, struct borsh_buffer *text);
 
-/* The length of the longest encoding of the container's root, in `*size`, which otherwise is unchanged. After BORSH_NO the
- * text is `overflow`, `recursive`, or `missing` and a name. */
+/* The greatest size of the container's root, in `*size`, which otherwise is unchanged; no encoding is longer. After
+ * BORSH_NO the text is `overflow`, `recursive`, or `missing` and a name. */
 uint32_t borsh_size(const uint8_t *schema, size_t schema_length, size_t *size, struct borsh_buffer *text);
 
 /* Whether all of the bytes are a value of the root. After BORSH_NO the text says where they stop being one, and why. */

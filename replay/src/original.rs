@@ -7,9 +7,9 @@ use borsh::schema::{
 };
 use std::panic::catch_unwind;
 
-/// Stands where the original has nothing to ask: no such call, no such type, or no such line.
+/// The answer if the original can't be asked: no such call, no such type, or no such line.
 pub const NOT_ASKED: &str = "(not asked)";
-/// Stands where the original panics.
+/// The answer if the original panics.
 pub const PANICS: &str = "(panics)";
 
 /// Longer lists of boxed units aren't asked for: the original would fill the memory.

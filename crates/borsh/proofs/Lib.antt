@@ -1,6 +1,6 @@
 mod Lengths
 mod WithSchema
--- the steps of readers and writers, for those above
+-- re-exports: the steps of readers and writers
 pub use Rattle.borsh_io.proofs.ReadLaws
 pub use Rattle.borsh_io.proofs.WriteLaws
 pub use Rattle.borsh_codec.proofs.ReadSteps

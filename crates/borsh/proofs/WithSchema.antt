@@ -66,7 +66,7 @@ pub pair_read : {B : Type 0} {c : Codec B} {bytes : List ℕ} {v : BorshSchemaCo
 pair_read {v = v} r = record { front = r.first; rest = r.second; whole = r.whole; first = container-lawful.canonical r.first v.0 refl r.left; second = r.right }
 
 module _ {B : Type 0} {name : List ℕ} {ps : DefinitionTree} {c : Codec B} {bytes : List ℕ} where
-  -- the bytes are no container and a value behind it, or memory was refused
+  -- the bytes are no container and a value behind it, or an allocation failed
   pub not_read_pair : {k : ErrorKind} → WhyNotDecoded (pair container c) true bytes k → WhyNotRead name ps c bytes k
   not_read_pair (no_whole r n) = malformed r n
   not_read_pair (whole_memory e a) = unread_memory e

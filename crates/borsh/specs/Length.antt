@@ -11,15 +11,15 @@ pub record IsLength (encoding : Option (List ℕ)) (n : ℕ) : Type 0 where
   pub is : encoding ≡ Some bytes
   pub long : n ≡ length bytes
 
--- there is no encoding, memory was refused, or the number passes a `usize`
+-- there is no encoding, an allocation failed, or the length doesn't fit in a `usize`
 pub data WhyNoLength (own : Bool) (encoding : Option (List ℕ)) (kind : ErrorKind) : Type 0 where
   no_encoding : kind ≡ InvalidData → encoding ≡ None → WhyNoLength own encoding kind
   no_memory : kind ≡ OutOfMemory → own ≡ true → WhyNoLength own encoding kind
   too_long : kind ≡ OutOfMemory → (bytes : List ℕ) → encoding ≡ Some bytes → 2 ^ 64 ≤ length bytes → WhyNoLength own encoding kind
 
--- the outcome of a call that is to answer the length of an encoding
+-- the outcome of a call that is to return the length of an encoding
 pub record AnswersLength (own : Bool) (encoding : Option (List ℕ)) (result : Result ℕ Error) : Type 0 where
   -- `Ok`: the length of the encoding
   pub ok : IfOk result (IsLength encoding)
-  -- `Err`: there is no encoding, memory was refused, or the length is no `usize`
+  -- `Err`: there is no encoding, an allocation failed, or the length doesn't fit in a `usize`
   pub err : IfErr result (λ e. WhyNoLength own encoding (error_kind e))

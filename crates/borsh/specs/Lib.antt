@@ -3,7 +3,7 @@ pub mod Derived
 pub mod Length
 pub mod Schema
 pub mod WithSchema
--- what the crates below say, for those above
+-- re-exports from the crates that this one uses
 pub use Rattle.borsh_io.specs.Errors
 pub use Rattle.borsh_io.specs.Stream
 pub use Rattle.borsh_io.specs.Sink

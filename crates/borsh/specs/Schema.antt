@@ -1,4 +1,4 @@
--- What the schema layer says, for the crates above.
+-- Re-exports from the schema crates.
 pub use Rattle.borsh_walks.specs.Container
 pub use Rattle.borsh_walks.specs.SizeAnswer
 pub use Rattle.borsh_walks.specs.SizeOutcome

@@ -63,7 +63,7 @@ pub record EncodesWithSchema (name : List ℕ) (parts : DefinitionTree) (encodin
   pub ok : IfOk result (λ v. IsWithSchema name parts encoding v.items)
   -- `Err`: the kind of the error says why there are no such bytes
   pub err : IfErr result (λ e. WhyNotWritten name parts encoding (error_kind e))
-  -- where there are such bytes they are answered, memory aside
+  -- where there are such bytes they are returned, unless an allocation fails
   pub exact : (x : List ℕ) → IsWithSchema name parts encoding x → MatchResult result (λ v. v.items ≡ x) (λ e. error_kind e ≡ OutOfMemory)
 
 -- the bytes decode to a container and a value, and the container isn't the type's
@@ -89,7 +89,7 @@ pub record DecodesWithSchema {A : Type 0} (name : List ℕ) (parts : DefinitionT
   pub ok : IfOk result (λ v. IsReadWithSchema name parts c bytes v)
   -- `Err`: the kind of the error says why there is no such value
   pub err : IfErr result (λ e. WhyNotRead name parts c bytes (error_kind e))
-  -- where there is such a value an equivalent one is answered, memory aside
+  -- where there is such a value, an equivalent one is returned, unless an allocation fails
   pub exact : (v : A) → IsReadWithSchema name parts c bytes v → MatchResult result (λ w. c.equivalent w v) (λ e. error_kind e ≡ OutOfMemory)
 
 -- ---- the steps

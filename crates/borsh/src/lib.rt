@@ -1,7 +1,7 @@
 //! Borsh: values as canonical bytes.
 //!
-//! [`to_vec`] encodes a value, [`from_slice`] decodes it again. Each value has exactly one encoding, and
-//! bytes decode to one value: what is hashed or signed means the same to everyone.
+//! [`to_vec`] encodes a value, [`from_slice`] decodes it again. Each value has at most one encoding, and
+//! bytes decode to at most one value: what is hashed or signed means the same to everyone.
 //! The items have the paths of the original crate.
 //!
 //! ```

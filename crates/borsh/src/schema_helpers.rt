@@ -38,7 +38,7 @@ pub fn schema_container_of<T: BorshSchema>(
     BorshSchemaContainer::for_type::<T>(alloc)
 }
 
-/// The greatest length of a type's encodings in bytes, as its schema container says. No encoding is
+/// The greatest size of a type in bytes, as its schema container gives it. No encoding is
 /// longer.
 ///
 /// The errors are those of [`BorshSchemaContainer::max_serialized_size`], and `Redefinition` of a name

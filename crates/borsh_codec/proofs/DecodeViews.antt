@@ -1,4 +1,4 @@
--- Outcomes of calls that answer a value through a view: vectors of the elements that were read, texts, arrays.
+-- Outcomes of calls that return a value through a view: vectors of the elements that were read, texts, arrays.
 use Rattle.std.proofs.Common.{◌≡◌, ◌∙◌, ℕ, Bool, true, false, List, Result, Ok, Err, inl, true≢false, refl, sym, ap, subst}
 use Rattle.std.specs.Prelude.{Vec}
 use Rattle.std.specs.Global.{Global}
@@ -44,7 +44,7 @@ decodes_as_made {view = view} look {c = c} {state = state} {a = a} {b = b} same 
 pub as_err : {A B R : Type 0} {view : B → A} {c : Codec A} {state : R → ReaderState} {a b : R} (e : Error) {r : Result B Error} → IsErrAnd r (λ y. y ≡ e) → c.refuses ≡ false → NotDecoded A c (state a) (state b) (error_kind e) → DecodesAs view c state a b r
 as_err {view = view} e is n f = as_exit {view = view} e is (record { ok = tt; err = f; untouched = λ h. absurd (true≢false (sym h ∙ n)) })
 
--- memory was refused to what was read so far
+-- an allocation failed for what was read so far
 pub as_memory : {A B R : Type 0} {view : B → A} {c : Codec A} {state : R → ReaderState} {a b : R} {P : List ℕ → Type 0} (Q : Error → Type 0) {r : Result B Error} → c.decoding_allocates ≡ true → c.refuses ≡ false → IsErrAnd r (λ e. (error_kind e ≡ OutOfMemory) × Q e) → TakesPrefix P (state a) (state b) → DecodesAs view c state a b r
 as_memory {view = view} {c = c} {state = state} {a = a} {b = b} Q {r = r} m n is took =
     let p = err_from_is_err_and r is in

@@ -94,7 +94,7 @@ refused_after m h p past r = record { tail = tail_after p r.tail; retried = r.re
 pub refused_here : {k : ErrorKind} {a b : Bool} {P W : List ℕ → Type 0} {s t : ReaderState} → IsInvalidData b k → TakesPrefix P s t → NoPrefix W s → ReadFails a b W s t k
 refused_here {k = k} r p none = record { tail = tail_of p; retried = λ e. elim r [ inl f ↦ cc (e, f) | inr f ↦ cc (e, f.0) ]; why = malformed r p.takes.faults none }
 
--- memory was refused
+-- an allocation failed
 pub refused_memory : {k : ErrorKind} {a b : Bool} {P W : List ℕ → Type 0} {s t : ReaderState} → k ≡ OutOfMemory → TakesPrefix P s t → a ≡ true → ReadFails a b W s t k
 refused_memory {k = k} r p m = record { tail = tail_of p; retried = λ e. cc (e, r); why = no_memory r p.takes.faults m }
 
@@ -120,6 +120,6 @@ reads_at {c = c} s {t = t} {u = u} {v = v} e r = subst (λ m. TakesPrefix (λ x.
 pub denied_at : {A : Type 0} {c : Codec A} (s : ReaderState) {t u : ReaderState} {k : ErrorKind} → t.strict_order ≡ s.strict_order → NotDecoded A c t u k → ReadFails c.decoding_allocates c.texts_allocate (IsDecodable c s.strict_order) t u k
 denied_at {c = c} s {t = t} {u = u} {k = k} e r = subst (λ m. ReadFails c.decoding_allocates c.texts_allocate (IsDecodable c m) t u k) e r.refused
 
--- a value was read, and memory for more was refused
+-- a value was read, and an allocation for more failed
 pub denied_memory : {A : Type 0} {c : Codec A} {P : List ℕ → Type 0} {s t : ReaderState} {k : ErrorKind} → c.decoding_allocates ≡ true → TakesPrefix P s t → k ≡ OutOfMemory → NotDecoded A c s t k
 denied_memory m p e = record { refused = refused_memory e p m }

@@ -142,7 +142,7 @@ refused_though_decodable : {A : Type 0} {c : Codec A} {m : Bool} {xs : List ℕ}
 refused_though_decodable p (not_reading r none) = absurd (none p)
 refused_though_decodable p (not_memory r m) = (r, m)
 
--- a value that the bytes decode to is returned up to `equivalent`, unless memory was refused
+-- a value that the bytes decode to is returned up to `equivalent`, unless an allocation failed
 pub whole_refused : {A : Type 0} {c : Codec A} (m : Bool) (xs : List ℕ) → Lawful A c → (r : Result A Error) → IfOk r (λ v. c.decodes m xs v) → IfErr r (λ e. WhyNotDecoded c m xs (error_kind e))
     → (x : A) → c.decodes m xs x → MatchResult r (λ y. c.equivalent y x) (λ e. (error_kind e ≡ OutOfMemory) × (c.decoding_allocates ≡ true))
 whole_refused m xs l (Ok y) p q x w = l.unambiguous m xs y x p w

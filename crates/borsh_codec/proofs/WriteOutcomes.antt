@@ -76,7 +76,7 @@ module _ {W : Type 0} {w : WriterModel W} (laws : WriterLaws W w) where
   pub writes_refused : (i x : Bool) (a : W) {o : Option (List ℕ)} {e : Error} → o ≡ None → error_kind e ≡ InvalidData → WritesEncoding w a a i x o (Err e)
   writes_refused i x a n k = record { ok = tt; err = write_denied_none laws i a n k; untouched = λ h. record { kind = k; still = refl } }
 
-  -- memory was refused before anything was written
+  -- an allocation failed before anything was written
   pub writes_memory : (a : W) (o : Option (List ℕ)) {x : Bool} {e : Error} → x ≡ false → error_kind e ≡ OutOfMemory → WritesEncoding w a a true x o (Err e)
   writes_memory a o n k = writes_err n (write_denied_memory laws a o refl k)
 

@@ -26,7 +26,7 @@ why_own {w = w} {i = i} {j = j} m (no_memory r e x) = no_memory r e (or_map i j 
 why_own m (full r e f l) = full r e f l
 why_own m (writer_failed r) = writer_failed r
 
--- more may take memory
+-- more may allocate
 pub write_denied_own : {W : Type 0} {w : WriterModel W} {i j : Bool} {a b : W} {o : Option (List ℕ)} {k : ErrorKind} → (i ≡ true → j ≡ true) → NotWritten i w a b o k → NotWritten j w a b o k
 write_denied_own m r = record { front = r.front; wrote = r.wrote; interruptions = r.interruptions; begins = r.begins; retried = r.retried; why = why_own m r.why }
 
@@ -58,7 +58,7 @@ module _ {W : Type 0} {w : WriterModel W} (laws : WriterLaws W w) where
     why = no_encoding r refl e;
   }
 
-  -- nothing was written, since memory was refused
+  -- nothing was written, since an allocation failed
   pub write_denied_memory : {own : Bool} (a : W) (o : Option (List ℕ)) {k : ErrorKind} → own ≡ true → k ≡ OutOfMemory → NotWritten own w a a o k
   write_denied_memory {own = own} a o m r = record {
     front = [];

@@ -7,7 +7,7 @@ pub mod RawBytes
 pub mod Writing
 pub mod Untouched
 pub mod Variants
--- what the crate below says, for those above
+-- re-exports from borsh_io
 pub use Rattle.borsh_io.specs.Errors
 pub use Rattle.borsh_io.specs.Stream
 pub use Rattle.borsh_io.specs.Sink

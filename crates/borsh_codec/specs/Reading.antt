@@ -1,4 +1,4 @@
--- What a call that reads takes from its reader, and why it is refused.
+-- What a call that reads takes from its reader, and why it fails.
 use Rattle.std.specs.Prelude.{◌≡◌, ◌≢◌, ℕ, Bool, true, false, List, [], ◌∷◌, ◌++◌, Some, IfSome, OnSome, ◌⊎◌, Option, Result, IfOk, IfErr, IsErrAnd, MatchOption, MatchResult, Vec, length}
 use Rattle.std.specs.Global.{Global}
 use Rattle.std.specs.Io.KnownBytes.{IsAtEnd}
@@ -11,13 +11,13 @@ use Rattle.borsh_codec.specs.Codec.{Codec, IsDecodable}
 use Rattle.borsh_codec.specs.Shapes.{by_encoding, allocated_array}
 use Rattle.borsh_codec.specs.Untouched.{Untouched}
 
--- a front with P was taken, and no fault came
+-- a prefix of the bytes to come was taken, which has the property P; the count of faults is unchanged
 pub record TakesPrefix (P : List ℕ → Type 0) (old new : ReaderState) : Type 0 where
   pub front : List ℕ
   pub takes : Consumed old new front
   pub holds : P front
 
--- no beginning of the bytes to come has P, where the reader knows them
+-- no prefix of the bytes to come has P, if the reader knows these bytes
 abbrev pub NoPrefix : (List ℕ → Type 0) → ReaderState → Type 0
 NoPrefix P s = (front rest : List ℕ) → s.bytes ≡ Some (front ++ rest) → P front → ⊥
 
@@ -25,16 +25,16 @@ NoPrefix P s = (front rest : List ℕ) → s.bytes ≡ Some (front ++ rest) → 
 abbrev pub IsInvalidData : (text : Bool) → ErrorKind → Type 0
 IsInvalidData text kind = (kind ≡ InvalidData) ⊎ ((kind ≡ OutOfMemory) × (text ≡ true))
 
--- why a call that wants a front with P was refused by an error of this kind
+-- why a call that needs a prefix with P failed with an error of this kind
 pub data ReadFailure (memory text : Bool) (P : List ℕ → Type 0) (old new : ReaderState) (kind : ErrorKind) : Type 0 where
   -- the bytes to come are wrong
   malformed : IsInvalidData text kind → new.faults ≡ old.faults → NoPrefix P old → ReadFailure memory text P old new kind
-  -- memory for the value was refused
+  -- an allocation for the value failed
   no_memory : kind ≡ OutOfMemory → new.faults ≡ old.faults → memory ≡ true → ReadFailure memory text P old new kind
   -- the reader failed
   reader_failed : CountedUp old.faults new.faults → ReadFailure memory text P old new kind
 
--- a call that wants a front with P was refused: a tail of the bytes to come is left
+-- a call that needs a prefix with P failed: a tail of the bytes to come is left
 pub record ReadFails (memory text : Bool) (P : List ℕ → Type 0) (old new : ReaderState) (kind : ErrorKind) : Type 0 where
   pub tail : ConsumedSome old new
   pub retried : kind ≢ Interrupted
@@ -46,7 +46,7 @@ pub record ReadFails (memory text : Bool) (P : List ℕ → Type 0) (old new : R
 pub record Decoded (A : Type 0) (c : Codec A) (old new : ReaderState) (v : A) : Type 0 where
   pub took : TakesPrefix (λ x. c.decodes old.strict_order x v) old new
 
--- a value was wanted in vain
+-- no value was decoded
 pub record NotDecoded (A : Type 0) (c : Codec A) (old new : ReaderState) (kind : ErrorKind) : Type 0 where
   pub refused : ReadFails c.decoding_allocates c.texts_allocate (IsDecodable c old.strict_order) old new kind
 
@@ -59,7 +59,7 @@ pub record NotDecodedAfterTag (tag : ℕ) (A : Type 0) (c : Codec A) (old new : 
 
 -- ---- all of the bytes
 
--- the bytes decode to no value, or memory was refused
+-- the bytes decode to no value, or an allocation failed
 pub data WhyNotDecoded {A : Type 0} (c : Codec A) (strict : Bool) (xs : List ℕ) (kind : ErrorKind) : Type 0 where
   malformed : IsInvalidData c.texts_allocate kind → (IsDecodable c strict xs → ⊥) → WhyNotDecoded c strict xs kind
   no_memory : kind ≡ OutOfMemory → c.decoding_allocates ≡ true → WhyNotDecoded c strict xs kind
@@ -85,7 +85,7 @@ pub record IsWhole (A : Type 0) (c : Codec A) (s : ReaderState) (x : List ℕ) :
   pub decodes : IsDecodable c s.strict_order x
   pub all : s.bytes ≡ Some x
 
--- all of the bytes to come were wanted as a value, in vain
+-- all of the bytes to come were to be decoded as a value, and were not
 pub record NotDecodedAll (A : Type 0) (c : Codec A) (old new : ReaderState) (kind : ErrorKind) : Type 0 where
   pub refused : ReadFails c.decoding_allocates c.texts_allocate (IsWhole A c old) old new kind
 
@@ -100,16 +100,16 @@ pub record Decodes {A R : Type 0} (c : Codec A) (state : R → ReaderState) (old
   -- a type that refuses all values does so before anything is read
   pub untouched : c.refuses ≡ true → Untouched old new result
 
--- the same where `view` shows the value that was decoded in the one that is answered
+-- the same for a call that returns another type: `view` takes what is returned to the value that was decoded
 pub record DecodesAs {A B R : Type 0} (view : B → A) (c : Codec A) (state : R → ReaderState) (old new : R) (result : Result B Error) : Type 0 where
-  -- `Ok`: a prefix of the bytes to come decodes to what the view shows, and the rest is left
+  -- `Ok`: a prefix of the bytes to come decodes to the view of what is returned, and the rest is left
   pub ok : IfOk result (λ v. Decoded A c (state old) (state new) (view v))
   -- `Err`: a tail of the bytes to come is left, and the kind of the error says why there is no value
   pub err : IfErr result (λ e. NotDecoded A c (state old) (state new) (error_kind e))
   -- a type that refuses all values does so before anything is read
   pub untouched : c.refuses ≡ true → Untouched old new result
 
--- the same for a list that is answered as a vector
+-- the same for a list that is returned as a vector
 abbrev pub DecodesVec : {A R : Type 0} → Codec (List A) → (R → ReaderState) → R → R → Result (Vec A Global) Error → Type 0
 DecodesVec {A = A} c state old new result = DecodesAs (λ (v : Vec A Global). v.items) c state old new result
 
@@ -145,15 +145,15 @@ pub record IsReEncodable {A : Type 0} (c : Codec A) (v : A) : Type 0 where
 pub record DecodesAll {A : Type 0} (c : Codec A) (strict : Bool) (bytes : List ℕ) (result : Result A Error) : Type 0 where
   -- `Ok`: the bytes decode to the value
   pub ok : IfOk result (λ v. c.decodes strict bytes v)
-  -- `Err`: they decode to none, or memory was refused to a type whose decoding allocates
+  -- `Err`: they decode to none, or the type's decoding allocates and an allocation failed
   pub err : IfErr result (λ e. WhyNotDecoded c strict bytes (error_kind e))
-  -- where they decode to `v`, the answer is equivalent to `v`, memory aside
+  -- where they decode to `v`, the result is equivalent to `v`, unless an allocation fails
   pub exact : (v : A) → c.decodes strict bytes v → MatchResult result (λ w. c.equivalent w v) (λ e. (error_kind e ≡ OutOfMemory) × (c.decoding_allocates ≡ true))
   -- in strict mode the bytes are the value's encoding, if the type is canonical
   pub canonical : strict ≡ true → c.is_canonical ≡ true → IfOk result (λ v. c.encoding v ≡ Some bytes)
   -- the value can be encoded, and its encoding decodes to it
   pub re_encodable : IfOk result (IsReEncodable c)
-  -- a type that refuses all values answers `InvalidData`
+  -- a type that refuses all values returns `InvalidData`
   pub refused : c.refuses ≡ true → IsErrAnd result (λ e. error_kind e ≡ InvalidData)
 
 -- one byte, whichever it is

@@ -1,4 +1,4 @@
--- What a call that writes a value gives to its writer, and why it is refused.
+-- What a call that writes a value gives to its writer, and why it fails.
 use Rattle.std.specs.Prelude.{◌≡◌, ◌≢◌, ℕ, ◌<◌, ◌≤◌, Bool, true, ◌||◌, IsTrue, List, ◌++◌, length, Option, Some, None, IfSome, take, Result, OnOk, IfOk, IfErr, Vec}
 use Rattle.std.specs.Global.{Global}
 use Rattle.borsh_io.specs.declared.error.Error.{Error}
@@ -16,18 +16,18 @@ pub record Written {W : Type 0} (w : WriterModel W) (old new : W) (encoding : Op
   pub is : encoding ≡ Some bytes
   pub writes : WroteBytes w old new bytes
 
--- of the encoding only the beginning `front` was written: why, by an error of this kind
+-- only the beginning `front` of the encoding was written: why, by an error of this kind
 pub data WriteFailure {W : Type 0} (own : Bool) (w : WriterModel W) (old new : W) (encoding : Option (List ℕ)) (front : List ℕ) (kind : ErrorKind) : Type 0 where
   -- the value has no encoding
   no_encoding : kind ≡ InvalidData → (w.sink new).faults ≡ (w.sink old).faults → encoding ≡ None → WriteFailure own w old new encoding front kind
-  -- memory was refused, to the value or to the writer
+  -- an allocation failed, of the value or of the writer
   no_memory : kind ≡ OutOfMemory → (w.sink new).faults ≡ (w.sink old).faults → own || w.allocates ≡ true → WriteFailure own w old new encoding front kind
   -- the writer is full, and bytes are left
   full : kind ≡ WriteZero → (w.sink new).faults ≡ (w.sink old).faults → IsTrue (w.sink new).full → ((bytes : List ℕ) → encoding ≡ Some bytes → length front < length bytes) → WriteFailure own w old new encoding front kind
   -- the writer failed
   writer_failed : CountedUp (w.sink old).faults (w.sink new).faults → WriteFailure own w old new encoding front kind
 
--- a call that was to write an encoding was refused: a beginning of it was written
+-- a call that was to write an encoding failed: a beginning of it was written
 pub record NotWritten {W : Type 0} (own : Bool) (w : WriterModel W) (old new : W) (encoding : Option (List ℕ)) (kind : ErrorKind) : Type 0 where
   pub front : List ℕ
   pub wrote : w.wrote old new front
@@ -49,9 +49,9 @@ pub record WritesEncoding {W : Type 0} (w : WriterModel W) (old new : W) (alloca
 abbrev pub Writes : {A W : Type 0} → Codec A → A → WriterModel W → W → W → Result (Unit {0}) Error → Type 0
 Writes c v w old new result = WritesEncoding w old new c.encoding_allocates c.refuses (c.encoding v) result
 
--- ---- a room
+-- ---- a buffer
 
--- the outcome of a call that may put an encoding over the front of a room
+-- the outcome of a call that may write an encoding over the beginning of a buffer, the room
 pub record Puts (encoding : Option (List ℕ)) (old new : List ℕ) (result : Option ℕ) : Type 0 where
   -- the room keeps its length
   pub same : length new ≡ length old
@@ -60,14 +60,14 @@ pub record Puts (encoding : Option (List ℕ)) (old new : List ℕ) (result : Op
 
 -- ---- a vector
 
--- the value has no encoding, or memory was refused
+-- the value has no encoding, or an allocation failed
 pub data WhyNotEncoded (encoding : Option (List ℕ)) (kind : ErrorKind) : Type 0 where
   no_encoding : kind ≡ InvalidData → encoding ≡ None → WhyNotEncoded encoding kind
   no_memory : kind ≡ OutOfMemory → WhyNotEncoded encoding kind
 
--- the outcome of a call that is to answer an encoding as a vector
+-- the outcome of a call that is to return an encoding as a vector
 pub record Encodes (encoding : Option (List ℕ)) (result : Result (Vec ℕ Global) Error) : Type 0 where
   -- `Ok`: the bytes are the encoding
   pub ok : IfOk result (λ v. encoding ≡ Some v.items)
-  -- `Err`: there is none, or memory was refused
+  -- `Err`: there is none, or an allocation failed
   pub err : IfErr result (λ e. WhyNotEncoded encoding (error_kind e))

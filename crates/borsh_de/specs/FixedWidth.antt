@@ -11,7 +11,7 @@ use Rattle.borsh_codec.specs.Reading.{Decoded, NotDecoded}
 abbrev pub AreBytes : List ℕ → Type 0
 AreBytes x = (i : ℕ) → get_or x i 0 < 256
 
--- every n bytes decode to a value, nothing else does, and no memory is needed
+-- every n bytes decode to a value, nothing else does, and decoding doesn't allocate
 pub record IsFixedWidth {A : Type 0} (c : Codec A) (n : ℕ) : Type 0 where
   pub all : (x : List ℕ) → AreBytes x → length x ≡ n → IsDecodable c true x
   pub only : (strict : Bool) (x : List ℕ) (v : A) → c.decodes strict x v → length x ≡ n

@@ -1,4 +1,4 @@
-// Arrays: their elements in order, with no count. Reading one takes no memory of its own.
+// Arrays: their elements in order, with no count. Only reading the elements may allocate.
 ghost use Rattle.std.specs.Prelude.{◌≡◌, ◌<◌, ⊤, length};
 ghost use Rattle.borsh_io.specs.Errors.{error_kind};
 ghost use Rattle.borsh_codec.specs.Shapes.{array};

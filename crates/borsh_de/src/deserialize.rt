@@ -15,7 +15,7 @@ use std::alloc::Global;
 /// What is decoded depends on the bytes to come (those that the reader will still give) alone, and not on
 /// how the reader cuts them or where it is interrupted. The errors of each call are
 /// - `InvalidData` if no beginning of the bytes to come decodes to a value (in the calls that decode all
-///   of the bytes: if all of them together don't), or if the reader fails so;
+///   of the bytes: if all of them together don't), or if the reader fails with this kind;
 /// - `OutOfMemory` if an allocation fails, for the value or for the text of an error;
 /// - the reader's error if it fails.
 ///

@@ -1,4 +1,4 @@
-// Elements of which every so many bytes are an encoding: a room is filled at once, and they are taken from it.
+// Types of fixed width: a buffer, the room, is filled at once, and the elements are decoded from it.
 ghost use Rattle.std.specs.Prelude.{◌≡◌, ◌+◌, ◌*◌, ◌<◌, ◌≤◌, ℕ, true, length, IfSome, IfNone, IsTrue, OnOk};
 ghost use Rattle.borsh_codec.specs.Shapes.{DecodesEach, allocated_array};
 ghost use Rattle.borsh_codec.specs.Reading.{DecodesVec};
@@ -25,7 +25,7 @@ fn value_of<T: BorshDeserialize>(alloc: Global, bytes: &[u8]) -> T
     }
 }
 
-/// Appends the values that the bytes decode to, one after another. Refused where memory is.
+/// Appends the values that the bytes decode to, one after another. Fails if an allocation fails.
 #[inline]
 fn append<T: BorshDeserialize>(
     alloc: Global,
@@ -81,7 +81,7 @@ fn next_count(width: usize, left: Option<usize>, wanted: usize) -> usize
     wanted.min(most)
 }
 
-/// How many elements memory is taken for at first.
+/// For how many elements room is made at first.
 #[inline]
 fn first_count<T: BorshDeserialize>(width: usize, left: Option<usize>, len: u32) -> usize
     requires { 0 < width }
@@ -92,8 +92,8 @@ fn first_count<T: BorshDeserialize>(width: usize, left: Option<usize>, len: u32)
     }
 }
 
-/// Reads `len` elements of so many bytes each. Refused as [`fill`] is, and with `OutOfMemory` where memory for the list
-/// was refused.
+/// Reads `len` elements of so many bytes each. The errors are those of [`fill`], and `OutOfMemory` if an allocation for
+/// the list fails.
 pub(crate) fn read_rooms<T: BorshDeserialize, R: Read>(
     alloc: Global,
     len: u32,
@@ -143,8 +143,8 @@ fn overwrite<T: BorshDeserialize>(alloc: Global, width: usize, bytes: &[u8], ite
     }
 }
 
-/// Reads values of so many bytes each over those of the slice, as many at a time as the room takes. Refused as [`fill`]
-/// is.
+/// Reads values of so many bytes each over those of the slice, as many at a time as the room takes. The errors are
+/// those of [`fill`].
 #[inline]
 pub(crate) fn read_over<T: BorshDeserialize, R: Read>(
     alloc: Global,

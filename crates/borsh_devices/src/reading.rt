@@ -180,7 +180,7 @@ fn is_value(outcome: &IoResult<Vec<u8>>, encoding: &[u8]) -> bool {
 }
 
 /// Whether a failed read is answered as it has to be. Before all bytes were taken, the reader's own error
-/// is answered, and a false end of the input is taken for the end. After that the end is looked for: a
+/// is returned, and a false end of the input is taken for the end. After that the end is looked for: a
 /// false end of the input is the end, and any other error means that there may be more bytes.
 fn is_answer_to(
     failure: Failure,

@@ -72,7 +72,7 @@ fn an_error_shows_its_own_text(rt: HostRuntime) -> Result<(), Fail> {
     Ok(())
 }
 
-/// The refusal of more memory than there is.
+/// The error of an allocation that is too large.
 fn refusal(alloc: Global) -> Option<AllocError> {
     let refused: Result<Vec<u64>, AllocError> = Vec::with_capacity(alloc, usize::MAX);
     refused.err()

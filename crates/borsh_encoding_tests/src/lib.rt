@@ -1,7 +1,7 @@
 //! Tests of encodings: the worked examples, and the values of the original's tests.
 //!
-//! A proof can't say that memory is there. So each call that takes memory is made here once where it
-//! succeeds, and the texts of errors are compared, which no clause gives.
+//! A proof can't say that an allocation succeeds. So each call that allocates is made here once where
+//! it succeeds, and the texts of errors are compared, which no clause gives.
 #![tactic(auto)]
 
 #[cfg(test)]

@@ -30,7 +30,7 @@ pub fn to_json<'a>(
     borsh_json::to_json(alloc, root, container.as_map(), bytes, layout)
 }
 
-/// The bytes of the value of the root that a JSON text says. As [`borsh_json::from_json`].
+/// The bytes of the value of the root that a JSON text describes. As [`borsh_json::from_json`].
 ///
 /// ```
 /// let bytes = from_json(alloc, &container, "[7]")?;

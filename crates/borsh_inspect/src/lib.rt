@@ -1,4 +1,4 @@
-//! What bytes say by a container: the calls of `borsh_values` and `borsh_json` on a [`BorshSchemaContainer`].
+//! What bytes mean by a container: the calls of `borsh_values` and `borsh_json` on a [`BorshSchemaContainer`].
 //!
 //! [`is_member`] says whether bytes are a value, [`decode`] lists its nodes and [`encode_value`] gives the bytes of nodes;
 //! [`to_json`] and [`from_json`] do the same by JSON, and [`rows_of`] says what each byte is. The container may be any:

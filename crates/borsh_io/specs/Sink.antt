@@ -17,19 +17,19 @@ pub record WriterState : Type 0 where
 
 -- what writing into a W means
 pub record WriterModel (W : Type 0) : Type 1 where
-  -- these bytes came between two states
+  -- these bytes were written between two states
   pub wrote : W → W → List ℕ → Type 0
   -- a state's counts
   pub sink : W → WriterState
-  -- writing may take memory
+  -- writing may allocate
   pub allocates : Bool
 
--- no bytes come between a state and itself, and bytes after bytes are joined
+-- no bytes were written between a state and itself, and those of two writes in a row are joined
 pub record WriterLaws (W : Type 0) (w : WriterModel W) : Type 0 where
   pub none : (a : W) → w.wrote a a []
   pub more : (a b c : W) (x y : List ℕ) → w.wrote a b x → w.wrote b c y → w.wrote a c (x ++ y)
 
--- these bytes were written; no fault came, and perhaps interruptions
+-- these bytes were written, perhaps after interruptions, and the count of faults is unchanged
 pub record WroteBytes {W : Type 0} (w : WriterModel W) (before after : W) (bytes : List ℕ) : Type 0 where
   pub wrote : w.wrote before after bytes
   pub faults : (w.sink after).faults ≡ (w.sink before).faults
@@ -41,7 +41,7 @@ pub record WriteInterrupted {W : Type 0} (w : WriterModel W) (before after : W) 
   pub faults : (w.sink after).faults ≡ (w.sink before).faults
   pub interruptions : (w.sink after).interruptions < (w.sink before).interruptions
 
--- memory was refused to a writer that takes some, or the count of faults rose
+-- an allocation of a writer that allocates failed, or the count of faults rose
 abbrev pub WriteFault : {W : Type 0} → WriterModel W → W → W → ErrorKind → Type 0
 WriteFault w before after kind =
     ((kind ≡ OutOfMemory) × IsTrue w.allocates × ((w.sink after).faults ≡ (w.sink before).faults))
@@ -115,7 +115,7 @@ pub record WritesSome {W : Type 0} (w : WriterModel W) (old new : W) (buf : List
   pub some : IfOk result (λ n. n ≡ 0 → 0 < length buf → IsTrue (w.sink new).full)
   -- `Err` of kind `Interrupted`: nothing was written, and the call may be made again
   pub interrupted : IfErr result (λ e. error_kind e ≡ Interrupted → WriteInterrupted w old new)
-  -- any other `Err`: nothing was written, and the writer failed or found no memory
+  -- any other `Err`: nothing was written, and the writer or one of its allocations failed
   pub failed : IfErr result (λ e. error_kind e ≢ Interrupted → WriteFailed w old new (error_kind e))
 
 -- the outcome of a flush, which adds no bytes
@@ -128,7 +128,7 @@ pub record Flushes {W : Type 0} (w : WriterModel W) (old new : W) (result : Resu
 -- the outcome of flushes that go on after interruptions
 pub record FlushesRetrying {W : Type 0} (w : WriterModel W) (old new : W) (result : Result (Unit {0}) Error) : Type 0 where
   pub writes : OnOk result (WroteBytes w old new [])
-  -- an interruption is never the answer
+  -- an interruption is never returned
   pub retried : IfErr result (λ e. error_kind e ≢ Interrupted)
   pub failed : IfErr result (λ e. WriteFailedAfterRetries w old new (error_kind e))
 

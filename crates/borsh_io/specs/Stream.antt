@@ -23,7 +23,7 @@ pub record ReaderState : Type 0 where
 abbrev pub CountedUp : ℕ → ℕ → Type 0
 CountedUp before after = (before < 2 ^ 64 - 1 → after ≡ before + 1) × (2 ^ 64 - 1 ≤ before → after ≡ before)
 
--- the bytes to come began with `front` and lost it; no fault came, and perhaps interruptions
+-- `front` was taken from the bytes to come, perhaps after interruptions, and the count of faults is unchanged
 pub record Consumed (before after : ReaderState) (front : List ℕ) : Type 0 where
   pub bytes : Consumes before.bytes after.bytes front
   pub faults : after.faults ≡ before.faults
@@ -55,7 +55,7 @@ pub record ReadFailedAfterRetries (before after : ReaderState) : Type 0 where
   pub reads_left : after.reads_left ≤ before.reads_left
   pub strict_order : after.strict_order ≡ before.strict_order
 
--- some front of the bytes to come is gone, so that a tail of them is left; and perhaps interruptions
+-- a prefix of the bytes to come was taken, so that a tail of them is left; perhaps with interruptions
 pub record ConsumedSome (before after : ReaderState) : Type 0 where
   pub front : List ℕ
   pub bytes : Consumes before.bytes after.bytes front
@@ -71,7 +71,7 @@ HasFewerThan s n = IfSome s.bytes (λ xs. length xs < n)
 abbrev pub HasAtMost : ReaderState → ℕ → Type 0
 HasAtMost s n = IfSome s.bytes (λ xs. length xs ≤ n)
 
--- why n bytes could not be had, by an error of this kind: fewer were to come, or the reader failed
+-- why n bytes could not be read, by an error of this kind: fewer were to come, or the reader failed
 abbrev pub ReadExactFailure : ReaderState → ReaderState → ℕ → ErrorKind → Type 0
 ReadExactFailure before after n kind =
     ((kind ≡ UnexpectedEof) × HasFewerThan before n × (after.faults ≡ before.faults)) ⊎ CountedUp before.faults after.faults
@@ -107,7 +107,7 @@ pub record ReadsSomeRetrying {R : Type 0} (state : R → ReaderState) (old new :
   pub takes : IfOk result (λ n. Consumed (state old) (state new) (take n buf))
   pub fewer : IfOk result (λ n. 0 < n → (state new).reads_left < (state old).reads_left)
   pub some : IfOk result (λ n. n ≡ 0 → 0 < length buf → IsAtEnd (state new).bytes)
-  -- an interruption is never the answer
+  -- an interruption is never returned
   pub retried : IfErr result (λ e. error_kind e ≢ Interrupted)
   pub failed : OnErr result (ReadFailedAfterRetries (state old) (state new))
 

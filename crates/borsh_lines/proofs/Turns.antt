@@ -54,7 +54,7 @@ module _ {W : Type 0} {answers : List ℕ → List ℕ → Type 0} {w : WriterMo
   pub goes_on-whole : {s t : ReaderState} {a b : W} {done line out rest : List ℕ} {lines : List (List ℕ)} {m n : ℕ} → rest ≡ [] → SoFar answers w s t a b done lines line out rest m n → SoFar answers w s t a b done lines line out [] m n
   goes_on-whole {s} {t} {a} {b} {done} {line} {out} {rest} {lines} {m} {n} e p = subst (λ l. SoFar answers w s t a b done lines line out l m n) e p
 
-  -- ---- memory was refused, or the reader failed
+  -- ---- an allocation failed, or the reader failed
 
   pub stops-first : (s : ReaderState) (a : W) (m : ℕ) {e : Error} → error_kind e ≡ OutOfMemory → RunsCounted answers w s s a a m m (Err e)
   stops-first s a m h = record {
@@ -124,7 +124,7 @@ module _ {W : Type 0} {answers : List ℕ → List ℕ → Type 0} {w : WriterMo
         counted = p.counted;
       }
 
-  -- ---- the writer refused the answers
+  -- ---- not all of the answers were written
 
   pub stops-writer : {E : Type 0} {s t u : ReaderState} {a b d : W} {done line out extra after added : List ℕ} {lines : List (List ℕ)} {m n k : ℕ} {r : Result (Unit {0}) E} {e : Error} → SoFar answers w s t a b done lines line out [] m n → Consumed t u extra → AnswersChunk answers extra line after [] added n k r → NotWrittenWhole w b d added (error_kind e) → RunsCounted answers w s u a d m k (Err e)
   stops-writer {s = s} {u = u} {a = a} {d = d} {done = done} {out = out} {extra = extra} {after = after} {added = added} {lines = lines} {e = e} p y x f =

@@ -48,7 +48,7 @@ pub record Appends (answers : List ℕ → List ℕ → Type 0) (line old new : 
   pub whole : IsLine reply
   pub joined : new ≡ old ++ (reply ++ 10 ∷ [])
 
--- the lines that end in a chunk were answered; where memory was refused, those that end in a beginning of it
+-- the lines that end in a chunk were answered; if an allocation failed, those that end in a beginning of it
 pub record AnswersChunk {E : Type 0} (answers : List ℕ → List ℕ → Type 0) (chunk before after old new : List ℕ) (old_count new_count : ℕ) (result : Result (Unit {0}) E) : Type 0 where
   -- the beginning of the chunk whose lines were answered
   pub front : List ℕ

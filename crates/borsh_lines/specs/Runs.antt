@@ -25,7 +25,7 @@ pub record RanToEnd {W : Type 0} (w : WriterModel W) (before after : ReaderState
 
 -- why a run stopped by an error of this kind
 pub data WhyStopped {W : Type 0} (w : WriterModel W) (before after : ReaderState) (old new : W) (taken : List ℕ) (answered : List (List ℕ)) (unwritten : List ℕ) (kind : ErrorKind) : Type 0 where
-  -- memory was refused: all answers that were made are written
+  -- an allocation failed: all answers that were made are written
   no_memory : kind ≡ OutOfMemory → after.faults ≡ before.faults → (w.sink new).faults ≡ (w.sink old).faults → unwritten ≡ [] → WhyStopped w before after old new taken answered unwritten kind
   -- the reader failed: the lines whose line feed was taken are answered, and all answers that were made are written
   reader_failed : CountedUp before.faults after.faults → (w.sink new).faults ≡ (w.sink old).faults → answered ≡ ended_lines taken → unwritten ≡ [] → WhyStopped w before after old new taken answered unwritten kind

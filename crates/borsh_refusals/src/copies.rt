@@ -8,7 +8,7 @@ use borsh::schema::{
 use std::alloc::{AllocError, Global};
 use std::test::Fail;
 
-/// The copy is equal, or an allocation failure is answered.
+/// The copy is equal, or an allocation failure is returned.
 fn is_copied<T: Clone + PartialEq>(rt: HostRuntime, name: &str, value: &T) -> Result<(), Fail> {
     let alloc = rt.alloc();
     sweep(rt, "copy", name, |refusal| {

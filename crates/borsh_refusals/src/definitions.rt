@@ -27,7 +27,7 @@ fn with_definition(
     Ok(definitions)
 }
 
-/// A new name is put in, or an allocation failure is answered and the map is unchanged.
+/// A new name is put in, or an allocation failure is returned and the map is unchanged.
 fn is_put_in(rt: HostRuntime, count: u8) -> Result<(), Fail> {
     let alloc = rt.alloc();
     let before = numbered(alloc, count)?;
@@ -46,7 +46,7 @@ fn is_put_in(rt: HostRuntime, count: u8) -> Result<(), Fail> {
     })
 }
 
-/// The name gets the definition and the old one is answered; or an allocation failure is, and the container is unchanged.
+/// The name gets the definition and the old one is returned; or an allocation failure is, and the container is unchanged.
 fn is_inserted(
     rt: HostRuntime,
     count: u8,
@@ -83,7 +83,7 @@ fn new_names(rt: HostRuntime) -> Result<(), Fail> {
     Ok(())
 }
 
-/// The answer to `T5` with this size, put into 20 numbered definitions, which stay; no memory is taken.
+/// Adding `T5` of this size to 20 numbered definitions has this result, and changes and allocates nothing.
 fn is_answered(
     rt: HostRuntime,
     size: u8,
@@ -110,7 +110,7 @@ fn names_with_a_definition(rt: HostRuntime) -> Result<(), Fail> {
     for &count in &[1u8, 5, 39] {
         is_inserted(rt, count, "T0", Some(Definition::Primitive(0)))?;
     }
-    // An equal definition changes nothing, and another one is refused. Neither takes memory.
+    // An equal definition changes nothing, and another one is refused. Neither allocates.
     let before = numbered(alloc, 20)?;
     let clash = SchemaBuildError::Redefinition(String::from_str(alloc, "T5")?);
     is_answered(rt, 5, &before, &Ok(()))?;

@@ -1,4 +1,4 @@
-// Bytes that are refused, and values without an encoding. A text that has to be put together can find no memory.
+// Bytes that are refused, and values without an encoding. Allocating the text of an error can fail.
 use super::heap::end_refusal;
 use super::sweeps::{Round, is_invalid, judge_refused, sweep};
 use borsh::error::ERROR_ZST_FORBIDDEN;
@@ -23,7 +23,7 @@ const ORDER: &str = "keys were not serialized in ascending order";
 
 const NONE: &[u8] = b"\0\0\0\0";
 
-/// The bytes are refused with this text; or an allocation failure is answered, and what is left is a tail of them.
+/// The bytes are refused with this text; or an allocation failure is returned, and what is left is a tail of them.
 fn refuses<T: BorshDeserialize>(
     rt: HostRuntime,
     name: &str,
@@ -147,7 +147,7 @@ fn lists_of_empty_elements(rt: HostRuntime) -> Result<(), Fail> {
     refuses::<IndexSet<()>>(rt, "IndexSet<()>", NONE, ERROR_ZST_FORBIDDEN)
 }
 
-/// The value is refused with this text, or an allocation failure is answered; a vector keeps what it has, and gets nothing.
+/// The value is refused with this text, or an allocation failure is returned; a vector keeps what it has, and gets nothing.
 fn is_never_written<T: BorshSerialize>(
     rt: HostRuntime,
     name: &str,

@@ -1,4 +1,4 @@
-// A call is made again and again, each time with another request for memory refused.
+// A call is made again and again, and each time another one of its allocations fails.
 use super::heap::Refusal;
 use borsh::io::{Error, ErrorKind, Result as IoResult};
 use borsh::{BorshDeserialize, BorshSerialize, to_vec};

@@ -39,7 +39,7 @@ fn is_all_or_beginning(done: IoResult<()>, refused: bool, written: &[u8], bytes:
     }
 }
 
-/// The value is written as the bytes; or an allocation failure is answered, and what was written is a beginning of them.
+/// The value is written as the bytes; or an allocation failure is returned, and what was written is a beginning of them.
 fn writes<T: BorshSerialize>(
     rt: HostRuntime,
     name: &str,
@@ -102,7 +102,7 @@ pub(crate) fn with_rest(alloc: Global, bytes: &[u8]) -> Result<Vec<u8>, Fail> {
     Ok(longer)
 }
 
-/// The bytes are read as a value that is written as `again`; or an allocation failure is answered, and what is left is a tail
+/// The bytes are read as a value that is written as `again`; or an allocation failure is returned, and what is left is a tail
 /// of them.
 fn reads<T: BorshSerialize + BorshDeserialize>(
     rt: HostRuntime,

@@ -13,7 +13,7 @@ const OTHER: &str = "Borsh schema does not match";
 
 const CLASH: &str = "Redefining type schema for A. Types with the same names are not supported.";
 
-/// The value is sent as these bytes, or an allocation failure is answered.
+/// The value is sent as these bytes, or an allocation failure is returned.
 fn is_sent<T: BorshSerialize + BorshSchema>(
     rt: HostRuntime,
     name: &str,
@@ -29,7 +29,7 @@ fn is_sent<T: BorshSerialize + BorshSchema>(
     })
 }
 
-/// The sent bytes are read as a value with this encoding, or an allocation failure is answered.
+/// The sent bytes are read as a value with this encoding, or an allocation failure is returned.
 fn is_received<T: BorshSerialize + BorshDeserialize + BorshSchema>(
     rt: HostRuntime,
     name: &str,
@@ -45,7 +45,7 @@ fn is_received<T: BorshSerialize + BorshDeserialize + BorshSchema>(
     })
 }
 
-/// The sent bytes are refused with this text, or an allocation failure is answered.
+/// The sent bytes are refused with this text, or an allocation failure is returned.
 fn is_not_received<T: BorshDeserialize + BorshSchema>(
     rt: HostRuntime,
     name: &str,

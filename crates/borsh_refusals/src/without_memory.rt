@@ -45,7 +45,7 @@ type Ranges = (
     RangeFull,
 );
 
-/// A call made with every request refused: fails unless it is right and asked for no memory.
+/// A call made with every allocation failing: fails unless it is right and made none.
 fn asks_for_none<F: FnOnce() -> bool>(alloc: Global, name: &str, call: F) -> Result<(), Fail>
     requires { F.IsAlwaysCallable call }
 {
@@ -157,7 +157,7 @@ fn facts_of_types(rt: HostRuntime) -> Result<(), Fail> {
     })
 }
 
-/// The value whose encoding the bytes are is written with every request refused, into a vector with room, and measured.
+/// The value with this encoding is written with every allocation failing, into a vector with room, and measured.
 fn is_written<T: BorshSerialize + BorshDeserialize>(
     rt: HostRuntime,
     name: &str,
@@ -221,7 +221,7 @@ fn lists_are_written(rt: HostRuntime) -> Result<(), Fail> {
     is_written::<IndexSet<u8>>(rt, "IndexSet<u8>", b"\x02\0\0\0\x05\x03")
 }
 
-/// The bytes are read with every request refused, whole and from the front of others.
+/// The bytes are read with every allocation failing, whole and from the front of others.
 fn is_read<T: BorshSerialize + BorshDeserialize>(
     rt: HostRuntime,
     name: &str,
@@ -349,7 +349,7 @@ fn is_changed(container: &mut BorshSchemaContainer, same: &BorshSchemaContainer)
     *container != *same
 }
 
-/// Removes `u8` twice: whether its definition, of two bytes, is answered once, and none is left.
+/// Removes `u8` twice: whether its definition, of two bytes, is returned once, and none is left.
 fn is_emptied(container: &mut BorshSchemaContainer) -> bool {
     let removed = container.remove_definition("u8");
     let again = container.remove_definition("u8");

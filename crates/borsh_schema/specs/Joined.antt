@@ -30,12 +30,12 @@ pub record Conflicts (old : DefinitionMap) (ps : DefinitionTree) (n : List ℕ) 
   pub has_second : IsDefinedIn old ps n second
   pub apart : first ≡ second → ⊥
 
--- a refusal names a clash, or memory was refused
+-- the error is a name with two definitions, or an allocation failed
 abbrev pub BuildFault : DefinitionMap → DefinitionTree → SchemaBuildError → Type 0
 BuildFault old ps (Redefinition m) = Conflicts old ps (string_bytes m)
 BuildFault old ps OutOfMemory = ⊤
 
--- a call that was to add the parts was refused: perhaps some of them were added, and the error says why
+-- a call that was to add the parts failed: perhaps some of them were added, and the error says why
 pub record UnionFails (old : DefinitionMap) (ps : DefinitionTree) (new : DefinitionMap) (e : SchemaBuildError) : Type 0 where
   pub partly : IsPartialUnion old ps new
   pub fault : BuildFault old ps e
@@ -44,7 +44,7 @@ pub record UnionFails (old : DefinitionMap) (ps : DefinitionTree) (new : Definit
 pub record AddsDefinitions (old new : BTreeMap (String Global) Definition) (added : DefinitionTree) (result : Result (Unit {0}) SchemaBuildError) : Type 0 where
   -- `Ok`: the map has the definitions that it had and all that were to be added, and no others
   pub ok : OnOk result (IsUnion (definitions_by_name old) added (definitions_by_name new))
-  -- `Err`: the map has the definitions that it had and perhaps some of the others; the error is a name that has two different definitions, or memory was refused
+  -- `Err`: the map has what it had and perhaps some of the others; a name has two definitions, or an allocation failed
   pub err : IfErr result (λ e. UnionFails (definitions_by_name old) added (definitions_by_name new) e)
 
 -- a definition under its name, and the definitions of its parts

@@ -1,4 +1,4 @@
--- What a call answers that checks a container's rules or computes its size, and what it counts.
+-- What a call returns that checks a container's rules or computes its size, and what it counts.
 use Rattle.std.specs.Prelude.{◌≡◌, ℕ, ◌≤◌, ◌↔◌, List, length, Option, Some, MatchResult, OnOk, Result}
 use Rattle.std.specs.BTreeMap.{btree_map_len}
 use Rattle.borsh_walks.specs.declared.counted.Expansions.{Expansions}
@@ -31,36 +31,36 @@ module _ (C : List ℕ → Option Shape) (root : List ℕ) where
 abbrev pub SizeWork : ℕ → Expansions → Expansions → Type 0
 SizeWork most old new = (k : ℕ) × (k ≤ most) × (new ≡ add_to Size k old)
 
--- ---- answers
+-- ---- results
 
 module _ (c : BorshSchemaContainer) where
   -- the outcome of a call that is to check the rules of a container
   pub record Validates (result : Result (Unit {0}) SchemaContainerValidateError) : Type 0 where
-    -- `Ok`: each reached name is defined and keeps the rules; `Err`: a reached name and a rule that it breaks, or memory was refused
+    -- `Ok`: each reached name is defined and keeps the rules; `Err`: a reached name breaks a rule, or an allocation failed
     pub answer : MatchResult result (λ _. IsValid (language_of c) (root_of c)) (λ e. RulesFault (language_of c) (root_of c) e)
-    -- a container in which each reached name keeps the rules is accepted, memory aside
+    -- a container in which each reached name keeps the rules is accepted, unless an allocation fails
     pub complete : AcceptsIfValid (language_of c) (root_of c) result
 
   -- the same of a call that counts the definitions that it visits
   pub record ValidatesCounting (old new : Expansions) (result : Result (Unit {0}) SchemaContainerValidateError) : Type 0 where
-    -- `Ok`: each reached name is defined and keeps the rules; `Err`: a reached name and a rule that it breaks, or memory was refused
+    -- `Ok`: each reached name is defined and keeps the rules; `Err`: a reached name breaks a rule, or an allocation failed
     pub answer : MatchResult result (λ _. IsValid (language_of c) (root_of c)) (λ e. RulesFault (language_of c) (root_of c) e)
-    -- a container in which each reached name keeps the rules is accepted, memory aside
+    -- a container in which each reached name keeps the rules is accepted, unless an allocation fails
     pub complete : AcceptsIfValid (language_of c) (root_of c) result
     -- `Ok`: `rules` rose by the number of reached names, and `zero` by at least the number of elements that are checked
     pub counts : OnOk result (JudgedCounts (language_of c) (root_of c) old new)
-    -- only reached names were checked, each once, and at most all definitions tested for zero size, whatever the answer
+    -- only reached names were checked, each once, and at most all definitions tested for zero size, whatever the result
     pub work : RulesWork (language_of c) (root_of c) (btree_map_len (map_of c)) old new
 
-  -- the outcome of a call that is to answer the greatest length of a container's encodings
+  -- the outcome of a call that computes a container's greatest size; no encoding is longer
   abbrev pub Sizes : Result ℕ SchemaMaxSerializedSizeError → Type 0
   Sizes result = AnswersSize (language_of c) (root_of c) result
 
   -- the same of a call that counts the definitions that it visits
   pub record SizesCounting (old new : Expansions) (result : Result ℕ SchemaMaxSerializedSizeError) : Type 0 where
-    -- `Ok`: the greatest length; `Err`: why there is none
+    -- `Ok`: the greatest size; `Err`: why there is none
     pub size : Sizes result
     -- only names that the size needs were looked at, each once; after `Ok` these are all that it needs
     pub counts : CountsNeeded (language_of c) (root_of c) old new result
-    -- `size` rose by at most the number of definitions, and the others stay, whatever the answer
+    -- `size` rose by at most the number of definitions, and the others stay, whatever the result
     pub bounded_work : SizeWork (btree_map_len (map_of c)) old new

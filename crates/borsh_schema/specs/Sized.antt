@@ -10,7 +10,7 @@ use Rattle.borsh_definitions.specs.Described.{DefinitionTree, nothing_defined}
 use Rattle.borsh_schema.specs.Joined.{BuildFault}
 use Rattle.borsh_schema.specs.Containers.{language_of, root_of, IsContainerOf}
 
--- the answer is that of the type's container
+-- the result is that of the type's container
 pub record IsSizeOf (name : List ℕ) (ps : DefinitionTree) (r : Result ℕ SchemaMaxSerializedSizeError) : Type 0 where
   pub container : BorshSchemaContainer
   pub is : IsContainerOf name ps container
@@ -22,9 +22,9 @@ pub record IsNotBuilt (ps : DefinitionTree) (r : Result ℕ SchemaMaxSerializedS
   pub fault : BuildFault nothing_defined ps error
   pub is : r ≡ Err (size_error error)
 
--- the outcome of a call that is to answer the greatest length of a type's encodings
+-- the outcome of a call that computes a type's greatest size
 pub record AnswersTypeSize {A : Type 0} (c : Codec A) (name : List ℕ) (ps : DefinitionTree) (r : Result ℕ SchemaMaxSerializedSizeError) : Type 0 where
-  -- the answer is that of the type's container, or the container was refused
+  -- the result is that of the type's container, or the container was refused
   pub of_type : IsSizeOf name ps r ⊎ IsNotBuilt ps r
-  -- no encoding is longer than an answered size
+  -- no encoding is longer than a returned size
   pub bounds : IfOk r (λ n. (a : A) (x : List ℕ) → c.encoding a ≡ Some x → length x ≤ n)

@@ -44,7 +44,7 @@ impl BorshSchemaContainer {
         check_rules(alloc, self.declaration.as_str(), &mut counted)
     }
 
-    /// The greatest length of the encodings that the container describes, in bytes.
+    /// The greatest size of the root in bytes, as the definitions give it. No encoding is longer.
     ///
     /// Returns `Overflow` if it doesn't fit in a `usize`, `Recursive` if a definition that it needs
     /// contains itself, `MissingDefinition` if one is missing, and `OutOfMemory` if an allocation fails.

@@ -114,7 +114,7 @@ fn a_name_has_one_definition(rt: HostRuntime) -> Result<(), Fail> {
     check(is_not_received(alloc)?, "a value that is received")
 }
 
-/// Whether nothing is there that a clash of `A` can't leave.
+/// Whether `u8` is as it was, and nothing was added but perhaps `(A, A)` and `A`.
 fn are_left(definitions: &BTreeMap<String, Definition>) -> bool {
     for name in definitions.keys() {
         let name = name.as_str();
@@ -126,7 +126,7 @@ fn are_left(definitions: &BTreeMap<String, Definition>) -> bool {
 }
 
 #[test]
-fn a_clash_leaves_what_stood(rt: HostRuntime) -> Result<(), Fail> {
+fn a_clash_leaves_the_definitions(rt: HostRuntime) -> Result<(), Fail> {
     let alloc = rt.alloc();
     let mut definitions = BTreeMap::new(alloc);
     definitions.insert(text(alloc, "u8")?, Definition::Primitive(1))?;

@@ -10,9 +10,9 @@ use borsh_io::{Result, Write};
 use std::alloc::Global;
 
 /// Writes the items that the iterator gives, one after another, with no count. What their `put`
-/// puts into a room is written once the room is full.
+/// puts into a buffer, the room, is written once the room is full.
 ///
-/// Fails with the writer's error, or as the item that could not be written does. Then a beginning
+/// Returns the writer's error, or that of the item that could not be written. Then a beginning
 /// of the items' encodings was written.
 #[inline]
 pub(crate) fn write_each<I: Iterator, W: Write>(
@@ -45,7 +45,7 @@ where
     write_held(&room[..filled], writer)
 }
 
-/// Writes the bytes, where there are any. Fails as `write_bytes` does.
+/// Writes the bytes, if there are any. The errors are those of `write_bytes`.
 #[inline]
 pub(crate) fn write_held<W: Write>(bytes: &[u8], writer: &mut W) -> Result<()>
     ensures { WritesEncoding W.writing writer.old writer.new false false (Some bytes.now) result }

@@ -74,7 +74,7 @@ fn sorted_keys<'a, K: Ord + Hash, S: BuildHasher>(
 
 /// Writes the entries one after another, each key before its value.
 ///
-/// Fails as the key or the value that could not be written does. Then a beginning of the
+/// Returns the error of the key or the value that could not be written. Then a beginning of the
 /// encoding was written.
 #[inline]
 fn write_entries<K: BorshSerialize, V: BorshSerialize, W: Write>(
@@ -103,8 +103,8 @@ fn write_entries<K: BorshSerialize, V: BorshSerialize, W: Write>(
 
 /// Writes the count and the entries.
 ///
-/// Fails with `InvalidData` for more than 4294967295, and as a key or a value that could not be
-/// written does. Then a beginning of the encoding was written.
+/// Returns `InvalidData` for more than 4294967295, and the error of a key or a value that could not
+/// be written. Then a beginning of the encoding was written.
 #[inline]
 fn write_sorted<K: BorshSerialize, V: BorshSerialize, W: Write>(
     entries: &[(&K, &V)],

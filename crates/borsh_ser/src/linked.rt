@@ -10,7 +10,8 @@ use borsh_io::{Error, ErrorKind, Result, Write};
 use std::alloc::Global;
 use std::collections::{LinkedList, VecDeque};
 
-/// Writes the count and the elements of both parts of the queue. Fails as `write_counted` does.
+/// Writes the count and the elements of both parts of the queue. The errors are those of
+/// `write_counted`.
 #[inline]
 fn write_queue<T: BorshSerialize, W: Write>(
     queue: &VecDeque<T>,
@@ -26,7 +27,7 @@ fn write_queue<T: BorshSerialize, W: Write>(
     write_elements(back, alloc, writer)
 }
 
-/// Writes the count and the elements of the list. Fails as `write_counted` does.
+/// Writes the count and the elements of the list. The errors are those of `write_counted`.
 #[inline]
 fn write_linked_counted<T: BorshSerialize, W: Write>(
     list: &LinkedList<T>,

@@ -19,10 +19,10 @@ use std::borrow::CowSlice;
 use std::boxed::BoxedSlice;
 use std::rc::RcSlice;
 
-/// Writes the elements one after another: at once if their encodings lie in memory so, and by a room if there are
-/// so many that clearing it pays.
+/// Writes the elements one after another: at once if that is how their encodings lie in memory, and
+/// otherwise through a buffer, the room, if there are so many that clearing it pays.
 ///
-/// Fails as the element that could not be written does. Then a beginning of the encoding was
+/// Returns the error of the element that could not be written. Then a beginning of the encoding was
 /// written.
 #[inline(always)]
 pub(crate) fn write_elements<T: BorshSerialize, W: Write>(
@@ -42,7 +42,7 @@ pub(crate) fn write_elements<T: BorshSerialize, W: Write>(
     write_by_room(items, alloc, writer)
 }
 
-/// Writes the elements one after another. Fails as `write_elements` does.
+/// Writes the elements one after another. The errors are those of `write_elements`.
 ///
 /// As a function of its own it would take three times as long: each element's `Result` would be copied.
 #[inline(always)]
@@ -60,8 +60,8 @@ fn write_one_by_one<T: BorshSerialize, W: Write>(
     Ok(())
 }
 
-/// Writes the elements one after another: by a room as long as they put themselves into it, and from the
-/// first one that doesn't by `serialize`. Fails as `write_elements` does.
+/// Writes the elements one after another: through the room as long as `put` returns `Some`, and from
+/// the first `None` on with `serialize`. The errors are those of `write_elements`.
 ///
 /// At most 32 elements share the room, so that LLVM knows that elements of up to 32 bytes fit, and
 /// tests no room for them.
@@ -90,8 +90,8 @@ fn write_by_room<T: BorshSerialize, W: Write>(
 
 /// Writes the count, four bytes.
 ///
-/// Fails with `InvalidData` for a count of more than 4294967295: then nothing was written. Fails
-/// also with the writer's error: then a beginning of the four bytes was written.
+/// Returns `InvalidData` for a count of more than 4294967295: then nothing was written. Returns the
+/// writer's error if it fails: then a beginning of the four bytes was written.
 #[inline]
 pub(crate) fn write_count<W: Write>(count: usize, writer: &mut W) -> Result<()>
     ensures { WritesEncoding W.writing writer.old writer.new false false
@@ -105,7 +105,8 @@ pub(crate) fn write_count<W: Write>(count: usize, writer: &mut W) -> Result<()>
 
 /// Writes the count and the elements.
 ///
-/// Fails as `write_count` and `write_elements` do. Then a beginning of the encoding was written.
+/// The errors are those of `write_count` and `write_elements`. After one, a beginning of the encoding
+/// was written.
 #[inline]
 pub(crate) fn write_counted<T: BorshSerialize, W: Write>(
     items: &[T],

@@ -17,8 +17,8 @@ use std::hash::{BuildHasher, Hash};
 
 /// Writes the count and the entries.
 ///
-/// Fails with `InvalidData` for more than 4294967295, and as a key or a value that could not be
-/// written does. Then a beginning of the encoding was written.
+/// Returns `InvalidData` for more than 4294967295, and the error of a key or a value that could not
+/// be written. Then a beginning of the encoding was written.
 #[inline]
 fn write_tree<K: BorshSerialize + Ord, V: BorshSerialize, W: Write>(
     tree: &BTreeMap<K, V>,
@@ -34,8 +34,8 @@ fn write_tree<K: BorshSerialize + Ord, V: BorshSerialize, W: Write>(
 
 /// Writes the count and the keys.
 ///
-/// Fails with `InvalidData` for more than 4294967295, and as a key that could not be written does.
-/// Then a beginning of the encoding was written.
+/// Returns `InvalidData` for more than 4294967295, and the error of a key that could not be
+/// written. Then a beginning of the encoding was written.
 #[inline]
 fn write_tree_set<K: BorshSerialize + Ord, W: Write>(
     set: &BTreeSet<K>,
@@ -51,8 +51,8 @@ fn write_tree_set<K: BorshSerialize + Ord, W: Write>(
 
 /// Writes the count and the entries.
 ///
-/// Fails with `InvalidData` for more than 4294967295, and as a key or a value that could not be
-/// written does. Then a beginning of the encoding was written.
+/// Returns `InvalidData` for more than 4294967295, and the error of a key or a value that could not
+/// be written. Then a beginning of the encoding was written.
 #[inline]
 fn write_index<K: BorshSerialize + Eq + Hash, V: BorshSerialize, S: BuildHasher, W: Write>(
     table: &IndexMap<K, V, S>,
@@ -68,8 +68,8 @@ fn write_index<K: BorshSerialize + Eq + Hash, V: BorshSerialize, S: BuildHasher,
 
 /// Writes the count and the keys.
 ///
-/// Fails with `InvalidData` for more than 4294967295, and as a key that could not be written does.
-/// Then a beginning of the encoding was written.
+/// Returns `InvalidData` for more than 4294967295, and the error of a key that could not be
+/// written. Then a beginning of the encoding was written.
 #[inline]
 fn write_index_set<K: BorshSerialize + Eq + Hash, S: BuildHasher, W: Write>(
     set: &IndexSet<K, S>,

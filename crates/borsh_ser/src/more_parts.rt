@@ -9,7 +9,8 @@ use std::alloc::Global;
 
 /// Writes thirteen parts in order.
 ///
-/// Fails as the part that could not be written does. Then a beginning of the encoding was written.
+/// Returns the error of the part that could not be written. Then a beginning of the encoding was
+/// written.
 #[inline]
 pub fn write_thirteen<
     A: BorshSerialize,
@@ -58,7 +59,8 @@ pub fn write_thirteen<
 
 /// Writes fourteen parts in order.
 ///
-/// Fails as the part that could not be written does. Then a beginning of the encoding was written.
+/// Returns the error of the part that could not be written. Then a beginning of the encoding was
+/// written.
 #[inline]
 pub fn write_fourteen<
     A: BorshSerialize,
@@ -111,7 +113,8 @@ pub fn write_fourteen<
 
 /// Writes fifteen parts in order.
 ///
-/// Fails as the part that could not be written does. Then a beginning of the encoding was written.
+/// Returns the error of the part that could not be written. Then a beginning of the encoding was
+/// written.
 #[inline]
 pub fn write_fifteen<
     A: BorshSerialize,
@@ -166,7 +169,8 @@ pub fn write_fifteen<
 
 /// Writes sixteen parts in order.
 ///
-/// Fails as the part that could not be written does. Then a beginning of the encoding was written.
+/// Returns the error of the part that could not be written. Then a beginning of the encoding was
+/// written.
 #[inline]
 pub fn write_sixteen<
     A: BorshSerialize,
@@ -223,7 +227,8 @@ pub fn write_sixteen<
 
 /// Writes seventeen parts in order.
 ///
-/// Fails as the part that could not be written does. Then a beginning of the encoding was written.
+/// Returns the error of the part that could not be written. Then a beginning of the encoding was
+/// written.
 #[inline]
 pub fn write_seventeen<
     A: BorshSerialize,
@@ -284,7 +289,8 @@ pub fn write_seventeen<
 
 /// Writes eighteen parts in order.
 ///
-/// Fails as the part that could not be written does. Then a beginning of the encoding was written.
+/// Returns the error of the part that could not be written. Then a beginning of the encoding was
+/// written.
 #[inline]
 pub fn write_eighteen<
     A: BorshSerialize,
@@ -347,7 +353,8 @@ pub fn write_eighteen<
 
 /// Writes nineteen parts in order.
 ///
-/// Fails as the part that could not be written does. Then a beginning of the encoding was written.
+/// Returns the error of the part that could not be written. Then a beginning of the encoding was
+/// written.
 #[inline]
 pub fn write_nineteen<
     A: BorshSerialize,
@@ -413,7 +420,8 @@ pub fn write_nineteen<
 
 /// Writes twenty parts in order.
 ///
-/// Fails as the part that could not be written does. Then a beginning of the encoding was written.
+/// Returns the error of the part that could not be written. Then a beginning of the encoding was
+/// written.
 #[inline]
 pub fn write_twenty<
     A: BorshSerialize,

@@ -1,6 +1,6 @@
-// Encodings that are put over the front of a room: each of these calls answers how many bytes it
-// put, or `None` where they don't fit or a part doesn't put itself. Lists fill one room so, and
-// write it at once.
+// Encodings that are written over the front of a buffer, the room: each of these calls returns how
+// many bytes it put, or `None` if they don't fit or a part doesn't support it. Lists fill one room,
+// and write it at once.
 ghost use Rattle.borsh_codec.specs.Shapes.{concat_encodings, pair, tagged};
 ghost use Rattle.borsh_codec.specs.Writing.{Puts};
 ghost use Rattle.std.specs.Prelude.{◌≤◌, Some, length, take};

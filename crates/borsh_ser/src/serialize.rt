@@ -24,8 +24,8 @@ pub trait BorshSerialize: BorshType + Sized {
     fn serialize<W: Write>(&self, alloc: Global, writer: &mut W) -> Result<()>
         ensures { Writes Self.codec self.now W.writing writer.old writer.new result };
 
-    /// The encodings of the values, one after another, if they lie in memory so: only `u8` returns them,
-    /// and types of one's own need not override it.
+    /// The encodings of the values, one after another, if that is how they lie in memory: only `u8`
+    /// returns them, and types of one's own need not override it.
     fn u8_slice(_slice: &[Self]) -> Option<&[u8]>
         ensures { IfSome result (λ bytes.
             concat_encodings Self.codec.encoding _slice.now ≡ Some bytes.now) }
@@ -33,10 +33,10 @@ pub trait BorshSerialize: BorshType + Sized {
         None
     }
 
-    /// Puts the encoding over the front of the room and answers how many bytes it has, or `None`:
-    /// then it doesn't fit, or the type doesn't do so, and the room has any bytes. Lists put their
-    /// elements into one room and write it at once, and an element that answers `None` by
-    /// `serialize`.
+    /// Writes the encoding over the front of the buffer `room` and returns how many bytes it has.
+    /// `None`: it doesn't fit, or the type doesn't support this, and the contents of the room are
+    /// unspecified. Lists put their elements into one room and write it at once; an element that
+    /// returns `None` is written by `serialize`.
     ///
     /// ```
     /// let mut room = [0u8; 4];

@@ -10,7 +10,7 @@ use std::borrow::CowStr;
 use std::boxed::BoxedStr;
 use std::rc::RcStr;
 
-/// Writes the count of bytes and the bytes. Fails as `write_counted` does.
+/// Writes the count of bytes and the bytes. The errors are those of `write_counted`.
 #[inline]
 pub(crate) fn write_text<W: Write>(string: &str, alloc: Global, writer: &mut W) -> Result<()>
     ensures { Writes text string.now W.writing writer.old writer.new result }

@@ -94,7 +94,7 @@ fn a_long_list_takes_few_calls(rt: HostRuntime) -> Result<(), Fail> {
 }
 
 // Reads the list in pieces of a size, and lets the read after so many others fail. The error is
-// answered, and the bytes that were taken before are exactly those of the other reads.
+// returned, and the bytes that were taken before are exactly those of the other reads.
 fn check_failing_read(
     alloc: Global,
     list: &[u8],

@@ -10,7 +10,7 @@ const TWELVE: [u8; 8] = [12, 0, 0, 0, 0, 0, 0, 0];
 
 /// A failure, and the error that a reader's failure becomes.
 const FAILURES: [(Failure, ErrorKind, &str); 2] = [
-    // The reader's own error is answered, but a false end of the input is taken for the end.
+    // The reader's own error is returned, but a false end of the input is taken for the end.
     (Failure::TimedOut, ErrorKind::TimedOut, "too slow"),
     (Failure::End, ErrorKind::InvalidData, SHORT),
 ];

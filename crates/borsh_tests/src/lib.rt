@@ -1,7 +1,7 @@
 //! Tests of the crates together: what no clause says, with values from outside.
 //!
-//! A proof can't say that memory is there. So each call that takes memory is made here once where it
-//! succeeds, and the texts of errors are compared, which no clause gives.
+//! A proof can't say that an allocation succeeds. So each call that allocates is made here once where
+//! it succeeds, and the texts of errors are compared, which no clause gives.
 #![tactic(auto)]
 
 #[cfg(test)]

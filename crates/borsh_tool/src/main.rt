@@ -1,4 +1,4 @@
-//! The command-line tool `borsh`: what a schema container says, and what bytes say by it.
+//! The command-line tool `borsh`: what a schema container says, and what bytes mean by it.
 #![tactic(auto)]
 
 use borsh_commands::run;

@@ -1,4 +1,4 @@
-// What no clause says: that there is memory for the walks, also over long chains, and for copies.
+// What no clause says: that walks, also over long chains, and copies have allocations that succeed.
 use super::build::{Definitions, choice, named, put, sequence, simple, text, texts, tuple};
 use borsh_walks::{
     Counted, Definition, Expansions, Fields, LengthRange, SchemaContainerValidateError,

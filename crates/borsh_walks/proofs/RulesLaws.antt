@@ -7,7 +7,7 @@ use Rattle.borsh_walks.specs.declared.error.SchemaContainerValidateError.{Schema
 use Rattle.borsh_walks.specs.declared.error.SchemaContainerValidateError.TheVariants.{ZSTSequence, TagTooWide, TagTooNarrow, TagNotPowerOfTwo, MissingDefinition, EmptyLengthRange, OutOfMemory}
 use Rattle.borsh_walks.proofs.Laws.{one_definition}
 
--- the two stack_after to say that the width is too narrow
+-- both forms of the test that the width is too narrow
 narrow : (w hi : ℕ) → BreaksWidth tag_too_narrow w hi → ((w ≡ 1) ⊎ (w ≡ 2) ⊎ (w ≡ 4)) × (256 ^ w ≤ hi)
 narrow w hi (inl h) = (inl h.0, subst (λ k. 256 ^ k ≤ hi) (sym h.0) h.1)
 narrow w hi (inr (inl h)) = (inr (inl h.0), subst (λ k. 256 ^ k ≤ hi) (sym h.0) h.1)

@@ -36,7 +36,7 @@ module _ (C : List ℕ → Option Shape) where
   zero_reached stays z = z
   zero_reached (onward d l e a) z = zero_part d e a (zero_reached l z)
 
-  -- a name that asks for itself is not of zero size
+  -- a name whose zero size depends on itself is not of zero size
   no_zero_cycle : {x y : List ℕ} (d : Shape) → IsZeroSize C x → Reaches C asked x y → C y ≡ Some d → IsIn x (asked d) → ⊥
   no_zero_cycle {x} {y} d (zeroed c ps q asks zs) l e a =
       let go : (x ≡ y) ⊎ ((v : List ℕ) × (b : Shape) × (C x ≡ Some b) × IsIn v (asked b) × Reaches C asked v y) → ⊥ =

@@ -47,7 +47,7 @@ add_to Size k e = record e { size = add_saturating e.size k }
 add_to Zero k e = record e { zero = add_saturating e.zero k }
 add_to Rules k e = record e { rules = add_saturating e.rules k }
 
--- a look for a question answers the definition of the name; where there is one, the question's count rises by one
+-- a look-up for a question returns the definition of the name; where there is one, the question's count rises by one
 abbrev pub CountsLook : {A : Type 0} → Question → Counted → Counted → Option A → Type 0
 CountsLook question old new found = counts_of new ≡ (if is_some found then add_to question 1 (counts_of old) else counts_of old)
 

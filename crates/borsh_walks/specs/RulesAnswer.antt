@@ -94,7 +94,7 @@ module _ (C : List ℕ → Option Shape) where
     abbrev pub JudgesRules : Result (Unit {0}) SchemaContainerValidateError → Type 0
     JudgesRules r = MatchResult r (λ _. IsValid C root) (λ e. RulesFault e)
 
-    -- a valid container is not refused, memory aside
+    -- a valid container is accepted, unless an allocation fails
     abbrev pub AcceptsIfValid : Result (Unit {0}) SchemaContainerValidateError → Type 0
     AcceptsIfValid r = IsValid C root → MatchResult r (λ _. ⊤) (λ e. e ≡ OutOfMemory)
 
@@ -102,7 +102,7 @@ module _ (C : List ℕ → Option Shape) where
 abbrev pub AnswersShape : Shape → Option Broken → Type 0
 AnswersShape d o = MatchOption o (KeepsWidths d) (λ k. BreaksShape (rule_of k) d)
 
--- the error says that the name breaks the rule, or memory was refused for its text
+-- the error says that the name breaks the rule, or an allocation for its text failed
 abbrev pub IsRulesError : Rule → List ℕ → SchemaContainerValidateError → Type 0
 IsRulesError r x (ZSTSequence m) = (r ≡ zst_sequence) × (string_bytes m ≡ x)
 IsRulesError r x (TagTooWide m) = (r ≡ tag_too_wide) × (string_bytes m ≡ x)

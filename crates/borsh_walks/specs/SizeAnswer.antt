@@ -13,7 +13,7 @@ pub data Distinct : List (List ℕ) → Type 0 where
   distinct_none : Distinct []
   distinct_more : {x : List ℕ} {xs : List (List ℕ)} → (IsIn x xs → ⊥) → Distinct xs → Distinct (x ∷ xs)
 
--- the error of a name without a definition, or out of memory if the name could not be copied
+-- the error of a name without a definition, or `OutOfMemory` if the name could not be copied
 abbrev pub IsMissing : List ℕ → SchemaMaxSerializedSizeError → Type 0
 IsMissing name Overflow = ⊥
 IsMissing name Recursive = ⊥
@@ -34,11 +34,11 @@ module _ (C : List ℕ → Option Shape) (root : List ℕ) where
   abbrev pub AreSizeReached : List (List ℕ) → Type 0
   AreSizeReached xs = Distinct xs × ((x : List ℕ) → IsIn x xs ↔ SizeReaches C root x)
 
-  -- a size answered is the plain size; an error has its cause
+  -- a returned size is the `MaxSize`; an error has its cause
   abbrev pub IsSizeAnswer : Result ℕ SchemaMaxSerializedSizeError → Type 0
   IsSizeAnswer r = MatchResult r (λ n. MaxSize C root n) (λ e. SizeFault e)
 
-  -- `size` rose by the number of names looked at, each once, each needed and each defined; where a size is answered these are all that are needed
+  -- `size` rose by the number of names looked at, each once, needed and defined; if a size is returned, all that are needed
   abbrev pub IsCounted : Counted → Counted → Result ℕ SchemaMaxSerializedSizeError → Type 0
   IsCounted old new r = (xs : List (List ℕ)) × Distinct xs × ((x : List ℕ) → IsIn x xs → SizeReaches C root x × ((d : Shape) × (C x ≡ Some d))) × (counts_of new ≡ add_to Size (length xs) (counts_of old)) × OnOk r (AreSizeReached xs)
 
@@ -48,15 +48,15 @@ module _ (C : List ℕ → Option Shape) (root : List ℕ) where
     pub needed : (x : List ℕ) → IsIn x xs → SizeReaches C root x
     pub counts : new ≡ add_to Size (length xs) old
 
-  -- only names that the size needs were looked at, each once; where a size is answered these are all that it needs
+  -- only names that the size needs were looked at, each once; if a size is returned, these are all that it needs
   abbrev pub CountsNeeded : Expansions → Expansions → Result ℕ SchemaMaxSerializedSizeError → Type 0
   CountsNeeded old new r = (xs : List (List ℕ)) × VisitsNeeded old new xs × OnOk r (AreSizeReached xs)
 
-  -- where the plain size fits, it is answered, memory aside; where it does not, `Overflow`
+  -- where the `MaxSize` fits it is returned, and otherwise `Overflow`, unless an allocation fails
   abbrev pub AnswersIfFits : Result ℕ SchemaMaxSerializedSizeError → Type 0
   AnswersIfFits r = ((n : ℕ) → MaxSize C root n → n < 2 ^ 64 → MatchResult r (λ m. m ≡ n) (λ e. e ≡ OutOfMemory)) × ((n : ℕ) → MaxSize C root n → 2 ^ 64 ≤ n → MatchResult r (λ m. ⊥) (λ e. (e ≡ Overflow) ⊎ (e ≡ OutOfMemory)))
 
-  -- no member is longer than the answer, and where the container is valid and each reached enum has a variant, some member is that long
+  -- no member is longer than the size; in a valid container whose reached enums have variants, a member has that length
   abbrev pub IsBound : Result ℕ SchemaMaxSerializedSizeError → Type 0
   IsBound r = IfOk r (λ n. ((bs : List ℕ) → Member C root bs → length bs ≤ n) × (IsValid C root → HasVariants C root → IsLongest C root n))
 

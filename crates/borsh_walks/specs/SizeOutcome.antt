@@ -1,29 +1,29 @@
--- The outcome of a call that is to answer the greatest length of a container's encodings.
+-- The outcome of a call that computes a container's greatest size.
 use Rattle.std.specs.Prelude.{◌≡◌, ℕ, ◌^◌, ◌<◌, ◌≤◌, ◌⊎◌, List, length, Option, None, IfOk, MatchResult, Result}
 use Rattle.borsh_walks.specs.declared.error.SchemaMaxSerializedSizeError.{SchemaMaxSerializedSizeError}
 use Rattle.borsh_walks.specs.declared.error.SchemaMaxSerializedSizeError.TheVariants.{Overflow, OutOfMemory}
 use Rattle.borsh_walks.specs.Container.{Shape, Member, MaxSize, SizeReaches, IsRecursive, IsValid, HasVariants, IsLongest}
 use Rattle.borsh_walks.specs.SizeAnswer.{IsSizeAnswer}
 
--- the number is answered if it fits, and otherwise `Overflow`, memory aside
+-- the number is returned if it fits, and otherwise `Overflow`, unless an allocation fails
 pub record IsAnswered (n : ℕ) (r : Result ℕ SchemaMaxSerializedSizeError) : Type 0 where
   pub fits : n < 2 ^ 64 → MatchResult r (λ m. m ≡ n) (λ e. e ≡ OutOfMemory)
   pub overflows : 2 ^ 64 ≤ n → MatchResult r (λ m. ⊥) (λ e. (e ≡ Overflow) ⊎ (e ≡ OutOfMemory))
 
--- a length that no member passes and some member has, and it is answered
+-- some member has this length and none is longer, and it is returned
 pub record AnswersLongest (C : List ℕ → Option Shape) (root : List ℕ) (r : Result ℕ SchemaMaxSerializedSizeError) : Type 0 where
   pub longest : ℕ
   pub is : IsLongest C root longest
   pub answered : IsAnswered longest r
 
 pub record AnswersSize (C : List ℕ → Option Shape) (root : List ℕ) (r : Result ℕ SchemaMaxSerializedSizeError) : Type 0 where
-  -- `Ok`: the plain size; `Err`: its cause
+  -- `Ok`: the `MaxSize`; `Err`: the cause of the error
   pub answer : IsSizeAnswer C root r
-  -- no member is longer than an answered size
+  -- no member is longer than a returned size
   pub bounds : IfOk r (λ n. (bs : List ℕ) → Member C root bs → length bs ≤ n)
-  -- a plain size is answered
+  -- where there is a `MaxSize`, it is returned as `IsAnswered` says
   pub complete : (n : ℕ) → MaxSize C root n → IsAnswered n r
-  -- where no needed name is missing or leads back to itself, there is a plain size
+  -- where no needed name is missing or leads back to itself, there is a `MaxSize`
   pub size_exists : ((x : List ℕ) → SizeReaches C root x → C x ≡ None → ⊥) → (IsRecursive C root → ⊥) → (n : ℕ) × MaxSize C root n
-  -- in a valid container in which each reached enum has a variant and no needed name leads back to itself, the longest length is answered
+  -- in a valid container that is not recursive and whose reached enums have variants, the longest length is returned
   pub longest : IsValid C root → HasVariants C root → (IsRecursive C root → ⊥) → AnswersLongest C root r

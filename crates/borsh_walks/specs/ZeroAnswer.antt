@@ -9,7 +9,7 @@ use Rattle.std.specs.BTreeMap.{BTreeMap, btree_map_len}
 use Rattle.borsh_walks.specs.Container.{Shape, IsZeroSize, zero_size_references}
 use Rattle.borsh_walks.specs.Tables.{mark_of, IsDefined, Visited}
 
--- the parts that a definition asks for, none where it is never of zero size
+-- the parts that have to be of zero size for a definition to be; none where it never is
 abbrev pub asked : Shape → List (List ℕ)
 asked d = unwrap_or (zero_size_references d) []
 

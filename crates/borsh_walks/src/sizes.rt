@@ -1,4 +1,4 @@
-// The greatest length of a name's encodings.
+// The greatest size of a name.
 ghost use Rattle.borsh_walks.specs.Counts.{counts_of, definitions_of, LooksOn, SizeWork};
 ghost use Rattle.borsh_walks.specs.Definitions.{shape_of};
 ghost use Rattle.borsh_walks.specs.SizeAnswer.{CountsNeeded, IsCounted, IsMissing, IsSizeAnswer};
@@ -59,10 +59,10 @@ fn finish(definition: &Definition, gathered: usize) -> Option<usize>
     }
 }
 
-/// The greatest length of the root's encodings, in bytes, as the definitions give it: a primitive has
-/// its own size, a sequence its length width and its greatest length times its element, an enum its tag
-/// width and its greatest variant, a tuple or struct the sum of its parts. The element of a sequence
-/// whose greatest length is 0 isn't needed and isn't visited.
+/// The greatest size of the root, in bytes, as the definitions give it; no encoding is longer. A
+/// primitive has its own size, a sequence its length width and its greatest length times its element, an
+/// enum its tag width and its greatest variant, a tuple or struct the sum of its parts. The element of a
+/// sequence whose greatest length is 0 isn't needed and isn't visited.
 ///
 /// ```
 /// let most = root_size(alloc, "Vec<u8>", &mut Counted::new(&definitions, &mut counts))?;

@@ -42,7 +42,7 @@ module _ {M : Type 1} {𝓤 : Ura M} (𝓛 : Logic 𝓤) (ν μ : Sym) (σ : Ty)
   abbrev at : ℕ
   at = capped (align σ) + 0
 
-  -- the way back from room for the value
+  -- what turns room for the value back into room for the `Option`
   abbrev pub WayBack : SProp 𝓤
   WayBack = wand 𝓤 (H.room σ b at) (H.room (option_of ν μ σ) b 0)
 
@@ -57,7 +57,7 @@ module _ {M : Type 1} {𝓤 : Ura M} (𝓛 : Logic 𝓤) (ν μ : Sym) (σ : Ty)
       use1 𝓛 (raw parts ⊛ raw (wand 𝓤 parts (H.room (tagged σ) b 0))) (𝓛.laws.room_fields [] (tcons (ty_int w8) (tcons σ tnil)) b 0) $ split ! $
       use1 𝓛 (tag ⊛ ‵ (froom σ b (0 + up (align σ) (up 1 zero + 1))) ⊛ ‵ ftrue) (id⊢ 𝓤 parts) $ split3 ! $
       rewrite ! 1 (λ (o : ℕ). ‵ (froom σ b o)) alike.value_at refl $
-      -- [the tag; the value; nothing; the ways back]
+      -- [the tag; the value; nothing; what turns each room back]
       move ! (1 ∷ []) $ frame ! $ assume {P = H.room option b 0} ! (‵ (froom σ b at)) $
       rewrite ! 0 (λ (o : ℕ). ‵ (froom σ b o)) (sym alike.value_at) refl $
       move ! (0 ∷ 2 ∷ []) $ join ! $ move ! (1 ∷ 0 ∷ []) $ join ! $

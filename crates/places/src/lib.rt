@@ -1,8 +1,8 @@
 //! Arrays whose values are made one after another, by a maker that may give up.
 //!
-//! [`array_from`] makes a `[T; N]` of every `T` and every `N`. It takes no memory: the values are put side by side on the
-//! stack, and the error has no fields. A value is moved into its place, and out again with the array; nothing is cloned,
-//! and `T` needs no default.
+//! [`array_from`] makes a `[T; N]` of every `T` and every `N`. It doesn't allocate: the values are put side by side on
+//! the stack, and the error has no fields. A value is moved into its place, and out again with the array; nothing is
+//! cloned, and `T` needs no default.
 #![tactic(auto)]
 
 ghost use Rattle.std.specs.Prelude.{Some, codes, IfErr, IfOk, MatchOption};

@@ -125,7 +125,7 @@ pub fn check(schema: &[u8]) -> Result<(), Error> {
     outcome(code, &buffer).map(drop)
 }
 
-/// The length of the longest encoding of the container's root.
+/// The greatest size of the container's root: no encoding is longer.
 pub fn max_size(schema: &[u8]) -> Result<usize, Error> {
     let mut buffer = Buffer::new();
     let mut size = 0;

@@ -9,7 +9,7 @@ pub record Split (x y u v : List ℕ) : Type 0 where
   pub front : u ≡ x ++ more
   pub rest : y ≡ more ++ v
 
--- of two ways to cut one list one cut comes first
+-- of two cuts of one list, one comes first
 pub cuts : (x y u v : List ℕ) → x ++ y ≡ u ++ v → Split x y u v ⊎ Split u v x y
 cuts [] y u v e = inl (record { more = u; front = refl; rest = e })
 cuts (a ∷ x) y [] v e = inr (record { more = a ∷ x; front = refl; rest = sym e })

@@ -39,7 +39,7 @@ fault_as : (a b : DefinitionMap) (ps qs : DefinitionTree) → ((n : List ℕ) (d
 fault_as a b ps qs f (Redefinition m) h = record { first = h.first; second = h.second; has_first = f _ _ h.has_first; has_second = f _ _ h.has_second; apart = h.apart }
 fault_as a b ps qs f OutOfMemory h = tt
 
--- memory was refused before anything was put in
+-- an allocation failed before anything was put in
 pub not_joined_at_all : (a : DefinitionMap) (ps : DefinitionTree) {e : SchemaBuildError} → e ≡ OutOfMemory → UnionFails a ps a e
 not_joined_at_all a ps h = rw h (record { partly = record { keeps = λ n d k. k; only = λ n d k. inl k }; fault = tt })
 

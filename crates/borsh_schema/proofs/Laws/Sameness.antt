@@ -152,7 +152,7 @@ same_found None None f g = refl
 same_found None (Some d) f g = g d refl
 same_found (Some d) b f g = sym (f d refl)
 
--- definitions are joined with those of a type in one way
+-- all unions of one map with the definitions of one type are the same
 joined_once : {old a b : DefinitionMap} {ps : DefinitionTree} → IsUnion old ps a → IsUnion old ps b → (q : List ℕ) → a q ≡ b q
 joined_once {a = a} {b = b} i j q = same_found (a q) (b q) (λ d h. given_in j (i.only q d h)) (λ d h. given_in i (j.only q d h))
 

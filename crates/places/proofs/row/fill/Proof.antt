@@ -163,7 +163,7 @@ module _ (E : El) (W : RattleType) (n : ℕ) (g : Ghosts W.Denot (el_x E)) (d d'
           let xs : List (el_x E) = replicate n value in let xs_long = length-replicate n value in
           let flags = replicate n false in let flags_long = length-replicate n false in
           use1 𝓛 (‵ (all E b o xs flags)) (of_space (el E) 𝓛 b o n xs xs_long) $
-          -- [the places; the way back; the first value; the maker; the tokens: the reference's, T's, the maker's, N's]
+          -- [the places; `WayBack`; the first value; the maker; the tokens: the reference's, T's, the maker's, N's]
 
           -- `Slots::from_raw_parts`
           let from_at = at_from E 𝓛 𝓜.mem 𝓡.returns κT qT b o n xs flags in
@@ -174,7 +174,7 @@ module _ (E : El) (W : RattleType) (n : ℕ) (g : Ghosts W.Denot (el_x E)) (d d'
           (from_gives E 𝓛 𝓜.mem 𝓡.returns κT qT b o n xs flags v) $ await ! tt $ pick ! (λ row. learn ! (λ made. split ! $
           rewrite ! 0 (λ (k : ℕ). ‵ ((Row E).own_val row (row_val b o k ∷ []))) (sym made.1.1) refl $
           lands_as ! (made.0 ∙ ap (row_val b o) (sym made.1.1)) refl (row_typed E row b o) $
-          -- [the row; T's token; the way back; the first value; the maker; the tokens: the reference's, the maker's, N's]
+          -- [the row; T's token; `WayBack`; the first value; the maker; the tokens: the reference's, the maker's, N's]
 
           -- `put_all`
           let call : Call E W g d d' = record { κ = κ; κT = κT; κW = κW; q = q; qT = qT; qW = qW; bounds = (z.0.2.0, tt); row = row; b = b; o = o; first = value; u = u; maker = maker } in
@@ -189,7 +189,7 @@ module _ (E : El) (W : RattleType) (n : ℕ) (g : Ghosts W.Denot (el_x E)) (d d'
           let back : (Row E).Denot = r.0 in let typed = row_typed E back b o in let count : slots_len back ≡ n = came.1.count ∙ made.1.1 in
           lands_as ! came.0 refl (tt, (typed.1, (tt, tt))) $
           sets ! (of_opd ! (get_in ! (fld ! refl (stop !)) (sub ! 0 refl (whole !)))) refl typed $ sets ! (of_opd ! (get_in ! (fld ! refl (stop !)) (sub ! 1 refl (whole !)))) refl (tt, tt) $
-          -- [the tokens: the reference's, T's, the maker's; the row; what is left of the maker's reference; the way back; N's token]
+          -- [the tokens: the reference's, T's, the maker's; the row; what is left of the maker's reference; `WayBack`; N's token]
 
           -- `Slots::into_raw_parts`
           let into_at = at_into E 𝓛 𝓜.mem 𝓡.returns κT qT back b o in
@@ -200,9 +200,9 @@ module _ (E : El) (W : RattleType) (n : ℕ) (g : Ghosts W.Denot (el_x E)) (d d'
           await ! tt $ learn ! (λ parts. split ! $ lands_as ! parts refl typed $
           sets_last ! (of_opd ! (get ! refl)) refl (tt, tt) $ exec ! C Λ En (after 5 here.body) (at_ret En Post) $
           sets ! (of_opd ! (get ! refl)) refl (tt, tt) $ sets ! (of_opd ! (get ! refl)) refl (tt, tt) $
-          -- [the places; the tokens: T's, the reference's, the maker's; what is left of the maker's reference; the way back; N's token]
+          -- [the places; the tokens: T's, the reference's, the maker's; what is left of the maker's reference; `WayBack`; N's token]
           nothing ! $ move ! (7 ∷ 0 ∷ []) $ join ! $ move ! (4 ∷ 0 ∷ []) $ join ! $ move ! (2 ∷ 0 ∷ []) $ join ! $ move ! (2 ∷ 0 ∷ []) $ join ! $ move ! (1 ∷ []) $
-          -- [the places; the tokens; what is left of the maker's reference; the way back]
+          -- [the places; the tokens; what is left of the maker's reference; `WayBack`]
 
           first ! $ branches ! (get ! refl)
           -- the array is read, and its bytes are free again
