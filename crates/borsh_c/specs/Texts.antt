@@ -12,28 +12,28 @@ use Rattle.borsh_json.specs.declared.error.JsonError.TheVariants.{Ambiguous}
 use Rattle.borsh_c.specs.declared.refusal.Refusal.{Refusal}
 use Rattle.borsh_c.specs.declared.refusal.Refusal.TheVariants.{No, Malformed, OutOfMemory, Undecided}
 
--- no container, unless memory was refused
+-- no container, unless an allocation failed
 abbrev pub TellsUnread : ErrorKind → Refusal → Type 0
 TellsUnread kind (No t) = ⊥
 TellsUnread kind (Malformed t) = kind ≡ NoRoom → ⊥
 TellsUnread kind OutOfMemory = ⊤
 TellsUnread kind (Undecided t) = ⊥
 
--- no, unless memory was refused
+-- no, unless an allocation failed
 abbrev pub TellsBroken : SchemaContainerValidateError → Refusal → Type 0
 TellsBroken e (No t) = e ≡ NoRules → ⊥
 TellsBroken e (Malformed t) = ⊥
 TellsBroken e OutOfMemory = ⊤
 TellsBroken e (Undecided t) = ⊥
 
--- no, unless memory was refused
+-- no, unless an allocation failed
 abbrev pub TellsNoSize : SchemaMaxSerializedSizeError → Refusal → Type 0
 TellsNoSize e (No t) = e ≡ NoMemory → ⊥
 TellsNoSize e (Malformed t) = ⊥
 TellsNoSize e OutOfMemory = ⊤
 TellsNoSize e (Undecided t) = ⊥
 
--- a refusal of one kind, unless memory was refused
+-- a refusal of one kind, unless an allocation failed
 
 abbrev pub IsNo : Refusal → Type 0
 IsNo (No t) = ⊤
@@ -47,7 +47,7 @@ IsUndecided (Malformed t) = ⊥
 IsUndecided OutOfMemory = ⊤
 IsUndecided (Undecided t) = ⊤
 
--- no, or undecided where a name is undecided, unless memory was refused
+-- no, or undecided where a name is undecided, unless an allocation failed
 abbrev pub TellsNoValue : JsonError → Refusal → Type 0
 TellsNoValue e (No t) = ⊤
 TellsNoValue e (Malformed t) = ⊥

@@ -1,4 +1,4 @@
-//! The library for C: what a schema container says, and what bytes say by it.
+//! The library for C: what a schema container says, and what bytes mean by it.
 //!
 //! A container is given by its encoding, as `to_vec` of a `BorshSchemaContainer` makes it. Each call returns a code (the
 //! constants of [`codes`]) and gives a text or bytes in the caller's room: their length is written to `needed`, and they are

@@ -25,7 +25,7 @@ pub enum Question {
     Schema,
     /// Whether it keeps the rules.
     Check,
-    /// The length of the longest encoding of its root.
+    /// The greatest size of its root in bytes.
     Size,
 }
 
@@ -115,7 +115,7 @@ fn broken(alloc: Global, rule: &str, name: &str) -> Result<PlainText, AllocError
     Ok(out)
 }
 
-/// The length of the longest encoding of the root in decimal, or why there is none.
+/// The greatest size of the root in decimal, or why there is none.
 pub fn size(alloc: Global, container: &BorshSchemaContainer) -> Result<Answer, AllocError>
     ensures { IfOk result (λ a. AnswersSize (language_of container.now) (root_of container.now)
         a.is_yes (printed a.text)) }

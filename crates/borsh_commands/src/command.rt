@@ -82,7 +82,7 @@ pub struct ValueRequest<'a> {
 pub fn command<'a>(alloc: Global) -> Result<Command<'a>, AllocError> {
     Command::new(alloc, "borsh")
         .bin_name("borsh")?
-        .about("Answers what a Borsh schema container says, and what bytes say by it")
+        .about("Answers what a Borsh schema container says, and what bytes mean by it")
         .after_help(AFTER_HELP)
         .subcommand_required(true)
         .subcommand(schema_command(alloc)?)?
@@ -106,7 +106,7 @@ fn check_command<'a>(alloc: Global) -> Result<Command<'a>, AllocError> {
 }
 
 fn size_command<'a>(alloc: Global) -> Result<Command<'a>, AllocError> {
-    let size = on_container(alloc, "size", "Prints the length of the longest encoding")?;
+    let size = on_container(alloc, "size", "Prints the greatest size in bytes")?;
     Ok(size.after_help(AFTER_SIZE))
 }
 

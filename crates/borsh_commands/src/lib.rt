@@ -1,4 +1,4 @@
-//! The commands of the tool `borsh`: what a schema container says, and what bytes say by it.
+//! The commands of the tool `borsh`: what a schema container says, and what bytes mean by it.
 //!
 //! [`run`] is a run of the tool over the words of its command line. The modules have what it is made of: the command line
 //! ([`command`]), the answers about a container ([`answers`], [`definitions`]) and about a value ([`values`]), the text that is

@@ -42,7 +42,7 @@ last_key : {w m : ℕ} {j k : ℤ} {q p : List ℕ} → IsListedVariant j q ((k,
 last_key first_variant a = a
 last_key (later_variant c) a = elim c [ ]
 
--- what stands at another key
+-- what the table has at another key
 right_other : (w : ℕ) (k : ℤ) (p : List ℕ) (m n : ℕ) (vs : List (ℤ × List ℕ)) (a : AtKey) → IsRightAt w vs m a → IsTagKey w k n → (m ≡ n → ⊥) → IsRightAt w (vs ++ (k, p) ∷ []) m a
 right_other w k p m n vs (AtOne i) h key off = (
   h.0,

@@ -68,7 +68,7 @@ fn have_nodes(
 ///
 /// Where the definitions that are reached are valid and unambiguous, there is no such value if the answer is none;
 /// otherwise none may also say that the definitions don't determine the nodes. The definitions that the nodes have
-/// aren't looked at. An error is a refused allocation.
+/// aren't looked at. The only error is that an allocation failed.
 pub fn encode_value(
     alloc: Global,
     root: &str,

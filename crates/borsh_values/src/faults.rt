@@ -55,7 +55,7 @@ pub enum PathStep<'a> {
     Variant(&'a str),
 }
 
-/// The way from the root to a part of its value. It is written as `A.y[3]`, or `A.y[3]::V.0` for the first field of
+/// The path from the root to a part of its value. It is written as `A.y[3]`, or `A.y[3]::V.0` for the first field of
 /// a variant.
 #[derive(Drop)]
 pub struct Path<'a> {

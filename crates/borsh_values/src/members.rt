@@ -120,8 +120,8 @@ fn at_end<'a>(alloc: Global, root: &'a str, bytes: &[u8], left: &[u8]) -> Member
 /// The definitions may be any: a name without a definition has no member, and neither has one that leads back
 /// to itself before any byte. If they are no member, the answer says where: no member of [`Fault::name`] begins at
 /// [`Fault::offset`], or bytes are left behind a whole value. The answer is never [`Membership::Ambiguous`] where the
-/// definitions that are reached are valid, as [`borsh_walks::check_rules`] says, and unambiguous. An error is a
-/// refused allocation.
+/// definitions that are reached are valid, as [`borsh_walks::check_rules`] says, and unambiguous. The only
+/// error is that an allocation failed.
 pub fn is_member<'a>(
     alloc: Global,
     root: &'a str,
@@ -168,7 +168,8 @@ pub enum Decoded<'a> {
 ///
 /// The definitions may be any, as for [`is_member`], and the answer is of the same kind. Where they are
 /// unambiguous, as [`crate::find_ambiguous`] says, the bytes have these nodes and no others. The own bytes of all
-/// nodes, one after another, are `bytes`, and each node says where its own begin. An error is a refused allocation.
+/// nodes, one after another, are `bytes`, and each node says where its own begin. The only error is
+/// that an allocation failed.
 pub fn decode<'a>(
     alloc: Global,
     root: &'a str,
@@ -197,8 +198,8 @@ pub fn decode<'a>(
     }
 }
 
-// The loop over the bytes, which lists the nodes if they are wanted. Each frame of `stack` waits until the one after it was read; `idle` counts the names
-// that were begun since the last byte was taken.
+// The loop over the bytes, which lists the nodes if they are asked for. Each frame of `stack` waits until the one after
+// it was read; `idle` counts the names that were begun since the last byte was taken.
 fn decide<'a>(
     alloc: Global,
     root: &'a str,

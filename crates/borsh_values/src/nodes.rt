@@ -113,7 +113,8 @@ pub fn list_node<'a>(
 
 /// The bytes of the value that has these nodes: the own bytes of each, one after another.
 ///
-/// Whether they are a value at all isn't asked: [`crate::encode_value`] does. An error is a refused allocation.
+/// Whether they are a value at all isn't asked: [`crate::encode_value`] does. The only error is that an allocation
+/// failed.
 pub fn encode(alloc: Global, nodes: &[Node<'_>]) -> Result<Vec<u8>, AllocError>
     ensures { IfOk result (λ bytes. bytes.items ≡ joined_bytes (views nodes.now)) }
 {

@@ -21,7 +21,7 @@ pub enum AtKey {
 // An enum with at most so many variants has no table.
 const FEW: usize = 16;
 
-// What stands at a key, with one variant more.
+// What the table has at a key, with one variant more.
 fn entry_for(table: &BTreeMap<u64, AtKey>, key: u64, index: usize) -> AtKey
     ensures { IsEntryFor (at_key table.now key) index result }
 {

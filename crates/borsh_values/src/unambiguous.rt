@@ -79,7 +79,7 @@ fn unseen<'a>(
 /// depth-first walk finds; none if there is no such name, so that bytes are a value in at most one way.
 ///
 /// A sequence is at fault where its range has more counts than its width can encode, an enum where two variants
-/// have the same tag in its width. Each definition is looked at once. An error is a refused allocation.
+/// have the same tag in its width. Each definition is looked at once. The only error is that an allocation failed.
 pub fn find_ambiguous<'a>(
     alloc: Global,
     root: &'a str,
