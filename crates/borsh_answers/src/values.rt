@@ -74,7 +74,8 @@ fn value_from<T: BorshDeserialize>(alloc: Global, strict: bool, bytes: &[u8]) ->
 pub fn ok_answer(alloc: Global, bytes: &[u8]) -> Result<Vec<u8>, AllocError>
     ensures { IfOk result (λ out. out.items ≡ codes "ok " ++ digits_of bytes.now) }
 {
-    let mut out = Vec::new(alloc);
+    let length = bytes.len().saturating_mul(2).saturating_add(4);
+    let mut out = Vec::with_capacity(alloc, length)?;
     out.extend_from_slice(b"ok ")?;
     push_digits(alloc, bytes, &mut out)?;
     Ok(out)
@@ -89,9 +90,10 @@ pub fn error_answer(alloc: Global, error: &Error) -> Result<Vec<u8>, AllocError>
     if error.kind() == ErrorKind::OutOfMemory {
         return Err(AllocError);
     }
-    let mut out = Vec::new(alloc);
+    let message = error.message();
+    let mut out = Vec::with_capacity(alloc, message.len().saturating_add(7))?;
     out.extend_from_slice(b"error ")?;
-    for byte in error.message().as_bytes() {
+    for byte in message.as_bytes() {
         out.push(space_for_feed(*byte))?;
     }
     Ok(out)
