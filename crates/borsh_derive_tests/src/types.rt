@@ -423,6 +423,47 @@ const SCHEMA_OF_PAIR: &[u8] =
       \x04\0\0\0bool\x16\0\0\0Pair<u8,\x20Option<bool>>\x04\0\x02\0\0\0\x05\0\0\0first\x02\0\0\
       \0u8\x06\0\0\0second\x0c\0\0\0Option<bool>\x04\0\0\0bool\0\x01\x02\0\0\0u8\0\x01";
 
+const SCHEMA_OF_MARKER: &[u8] = b"\x06\0\0\0Marker\x01\0\0\0\x06\0\0\0Marker\x04\x02";
+
+const SCHEMA_OF_POINT: &[u8] =
+    b"\x05\0\0\0Point\x03\0\0\0\x05\0\0\0Point\x04\x01\x02\0\0\0\x03\0\0\0u32\x03\0\0\0i3\
+      2\x03\0\0\0i32\0\x04\x03\0\0\0u32\0\x04";
+
+const SCHEMA_OF_NAME: &[u8] =
+    b"\x04\0\0\0Name\x03\0\0\0\x04\0\0\0Name\x04\0\x01\0\0\0\x04\0\0\0text\x06\0\0\0Strin\
+      g\x06\0\0\0String\x01\x04\0\0\0\0\0\0\0\0\xff\xff\xff\xff\0\0\0\0\x02\0\0\0u8\x02\0\
+      \0\0u8\0\x01";
+
+const SCHEMA_OF_ACCOUNT: &[u8] =
+    b"\x07\0\0\0Account\x08\0\0\0\x02\0\0\0()\0\0\x0d\0\0\0(String,\x20u64)\x02\x02\0\0\0\
+      \x06\0\0\0String\x03\0\0\0u64\x07\0\0\0Account\x04\0\x03\0\0\0\x02\0\0\0id\x03\0\0\
+      \0u64\x08\0\0\0balances\x15\0\0\0BTreeMap<String,\x20u64>\x04\0\0\0note\x0e\0\0\0Op\
+      tion<String>\x15\0\0\0BTreeMap<String,\x20u64>\x01\x04\0\0\0\0\0\0\0\0\xff\xff\xff\
+      \xff\0\0\0\0\x0d\0\0\0(String,\x20u64)\x0e\0\0\0Option<String>\x03\x01\x02\0\0\0\0\
+      \0\0\0\0\0\0\0\x04\0\0\0None\x02\0\0\0()\x01\0\0\0\0\0\0\0\x04\0\0\0Some\x06\0\0\0S\
+      tring\x06\0\0\0String\x01\x04\0\0\0\0\0\0\0\0\xff\xff\xff\xff\0\0\0\0\x02\0\0\0u8\
+      \x03\0\0\0u64\0\x08\x02\0\0\0u8\0\x01";
+
+const SCHEMA_OF_LEVEL: &[u8] =
+    b"\x05\0\0\0Level\x04\0\0\0\x05\0\0\0Level\x03\x01\x03\0\0\0\x01\0\0\0\0\0\0\0\x03\0\
+      \0\0Low\x0a\0\0\0Level__Low\x09\0\0\0\0\0\0\0\x04\0\0\0High\x0b\0\0\0Level__High\
+      \x0a\0\0\0\0\0\0\0\x03\0\0\0Top\x0a\0\0\0Level__Top\x0b\0\0\0Level__High\x04\x02\
+      \x0a\0\0\0Level__Low\x04\x02\x0a\0\0\0Level__Top\x04\x02";
+
+const SCHEMA_OF_REQUEST: &[u8] =
+    b"\x07\0\0\0Request\x07\0\0\0\x07\0\0\0Request\x03\x01\x03\0\0\0\x07\0\0\0\0\0\0\0\
+      \x03\0\0\0Get\x0c\0\0\0Request__Get\x08\0\0\0\0\0\0\0\x03\0\0\0Put\x0c\0\0\0Request\
+      __Put\x20\0\0\0\0\0\0\0\x04\0\0\0Stop\x0d\0\0\0Request__Stop\x0c\0\0\0Request__Get\
+      \x04\x01\x01\0\0\0\x03\0\0\0u64\x0c\0\0\0Request__Put\x04\0\x02\0\0\0\x03\0\0\0key\
+      \x03\0\0\0u64\x05\0\0\0value\x07\0\0\0Vec<u8>\x0d\0\0\0Request__Stop\x04\x02\x07\0\
+      \0\0Vec<u8>\x01\x04\0\0\0\0\0\0\0\0\xff\xff\xff\xff\0\0\0\0\x02\0\0\0u8\x03\0\0\0u6\
+      4\0\x08\x02\0\0\0u8\0\x01";
+
+const SCHEMA_OF_VERSION: &[u8] =
+    b"\x07\0\0\0Version\x03\0\0\0\x07\0\0\0Version\x03\x01\x01\0\0\0\0\0\0\0\0\0\0\0\x02\
+      \0\0\0V1\x0b\0\0\0Version__V1\x0b\0\0\0Version__V1\x04\0\x01\0\0\0\x06\0\0\0number\
+      \x03\0\0\0u32\x03\0\0\0u32\0\x04";
+
 fn schemas(alloc: Global) -> Result<bool, Fail> {
     Ok(
         has_schema::<A>(alloc, SCHEMA_OF_A)?
@@ -445,6 +486,31 @@ fn schemas_are_those_of_the_original(rt: HostRuntime) -> Result<(), Fail> {
     let alloc = rt.alloc();
     assert!(rt; schemas(alloc)?);
     assert!(rt; schemas_of_parameters(alloc)?);
+    Ok(())
+}
+
+fn schemas_of_structs(alloc: Global) -> Result<bool, Fail> {
+    Ok(
+        has_schema::<Marker>(alloc, SCHEMA_OF_MARKER)?
+            && has_schema::<Point>(alloc, SCHEMA_OF_POINT)?
+            && has_schema::<Name>(alloc, SCHEMA_OF_NAME)?
+            && has_schema::<Account>(alloc, SCHEMA_OF_ACCOUNT)?,
+    )
+}
+
+fn schemas_of_enums(alloc: Global) -> Result<bool, Fail> {
+    Ok(
+        has_schema::<Level>(alloc, SCHEMA_OF_LEVEL)?
+            && has_schema::<Request>(alloc, SCHEMA_OF_REQUEST)?
+            && has_schema::<Version>(alloc, SCHEMA_OF_VERSION)?,
+    )
+}
+
+#[test]
+fn schemas_name_fields_variants_and_tags(rt: HostRuntime) -> Result<(), Fail> {
+    let alloc = rt.alloc();
+    assert!(rt; schemas_of_structs(alloc)?);
+    assert!(rt; schemas_of_enums(alloc)?);
     Ok(())
 }
 
@@ -477,8 +543,23 @@ fn unit_variants(alloc: Global) -> Result<bool, Fail> {
     Ok(
         is_encoding(alloc, mixed, b"\x02\x84\0\0\0\xef\xff\xff\xff")?
             && is_encoding(alloc, MixedWithUnitVariants::A(13), b"\0\x0d\0")?
+            && is_encoding(alloc, MixedWithUnitVariants::B, b"\x01")?
             && is_encoding(alloc, MixedWithUnitVariants::D, b"\x03")?,
     )
+}
+
+fn an_enum_in_a_list(alloc: Global) -> Result<bool, Fail> {
+    let texts: B<String, u64> = B::X {
+        f: vec![in alloc;
+            text(alloc, "one")?,
+            text(alloc, "two")?,
+            text(alloc, "three")?,
+        ]?,
+    };
+    let number = B::Y(Box::new(alloc, 656556u64)?);
+    let bytes =
+        b"\x02\0\0\0\0\x03\0\0\0\x03\0\0\0one\x03\0\0\0two\x05\0\0\0three\x01\xac\x04\x0a\0\0\0\0\0";
+    is_encoding(alloc, vec![in alloc; texts, number]?, bytes)
 }
 
 fn generic(alloc: Global) -> Result<Generic<String, u64, String>, Fail> {
@@ -520,6 +601,7 @@ fn types_of_the_original_s_tests_have_its_encodings(rt: HostRuntime) -> Result<(
     assert!(rt; a_struct(alloc)? && a_list(alloc)?);
     assert!(rt; discriminants(alloc)?);
     assert!(rt; unit_variants(alloc)?);
+    assert!(rt; an_enum_in_a_list(alloc)?);
     assert!(rt; is_encoding(alloc, generic(alloc)?, GENERIC)?);
     assert!(rt; a_map_in_a_struct(alloc)?);
     Ok(())
