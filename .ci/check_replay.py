@@ -129,7 +129,7 @@ def check_table(table, counts, different):
     for source in sorted(table.keys() | counts.keys()):
         _words, stored, said = table.get(source, ([], None, None))
         if (stored, said) != (counts[source], different[source]):
-            wrong.append(f"replay/README.md: of {source} {counts[source]} lines are stored, {different[source]} of them different")
+            wrong.append(f"replay/README.md: {source} has {counts[source]} stored lines, {different[source]} of them different")
     code = read("replay/src/expected.rs")
     named = set(re.findall(r'(?:by_rule\(|Some\(|then_some\(|ORIGINAL: &str = )\s*"([a-z-]+)"', code))
     if named != table.keys():
@@ -172,7 +172,7 @@ def main():
         print(it)
     if wrong:
         sys.exit(1)
-    print(f"The replay has {counts.total()} stored lines of {len(counts)} sources; the original answers {different.total()} otherwise")
+    print(f"The replay has {counts.total()} stored lines of {len(counts)} sources: {different.total()} are answered otherwise")
 
 
 main()
