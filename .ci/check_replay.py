@@ -29,7 +29,8 @@ wrong = []
 
 
 def read(path):
-    return (top / path).read_text(encoding="utf-8")
+    """The text of a file, whose lines end in a line feed alone."""
+    return (top / path).read_bytes().decode("utf-8")
 
 
 def rows_of(path, columns, least):
