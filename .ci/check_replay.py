@@ -2,17 +2,16 @@
 """Checks the replay's stored files without the original: crates/borsh_replay/stdin and stdout, and replay/differences.tsv.
 
 Each stored line has a source and an answer, and the source is a row of the table in replay/README.md that allows such a
-line. The table, replay/src/expected.rs and the stored lines have the same sources, stdout has one line for each source, with
-its count, and the counts of the table are right. Each line that the original answers otherwise is a stored one, with
-its source as the reason. Each type that the program has a word for has stored lines. Where another document gives a number
-of stored lines, it is right.
+line. The table, replay/src/expected.rs and the stored lines have the same sources, stdout has one line for each source,
+with its count, and the counts of the table are right. Each line that the original answers otherwise is a stored one, with
+its source as the reason, which docs/DIFFERENCES.md names. Each type that the program has a word for has stored lines. Where
+another document gives a number of stored lines, it is right.
 """
 import collections
 import pathlib
 import re
 import sys
 
-ORIGINAL = "original"
 # The sources of which the original answers each line otherwise, and those of which it may answer some so.
 ALWAYS_DIFFERENT = {"enum-count", "empty-siblings", "all-counts"}
 SOMETIMES_DIFFERENT = {"empty-elements"}
@@ -153,7 +152,11 @@ def check_words(stored):
 
 
 def check_documents(all_stored, all_different):
-    """The numbers of lines that the documents give."""
+    """The numbers of lines that the documents give, and the reasons why the original answers otherwise."""
+    text = read("docs/DIFFERENCES.md")
+    for reason in sorted(ALWAYS_DIFFERENT | SOMETIMES_DIFFERENT):
+        if f"`{reason}`" not in text:
+            wrong.append(f"docs/DIFFERENCES.md doesn't name the reason `{reason}`")
     right = {"stored lines": all_stored, "lines that the original answers otherwise": all_different}
     for path in DOCUMENTS:
         for number, what in SAID.findall(re.sub(r"\s+", " ", read(path))):
