@@ -2,9 +2,9 @@
 
 import re
 
-from layout import (GHOST_WORDS, WIDTH, Group, Term, arm, binding, call, flat, function_head, ghost_cases, ghost_member,
-                    ghost_name, ghost_term, ghost_tuple, impl_head, import_lines, laid_out, pattern, statement, struct_of,
-                    tuple_of, tuple_type, type_layout, type_text)
+from layout import (GHOST_WORDS, WIDTH, Group, Term, arm, binding, block_arm, call, chain, chain_fits, conjunction, flat,
+                    function_head, ghost_cases, ghost_member, ghost_name, ghost_term, ghost_tuple, impl_head,
+                    import_lines, pattern, statement, struct_of, tuple_of, tuple_type, type_layout, type_text, within)
 from rust_types import Array
 
 NUMBERS = ('zero', 'one', 'two', 'three', 'four', 'five', 'six', 'seven', 'eight', 'nine', 'ten', 'eleven',
@@ -73,6 +73,10 @@ class Writer:
 
     def own(self):
         return self.marked.name + self.arguments()
+
+    def own_layout(self):
+        names = [parameter.name for parameter in self.marked.parameters]
+        return generic_group(self.marked.name, names) if names else self.marked.name
 
     def alias_use(self, alias=None):
         """The alias with those parameters that the encoded fields name."""
@@ -342,30 +346,33 @@ def struct_meaning(writer):
         view = struct_view(writer).within('(', ')')
     else:
         view = quote(writer, writer.own(), 'FromParts', '.view')
-    of_fields = quote(writer, writer.alias_use(), 'BorshType', '.lawful_if')
-    laws = ghost_member('lawful_if', 'from', [view.within('(contramap-lawful ', ')'), of_fields], 4)
-    encodes_empty = of_parts(writer, 'encodes_empty', and_then)
-    element_size = of_parts(writer, 'element_size', added)
-    return meaning(writer, view, 'BorshType', laws, encodes_empty, element_size)
+    laws_of_fields = quote(writer, writer.alias_use(), 'BorshType', '.lawful_if')
+    laws = ghost_member('lawful_if', 'from', [view.within('(contramap-lawful ', ')'), laws_of_fields], 4)
+    return meaning(writer, view, 'BorshType', laws, encodes_empty(writer), element_size(writer))
 
 
-def of_parts(writer, name, joined):
+def encodes_empty(writer):
+    calls = of_fields(writer, 'encodes_empty')
+    return ' ' * 8 + conjunction(calls, 8, 8, 0)
+
+
+def element_size(writer):
+    calls = of_fields(writer, 'element_size')
+    added = [within('.saturating_add(', call, ')') for call in calls[1:]]
+    if len(calls) == 2 and not chain_fits(calls[0], added, 8):
+        rows = [statement('let first = ', calls[0], ';', 8), statement('let second = ', calls[1], ';', 8)]
+        return '\n'.join(rows + [' ' * 8 + 'first.saturating_add(second)'])
+    return chain(calls[0], added, 8)
+
+
+def of_fields(writer, name):
     """A call of `BorshType` for all fields. With a length as a parameter each field is asked by itself: that a tuple
     with an array of such a length fits in memory doesn't follow."""
-    types = [type_text(field.type) for field in writer.marked.fields.encoded()]
+    types = [type_layout(field.type) for field in writer.marked.fields.encoded()]
     if not any(parameter.constant for parameter in writer.marked.parameters) or not types:
-        return '<%s>::%s()' % (writer.alias_use(), name)
-    return joined(['%s::%s()' % (text if re.fullmatch(r'\w+', text) else '<%s>' % text, name) for text in types])
-
-
-def and_then(calls):
-    if len(calls) < 3:
-        return ' && '.join(calls)
-    return '%s && (%s)' % (calls[0], and_then(calls[1:]))
-
-
-def added(calls):
-    return calls[0] + ''.join('.saturating_add(%s)' % call for call in calls[1:])
+        return ['<%s>::%s()' % (writer.alias_use(), name)]
+    ends = [('', '') if re.fullmatch(r'\w+', flat(node)) else ('<', '>') for node in types]
+    return [within(start, node, '%s::%s()' % (end, name)) for node, (start, end) in zip(types, ends)]
 
 
 def quote(writer, name, trait, member):
@@ -373,25 +380,25 @@ def quote(writer, name, trait, member):
     return Term('', ['⟦<%s as %s>⟧%s' % (name, writer.lib(trait), member)])
 
 
-def meaning(writer, view, trait, laws, encodes_empty, element_size):
+def meaning(writer, view, trait, laws, empty, size):
     """`impl BorshType`: the codec of the parts, seen through the view, and the laws that follow from theirs."""
     codec = quote(writer, writer.alias_use(), trait, '.codec')
     rows = [ghost_member('codec', 'contramap', [view, codec], 4), '', laws, '', writer.premises(), '',
-            '    fn encodes_empty() -> bool {', '        ' + encodes_empty, '    }', '',
-            '    fn element_size() -> usize {', '        ' + element_size, '    }']
+            '    fn encodes_empty() -> bool {', empty, '    }', '',
+            '    fn element_size() -> usize {', size, '    }']
     return writer.block('BorshType', 'BorshType', rows)
 
 
 def struct_encoding(writer):
     names = ['self.' + field.name for field in writer.marked.fields.encoded()]
     if not names:
-        body = call(writer.lib('write_bytes'), ['&[]', 'writer'])
+        body = statement('', call(writer.lib('write_bytes'), ['&[]', 'writer']), '', 8)
     elif len(names) == 1:
-        body = call(names[0] + '.serialize', ['alloc', 'writer'])
+        body = chain('self', [names[0][len('self'):], '.serialize(alloc, writer)'], 8)
     else:
         arguments = ['&' + name for name in names] + ['alloc', 'writer']
-        body = call(writer.lib('write_' + NUMBERS[len(names)]), arguments)
-    rows = [serialize_head(writer, used=bool(names)), statement('', body, '', 8), '    }']
+        body = statement('', call(writer.lib('write_' + NUMBERS[len(names)]), arguments), '', 8)
+    rows = [serialize_head(writer, used=bool(names)), body, '    }']
     return writer.block('BorshSerialize', 'BorshSerialize', rows)
 
 
@@ -409,7 +416,7 @@ def struct_parts(writer):
     view = ghost_term(struct_view(writer).within('ghost view = { ', ' };'), 4)
 
     def head_with(name):
-        return function_head('from_parts', ['%s: %s' % (name, writer.alias_use())], writer.own(), 4)
+        return function_head('from_parts', ['%s: %s' % (name, writer.alias_use())], writer.own_layout(), 4)
 
     # the fields are taken apart in the parameter where they fit into its line
     head = head_with(flat(tuple_of(names))) if 1 < len(names) <= TUPLE else ''
@@ -446,7 +453,7 @@ def pairs(items):
 def deserialize_head(writer, name, more):
     parameters = ['alloc: %s' % writer.lib('Global'), 'reader: &mut %s' % writer.source] + more
     generic = '%s<%s: %s>' % (name, writer.source, writer.lib('Read'))
-    return function_head(generic, parameters, '%s<%s>' % (writer.lib('Result'), writer.own()), 4)
+    return function_head(generic, parameters, generic_group(writer.lib('Result'), [writer.own_layout()]), 4)
 
 
 # ---- enums
@@ -507,7 +514,7 @@ def ghost_binders(fields):
 
 
 def enum_cases(writer):
-    head = function_head('from_cases', ['cases: %s' % writer.alias_use()], writer.own(), 4)
+    head = function_head('from_cases', ['cases: %s' % writer.alias_use()], writer.own_layout(), 4)
     view = ghost_cases('view', enum_view(writer), 4)
     rows = ['    type Cases = %s;' % writer.alias_use(), '', view, '', head, '        match cases {']
     for variant, turns in on_tree(writer.marked.variants):
@@ -527,16 +534,20 @@ def from_case(writer, variant, turns):
     value = made('%s::%s' % (writer.marked.name, variant.name), variant.fields, names)
     if len(names) < 2 and not held:
         return [arm(node, value, 12)]
-    taken = [' ' * 16 + 'let %s = case.0;' % names[0]] if held else taking_apart('fields', names, 16)
-    rows = [' ' * 12 + laid_out(node, 12, 12, len(' => {')) + ' => {'] + taken
-    return rows + [statement('', value, '', 16), '            }']
+
+    def rows_at(indent):
+        taken = [' ' * indent + 'let %s = case.0;' % names[0]] if held else taking_apart('fields', names, indent)
+        return taken + [statement('', value, '', indent)]
+
+    return block_arm(node, rows_at, 12)
 
 
 def enum_meaning(writer):
     view = quote(writer, writer.own(), 'FromCases', '.view')
     variants = quote(writer, writer.alias_use(), 'Cases', '.variants')
     laws = ghost_member('lawful_if', 'enum_lawful_if', [view, variants, Term('', ['refl'])], 4)
-    return meaning(writer, view, 'Cases', laws, 'false', '<%s>::element_size()' % writer.alias_use())
+    size = ' ' * 8 + '<%s>::element_size()' % writer.alias_use()
+    return meaning(writer, view, 'Cases', laws, '        false', size)
 
 
 def enum_encoding(writer):

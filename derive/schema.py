@@ -20,12 +20,13 @@ def with_schema(writer, blocks):
 def schema(writer, data, adding, describes):
     """`impl BorshSchema`: the members that say what the schema is, the call that adds the definitions, and a proof."""
     parameters = named_parameters(writer)
-    own = 'declared(alloc, "%s")' % writer.marked.name
     if parameters:
-        own = 'declared_with::<%s, %s>(alloc, "%s")' % (parameters[0], chain(parameters[1:], '()'), writer.marked.name)
-    writer.lib(own.split('(')[0].split(':')[0])
+        function = '%s::<%s, %s>' % (writer.lib('declared_with'), parameters[0], chain(parameters[1:], '()'))
+    else:
+        function = writer.lib('declared')
+    declared = statement('', call(function, ['alloc', '"%s"' % writer.marked.name]), '', 8)
     rows = ['    ghost name = { %s };' % ghost_own_name(writer), ''] + data + ['']
-    rows += [head(writer, 'declaration', [], writer.lib('Declaration')), '        ' + own, '    }', '',
+    rows += [head(writer, 'declaration', [], writer.lib('Declaration')), declared, '    }', '',
              head(writer, 'add_definitions_recursively', ['map: &mut %s' % writer.lib('DefinitionMap')], '()'),
              adding, '    }', '', describes]
     return writer.block('BorshSchema', 'BorshSchema', rows)

@@ -275,6 +275,7 @@ def refuse_stray_marks(reader, seen):
 # ---- items
 
 # words before the keyword of an item, and keywords behind which an item has its name
+VISIBLE_IN = ('crate', 'super', 'self', 'in')
 MODIFIERS = ('unsafe', 'const', 'final', 'extern', 'async')
 NAMED = ('struct', 'enum', 'type', 'const', 'static', 'fn', 'trait', 'mod', 'union')
 
@@ -322,10 +323,11 @@ def goes_on(reader):
 
 
 def skip_visibility(reader):
-    """Goes past `pub` or `pub(..)`, and says whether it was there."""
+    """Goes past `pub` or `pub(crate)`, and says whether it was there. A type in brackets may follow, as in
+    `pub (u8, u16)`."""
     if not reader.skip('pub'):
         return False
-    if reader.is_next('('):
+    if reader.is_next('(') and reader.peek(1).text in VISIBLE_IN:
         reader.group()
     return True
 
