@@ -24,15 +24,14 @@ OFFERED |= {'write_' + number for number in NUMBERS[2:]} | {'Tuple%d' % count fo
 
 
 class Place:
-    """Where a type is: its crate's name, the file's module (None for the root file), and what the module says."""
+    """Where a type is: its crate's name, the file's module (None for the root file), what the module says, and the
+    file's name."""
 
-    def __init__(self, crate, module_name, module):
+    def __init__(self, crate, module_name, module, file):
         self.crate = crate
         self.module_name = module_name
         self.module = module
-
-    def file(self):
-        return (self.module_name or 'lib') + '.rt'
+        self.file = file
 
 
 class Writer:
@@ -138,7 +137,7 @@ class Writer:
         """The blocks with their imports."""
         body = '\n\n'.join(blocks)
         head = '// Written by borsh_derive.py from %s: edit that file, and run the program again.'
-        rows = [head % self.place.file()]
+        rows = [head % self.place.file]
         rows += ghost_imports(self, body)
         rows += [''] + import_lines(self.all_imports()) + ['', body]
         return '\n'.join(rows) + '\n'

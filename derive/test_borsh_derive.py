@@ -344,7 +344,7 @@ class Refused(Cases):
         self.one('pub struct A(pub Vec<B>);\n\n// derive: borsh\npub struct B(pub Option<A>);\n', 2, '`A` holds itself through `B`')
 
     def test_two_types_of_one_name(self):
-        self.refused('// derive: borsh\npub struct A;\n', 2, 'a second type `A`: the other one is in src/other.rt', other='// derive: borsh\npub enum A {\n    B,\n}\n')
+        self.refused('// derive: borsh\npub struct A;\n', 2, 'a second type `A`: the other one is in src/other.rt', root=HEAD + 'pub mod other;\n', other='// derive: borsh\npub enum A {\n    B,\n}\n')
 
     def test_two_types_with_one_file(self):
         self.refused('// derive: borsh\npub struct ABC;\n\n// derive: borsh\npub struct Abc;\n', 5, 'would have one file, types_abc.rt')
