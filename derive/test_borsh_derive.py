@@ -189,7 +189,7 @@ class Taken(Cases):
         self.assertIn('name_with (codes "P") A.name (B.name ∷ [])', text)
         self.assertIn('declared_with::<A, (B, ())>(alloc, "P")', text)
         self.assertIn('impl<A: BorshSchema, B: BorshSchema, N> BorshSchema for P<A, B, N> {', text)
-        self.assertIn('(describes_contramap (λ v. v.items) (describes_elements h.1.0.0 (A.describes C h.1.0.1.0)))', text)
+        self.assertIn('(describes_contramap (λ list. list.items)\n        (describes_elements held.1.0.0 (A.describes defs held.1.0.1.0)))', text)
 
     def test_parameters_that_are_keys(self):
         text = self.written('use borsh::BorshKey;\n\n// derive: borsh\npub struct Book<K: BorshKey + Ord, V> {\n    pub map: Map<K, V>,\n}\n', 'types_book')
