@@ -1,6 +1,7 @@
 """Why the definitions of a type with parameters describe its encodings: a ghost term over the types of its fields."""
 
-from layout import WIDTH, ghost_name, type_text
+from ghost import Applied, Term, ghost_member, ghost_name, nested_pairs
+from layout import type_text
 from refusal import Refusal
 from rust_types import Array, Path, Tuple, heads
 
@@ -10,49 +11,15 @@ LISTS = {'Vec': '(λ list. list.items)', 'VecDeque': '(λ list. list.items)', 'L
 HELD = ('Box', 'Rc')
 
 
-class Applied:
-    """A function applied to arguments, each a text or such a term."""
-
-    def __init__(self, function, *arguments):
-        self.function = function
-        self.arguments = arguments
-
-    def __str__(self):
-        return '(%s)' % ' '.join([self.function] + [str(argument) for argument in self.arguments])
-
-    def rows(self, indent, behind):
-        """The lines from column `indent` on, with `behind` columns behind the last. `rt fmt` gives them one indentation."""
-        if indent + len(str(self)) + behind <= WIDTH:
-            return [' ' * indent + str(self)]
-        rows = [' ' * indent + '(' + self.function]
-        for index, argument in enumerate(self.arguments):
-            is_last = index + 1 == len(self.arguments)
-            after = behind + 1 if is_last else 0
-            if len(rows) == 1 and len(rows[0]) + 1 + len(str(argument)) + after <= WIDTH:
-                rows[0] += ' %s' % argument
-            elif isinstance(argument, Applied):
-                rows += argument.rows(indent, after)
-            else:
-                rows.append(' ' * indent + argument)
-        return rows[:-1] + [rows[-1] + ')']
-
-
 def describes_fields(writer, fields):
     """The member `describes`. `defs` are the definitions of a container, and `held` says that it holds the type's:
     `held.0` its own, `held.1` those of the fields."""
     parameters = [parameter.name for parameter in writer.marked.parameters if not parameter.constant]
     terms = Terms(writer, parameters)
-    view = '(λ v. %s)' % ghost_pairs(['v.' + ghost_name(field.name) for field in fields])
+    view = Term('(λ v. ', nested_pairs(['v.' + ghost_name(field.name) for field in fields]), ')')
     parts = terms.parts([field.type for field in fields], 'held.1', fields[0].line)
-    start = '    ghost describes = { λ defs held. describes_contramap '
-    rows = [start + view] if len(start + view) <= WIDTH else [start.rstrip(), ' ' * 8 + view]
-    rows += Applied('describes_parts', 'held.0', parts).rows(8, len(' };'))
-    return '\n'.join(rows) + ' };'
-
-
-def ghost_pairs(names):
-    """`(a, (b, c))`."""
-    return names[0] if len(names) == 1 else '(%s, %s)' % (names[0], ghost_pairs(names[1:]))
+    function = 'λ defs held. describes_contramap'
+    return ghost_member('describes', function, [view, Applied('describes_parts', 'held.0', parts)], 4)
 
 
 class Terms:
@@ -68,9 +35,9 @@ class Terms:
             name = '<%s as %s>' % (type_text(node), self.writer.lib('BorshSchema'))
             return Applied('⟦%s⟧.described.describes' % name, 'defs', at)
         if isinstance(node, Tuple):
-            view = ghost_pairs(['tuple.%d' % index for index in range(len(node.items))])
+            places = ['tuple.%d' % index for index in range(len(node.items))]
             parts = Applied('describes_parts', at + '.0', self.parts(node.items, at + '.1', line))
-            return Applied('describes_contramap', '(λ tuple. %s)' % view, parts)
+            return Applied('describes_contramap', Term('(λ tuple. ', nested_pairs(places), ')'), parts)
         if isinstance(node, Array):
             return Applied('describes_row', node.length, at + '.0', self.of(node.element, at + '.1.0', line))
         return self.of_path(node, at, line)

@@ -2,9 +2,10 @@
 
 import re
 
-from layout import (GHOST_WORDS, WIDTH, Group, Term, arm, binding, block_arm, call, chain, chain_fits, conjunction, flat,
-                    function_head, ghost_cases, ghost_member, ghost_name, ghost_term, ghost_tuple, impl_head,
-                    import_lines, pattern, statement, struct_of, tuple_of, tuple_type, type_layout, type_text, within)
+from ghost import GHOST_WORDS, Term, ghost_cases, ghost_member, ghost_name, ghost_term, nested_pairs, within_width
+from layout import (WIDTH, Group, arm, binding, block_arm, call, chain, chain_fits, conjunction, doc_line, flat,
+                    function_head, impl_head, import_lines, pattern, statement, struct_of, tuple_of, tuple_type,
+                    type_layout, type_text, within)
 from rust_types import Array
 
 NUMBERS = ('zero', 'one', 'two', 'three', 'four', 'five', 'six', 'seven', 'eight', 'nine', 'ten', 'eleven',
@@ -117,7 +118,7 @@ class Writer:
     def block(self, trait, bound, rows):
         """An `impl` block."""
         head = impl_head(self.bounded(self.lib(bound)), self.lib(trait), self.own(), self.where())
-        return '\n'.join([head] + rows + ['}'])
+        return '\n'.join([head] + within_width(rows) + ['}'])
 
     def premises(self):
         """The proof of what the laws rest on: facts of keys, and what the parameters bring."""
@@ -265,7 +266,7 @@ def type_of_parts(fields):
 
 def ghost_parts(items):
     """Names in the form of the type of the parts."""
-    return items[:TUPLE - 1] + [ghost_tuple(ghost_parts(items[TUPLE - 1:]))] if len(items) > TUPLE else items
+    return items[:TUPLE - 1] + [ghost_parts(items[TUPLE - 1:])] if len(items) > TUPLE else items
 
 
 def local_names(fields, avoid):
@@ -324,7 +325,7 @@ def struct_blocks(writer):
 def struct_fields(writer):
     fields = writer.marked.fields.encoded()
     left_out = ' that are encoded' if len(fields) < len(writer.marked.fields.all) else ''
-    doc = '/// The fields of [`%s`]%s, in order.' % (writer.marked.name, left_out)
+    doc = doc_line('The fields of [`%s`]%s, in order.' % (writer.marked.name, left_out))
     start = 'type %s = ' % writer.alias_head()
     line = statement(start, type_of_parts(fields), ';', 0)
     if '\n' in line and len(fields) <= TUPLE:
@@ -438,7 +439,7 @@ def struct_decoding(writer):
 def struct_key(writer):
     """`impl BorshKey`: derived comparisons go over nested pairs."""
     fields = writer.marked.fields.encoded()
-    view = Term('(λ v. ', [pairs(['v.' + ghost_name(field.name) for field in fields])], ')')
+    view = Term('(λ v. ', nested_pairs(['v.' + ghost_name(field.name) for field in fields]), ')')
     ordered = quote(writer, pairs([type_text(field.type) for field in fields]), 'BorshKey', '.ordered')
     member = ghost_member('ordered', 'contramap_ordered', [view, ordered], 4)
     rows = [member, '', '    ghost key = { Self.ordered.key };']
@@ -487,7 +488,7 @@ def enum_variants(writer):
     node = tree(writer.marked.variants,
                 lambda v: generic_group(case, [str(v.tag), type_of_parts(v.fields.encoded())]),
                 lambda a, b: generic_group(fork, [a, b]))
-    doc = '/// The variants of [`%s`]: each has a tag and its fields, in order.' % writer.marked.name
+    doc = doc_line('The variants of [`%s`]: each has a tag and its fields, in order.' % writer.marked.name)
     return '%s\n%s' % (doc, statement('type %s = ' % writer.alias_head(), node, ';', 0))
 
 

@@ -255,74 +255,9 @@ def filled(words, indent, width):
     return '\n'.join(lines + [line])
 
 
-# ---- ghost terms
-
-# words that can't name a variable of a ghost term
-GHOST_WORDS = set('''data record deriving module where use mod pub package open as unfoldable abbrev axiom unfold
-    unfolding ruleset mutual infix infixl infixr elim let in do coe fcoe tcoe hcom com rw simp search grw cc omega
-    grind hlevel assumption first_of cap tt absurd left right fields refl'''.split())
-
-
-def ghost_name(name):
-    return '«%s»' % name if name in GHOST_WORDS else name
-
-
-def ghost_list(items):
-    """Items as a list."""
-    return ' ∷ '.join(items + ['[]'])
-
-
-class Term:
-    """A ghost term: a tuple of names between two texts."""
-
-    def __init__(self, before, items, behind=''):
-        self.before = before
-        self.items = items
-        self.behind = behind
-
-    def flat(self):
-        return self.before + ghost_tuple(self.items) + self.behind
-
-    def within(self, before, behind):
-        """The same term with more text on both sides."""
-        return Term(before + self.before, self.items, self.behind + behind)
-
-
-def ghost_tuple(items):
-    """Names as a tuple; of one the name, of none the only value of `()`."""
-    return '(%s)' % ', '.join(items) if len(items) > 1 else items[0] if items else 'tt'
-
-
-def ghost_term(node, indent):
-    """A term from column `indent` on; where it is too wide, each name of the tuple gets a line."""
-    line = ' ' * indent + node.flat()
-    if len(line) <= WIDTH or len(node.items) < 2:
-        return line
-    rows = ['%s%s,' % (' ' * (indent + 2), item) for item in node.items]
-    return '\n'.join([' ' * indent + node.before + '('] + rows + [' ' * indent + ')' + node.behind])
-
-
-def ghost_member(name, function, arguments, indent):
-    """`ghost name = { function arguments };`, over as many lines as the arguments need."""
-    lines = ['%sghost %s = { %s' % (' ' * indent, name, function)]
-    for index, argument in enumerate(arguments):
-        text = argument.flat() + (' };' if index + 1 == len(arguments) else '')
-        if len(lines[-1]) + 1 + len(text) <= WIDTH:
-            lines[-1] += ' ' + text
-        else:
-            end = text[len(argument.flat()):]
-            lines += (ghost_term(argument, indent + 4) + end).split('\n')
-    return '\n'.join(lines)
-
-
-def ghost_cases(name, arms, indent):
-    """`ghost name = { elim [ .. ] };`, one arm a line where it is too wide."""
-    start = '%sghost %s = { elim [' % (' ' * indent, name)
-    line = '%s %s ] };' % (start, ' | '.join(one.flat() for one in arms))
-    if len(line) <= WIDTH:
-        return line
-    rows = [ghost_term(one.within('| ', ''), indent + 2) for one in arms]
-    return '\n'.join([start] + rows + [' ' * indent + '] };'])
+def doc_line(text):
+    """A doc comment."""
+    return filled(['///'] + text.split(' '), 0, WIDTH).replace('\n', '\n/// ')
 
 
 # ---- imports

@@ -95,11 +95,14 @@ where
         (describes_refused_if ⟦<u32 as BorshType>⟧.codec.is_zero_width
         (describes_ordered ⟦<u32 as Ord>⟧.cmp held.1.1.0.0
         (describes_parts held.1.1.0.1.0.0
-        (all_more (⟦<u32 as BorshSchema>⟧.described.describes defs held.1.1.0.1.0.1.0)
+        (all_more
+        (⟦<u32 as BorshSchema>⟧.described.describes defs held.1.1.0.1.0.1.0)
         (all_one
         (describes_contramap option_view
         (describes_choice held.1.1.0.1.0.1.1.0.0
-        (choice_more first_variant refl (describes_unit held.1.1.0.1.0.1.1.0.1.1.0.0)
-        (choice_more (later_variant first_variant) refl (T.describes defs held.1.1.0.1.0.1.1.0.1.0)
+        (choice_more first_variant refl
+        (describes_unit held.1.1.0.1.0.1.1.0.1.1.0.0)
+        (choice_more (later_variant first_variant) refl
+        (T.describes defs held.1.1.0.1.0.1.1.0.1.0)
         choice_none))))))))))))) };
 }

@@ -71,6 +71,7 @@ impl<K: BorshSchema, V> BorshSchema for Parametrized<K, V> {
 
     ghost describes = { λ defs held. describes_contramap (λ v. (v.field, v.another))
         (describes_parts held.0
-        (all_more (K.describes defs held.1.0)
+        (all_more
+        (K.describes defs held.1.0)
         (all_one (⟦<PhantomData<V> as BorshSchema>⟧.described.describes defs held.1.1.0)))) };
 }
