@@ -17,7 +17,8 @@ import os
 import re
 import sys
 
-from emit import WRITTEN, Place, Writer, blocks_of
+from emit import GHOST_NAMES, WRITTEN, Place, Writer, blocks_of
+from ghost import MODULES, NO_NAME, RESERVED
 from refusal import Refusal
 from root import modules_of, refuse_taken, with_modules
 from rust_types import NO_ENCODING, bare_names, without_encoding
@@ -124,6 +125,7 @@ def texts_of(folder):
 def text_of(marked, place):
     """The text for one type."""
     try:
+        refuse_names(marked, place)
         refuse_fields(marked, place)
         writer = Writer(marked, place)
         return writer.text(with_schema(writer, blocks_of(writer)))
@@ -263,6 +265,23 @@ def refuse_fields(marked, place):
                 reason = ('the field `%s` of `%s` is private, and what is written is a module of its own: '
                           'make it `pub` or `pub(crate)`')
                 raise Refusal(field.line, reason % (field.name, marked.name))
+
+
+def refuse_names(marked, place):
+    """Names that the prover's language has no form for, or reads as something else."""
+    fields = [(field.name, field.line) for group in marked.groups() for field in group.encoded()]
+    variants = [(variant.name, variant.line) for variant in marked.variants or []]
+    files = [(name, 1) for name in (place.crate, place.module_name)]
+    for name, line in fields + variants + files + [(marked.name, marked.line)]:
+        if name == NO_NAME:
+            reason = "the prover's language has the word `%s`, which names nothing else: choose another name"
+            raise Refusal(line, reason % name)
+    parameters = [parameter.name for parameter in marked.parameters]
+    own = [marked.name] if marked.variants is not None else []
+    for name in own + parameters:
+        if name in MODULES | GHOST_NAMES or name in RESERVED and name in parameters:
+            reason = "the prover's language has a meaning of its own for `%s`: choose another name"
+            raise Refusal(marked.line, reason % name)
 
 
 def refuse_type(marked, field, place):

@@ -2,7 +2,7 @@
 
 import re
 
-from ghost import GHOST_WORDS, Term, ghost_cases, ghost_member, ghost_name, ghost_term, nested_pairs, within_width
+from ghost import CONSTRUCTORS, RESERVED, Term, ghost_cases, ghost_member, ghost_name, ghost_term, nested_pairs, within_width
 from layout import (WIDTH, Group, arm, binding, block_arm, call, chain, chain_fits, conjunction, doc_line, flat,
                     function_head, impl_head, import_lines, pattern, statement, struct_of, tuple_of, tuple_type,
                     type_layout, type_text, within)
@@ -217,6 +217,9 @@ GHOST_OFFERED = {
 }
 
 
+GHOST_NAMES = {name for names in GHOST_OFFERED.values() for name in names}
+
+
 def ghost_imports(writer, body):
     """The imports of ghost terms."""
     ghost = ' '.join(re.findall(r'ghost \w+ = \{(.*?)\};', body, re.S))
@@ -224,9 +227,9 @@ def ghost_imports(writer, body):
     for path, offered in GHOST_OFFERED.items():
         rows += ghost_lines(path, [name for name in offered if is_used(name, ghost)])
     if writer.marked.variants is not None:
-        module = writer.place.module_name + '.' if writer.place.module_name else ''
-        name = writer.marked.name
-        rows.append('ghost use Rattle.%s.specs.declared.%s%s.{%s};' % (writer.place.crate, module, name, name))
+        module = [writer.place.module_name] if writer.place.module_name else []
+        path = ['Rattle', writer.place.crate, 'specs', 'declared'] + module + [writer.marked.name]
+        rows += ghost_lines('.'.join(ghost_name(name) for name in path), [ghost_name(writer.marked.name)])
     return rows
 
 
@@ -272,9 +275,10 @@ def ghost_parts(items):
 def local_names(fields, avoid):
     """A variable for each encoded field: its own name, or `part0` where it has none or that name is in use."""
     found = []
-    for index, field in enumerate(fields):
-        bare = field.name[0].isdigit() or field.name in avoid
-        found.append('part%d' % index if bare else field.name)
+    names = [field.name for field in fields]
+    for index, name in enumerate(names):
+        bare = name[0].isdigit() or name in avoid
+        found.append(free_variable('part%d' % index, names) if bare else name)
     return found
 
 
@@ -502,15 +506,21 @@ def enum_view(writer):
         node = Term('fields ', ghost_parts([names[field] for field in encoded]))
         for turn in reversed(turns):
             node = node.within(turn + ' (', ')')
-        start = ' '.join(['%s.%s' % (writer.marked.name, variant.name)] + binders)
+        start = ' '.join(['%s.%s' % (ghost_name(writer.marked.name), ghost_name(variant.name))] + binders)
         rows.append(node.within(start + ' ↦ ', ''))
     return rows
 
 
+# functions of the arms of a view
+IN_ARMS = {'left', 'right', 'fields'}
+
+
 def ghost_binders(fields):
+    """A variable for each field of a variant: its own name, if no such name means something else in the term."""
     names = [field.name for field in fields]
-    plain = all(name not in GHOST_WORDS and not name[0].isdigit() for name in names)
-    return names if plain else ['part%d' % index for index in range(len(names))]
+    if any(name[0].isdigit() or name in RESERVED | CONSTRUCTORS | IN_ARMS for name in names):
+        return ['part%d' % index for index in range(len(names))]
+    return names
 
 
 def enum_cases(writer):

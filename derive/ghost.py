@@ -2,14 +2,21 @@
 
 from layout import WIDTH
 
-# words that can't name a variable of a ghost term
-GHOST_WORDS = set('''data record deriving module where use mod pub package open as unfoldable abbrev axiom unfold
-    unfolding ruleset mutual infix infixl infixr elim let in do coe fcoe tcoe hcom com rw simp search grw cc omega
-    grind hlevel assumption first_of cap tt absurd left right fields refl'''.split())
+# the words of the prover's language, which are names in quotes `«..»` alone, and the one that is none at all
+RESERVED = set('''data record deriving module where use mod pub package open as unfoldable abbrev axiom unfold unfolding
+    ruleset mutual infix infixl infixr elim let in do Type coe fcoe tcoe hcom com λ 𝕀 𝔽'''.split())
+NO_NAME = 'deriving'
+
+# constructors in each file, which a pattern would match in place of binding a variable
+CONSTRUCTORS = {'yes', 'no', 'refl'}
+
+# modules in each file
+MODULES = {'Prim', 'Rattle'}
 
 
 def ghost_name(name):
-    return '«%s»' % name if name in GHOST_WORDS else name
+    """A name behind a dot or in a path."""
+    return '«%s»' % name if name in RESERVED else name
 
 
 def ghost_list(items):
