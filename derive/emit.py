@@ -2,7 +2,7 @@
 
 import re
 
-from ghost import CONSTRUCTORS, RESERVED, Term, ghost_cases, ghost_member, ghost_name, ghost_term, nested_pairs, within_width
+from ghost import KNOWN, RESERVED, Term, ghost_cases, ghost_member, ghost_name, ghost_term, nested_pairs, within_width
 from layout import (WIDTH, Group, arm, binding, block_arm, call, chain, chain_fits, conjunction, doc_line, flat,
                     function_head, impl_head, import_lines, pattern, statement, struct_of, tuple_of, tuple_type,
                     type_layout, type_text, within)
@@ -518,7 +518,7 @@ IN_ARMS = {'left', 'right', 'fields'}
 def ghost_binders(fields):
     """A variable for each field of a variant: its own name, if no such name means something else in the term."""
     names = [field.name for field in fields]
-    if any(name[0].isdigit() or name in RESERVED | CONSTRUCTORS | IN_ARMS for name in names):
+    if any(name[0].isdigit() or name in RESERVED | KNOWN | IN_ARMS for name in names):
         return ['part%d' % index for index in range(len(names))]
     return names
 

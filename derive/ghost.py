@@ -7,8 +7,8 @@ RESERVED = set('''data record deriving module where use mod pub package open as 
     ruleset mutual infix infixl infixr elim let in do Type coe fcoe tcoe hcom com λ 𝕀 𝔽'''.split())
 NO_NAME = 'deriving'
 
-# constructors in each file, which a pattern would match in place of binding a variable
-CONSTRUCTORS = {'yes', 'no', 'refl'}
+# names with a meaning in each file: constructors, which a pattern would match in place of binding a variable, and tactics
+KNOWN = set('yes no refl tt absurd rw simp search grw cc omega grind hlevel assumption ground first_of cap'.split())
 
 # modules in each file
 MODULES = {'Prim', 'Rattle'}
