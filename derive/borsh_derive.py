@@ -224,8 +224,8 @@ def refuse_cycles(places, root):
         found = way_back(marked.name, held)
         if found is not None:
             through = ' through `%s`' % '`, `'.join(found) if found else ''
-            reason = ('`%s` holds itself%s: its encodings have no bound that the proofs could go by. Hold the nodes in a '
-                      '`Vec`, and let them name one another by index')
+            reason = ('`%s` holds itself%s, and no codec is made of itself: hold the nodes in a `Vec`, and let them name '
+                      'one another by index')
             raise Refusal(marked.line, reason % (marked.name, through), 'src/' + source_name(place, root))
 
 
