@@ -205,7 +205,8 @@ def split_bounds(where):
     return found + ([part.strip()] if part.strip() else [])
 
 
-# what specs have for ghost terms: the library's under one path, and std's, of which the gate wants operators from std itself
+# what specs have for ghost terms: the library's under one path, and std's, of which the gate wants operators from std
+# itself
 GHOST_OFFERED = {
     'Rattle.borsh.specs.Derived': '''IsKey all_more all_one case_described choice_more choice_none contramap
         contramap-lawful contramap_ordered describes_choice describes_contramap describes_elements describes_ordered

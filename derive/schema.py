@@ -184,7 +184,9 @@ def field_texts(variant):
 def enum_described(writer):
     """What describes each variant, in the form of the tree."""
     view = quote(writer, writer.own(), 'FromCases', '.view')
-    cases = tree(writer.marked.variants, lambda v: described_case(writer, v), lambda a, b: Applied('fork_described', a, b))
+    cases = tree(writer.marked.variants,
+                 lambda v: described_case(writer, v),
+                 lambda a, b: Applied('fork_described', a, b))
     return ['    ghost described = { enum_described'] + view.rows(8) + cases.rows(8, ' };')
 
 

@@ -461,7 +461,8 @@ def check_key(marked, attributes):
     if marked.parameters:
         raise Refusal(marked.line, 'a key with parameters is not taken: implement `BorshKey` by hand')
     if len(marked.fields.encoded()) < len(marked.fields.all):
-        reason = 'a key has no field that is left out, since two keys with one encoding would not be equal: remove `// skip`'
+        reason = ('a key has no field that is left out, since two keys with one encoding would not be equal: remove '
+                  '`// skip`')
         raise Refusal(marked.line, reason)
 
 
@@ -496,7 +497,8 @@ def read_type(reader, what, name, line):
         where = read_where(reader)
         variants = read_variants(reader)
         if not variants:
-            raise Refusal(line, 'an enum without variants has no values, and so no encodings: add a variant, or remove the comment')
+            reason = 'an enum without variants has no values, and so no encodings: add a variant, or remove the comment'
+            raise Refusal(line, reason)
         return Marked(name, line, parameters, where, variants=variants)
     where = read_where(reader)
     if reader.is_next('{'):
@@ -693,4 +695,5 @@ def refuse_tag(variants, name, tag, line):
         raise Refusal(line, 'the tag of `%s` is %d, and a tag is one byte: choose one from 0 to 255' % (name, tag))
     for variant in variants:
         if variant.tag == tag:
-            raise Refusal(line, '`%s` and `%s` have one tag, %d: choose another for one of them' % (variant.name, name, tag))
+            reason = '`%s` and `%s` have one tag, %d: choose another for one of them'
+            raise Refusal(line, reason % (variant.name, name, tag))
