@@ -8,17 +8,23 @@ The comment `// derive: borsh, schema, key` also asks for a schema, and for what
 CRATE is the folder of a crate. If a type can't be taken, its file, line and the reason are printed, and
 nothing is written. What is written is ordinary source, which the prover checks as any other: nothing rests on
 this program being right.
+
+The exit status is 0 if all was written or nothing differs, 1 if a type or a file can't be taken or a file
+differs, and 2 if the arguments are wrong.
 """
 
 import os
 import re
 import sys
 
-from emit import WRITTEN, Place, Writer, blocks_of
+from emit import GHOST_NAMES, WRITTEN, Place, Writer, blocks_of
+from ghost import MODULES, NO_NAME, RESERVED
 from refusal import Refusal
-from rust_types import bare_names
+from root import modules_of, refuse_taken, with_modules
+from rust_types import NO_ENCODING, bare_names, without_encoding
 from schema import with_schema
-from source import read_module
+from source import mark_of, read_module
+from tokens import tokens_of
 
 HEAD = '// Written by borsh_derive.py from '
 
@@ -26,17 +32,20 @@ USAGE = 'usage: borsh_derive.py CRATE [--check]'
 
 
 def main(arguments):
+    if arguments in (['--help'], ['-h']):
+        print(__doc__.strip())
+        return 0
     check = '--check' in arguments
     folders = [argument for argument in arguments if argument != '--check']
     if len(folders) != 1 or folders[0].startswith('-'):
         print(USAGE, file=sys.stderr)
         return 2
     try:
-        files = texts_of(folders[0].rstrip('/'))
+        files = texts_of(folders[0])
+        return checked(folders[0], files) if check else written(folders[0], files)
     except Refusal as refusal:
         print('borsh_derive: %s' % refusal, file=sys.stderr)
         return 1
-    return checked(folders[0], files) if check else written(folders[0], files)
 
 
 def checked(folder, files):
@@ -44,7 +53,7 @@ def checked(folder, files):
     status = 0
     for name, text in sorted(files.items()):
         path = os.path.join(folder, 'src', name)
-        if not os.path.exists(path) or read(path) != text:
+        if not is_same(path, text):
             print('borsh_derive: %s is not what would be written: run borsh_derive.py %s' % (path, folder))
             status = 1
     return status
@@ -54,11 +63,41 @@ def written(folder, files):
     """Writes the files that differ."""
     for name, text in sorted(files.items()):
         path = os.path.join(folder, 'src', name)
-        if not os.path.exists(path) or read(path) != text:
-            with open(path, 'w', encoding='utf-8') as file:
-                file.write(text)
+        if not is_same(path, text):
+            write(path, text)
             print('borsh_derive: wrote %s' % path)
     return 0
+
+
+# ---- files
+
+def read(path):
+    """The text of a file, with `\n` at the end of each line."""
+    try:
+        with open(path, 'rb') as file:
+            content = file.read()
+    except OSError as error:
+        raise Refusal(None, "can't be read: %s" % error.strerror, path)
+    try:
+        return content.decode('utf-8').replace('\r\n', '\n')
+    except UnicodeDecodeError as error:
+        raise Refusal(content[:error.start].count(b'\n') + 1, 'the file is not UTF-8', path)
+
+
+def is_same(path, text):
+    return os.path.exists(path) and read(path) == text
+
+
+def write(path, text):
+    """Writes a file; one that has lines ending in `\r\n` keeps them."""
+    try:
+        if os.path.exists(path):
+            with open(path, 'rb') as file:
+                text = text.replace('\n', '\r\n') if b'\r\n' in file.read() else text
+        with open(path, 'w', encoding='utf-8', newline='') as file:
+            file.write(text)
+    except OSError as error:
+        raise Refusal(None, "can't be written: %s" % error.strerror, path)
 
 
 # ---- a crate
@@ -67,39 +106,60 @@ def texts_of(folder):
     """The text of each file that a crate should have by its marks, and of its root file."""
     sources = sources_of(folder)
     root = 'lib.rt' if 'lib.rt' in sources else 'main.rt'
+    with_file(root, modules_of, sources[root])
     places = [(place, marked) for place in places_of(folder, sources, root) for marked in place.module.marked]
     refuse_clashes(places, root)
     refuse_cycles(places, root)
     files = {}
     for place, marked in places:
-        with_file(source_name(place, root), refuse_fields, marked, place)
         files[file_name(place, marked)] = with_file(source_name(place, root), text_of, marked, place)
     refuse_files(folder, sources, files)
+    modules = sorted(name[:-3] for name in files)
+    for module in modules:
+        refuse_taken(sources[root], module, 'src/' + root)
     if files:
-        files[root] = with_modules(sources[root], [name[:-3] for name in files])
+        files[root] = with_modules(sources[root], modules)
     return files
 
 
 def text_of(marked, place):
     """The text for one type."""
-    writer = Writer(marked, place)
-    return writer.text(with_schema(writer, blocks_of(writer)))
+    try:
+        refuse_names(marked, place)
+        refuse_fields(marked, place)
+        writer = Writer(marked, place)
+        return writer.text(with_schema(writer, blocks_of(writer)))
+    except Refusal as refusal:
+        raise refusal.of(marked.name)
 
 
 def sources_of(folder):
     """The texts of the files of src/, by name. Those that this program wrote are among them."""
     src = os.path.join(folder, 'src')
     if not os.path.isdir(src):
-        raise Refusal(0, 'there is no such folder', src)
-    names = sorted(name for name in os.listdir(src) if name.endswith('.rt'))
+        reason = 'there is no such folder: give the folder of a crate, as crates/NAME'
+        raise Refusal(None, reason, src)
+    try:
+        names = sorted(name for name in os.listdir(src) if name.endswith('.rt'))
+    except OSError as error:
+        raise Refusal(None, "can't be read: %s" % error.strerror, src)
     if not {'lib.rt', 'main.rt'} & set(names):
-        raise Refusal(0, 'there is neither lib.rt nor main.rt', src)
-    return {name: read(os.path.join(src, name)) for name in names}
+        raise Refusal(None, 'there is neither lib.rt nor main.rt', src)
+    refuse_folders(src)
+    return {name: with_file(name, read, os.path.join(src, name)) for name in names}
 
 
-def read(path):
-    with open(path, encoding='utf-8') as file:
-        return file.read()
+def refuse_folders(src):
+    """A mark in a file of a folder within src/."""
+    for folder, folders, names in sorted(os.walk(src)):
+        folders.sort()
+        for name in sorted(names) if folder != src else []:
+            file = os.path.relpath(os.path.join(folder, name), src)
+            if name.endswith('.rt'):
+                for token in with_file(file, tokens_of, with_file(file, read, os.path.join(folder, name))):
+                    if token.kind == 'comment' and mark_of(token) is not None:
+                        reason = 'only types of files in src/ itself are taken: move the type to one of them'
+                        raise Refusal(token.line, reason, 'src/' + file)
 
 
 def places_of(folder, sources, root):
@@ -110,7 +170,10 @@ def places_of(folder, sources, root):
         if text.startswith(HEAD):
             continue
         module = with_file(name, read_module, text)
-        found.append(Place(crate, None if name == root else name[:-3], module))
+        if module.marked and name != root and name[:-3] not in with_file(root, modules_of, sources[root]):
+            reason = 'the file is no module of the crate: src/%s has no line `mod %s;`' % (root, name[:-3])
+            raise Refusal(module.marked[0].line, reason, 'src/' + name)
+        found.append(Place(crate, None if name == root else name[:-3], module, name))
     return found
 
 
@@ -119,7 +182,7 @@ def with_file(name, function, *arguments):
     try:
         return function(*arguments)
     except Refusal as refusal:
-        refusal.file = refusal.file or 'src/' + name
+        refusal.file = refusal.file if refusal.file and refusal.line is None else 'src/' + name
         raise
 
 
@@ -156,28 +219,35 @@ def refuse_clashes(places, root):
 
 def refuse_cycles(places, root):
     """A type that holds itself, perhaps through others, is refused."""
-    by_name = {marked.name: marked for _, marked in places}
-
-    def reached(name, path):
-        for held in by_name[name].heads():
-            if held in path:
-                return path + [held]
-            if held in by_name:
-                found = reached(held, path + [held])
-                if found:
-                    return found
-        return None
-
+    held = {marked.name: marked.heads() for _, marked in places}
     for place, marked in places:
-        found = reached(marked.name, [marked.name])
-        if found and found[-1] == marked.name:
-            through = ' through `%s`' % '`, `'.join(found[1:-1]) if len(found) > 2 else ''
-            reason = '`%s` holds itself%s: its encodings have no bound that the proofs could go by'
+        found = way_back(marked.name, held)
+        if found is not None:
+            through = ' through `%s`' % '`, `'.join(found) if found else ''
+            reason = ('`%s` holds itself%s, and no codec is made of itself: hold the nodes in a `Vec`, and let them name '
+                      'one another by index')
             raise Refusal(marked.line, reason % (marked.name, through), 'src/' + source_name(place, root))
 
 
+def way_back(name, held):
+    """The types on the shortest way from a type to itself, or None. Each type is looked at once."""
+    ways = {name: []}
+    for_later = [name]
+    for current in for_later:
+        for other in held[current]:
+            if other == name:
+                return ways[current]
+            if other in held and other not in ways:
+                ways[other] = ways[current] + [other]
+                for_later.append(other)
+    return None
+
+
 def refuse_fields(marked, place):
-    """Fields that a module beside the type's own couldn't name, and too many of them."""
+    """Fields of types without an encoding, those that a module beside the type's own couldn't name, and too many."""
+    for group in marked.groups():
+        for field in group.encoded():
+            refuse_type(marked, field, place)
     private = [name for name in marked.heads() if place.module.items.get(name) is False and place.module_name]
     if private:
         reason = '`%s` names `%s`, which is private to the file: make it `pub` or `pub(crate)`'
@@ -195,6 +265,33 @@ def refuse_fields(marked, place):
                 reason = ('the field `%s` of `%s` is private, and what is written is a module of its own: '
                           'make it `pub` or `pub(crate)`')
                 raise Refusal(field.line, reason % (field.name, marked.name))
+
+
+def refuse_names(marked, place):
+    """Names that the prover's language has no form for, or reads as something else."""
+    fields = [(field.name, field.line) for group in marked.groups() for field in group.encoded()]
+    variants = [(variant.name, variant.line) for variant in marked.variants or []]
+    files = [(name, 1) for name in (place.crate, place.module_name)]
+    for name, line in fields + variants + files + [(marked.name, marked.line)]:
+        if name == NO_NAME:
+            reason = "the prover's language has the word `%s`, which names nothing else: choose another name"
+            raise Refusal(line, reason % name)
+    parameters = [parameter.name for parameter in marked.parameters]
+    own = [marked.name] if marked.variants is not None else []
+    for name in own + parameters:
+        if name in MODULES | GHOST_NAMES or name in RESERVED and name in parameters:
+            reason = "the prover's language has a meaning of its own for `%s`: choose another name"
+            raise Refusal(marked.line, reason % name)
+
+
+def refuse_type(marked, field, place):
+    """A type of Rust that the library has no encoding of, if the file has no type of its own of that name."""
+    own = set(place.module.items) | {parameter.name for parameter in marked.parameters}
+    for name, path in without_encoding(field.type):
+        path = place.module.imports.get(path, path)
+        if name not in own and (path == name or path.split('::')[0] in ('std', 'core', 'alloc')):
+            reason = '`%s`: the type `%s` of the field `%s` has no encoding here: %s'
+            raise Refusal(field.line, reason % (marked.name, name, field.name, NO_ENCODING[name]))
 
 
 def refuse_bare_parameter(marked, field):
@@ -219,34 +316,7 @@ def refuse_files(folder, sources, files):
             raise Refusal(1, reason, 'src/' + name)
 
 
-# ---- the root file
-
-def with_modules(text, modules):
-    """The root file with a `mod` line for each module, in the first block of such lines."""
-    for module in sorted(modules):
-        if not re.search(r'^\s*(pub(\([^)]*\))? +)?mod +%s *;' % module, text, re.M):
-            text = with_module(text, module)
-    return text
-
-
-def with_module(text, module):
-    lines = text.split('\n')
-    places = [index for index, line in enumerate(lines) if module_name(line)]
-    if not places:
-        index = next((i for i, line in enumerate(lines) if not line.startswith(('//', '#!'))), len(lines))
-        return '\n'.join(lines[:index] + ['', 'mod %s;' % module] + lines[index:])
-    start = places[0]
-    end = start
-    while end < len(lines) and module_name(lines[end]):
-        end += 1
-    index = next((i for i in range(start, end) if module_name(lines[i]) > module), end)
-    return '\n'.join(lines[:index] + ['mod %s;' % module] + lines[index:])
-
-
-def module_name(line):
-    match = re.match(r'(?:pub(?:\([^)]*\))? +)?mod +(\w+) *;', line)
-    return match and match[1]
-
-
 if __name__ == '__main__':
+    for stream in (sys.stdout, sys.stderr):
+        stream.reconfigure(errors='backslashreplace')
     sys.exit(main(sys.argv[1:]))

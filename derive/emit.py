@@ -2,9 +2,10 @@
 
 import re
 
-from layout import (GHOST_WORDS, WIDTH, Group, Term, arm, binding, call, flat, function_head, ghost_cases, ghost_member,
-                    ghost_name, ghost_term, ghost_tuple, impl_head, import_lines, laid_out, pattern, statement, struct_of,
-                    tuple_of, tuple_type, type_layout, type_text)
+from ghost import KNOWN, RESERVED, Term, ghost_cases, ghost_member, ghost_name, ghost_term, nested_pairs, within_width
+from layout import (WIDTH, Group, arm, binding, block_arm, call, chain, chain_fits, conjunction, doc_line, flat,
+                    function_head, impl_head, import_lines, pattern, statement, struct_of, tuple_of, tuple_type,
+                    type_layout, type_text, within)
 from rust_types import Array
 
 NUMBERS = ('zero', 'one', 'two', 'three', 'four', 'five', 'six', 'seven', 'eight', 'nine', 'ten', 'eleven',
@@ -24,15 +25,14 @@ OFFERED |= {'write_' + number for number in NUMBERS[2:]} | {'Tuple%d' % count fo
 
 
 class Place:
-    """Where a type is: its crate's name, the file's module (None for the root file), and what the module says."""
+    """Where a type is: its crate's name, the file's module (None for the root file), what the module says, and the
+    file's name."""
 
-    def __init__(self, crate, module_name, module):
+    def __init__(self, crate, module_name, module, file):
         self.crate = crate
         self.module_name = module_name
         self.module = module
-
-    def file(self):
-        return (self.module_name or 'lib') + '.rt'
+        self.file = file
 
 
 class Writer:
@@ -74,6 +74,10 @@ class Writer:
     def own(self):
         return self.marked.name + self.arguments()
 
+    def own_layout(self):
+        names = [parameter.name for parameter in self.marked.parameters]
+        return generic_group(self.marked.name, names) if names else self.marked.name
+
     def alias_use(self, alias=None):
         """The alias with those parameters that the encoded fields name."""
         names = [parameter.name for parameter in self.alias_parameters()]
@@ -114,7 +118,7 @@ class Writer:
     def block(self, trait, bound, rows):
         """An `impl` block."""
         head = impl_head(self.bounded(self.lib(bound)), self.lib(trait), self.own(), self.where())
-        return '\n'.join([head] + rows + ['}'])
+        return '\n'.join([head] + within_width(rows) + ['}'])
 
     def premises(self):
         """The proof of what the laws rest on: facts of keys, and what the parameters bring."""
@@ -134,7 +138,7 @@ class Writer:
         """The blocks with their imports."""
         body = '\n\n'.join(blocks)
         head = '// Written by borsh_derive.py from %s: edit that file, and run the program again.'
-        rows = [head % self.place.file()]
+        rows = [head % self.place.file]
         rows += ghost_imports(self, body)
         rows += [''] + import_lines(self.all_imports()) + ['', body]
         return '\n'.join(rows) + '\n'
@@ -201,7 +205,8 @@ def split_bounds(where):
     return found + ([part.strip()] if part.strip() else [])
 
 
-# what specs have for ghost terms: the library's under one path, and std's, of which the gate wants operators from std itself
+# what specs have for ghost terms: the library's under one path, and std's, of which the gate wants operators from std
+# itself
 GHOST_OFFERED = {
     'Rattle.borsh.specs.Derived': '''IsKey all_more all_one case_described choice_more choice_none contramap
         contramap-lawful contramap_ordered describes_choice describes_contramap describes_elements describes_ordered
@@ -213,6 +218,9 @@ GHOST_OFFERED = {
 }
 
 
+GHOST_NAMES = {name for names in GHOST_OFFERED.values() for name in names}
+
+
 def ghost_imports(writer, body):
     """The imports of ghost terms."""
     ghost = ' '.join(re.findall(r'ghost \w+ = \{(.*?)\};', body, re.S))
@@ -220,9 +228,9 @@ def ghost_imports(writer, body):
     for path, offered in GHOST_OFFERED.items():
         rows += ghost_lines(path, [name for name in offered if is_used(name, ghost)])
     if writer.marked.variants is not None:
-        module = writer.place.module_name + '.' if writer.place.module_name else ''
-        name = writer.marked.name
-        rows.append('ghost use Rattle.%s.specs.declared.%s%s.{%s};' % (writer.place.crate, module, name, name))
+        module = [writer.place.module_name] if writer.place.module_name else []
+        path = ['Rattle', writer.place.crate, 'specs', 'declared'] + module + [writer.marked.name]
+        rows += ghost_lines('.'.join(ghost_name(name) for name in path), [ghost_name(writer.marked.name)])
     return rows
 
 
@@ -262,15 +270,16 @@ def type_of_parts(fields):
 
 def ghost_parts(items):
     """Names in the form of the type of the parts."""
-    return items[:TUPLE - 1] + [ghost_tuple(ghost_parts(items[TUPLE - 1:]))] if len(items) > TUPLE else items
+    return items[:TUPLE - 1] + [ghost_parts(items[TUPLE - 1:])] if len(items) > TUPLE else items
 
 
 def local_names(fields, avoid):
     """A variable for each encoded field: its own name, or `part0` where it has none or that name is in use."""
     found = []
-    for index, field in enumerate(fields):
-        bare = field.name[0].isdigit() or field.name in avoid
-        found.append('part%d' % index if bare else field.name)
+    names = [field.name for field in fields]
+    for index, name in enumerate(names):
+        bare = name[0].isdigit() or name in avoid
+        found.append(free_variable('part%d' % index, names) if bare else name)
     return found
 
 
@@ -321,7 +330,7 @@ def struct_blocks(writer):
 def struct_fields(writer):
     fields = writer.marked.fields.encoded()
     left_out = ' that are encoded' if len(fields) < len(writer.marked.fields.all) else ''
-    doc = '/// The fields of [`%s`]%s, in order.' % (writer.marked.name, left_out)
+    doc = doc_line('The fields of [`%s`]%s, in order.' % (writer.marked.name, left_out))
     start = 'type %s = ' % writer.alias_head()
     line = statement(start, type_of_parts(fields), ';', 0)
     if '\n' in line and len(fields) <= TUPLE:
@@ -342,30 +351,33 @@ def struct_meaning(writer):
         view = struct_view(writer).within('(', ')')
     else:
         view = quote(writer, writer.own(), 'FromParts', '.view')
-    of_fields = quote(writer, writer.alias_use(), 'BorshType', '.lawful_if')
-    laws = ghost_member('lawful_if', 'from', [view.within('(contramap-lawful ', ')'), of_fields], 4)
-    encodes_empty = of_parts(writer, 'encodes_empty', and_then)
-    element_size = of_parts(writer, 'element_size', added)
-    return meaning(writer, view, 'BorshType', laws, encodes_empty, element_size)
+    laws_of_fields = quote(writer, writer.alias_use(), 'BorshType', '.lawful_if')
+    laws = ghost_member('lawful_if', 'from', [view.within('(contramap-lawful ', ')'), laws_of_fields], 4)
+    return meaning(writer, view, 'BorshType', laws, encodes_empty(writer), element_size(writer))
 
 
-def of_parts(writer, name, joined):
+def encodes_empty(writer):
+    calls = of_fields(writer, 'encodes_empty')
+    return ' ' * 8 + conjunction(calls, 8, 8, 0)
+
+
+def element_size(writer):
+    calls = of_fields(writer, 'element_size')
+    added = [within('.saturating_add(', call, ')') for call in calls[1:]]
+    if len(calls) == 2 and not chain_fits(calls[0], added, 8):
+        rows = [statement('let first = ', calls[0], ';', 8), statement('let second = ', calls[1], ';', 8)]
+        return '\n'.join(rows + [' ' * 8 + 'first.saturating_add(second)'])
+    return chain(calls[0], added, 8)
+
+
+def of_fields(writer, name):
     """A call of `BorshType` for all fields. With a length as a parameter each field is asked by itself: that a tuple
     with an array of such a length fits in memory doesn't follow."""
-    types = [type_text(field.type) for field in writer.marked.fields.encoded()]
+    types = [type_layout(field.type) for field in writer.marked.fields.encoded()]
     if not any(parameter.constant for parameter in writer.marked.parameters) or not types:
-        return '<%s>::%s()' % (writer.alias_use(), name)
-    return joined(['%s::%s()' % (text if re.fullmatch(r'\w+', text) else '<%s>' % text, name) for text in types])
-
-
-def and_then(calls):
-    if len(calls) < 3:
-        return ' && '.join(calls)
-    return '%s && (%s)' % (calls[0], and_then(calls[1:]))
-
-
-def added(calls):
-    return calls[0] + ''.join('.saturating_add(%s)' % call for call in calls[1:])
+        return ['<%s>::%s()' % (writer.alias_use(), name)]
+    ends = [('', '') if re.fullmatch(r'\w+', flat(node)) else ('<', '>') for node in types]
+    return [within(start, node, '%s::%s()' % (end, name)) for node, (start, end) in zip(types, ends)]
 
 
 def quote(writer, name, trait, member):
@@ -373,25 +385,25 @@ def quote(writer, name, trait, member):
     return Term('', ['⟦<%s as %s>⟧%s' % (name, writer.lib(trait), member)])
 
 
-def meaning(writer, view, trait, laws, encodes_empty, element_size):
+def meaning(writer, view, trait, laws, empty, size):
     """`impl BorshType`: the codec of the parts, seen through the view, and the laws that follow from theirs."""
     codec = quote(writer, writer.alias_use(), trait, '.codec')
     rows = [ghost_member('codec', 'contramap', [view, codec], 4), '', laws, '', writer.premises(), '',
-            '    fn encodes_empty() -> bool {', '        ' + encodes_empty, '    }', '',
-            '    fn element_size() -> usize {', '        ' + element_size, '    }']
+            '    fn encodes_empty() -> bool {', empty, '    }', '',
+            '    fn element_size() -> usize {', size, '    }']
     return writer.block('BorshType', 'BorshType', rows)
 
 
 def struct_encoding(writer):
     names = ['self.' + field.name for field in writer.marked.fields.encoded()]
     if not names:
-        body = call(writer.lib('write_bytes'), ['&[]', 'writer'])
+        body = statement('', call(writer.lib('write_bytes'), ['&[]', 'writer']), '', 8)
     elif len(names) == 1:
-        body = call(names[0] + '.serialize', ['alloc', 'writer'])
+        body = chain('self', [names[0][len('self'):], '.serialize(alloc, writer)'], 8)
     else:
         arguments = ['&' + name for name in names] + ['alloc', 'writer']
-        body = call(writer.lib('write_' + NUMBERS[len(names)]), arguments)
-    rows = [serialize_head(writer, used=bool(names)), statement('', body, '', 8), '    }']
+        body = statement('', call(writer.lib('write_' + NUMBERS[len(names)]), arguments), '', 8)
+    rows = [serialize_head(writer, used=bool(names)), body, '    }']
     return writer.block('BorshSerialize', 'BorshSerialize', rows)
 
 
@@ -409,7 +421,7 @@ def struct_parts(writer):
     view = ghost_term(struct_view(writer).within('ghost view = { ', ' };'), 4)
 
     def head_with(name):
-        return function_head('from_parts', ['%s: %s' % (name, writer.alias_use())], writer.own(), 4)
+        return function_head('from_parts', ['%s: %s' % (name, writer.alias_use())], writer.own_layout(), 4)
 
     # the fields are taken apart in the parameter where they fit into its line
     head = head_with(flat(tuple_of(names))) if 1 < len(names) <= TUPLE else ''
@@ -432,7 +444,7 @@ def struct_decoding(writer):
 def struct_key(writer):
     """`impl BorshKey`: derived comparisons go over nested pairs."""
     fields = writer.marked.fields.encoded()
-    view = Term('(λ v. ', [pairs(['v.' + ghost_name(field.name) for field in fields])], ')')
+    view = Term('(λ v. ', nested_pairs(['v.' + ghost_name(field.name) for field in fields]), ')')
     ordered = quote(writer, pairs([type_text(field.type) for field in fields]), 'BorshKey', '.ordered')
     member = ghost_member('ordered', 'contramap_ordered', [view, ordered], 4)
     rows = [member, '', '    ghost key = { Self.ordered.key };']
@@ -446,7 +458,7 @@ def pairs(items):
 def deserialize_head(writer, name, more):
     parameters = ['alloc: %s' % writer.lib('Global'), 'reader: &mut %s' % writer.source] + more
     generic = '%s<%s: %s>' % (name, writer.source, writer.lib('Read'))
-    return function_head(generic, parameters, '%s<%s>' % (writer.lib('Result'), writer.own()), 4)
+    return function_head(generic, parameters, generic_group(writer.lib('Result'), [writer.own_layout()]), 4)
 
 
 # ---- enums
@@ -481,7 +493,7 @@ def enum_variants(writer):
     node = tree(writer.marked.variants,
                 lambda v: generic_group(case, [str(v.tag), type_of_parts(v.fields.encoded())]),
                 lambda a, b: generic_group(fork, [a, b]))
-    doc = '/// The variants of [`%s`]: each has a tag and its fields, in order.' % writer.marked.name
+    doc = doc_line('The variants of [`%s`]: each has a tag and its fields, in order.' % writer.marked.name)
     return '%s\n%s' % (doc, statement('type %s = ' % writer.alias_head(), node, ';', 0))
 
 
@@ -495,19 +507,25 @@ def enum_view(writer):
         node = Term('fields ', ghost_parts([names[field] for field in encoded]))
         for turn in reversed(turns):
             node = node.within(turn + ' (', ')')
-        start = ' '.join(['%s.%s' % (writer.marked.name, variant.name)] + binders)
+        start = ' '.join(['%s.%s' % (ghost_name(writer.marked.name), ghost_name(variant.name))] + binders)
         rows.append(node.within(start + ' ↦ ', ''))
     return rows
 
 
+# functions of the arms of a view
+IN_ARMS = {'left', 'right', 'fields'}
+
+
 def ghost_binders(fields):
+    """A variable for each field of a variant: its own name, if no such name means something else in the term."""
     names = [field.name for field in fields]
-    plain = all(name not in GHOST_WORDS and not name[0].isdigit() for name in names)
-    return names if plain else ['part%d' % index for index in range(len(names))]
+    if any(name[0].isdigit() or name in RESERVED | KNOWN | IN_ARMS for name in names):
+        return ['part%d' % index for index in range(len(names))]
+    return names
 
 
 def enum_cases(writer):
-    head = function_head('from_cases', ['cases: %s' % writer.alias_use()], writer.own(), 4)
+    head = function_head('from_cases', ['cases: %s' % writer.alias_use()], writer.own_layout(), 4)
     view = ghost_cases('view', enum_view(writer), 4)
     rows = ['    type Cases = %s;' % writer.alias_use(), '', view, '', head, '        match cases {']
     for variant, turns in on_tree(writer.marked.variants):
@@ -527,16 +545,20 @@ def from_case(writer, variant, turns):
     value = made('%s::%s' % (writer.marked.name, variant.name), variant.fields, names)
     if len(names) < 2 and not held:
         return [arm(node, value, 12)]
-    taken = [' ' * 16 + 'let %s = case.0;' % names[0]] if held else taking_apart('fields', names, 16)
-    rows = [' ' * 12 + laid_out(node, 12, 12, len(' => {')) + ' => {'] + taken
-    return rows + [statement('', value, '', 16), '            }']
+
+    def rows_at(indent):
+        taken = [' ' * indent + 'let %s = case.0;' % names[0]] if held else taking_apart('fields', names, indent)
+        return taken + [statement('', value, '', indent)]
+
+    return block_arm(node, rows_at, 12)
 
 
 def enum_meaning(writer):
     view = quote(writer, writer.own(), 'FromCases', '.view')
     variants = quote(writer, writer.alias_use(), 'Cases', '.variants')
     laws = ghost_member('lawful_if', 'enum_lawful_if', [view, variants, Term('', ['refl'])], 4)
-    return meaning(writer, view, 'Cases', laws, 'false', '<%s>::element_size()' % writer.alias_use())
+    size = ' ' * 8 + '<%s>::element_size()' % writer.alias_use()
+    return meaning(writer, view, 'Cases', laws, '        false', size)
 
 
 def enum_encoding(writer):

@@ -6,9 +6,10 @@ from rust_types import Array, Constant, Tuple
 
 WIDTH = 100
 
-# the widest arguments of a call, elements of an array, places of a tuple's type, and fields of a struct, that stay in one
-# line
+# the widest arguments of a call, calls of methods one after another, elements of an array, places of a tuple's type, and
+# fields of a struct, that stay in one line
 CALL_WIDTH = 60
+CHAIN_WIDTH = 60
 ARRAY_WIDTH = 60
 TUPLE_WIDTH = 60
 STRUCT_WIDTH = 18
@@ -18,9 +19,9 @@ SHORT = 10
 
 
 class Group:
-    """A head, as a name, and items in brackets, each a text or a group."""
+    """A head, as a name, and items in brackets, each a text or a group. `lone` is behind an item that is the only one."""
 
-    def __init__(self, head, opening, items, closing, limit=WIDTH, pad='', fills=False):
+    def __init__(self, head, opening, items, closing, limit=WIDTH, pad='', fills=False, lone=''):
         self.head = head
         self.opening = opening
         self.items = items
@@ -28,6 +29,12 @@ class Group:
         self.limit = limit
         self.pad = pad
         self.fills = fills
+        self.lone = lone
+
+    def within(self, before, behind):
+        """The same with more text on both sides."""
+        return Group(before + self.head, self.opening, self.items, self.closing + behind, self.limit, self.pad,
+                     self.fills, self.lone)
 
 
 def call(name, arguments):
@@ -35,11 +42,11 @@ def call(name, arguments):
 
 
 def tuple_of(items):
-    return Group('', '(', items, ')')
+    return Group('', '(', items, ')', lone=',')
 
 
 def tuple_type(items):
-    return Group('', '(', items, ')', TUPLE_WIDTH)
+    return Group('', '(', items, ')', TUPLE_WIDTH, lone=',')
 
 
 def pattern(name, items):
@@ -59,7 +66,7 @@ def type_layout(tree):
     if isinstance(tree, Constant):
         return tree.text
     if isinstance(tree, Array):
-        return '[%s; %s]' % (flat(type_layout(tree.element)), tree.length)
+        return within('[', type_layout(tree.element), '; %s]' % tree.length)
     if isinstance(tree, Tuple):
         return tuple_type([type_layout(item) for item in tree.items]) if tree.items else '()'
     names = []
@@ -83,9 +90,14 @@ def flat(node):
     if isinstance(node, str):
         return node
     inner = ', '.join(flat(item) for item in node.items)
-    if node.opening == '(' and not node.head and len(node.items) == 1:
-        inner += ','
+    if len(node.items) == 1:
+        inner += node.lone
     return node.head + node.opening + node.pad + inner + node.pad + node.closing
+
+
+def within(before, node, behind):
+    """A text or a group with more text on both sides."""
+    return before + node + behind if isinstance(node, str) else node.within(before, behind)
 
 
 def is_narrow(node):
@@ -106,24 +118,59 @@ def laid_out(node, indent, used, behind):
     inner = indent + 4
     lines = [node.head + node.opening]
     if node.fills and all(is_short(item) for item in node.items):
-        words = ['%s,' % flat(item) for item in node.items]
-        line = ' ' * inner + ' '.join(words)
-        lines.append(line if len(line) <= WIDTH else filled(words, inner, WIDTH - 1))
+        lines.append(rows_of(['%s,' % flat(item) for item in node.items], inner))
     else:
         lines += ['%s%s,' % (' ' * inner, laid_out(item, inner, inner, 1)) for item in node.items]
     return '\n'.join(lines + [' ' * indent + node.closing])
 
 
 def is_short(item):
-    """Whether an argument or an element shares its line with others; a call doesn't."""
+    """Whether an argument or an element shares its line with others; a call and an array don't."""
     text = flat(item)
-    return len(text) <= SHORT and '(' not in text
+    return len(text) <= SHORT and '(' not in text and '[' not in text
 
 
 def statement(prefix, node, suffix, indent):
     """A line `prefix node suffix`, over more lines where it is too wide."""
     start = ' ' * indent + prefix
     return start + laid_out(node, indent, len(start), len(suffix)) + suffix
+
+
+def chain(start, calls, indent):
+    """Calls of methods one after another. The first one stands behind a short start, as `self`; one alone has its line to
+    itself."""
+    if chain_fits(start, calls, indent):
+        return ' ' * indent + flat(start) + ''.join(flat(one) for one in calls)
+    if len(flat(start)) <= 4:
+        start, calls = within(flat(start), calls[0], ''), calls[1:]
+    rows = [statement('', start, '', indent)] + [statement('', one, '', indent + 4) for one in calls]
+    return '\n'.join(rows)
+
+
+def chain_fits(start, calls, indent):
+    """Whether they have one line."""
+    line = flat(start) + ''.join(flat(one) for one in calls)
+    return indent + len(line) <= min(WIDTH, WIDTH if len(calls) == 1 else indent + CHAIN_WIDTH)
+
+
+def conjunction(calls, indent, used, behind):
+    """`a && (b && c)` from column `used` on, with `behind` columns behind it."""
+    if len(calls) == 1:
+        return laid_out(calls[0], indent, used, behind)
+    line = and_then([flat(one) for one in calls])
+    if all(is_narrow(one) for one in calls) and used + len(line) + behind <= WIDTH:
+        return line
+    inner = indent + 4
+    start = laid_out(calls[0], indent, used, 0) + '\n' + ' ' * inner + '&& '
+    if len(calls) == 2:
+        return start + conjunction(calls[1:], inner, inner + 3, behind)
+    return start + '(' + conjunction(calls[1:], inner, inner + 4, behind + 1) + ')'
+
+
+def and_then(calls):
+    if len(calls) < 3:
+        return ' && '.join(calls)
+    return '%s && (%s)' % (calls[0], and_then(calls[1:]))
 
 
 def binding(node, value, indent):
@@ -152,15 +199,28 @@ def arm(pattern_node, body, indent):
     return '%s%s => %s,' % (start, text, laid_out(body, indent, WIDTH, 1))
 
 
+def block_arm(pattern_node, rows_at, indent):
+    """An arm of a `match`: a pattern and a block. `rows_at` has the rows of the block for their indentation. Where the
+    pattern fits into its line and the brace behind it doesn't, the whole block is in lines of its own."""
+    start = ' ' * indent
+    text = laid_out(pattern_node, indent, indent, len(' =>'))
+    last = text.split('\n')[-1]
+    used = len(last) + (indent if '\n' not in text else 0)
+    if used + len(' => {') <= WIDTH:
+        return ['%s%s => {' % (start, text)] + rows_at(indent + 4) + [start + '}']
+    inner = ' ' * (indent + 4)
+    return ['%s%s =>' % (start, text), inner + '{'] + rows_at(indent + 8) + [inner + '}']
+
+
 def function_head(name, parameters, result, indent):
     """`fn name(parameters) -> result {`, over more lines where it is too wide."""
     start = ' ' * indent
-    line = '%sfn %s(%s) -> %s {' % (start, name, ', '.join(parameters), result)
+    line = '%sfn %s(%s) -> %s {' % (start, name, ', '.join(parameters), flat(result))
     if len(line) <= WIDTH:
         return line
     inner = ' ' * (indent + 4)
     rows = ['%sfn %s(' % (start, name)] + ['%s%s,' % (inner, parameter) for parameter in parameters]
-    return '\n'.join(rows + ['%s) -> %s {' % (start, result)])
+    return '\n'.join(rows + [statement(') -> ', result, ' {', indent)])
 
 
 def impl_head(parameters, trait, name, where):
@@ -177,7 +237,13 @@ def impl_head(parameters, trait, name, where):
     return '\n'.join([line, 'where'] + bounds + ['{']) if where else line + ' {'
 
 
-def filled(words, indent, width=WIDTH):
+def rows_of(words, indent):
+    """Words in one line, or over several, which are a column shorter."""
+    line = ' ' * indent + ' '.join(words)
+    return line if len(line) <= WIDTH else filled(words, indent, WIDTH - 1)
+
+
+def filled(words, indent, width):
     """Words over as many lines as they need."""
     lines = []
     line = ' ' * indent
@@ -189,74 +255,9 @@ def filled(words, indent, width=WIDTH):
     return '\n'.join(lines + [line])
 
 
-# ---- ghost terms
-
-# words that can't name a variable of a ghost term
-GHOST_WORDS = set('''data record deriving module where use mod pub package open as unfoldable abbrev axiom unfold
-    unfolding ruleset mutual infix infixl infixr elim let in do coe fcoe tcoe hcom com rw simp search grw cc omega
-    grind hlevel assumption first_of cap tt absurd left right fields refl'''.split())
-
-
-def ghost_name(name):
-    return '«%s»' % name if name in GHOST_WORDS else name
-
-
-def ghost_list(items):
-    """Items as a list."""
-    return ' ∷ '.join(items + ['[]'])
-
-
-class Term:
-    """A ghost term: a tuple of names between two texts."""
-
-    def __init__(self, before, items, behind=''):
-        self.before = before
-        self.items = items
-        self.behind = behind
-
-    def flat(self):
-        return self.before + ghost_tuple(self.items) + self.behind
-
-    def within(self, before, behind):
-        """The same term with more text on both sides."""
-        return Term(before + self.before, self.items, self.behind + behind)
-
-
-def ghost_tuple(items):
-    """Names as a tuple; of one the name, of none the only value of `()`."""
-    return '(%s)' % ', '.join(items) if len(items) > 1 else items[0] if items else 'tt'
-
-
-def ghost_term(node, indent):
-    """A term from column `indent` on; where it is too wide, each name of the tuple gets a line."""
-    line = ' ' * indent + node.flat()
-    if len(line) <= WIDTH or len(node.items) < 2:
-        return line
-    rows = ['%s%s,' % (' ' * (indent + 2), item) for item in node.items]
-    return '\n'.join([' ' * indent + node.before + '('] + rows + [' ' * indent + ')' + node.behind])
-
-
-def ghost_member(name, function, arguments, indent):
-    """`ghost name = { function arguments };`, over as many lines as the arguments need."""
-    lines = ['%sghost %s = { %s' % (' ' * indent, name, function)]
-    for index, argument in enumerate(arguments):
-        text = argument.flat() + (' };' if index + 1 == len(arguments) else '')
-        if len(lines[-1]) + 1 + len(text) <= WIDTH:
-            lines[-1] += ' ' + text
-        else:
-            end = text[len(argument.flat()):]
-            lines += (ghost_term(argument, indent + 4) + end).split('\n')
-    return '\n'.join(lines)
-
-
-def ghost_cases(name, arms, indent):
-    """`ghost name = { elim [ .. ] };`, one arm a line where it is too wide."""
-    start = '%sghost %s = { elim [' % (' ' * indent, name)
-    line = '%s %s ] };' % (start, ' | '.join(one.flat() for one in arms))
-    if len(line) <= WIDTH:
-        return line
-    rows = [ghost_term(one.within('| ', ''), indent + 2) for one in arms]
-    return '\n'.join([start] + rows + [' ' * indent + '] };'])
+def doc_line(text):
+    """A doc comment."""
+    return filled(['///'] + text.split(' '), 0, WIDTH).replace('\n', '\n/// ')
 
 
 # ---- imports
@@ -299,4 +300,4 @@ def import_line(prefix, names):
     line = 'use %s::{%s};' % (prefix, ', '.join(names))
     if len(line) <= WIDTH:
         return line
-    return 'use %s::{\n%s,\n};' % (prefix, filled(', '.join(names).split(' '), 4, WIDTH - 1))
+    return 'use %s::{\n%s\n};' % (prefix, rows_of([name + ',' for name in names], 4))

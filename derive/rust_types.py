@@ -36,33 +36,65 @@ class Constant:
 
 
 # what can't be the type of a field, by its first token
+BORROWS = 'the lifetime `%s`: a value that borrows is never decoded, so hold the values themselves'
+FUNCTION = 'a function pointer has no encoding: hold an enum of the functions that it may be, or write `// skip` above'
 NOT_DECODED = {
-    '&': 'a reference is never decoded: hold the value itself, a `Box` or an `Rc`',
-    '*': 'a raw pointer has no encoding',
-    '!': 'the type `!` has no encoding',
-    'dyn': 'a trait object has no encoding',
-    'impl': '`impl Trait` is no type of a field',
-    'fn': 'a function pointer has no encoding',
-    'unsafe': 'a function pointer has no encoding',
-    'extern': 'a function pointer has no encoding',
-    '<': 'a type by its trait, `<T as Trait>::Name`, is not taken: name the type',
+    '&': 'a reference is never decoded: hold the value itself, a `String` or `Vec<..>`, or a `Box` or an `Rc` of it',
+    '*': 'a raw pointer has no encoding: hold the value itself, or a `Box` or an `Rc` of it',
+    '!': 'the type `!` has no values: leave the field out',
+    'dyn': 'a trait object has no encoding: hold an enum of the types that it may be, or a type parameter',
+    'impl': '`impl Trait` is no type of a field: write a type parameter',
+    'fn': FUNCTION,
+    'unsafe': FUNCTION,
+    'extern': FUNCTION,
+    '<': 'a type by its trait, `<T as Trait>::Name`, is not taken: name the type, or write a type parameter',
+}
+
+# types of Rust that the library has no encoding of, and what to hold in their place
+SHARED = 'threads share no values here: write `Rc<..>`, or hold the value itself'
+INSIDE = "the contents can change behind the proof's back: hold the value itself"
+NO_ENCODING = {
+    'f32': 'there are no floats here: hold its bits, as a `u32`',
+    'f64': 'there are no floats here: hold its bits, as a `u64`',
+    'char': 'hold its number, as a `u32`, or a `String`',
+    'str': 'write `String`, or `BoxedStr` for `Box<str>` and `RcStr` for `Rc<str>`',
+    'Arc': SHARED,
+    'Mutex': SHARED,
+    'RwLock': SHARED,
+    'Cell': INSIDE,
+    'RefCell': INSIDE,
+    'OnceCell': INSIDE,
+    'Weak': 'hold an index of the value, or an `Rc` of it',
+    'Cow': 'write `CowStr` for `Cow<str>` and `CowSlice<..>` for `Cow<[..]>`, or hold the value itself',
+    'BinaryHeap': 'write `Vec<..>`',
+    'NonZeroIsize': 'write `NonZeroI64`',
+    'Duration': 'hold its seconds and nanoseconds, as a `u64` and a `u32`',
+    'Instant': 'it means nothing to another process: hold a number of seconds',
+    'SystemTime': 'hold the seconds since a day that you choose, as a `u64`',
+    'PathBuf': 'write `String`',
+    'OsString': 'write `String`, or `Vec<u8>`',
+    'CString': 'write `Vec<u8>`',
 }
 
 
 def parse_type(reader):
     """The type that begins at the reader's next token."""
+    return reader.deeper(parse_any, reader)
+
+
+def parse_any(reader):
     token = reader.peek()
     if token.text in NOT_DECODED:
         raise Refusal(token.line, NOT_DECODED[token.text])
     if token.kind == 'lifetime':
-        raise Refusal(token.line, 'the lifetime `%s`: a value that borrows is never decoded' % token.text)
+        raise Refusal(token.line, BORROWS % token.text)
     if token.text == '(':
         return parse_tuple(reader)
     if token.text == '[':
         return parse_array(reader)
     if token.kind == 'word':
         return parse_path(reader)
-    raise Refusal(token.line, '`%s` begins no type' % token.text)
+    raise Refusal(token.line, '`%s` begins no type' % token.shown())
 
 
 def parse_tuple(reader):
@@ -82,7 +114,8 @@ def parse_array(reader):
     line = reader.take('[').line
     element = parse_type(reader)
     if not reader.skip(';'):
-        reason = 'a slice without a length has no place in a field: write `Vec<..>` or `[..; N]`'
+        reason = ('a slice without a length has no place in a field: write `Vec<..>` or `[..; N]`, or `BoxedSlice<..>` '
+                  'for `Box<[..]>` and `RcSlice<..>` for `Rc<[..]>`')
         raise Refusal(line, reason)
     length = reader.until(']')
     reader.take(']')
@@ -95,7 +128,7 @@ def parse_path(reader):
     while reader.skip('::'):
         segments.append(parse_segment(reader))
     if reader.is_next('!'):
-        raise Refusal(reader.peek().line, 'a macro in the place of a type is not taken')
+        raise Refusal(reader.peek().line, 'a macro in the place of a type is not taken: write the type')
     return Path(segments)
 
 
@@ -109,7 +142,7 @@ def parse_segment(reader):
                 break
         reader.take('>')
     elif reader.is_next('('):
-        raise Refusal(reader.peek().line, 'the type of a function has no encoding')
+        raise Refusal(reader.peek().line, FUNCTION)
     return name, arguments
 
 
@@ -155,6 +188,19 @@ def joined(tokens):
         tight = called or token.text in TIGHT or before in OPEN
         text += token.text if tight else ' ' + token.text
     return text
+
+
+def without_encoding(tree):
+    """The names in a type that the library may have no encoding of, each with its path."""
+    if isinstance(tree, Path):
+        name, arguments = tree.segments[-1]
+        path = '::'.join(segment for segment, _ in tree.segments)
+        found = [(name, path)] if name in NO_ENCODING else []
+        arguments = [] if name == 'PhantomData' else arguments
+        return found + [one for argument in arguments for one in without_encoding(argument)]
+    if isinstance(tree, Tuple):
+        return [one for item in tree.items for one in without_encoding(item)]
+    return without_encoding(tree.element) if isinstance(tree, Array) else []
 
 
 def heads(tree, phantom=True):

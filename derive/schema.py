@@ -2,13 +2,9 @@
 
 from describe import describes_fields
 from emit import TUPLE, generic_group, quote, tree
-from layout import (ARRAY_WIDTH, TUPLE_WIDTH, Group, Term, array, call, flat, function_head, ghost_list,
-                    ghost_member, ghost_name, statement, tuple_type, type_layout)
-
-
-# the widest term in a line of its own
-WIDEST = 90
-
+from ghost import Applied, Term, ghost_list, ghost_member, ghost_name, nested_pairs
+from layout import (ARRAY_WIDTH, TUPLE_WIDTH, Group, array, call, doc_line, flat, function_head, statement, tuple_type,
+                    type_layout)
 
 def with_schema(writer, blocks):
     """The blocks of a type, and those of its schema where the mark asks for one."""
@@ -20,12 +16,13 @@ def with_schema(writer, blocks):
 def schema(writer, data, adding, describes):
     """`impl BorshSchema`: the members that say what the schema is, the call that adds the definitions, and a proof."""
     parameters = named_parameters(writer)
-    own = 'declared(alloc, "%s")' % writer.marked.name
     if parameters:
-        own = 'declared_with::<%s, %s>(alloc, "%s")' % (parameters[0], chain(parameters[1:], '()'), writer.marked.name)
-    writer.lib(own.split('(')[0].split(':')[0])
+        function = '%s::<%s, %s>' % (writer.lib('declared_with'), parameters[0], chain(parameters[1:], '()'))
+    else:
+        function = writer.lib('declared')
+    declared = statement('', call(function, ['alloc', '"%s"' % writer.marked.name]), '', 8)
     rows = ['    ghost name = { %s };' % ghost_own_name(writer), ''] + data + ['']
-    rows += [head(writer, 'declaration', [], writer.lib('Declaration')), '        ' + own, '    }', '',
+    rows += [head(writer, 'declaration', [], writer.lib('Declaration')), declared, '    }', '',
              head(writer, 'add_definitions_recursively', ['map: &mut %s' % writer.lib('DefinitionMap')], '()'),
              adding, '    }', '', describes]
     return writer.block('BorshSchema', 'BorshSchema', rows)
@@ -66,7 +63,7 @@ def chain_type(fields):
 
 def fields_view(names):
     """The function from a value to its fields one after another."""
-    return Term('(λ %s. ' % ('v' if names else '_'), [chain(names, 'tt')], ')')
+    return Term('(λ %s. ' % ('v' if names else '_'), nested_pairs(names + ['tt']), ')')
 
 
 def fields_described(writer, type_of_fields, fields):
@@ -91,7 +88,7 @@ def struct_schema(writer):
     block = schema(writer, data, struct_call(writer, kind, chained), describes)
     if len(fields) <= TUPLE:
         return [block]
-    doc = '/// The fields of [`%s`] as its schema goes through them.' % writer.marked.name
+    doc = doc_line('The fields of [`%s`] as its schema goes through them.' % writer.marked.name)
     return ['%s\n%s' % (doc, statement('type %s = ' % writer.list_head(), chain_type(fields), ';', 0)), block]
 
 
@@ -161,7 +158,7 @@ def enum_schema(writer):
     types = tree(variants,
                  lambda v: generic_group(case, [str(v.tag), chain_type(v.fields.encoded())]),
                  lambda a, b: generic_group(fork, [a, b]))
-    doc = '/// The variants of [`%s`] as its schema goes through them.' % writer.marked.name
+    doc = doc_line('The variants of [`%s`] as its schema goes through them.' % writer.marked.name)
     alias = '%s\n%s' % (doc, statement('type %s = ' % writer.list_head(), types, ';', 0))
     data = enum_parts(writer) + [''] + enum_described(writer)
     describes = '    ghost describes = { Self.described.describes };'
@@ -172,8 +169,9 @@ def enum_parts(writer):
     """The definitions that the name leads to: the enum's, and one of the fields of each variant."""
     read = quote(writer, writer.list_use(), 'VariantTypes', '.read')
     rows = ['    ghost parts = { enum_definitions', '        (codes "%s")' % writer.marked.name]
-    names = ['(codes "%s", %s)' % (variant.name, ghost_list(field_texts(variant))) for variant in writer.marked.variants]
-    rows += ['        %s%s' % ('∷ ' if index else '(', name) for index, name in enumerate(names)]
+    for index, variant in enumerate(writer.marked.variants):
+        names = ['codes "%s"' % variant.name, ghost_list(field_texts(variant))]
+        rows += Term('∷ ' if index else '(', names).rows(8)
     return rows + ['        ∷ [])', '        %s };' % read.flat()]
 
 
@@ -186,20 +184,18 @@ def field_texts(variant):
 def enum_described(writer):
     """What describes each variant, in the form of the tree."""
     view = quote(writer, writer.own(), 'FromCases', '.view')
-    rows = ['    ghost described = { enum_described', '        %s' % view.flat()]
-    cases = tree(writer.marked.variants, lambda v: described_case(writer, v), fork_described)
-    return rows + ['        %s' % row for row in cases[:-1]] + ['        %s };' % cases[-1]]
+    cases = tree(writer.marked.variants,
+                 lambda v: described_case(writer, v),
+                 lambda a, b: Applied('fork_described', a, b))
+    return ['    ghost described = { enum_described'] + view.rows(8) + cases.rows(8, ' };')
 
 
 def described_case(writer, variant):
     """What describes a variant: its fields one after another, in place of a tuple."""
     fields = variant.fields.encoded()
     names = ['v'] if len(fields) == 1 else [place_of(index, len(fields)) for index in range(len(fields))]
-    described = fields_described(writer, flat(chain_type(fields)), fields).flat()
-    row = '(case_described %s %s refl refl)' % (fields_view(names).flat(), described)
-    if len(row) <= WIDEST:
-        return [row]
-    return ['(case_described %s' % fields_view(names).flat(), described + ' refl refl)']
+    described = fields_described(writer, flat(chain_type(fields)), fields)
+    return Applied('case_described', fields_view(names), described.within('', ' refl refl'))
 
 
 def place_of(index, count):
@@ -207,10 +203,6 @@ def place_of(index, count):
     if count > TUPLE and index >= TUPLE - 1:
         return 'v.%d%s' % (TUPLE - 1, place_of(index - TUPLE + 1, count - TUPLE + 1)[1:])
     return 'v.%d' % index
-
-
-def fork_described(first, second):
-    return ['(fork_described'] + first + second[:-1] + [second[-1] + ')']
 
 
 def enum_call(writer):

@@ -3,7 +3,7 @@
 import re
 
 from refusal import Refusal
-from rust_types import heads, joined, parse_type
+from rust_types import BORROWS, heads, joined, parse_type
 from tokens import tokens_of
 
 # what a comment `// derive: ..` may ask for
@@ -12,13 +12,10 @@ OPTIONS = ('borsh', 'schema', 'key')
 # what a key is compared by
 COMPARED = ('PartialEq', 'Eq', 'PartialOrd', 'Ord')
 
-# attributes of a type that say nothing of its encoding
-TYPE_ATTRIBUTES = ('derive', 'derive_where', 'doc', 'must_use', 'allow', 'repr')
-
-# attributes of a variant that say nothing of its encoding
-VARIANT_ATTRIBUTES = ('default', 'doc')
-
-FIELD_ATTRIBUTES = ('doc',)
+# attributes that say nothing of an encoding: of a field, of a variant and of a type
+FIELD_ATTRIBUTES = ('doc', 'allow', 'expect', 'warn', 'deny', 'deprecated')
+VARIANT_ATTRIBUTES = FIELD_ATTRIBUTES + ('default',)
+TYPE_ATTRIBUTES = FIELD_ATTRIBUTES + ('derive', 'derive_where', 'must_use', 'repr', 'non_exhaustive')
 
 
 class Field:
@@ -107,6 +104,9 @@ class Module:
         self.marked = marked
 
 
+CLOSING = {'(': ')', '[': ']', '{': '}'}
+
+
 class Reader:
     """Tokens one after another; comments are skipped, and `comments` has those before the next token."""
 
@@ -114,7 +114,9 @@ class Reader:
         self.tokens = [token for token in tokens if token.kind != 'comment']
         self.before = comments_before(tokens)
         self.place = 0
+        self.depth = 0
         self.end_line = end_line
+        self.used = set()
 
     def at_end(self):
         return self.place >= len(self.tokens)
@@ -144,7 +146,7 @@ class Reader:
     def take(self, text):
         token = self.next()
         if token.text != text:
-            raise Refusal(token.line, '`%s` where `%s` is expected' % (token.text, text))
+            raise Refusal(token.line, '`%s` where `%s` is expected' % (token.shown(), text))
         return token
 
     def skip(self, text):
@@ -157,26 +159,44 @@ class Reader:
     def word(self):
         token = self.next()
         if token.kind != 'word':
-            raise Refusal(token.line, '`%s` where a name is expected' % token.text)
+            raise Refusal(token.line, '`%s` where a name is expected' % token.shown())
         if token.text.startswith('r#'):
-            raise Refusal(token.line, 'the raw identifier `%s`: Rattle has none' % token.text)
+            raise Refusal(token.line, 'the raw identifier `%s`: Rattle has none, so choose another name' % token.text)
         return token.text
 
     def group(self):
         """The tokens of a bracket, with both ends."""
         start = self.place
-        depth = 0
-        while True:
-            text = self.next().text
-            depth += (text in '([{') - (text in ')]}')
-            if depth == 0:
+        open_brackets = []
+        if self.peek().text not in CLOSING:
+            raise Refusal(self.peek().line, '`%s` where a bracket is expected' % self.peek().shown())
+        while not self.at_end():
+            token = self.next()
+            if token.text in CLOSING:
+                open_brackets.append(token)
+            elif token.text in CLOSING.values():
+                opened = open_brackets.pop()
+                if CLOSING[opened.text] != token.text:
+                    reason = '`%s` closes the `%s` of line %d'
+                    raise Refusal(token.line, reason % (token.text, opened.text, opened.line))
+            if not open_brackets:
                 return self.tokens[start:self.place]
+        raise Refusal(open_brackets[-1].line, 'the bracket `%s` is not closed' % open_brackets[-1].text)
+
+    def deeper(self, function, *arguments):
+        """Calls a function that may come back to itself. No source has a hundred levels."""
+        self.depth += 1
+        if self.depth > 100:
+            raise Refusal(self.peek().line, 'more than 100 levels of types or imports within one another')
+        result = function(*arguments)
+        self.depth -= 1
+        return result
 
     def until(self, *ends):
         """The tokens before the first of these texts outside brackets."""
         start = self.place
         while not self.peek().text in ends:
-            if self.peek().text in '([{':
+            if self.peek().text in CLOSING:
                 self.group()
             else:
                 self.next()
@@ -201,6 +221,7 @@ def read_module(text):
     module = Module({}, {}, [])
     seen = set()
     while not reader.at_end():
+        start = reader.place
         mark = mark_above(reader, seen)
         attributes = attributes_of(reader)
         mark = mark or mark_above(reader, seen)
@@ -209,9 +230,9 @@ def read_module(text):
         if mark is not None:
             check_attributes(attributes, TYPE_ATTRIBUTES, 'type')
             marked = read_marked(reader, mark)
+            refuse_unused(reader, start)
             marked.options = options_of(mark_of(mark))
-            check_key(marked, attributes)
-            check_schema(marked)
+            check_options_of(marked, attributes)
             module.marked.append(marked)
             module.items[module.marked[-1].name] = True
         else:
@@ -238,7 +259,7 @@ def mark_above(reader, seen):
             continue
         seen.add(comment)
         if reader.at_end():
-            raise Refusal(comment.line, 'no type is below the comment')
+            raise Refusal(comment.line, 'no type is below the comment: remove it')
         if comment.line == reader.last_line():
             raise Refusal(comment.line, 'the comment is behind code: write it above the type')
         if found is not None:
@@ -256,11 +277,12 @@ def check_options(text, line):
     options = options_of(text)
     for index, option in enumerate(options):
         if option not in OPTIONS:
-            raise Refusal(line, '`%s` is no option: write `// derive: borsh` or `// derive: borsh, key`' % option)
+            reason = '`%s` is no option: write `// derive: borsh`, and `, schema` or `, key` behind it if wanted'
+            raise Refusal(line, reason % option)
         if option in options[:index]:
             raise Refusal(line, 'the option `%s` comes twice' % option)
     if 'borsh' not in options:
-        raise Refusal(line, 'the option `borsh` is missing')
+        raise Refusal(line, 'the option `borsh` is missing: write `// derive: borsh, %s`' % ', '.join(options))
 
 
 def refuse_stray_marks(reader, seen):
@@ -275,6 +297,7 @@ def refuse_stray_marks(reader, seen):
 # ---- items
 
 # words before the keyword of an item, and keywords behind which an item has its name
+VISIBLE_IN = ('crate', 'super', 'self', 'in')
 MODIFIERS = ('unsafe', 'const', 'final', 'extern', 'async')
 NAMED = ('struct', 'enum', 'type', 'const', 'static', 'fn', 'trait', 'mod', 'union')
 
@@ -310,8 +333,10 @@ def skip_item(reader):
             reader.group()
             if reader.at_end() or not reader.is_next(';') and not goes_on(reader):
                 return
-        elif token.text in '([':
+        elif token.text in CLOSING:
             reader.group()
+        elif token.text in CLOSING.values():
+            raise Refusal(token.line, '`%s` closes nothing' % token.text)
         else:
             reader.next()
 
@@ -322,10 +347,11 @@ def goes_on(reader):
 
 
 def skip_visibility(reader):
-    """Goes past `pub` or `pub(..)`, and says whether it was there."""
+    """Goes past `pub` or `pub(crate)`, and says whether it was there. A type in brackets may follow, as in
+    `pub (u8, u16)`."""
     if not reader.skip('pub'):
         return False
-    if reader.is_next('('):
+    if reader.is_next('(') and reader.peek(1).text in VISIBLE_IN:
         reader.group()
     return True
 
@@ -338,7 +364,7 @@ def use_tree(reader, prefix):
         if reader.skip('*'):
             return [('*' + '::'.join(path), '::'.join(path + ['*']))]
         if reader.skip('{'):
-            return use_group(reader, path)
+            return reader.deeper(use_group, reader, path)
         path.append(reader.word())
         if not reader.skip('::'):
             break
@@ -360,24 +386,65 @@ def use_group(reader, path):
     return found
 
 
-# ---- attributes
+# ---- attributes and comments
 
 def attributes_of(reader):
     """The attributes before an item, each with its name; those of the whole file are passed over."""
-    found = []
+    return above(reader)[0]
+
+
+def above(reader):
+    """The attributes before an item, and the comments between and behind them. Those before the first of them may be
+    behind the code before; their place is told by `is_behind`."""
+    attributes, comments = [], list(reader.comments())
     while reader.is_next('#'):
         line = reader.take('#').line
         inner = reader.skip('!')
+        if not reader.is_next('['):
+            raise Refusal(line, '`#` begins no attribute')
         tokens = reader.group()
         if not inner:
-            found.append((tokens[1].text, joined(tokens), line))
-    return found
+            attributes.append((tokens[1].text, joined(tokens), line))
+        comments += reader.comments()
+    return attributes, comments
 
 
 def check_attributes(attributes, allowed, what):
     for name, text, line in attributes:
         if name not in allowed:
-            raise Refusal(line, 'the attribute `#%s` of a %s is not taken' % (text, what))
+            reason = 'the attribute `#%s` of a %s is not taken: %s'
+            raise Refusal(line, reason % (text, what, instead_of(name, text, what)))
+        if name == 'derive' and re.search(r'\bBorsh\w+', text):
+            reason = '`%s` in `#%s`: the comment is in its place, so remove it'
+            raise Refusal(line, reason % (re.search(r'\bBorsh\w+', text)[0], text))
+
+
+# what to write in place of an attribute `#[borsh(..)]`
+BORSH_ATTRIBUTES = {
+    'skip': 'write a comment `// skip` above the field',
+    'use_discriminant': 'discriminants are always the tags, so remove it',
+    'init': 'call the function after decoding',
+    'crate': 'the library is `borsh` here, so remove it',
+    'bound': 'write the bounds at the parameters',
+}
+
+
+def instead_of(name, text, what):
+    if name == 'borsh':
+        told = re.match(r'\[borsh\((\w+)', text)
+        by_hand = 'implement the traits by hand (docs/IMPLEMENTING.md)'
+        return BORSH_ATTRIBUTES.get(told and told[1], by_hand)
+    if name in ('cfg', 'cfg_attr'):
+        return 'the encoding would depend on it, so write two types, or remove it'
+    return 'what it means for the encoding is not known, so remove it, or implement the traits by hand'
+
+
+def check_options_of(marked, attributes):
+    try:
+        check_key(marked, attributes)
+        check_schema(marked)
+    except Refusal as refusal:
+        raise refusal.of(marked.name)
 
 
 def check_key(marked, attributes):
@@ -392,9 +459,10 @@ def check_key(marked, attributes):
     if marked.variants is not None or not marked.fields.all:
         raise Refusal(marked.line, 'a key is a struct with fields here: implement `BorshKey` of another type by hand')
     if marked.parameters:
-        raise Refusal(marked.line, 'a key with parameters is not taken')
+        raise Refusal(marked.line, 'a key with parameters is not taken: implement `BorshKey` by hand')
     if len(marked.fields.encoded()) < len(marked.fields.all):
-        reason = 'a key has no field that is left out: two keys with one encoding would not be equal'
+        reason = ('a key has no field that is left out, since two keys with one encoding would not be equal: remove '
+                  '`// skip`')
         raise Refusal(marked.line, reason)
 
 
@@ -412,15 +480,25 @@ def read_marked(reader, mark):
     """The struct or the enum below a mark."""
     line = reader.peek().line
     if not reader.skip('pub') or reader.peek().text not in ('struct', 'enum'):
-        raise Refusal(mark.line, 'no `pub struct` or `pub enum` is below the comment')
+        reason = 'no `pub struct` or `pub enum` is below the comment: make the type `pub`, or remove the comment'
+        raise Refusal(mark.line, reason)
     what = reader.next().text
     name = reader.word()
+    try:
+        return read_type(reader, what, name, line)
+    except Refusal as refusal:
+        raise refusal.of(name)
+
+
+def read_type(reader, what, name, line):
+    """What is behind the name of a struct or an enum."""
     parameters = read_parameters(reader) if reader.is_next('<') else []
     if what == 'enum':
         where = read_where(reader)
         variants = read_variants(reader)
         if not variants:
-            raise Refusal(line, 'an enum without variants has no values')
+            reason = 'an enum without variants has no values, and so no encodings: add a variant, or remove the comment'
+            raise Refusal(line, reason)
         return Marked(name, line, parameters, where, variants=variants)
     where = read_where(reader)
     if reader.is_next('{'):
@@ -438,13 +516,12 @@ def read_parameters(reader):
     while not reader.is_next('>'):
         token = reader.peek()
         if token.kind == 'lifetime':
-            reason = 'the lifetime `%s`: a value that borrows is never decoded'
-            raise Refusal(token.line, reason % token.text)
+            raise Refusal(token.line, BORROWS % token.text)
         constant = reader.skip('const')
         name = reader.word()
         bounds = joined(angle_until(reader, ',', '>', '=')) if reader.skip(':') else ''
         if reader.is_next('='):
-            raise Refusal(reader.peek().line, 'the parameter `%s` has a default, which is not taken' % name)
+            raise Refusal(reader.peek().line, 'the parameter `%s` has a default: remove it' % name)
         found.append(Parameter(name, bounds, constant))
         if not reader.skip(','):
             break
@@ -458,7 +535,7 @@ def angle_until(reader, *ends):
     depth = 0
     while depth > 0 or reader.peek().text not in ends:
         text = reader.peek().text
-        if text in '([{':
+        if text in CLOSING:
             reader.group()
             continue
         depth += (text == '<') - (text == '>')
@@ -477,12 +554,14 @@ def read_named_fields(reader, what):
     reader.take('{')
     found = []
     while not reader.is_next('}'):
-        skipped = is_skipped(reader)
-        check_attributes(attributes_of(reader), FIELD_ATTRIBUTES, 'field')
+        last_line = reader.last_line()
+        attributes, comments = above(reader)
+        skipped = is_skipped(reader, comments, last_line)
+        check_attributes(attributes, FIELD_ATTRIBUTES, 'field')
         line = reader.peek().line
         if reader.is_next('ghost'):
-            reason = ('a ghost field says which values there are, which a decoder has to prove: implement the type '
-                      'by hand')
+            reason = ('a ghost field says which values there are, which a decoder has to prove: implement the traits by '
+                      'hand, with `TryFromParts` (docs/IMPLEMENTING.md)')
             raise Refusal(line, reason)
         public = skip_visibility(reader) or what == 'variant'
         name = reader.word()
@@ -498,8 +577,10 @@ def read_tuple_fields(reader, public=False):
     reader.take('(')
     found = []
     while not reader.is_next(')'):
-        skipped = is_skipped(reader)
-        check_attributes(attributes_of(reader), FIELD_ATTRIBUTES, 'field')
+        last_line = reader.last_line()
+        attributes, comments = above(reader)
+        skipped = is_skipped(reader, comments, last_line)
+        check_attributes(attributes, FIELD_ATTRIBUTES, 'field')
         line = reader.peek().line
         is_public = skip_visibility(reader) or public
         found.append(Field(str(len(found)), parse_type(reader), line, is_public, skipped))
@@ -509,14 +590,39 @@ def read_tuple_fields(reader, public=False):
     return Fields('tuple', found)
 
 
-def is_skipped(reader):
-    """Whether `// skip` is above the next field."""
-    for comment in reader.comments():
-        if re.match(r'//(?![/!])\s*skip\s*$', comment.text):
-            if comment.line == reader.last_line():
-                raise Refusal(comment.line, '`// skip` is behind code: write it above the field')
-            return True
-    return False
+def is_skipped(reader, comments, last_line):
+    """Whether `// skip` is among the comments above a field."""
+    found = False
+    for comment in comments:
+        if comment_of(comment) == 'skip':
+            refuse_behind(reader, comment, last_line, 'field')
+            if found:
+                raise Refusal(comment.line, 'a second comment `// skip` above one field')
+            found = True
+    return found
+
+
+def comment_of(comment):
+    """'skip' or 'tag' for a comment that says something of a field or a variant."""
+    match = re.match(r'//(?![/!])\s*(skip\s*$|tag\s*:)', comment.text)
+    return match and match[1].rstrip(': ')
+
+
+def refuse_behind(reader, comment, last_line, what):
+    """A comment behind code could be meant for what is before it."""
+    if comment.line == last_line:
+        raise Refusal(comment.line, '`%s` is behind code: write it above the %s' % (comment.shown(), what))
+    reader.used.add(comment)
+
+
+def refuse_unused(reader, start):
+    """A comment `// skip` or `// tag: 7` that is above no field and no variant, from a token on."""
+    for place in range(start, reader.place + 1):
+        for comment in reader.before.get(place, []):
+            told = comment_of(comment)
+            if told and comment not in reader.used and (place < reader.place or comment.line == reader.last_line()):
+                reason = '`%s` is not above a %s: write it in a line of its own above the one that it is for'
+                raise Refusal(comment.line, reason % (comment.shown(), {'skip': 'field'}.get(told, 'variant')))
 
 
 def read_variants(reader):
@@ -524,8 +630,10 @@ def read_variants(reader):
     found = []
     tag = 0
     while not reader.is_next('}'):
-        told = tag_above(reader)
-        check_attributes(attributes_of(reader), VARIANT_ATTRIBUTES, 'variant')
+        last_line = reader.last_line()
+        attributes, comments = above(reader)
+        told = tag_above(reader, comments, last_line)
+        check_attributes(attributes, VARIANT_ATTRIBUTES, 'variant')
         line = reader.peek().line
         name = reader.word()
         fields = variant_fields(reader)
@@ -552,28 +660,30 @@ def variant_fields(reader):
     return Fields('unit', [])
 
 
-def tag_above(reader):
-    """The number in a comment `// tag: 7` above the next variant, or None."""
+def tag_above(reader, comments, last_line):
+    """The number in a comment `// tag: 7` above a variant, or None."""
     found = None
-    for comment in reader.comments():
-        match = re.match(r'//(?![/!])\s*tag\s*:\s*(.*?)\s*$', comment.text)
-        if match is None:
+    for comment in comments:
+        if comment_of(comment) != 'tag':
             continue
-        if comment.line == reader.last_line():
-            raise Refusal(comment.line, '`// tag: ..` is behind code: write it above the variant')
-        found = parse_number(match[1], comment.line)
+        refuse_behind(reader, comment, last_line, 'variant')
+        if found is not None:
+            raise Refusal(comment.line, 'a second comment `// tag: ..` above one variant')
+        found = parse_number(comment.text.split(':', 1)[1].strip(), comment.line)
     return found
 
 
 def number_of(tokens, line):
     if len(tokens) != 1 or tokens[0].kind != 'number':
-        raise Refusal(line, 'the discriminant `%s` is no number' % joined(tokens))
+        raise Refusal(line, 'the discriminant `%s` is no number: write its value' % joined(tokens))
     return parse_number(tokens[0].text, line)
 
 
 def parse_number(text, line):
     """A whole number as Rust writes it: with underscores, in any base, perhaps with its type."""
     bare = re.sub(r'([ui](8|16|32|64|128|size))$', '', text.replace('_', ''))
+    if len(bare) > 40:
+        raise Refusal(line, 'a number of more than 40 digits, and a tag is one byte')
     try:
         return int(bare, 0) if not re.fullmatch(r'0\d+', bare) else int(bare)
     except ValueError:
@@ -582,7 +692,8 @@ def parse_number(text, line):
 
 def refuse_tag(variants, name, tag, line):
     if not 0 <= tag <= 255:
-        raise Refusal(line, 'the tag of `%s` is %d, and a tag is one byte' % (name, tag))
+        raise Refusal(line, 'the tag of `%s` is %d, and a tag is one byte: choose one from 0 to 255' % (name, tag))
     for variant in variants:
         if variant.tag == tag:
-            raise Refusal(line, '`%s` and `%s` have one tag, %d' % (variant.name, name, tag))
+            reason = '`%s` and `%s` have one tag, %d: choose another for one of them'
+            raise Refusal(line, reason % (variant.name, name, tag))

@@ -5,7 +5,9 @@ import contextlib
 import io
 import os
 import shutil
+import subprocess
 import tempfile
+import time
 import unittest
 
 import borsh_derive
@@ -37,6 +39,9 @@ class Crate:
     def files(self):
         return sorted(os.listdir(os.path.join(self.folder, 'src')))
 
+    def texts(self):
+        return {name: self.read(name[:-3]) for name in self.files()}
+
     def run(self, *flags):
         """The exit status, and what was printed."""
         out = io.StringIO()
@@ -48,7 +53,7 @@ class Crate:
 class Cases(unittest.TestCase):
     def crate(self, types, **more):
         crate = Crate(types, **more)
-        self.addCleanup(shutil.rmtree, os.path.dirname(crate.folder))
+        self.addCleanup(shutil.rmtree, os.path.dirname(crate.folder), True)
         return crate
 
     def written(self, types, file, **more):
@@ -189,7 +194,7 @@ class Taken(Cases):
         self.assertIn('name_with (codes "P") A.name (B.name ∷ [])', text)
         self.assertIn('declared_with::<A, (B, ())>(alloc, "P")', text)
         self.assertIn('impl<A: BorshSchema, B: BorshSchema, N> BorshSchema for P<A, B, N> {', text)
-        self.assertIn('(describes_contramap (λ v. v.items) (describes_elements h.1.0.0 (A.describes C h.1.0.1.0)))', text)
+        self.assertIn('(describes_contramap (λ list. list.items)\n        (describes_elements held.1.0.0 (A.describes defs held.1.0.1.0)))', text)
 
     def test_parameters_that_are_keys(self):
         text = self.written('use borsh::BorshKey;\n\n// derive: borsh\npub struct Book<K: BorshKey + Ord, V> {\n    pub map: Map<K, V>,\n}\n', 'types_book')
@@ -261,6 +266,120 @@ class Taken(Cases):
         fields = ''.join('    pub a_rather_long_name_%d: std::collections::BTreeMap<String, Vec<u8>>,\n' % index for index in range(12))
         text = self.written('// derive: borsh\npub struct Wide {\n%s}\n' % fields, 'types_wide')
         self.assertLessEqual(max(len(line) for line in text.split('\n')), 100)
+
+    def test_comments_beside_attributes_and_docs(self):
+        field = '// derive: borsh\npub struct A {\n    pub a: u8,\n%s    pub b: u16,\n}\n'
+        for above in ('    // skip\n    #[allow(unused)]\n', '    #[allow(unused)]\n    // skip\n', '    /// A doc.\n    // skip\n',
+                      '    // skip\n    /// A doc.\n', '    #[allow(unused)] // skip\n', '    /* A block. */\n    //skip\n    #[doc = "skip"]\n    /// A doc.\n'):
+            self.assertIn('type Fields = u8;', self.written(field % above, 'types_a'), above)
+        variant = '// derive: borsh\npub enum A {\n%s    B(u8),\n    C,\n}\n'
+        for above in ('    // tag: 7\n    #[default]\n', '    #[default]\n    // tag: 7\n', '    /// A doc.\n    // tag: 7\n',
+                      '    // tag: 7\n    /// A doc.\n', '    #[default] // tag: 7\n', '    #[doc = "7"]\n    // tag : 0x7\n    /// A doc.\n'):
+            self.assertIn('Fork<Case<7, u8>, Case<8, ()>>', self.written(variant % above, 'types_a'), above)
+
+    def test_words_of_the_provers_language(self):
+        for fields, arm in (('yes: u8, no: u8', 'E.A part0 part1 ↦ fields (part0, part1)'), ('refl: u8', 'E.A part0 ↦ fields part0'),
+                            ('package: u8, record: u8', 'E.A part0 part1 ↦'), ('from: u8, search: u8', 'E.A part0 part1 ↦'), ('from: u8, to: u8', 'E.A from to ↦ fields (from, to)')):
+            self.assertIn(arm, self.written('// derive: borsh\npub enum E {\n    A { %s },\n}\n' % fields, 'types_e'))
+        text = self.written('', 'data_type', root=HEAD + 'pub mod data;\n', data='// derive: borsh\npub enum Type {\n    Type(u8),\n}\n')
+        self.assertIn('ghost use Rattle.sample.specs.declared.«data».«Type».{«Type»};\n', text)
+        self.assertIn('«Type».«Type» part0 ↦ fields part0', text)
+        self.assertIn('λ v. (v.«let», v.in_s)', self.written('// derive: borsh\npub struct E {\n    pub let: u8,\n    pub in_s: u8,\n}\n', 'types_e'))
+
+    def test_parts_named_as_fields(self):
+        text = self.written('// derive: borsh\npub enum E {\n    A { alloc: u8, part0: u16 },\n}\n', 'types_e')
+        self.assertIn('alloc: part0_parts,', text)
+
+    def test_tuples_as_fields_of_tuples(self):
+        text = self.written('// derive: borsh\npub struct A(pub (u8, u16), pub(crate) (String,), pub(in super::a) u8);\n', 'types_a')
+        self.assertIn('type Fields = ((u8, u16), (String,), u8);', text)
+
+    def test_a_chain_of_types(self):
+        types = ''.join('// derive: borsh\npub struct T%d {\n    pub a: T%d,\n    pub b: T%d,\n}\n\n' % (n, n + 1, n + 1) for n in range(40))
+        crate = self.crate(types + '// derive: borsh\npub struct T40(pub u8);\n')
+        start = time.process_time()
+        self.assertEqual(crate.run()[0], 0)
+        self.assertLess(time.process_time() - start, 2)
+
+    def test_places_of_mod_lines(self):
+        head = '//! A.\n#![tactic(auto)]\n'
+        for before, after in (
+                (head + '\npub mod types;\n', head + '\npub mod types;\nmod types_a;\n'),
+                (head + '\nuse b::c;\n\n/// The types.\npub mod types;\n', head + '\nuse b::c;\n\n/// The types.\npub mod types;\nmod types_a;\n'),
+                (head + '\n#[cfg(test)]\nmod tests;\npub mod types;\n', head + '\n#[cfg(test)]\nmod tests;\npub mod types;\nmod types_a;\n'),
+                (head + '\nmod types;\n#[cfg(test)]\n// Tests.\nmod zoo;\n', head + '\nmod types;\nmod types_a;\n#[cfg(test)]\n// Tests.\nmod zoo;\n'),
+                (head + '\nmod types; // Those.\nmod zoo;\n', head + '\nmod types; // Those.\nmod types_a;\nmod zoo;\n'),
+                (head + '\nmod types;\n\n// Later.\nmod zoo;\n', head + '\nmod types;\nmod types_a;\n\n// Later.\nmod zoo;\n'),
+                (head + '\nmod types;\npub(crate) mod types_a;\n', None),
+                (head + '\nmod types;\n#[rustfmt::skip]\nmod  types_a ;\n', None),
+                (head + '\nmod types;\n/* mod types_a; */\n', head + '\nmod types;\nmod types_a;\n/* mod types_a; */\n')):
+            crate = self.crate('// derive: borsh\npub struct A;\n', root=before)
+            self.assertEqual(crate.run()[0], 0)
+            self.assertEqual(crate.read('lib'), after or before)
+            self.assertEqual(crate.run('--check'), (0, ''))
+        for before, after in (
+                ('// derive: borsh\npub struct A;\n', 'mod root_a;\n\n// derive: borsh\npub struct A;\n'),
+                (head + '// derive: borsh\npub struct A;\n', head + '\nmod root_a;\n\n// derive: borsh\npub struct A;\n'),
+                (head + '\nuse b::c;\n\n// derive: borsh\npub struct A;\n', head + '\nmod root_a;\n\nuse b::c;\n\n// derive: borsh\npub struct A;\n')):
+            crate = self.crate('', root=before)
+            self.assertEqual(crate.run()[0], 0)
+            self.assertEqual(crate.read('lib'), after)
+            self.assertEqual(crate.run('--check'), (0, ''))
+
+    def test_the_name_of_the_root_file(self):
+        crate = self.crate('', main='// derive: borsh\npub struct A;\n')
+        os.remove(crate.path('lib'))
+        self.assertEqual(crate.run()[0], 0)
+        self.assertIn('from main.rt: edit', crate.read('root_a'))
+
+    def test_line_ends_are_kept(self):
+        crate = self.crate('// derive: borsh\npub struct A;\n', root=HEAD.replace('\n', '\r\n'))
+        self.assertEqual(crate.run()[0], 0)
+        with open(crate.path('lib'), 'rb') as file:
+            self.assertTrue(file.read().endswith(b'pub mod types;\r\nmod types_a;\r\n'))
+
+    def test_widths_of_ghost_text(self):
+        text = self.written('use std::collections::BTreeMap;\n\n// derive: borsh, schema\npub struct Table<C> {\n    pub rows: Vec<C>,\n    pub by_number: BTreeMap<u32, Option<C>>,\n    pub last: (u8, Result<C, String>),\n}\n', 'types_table')
+        self.assertIn('    ghost describes = { λ defs held. describes_contramap (λ v. (v.rows, (v.by_number, v.last)))\n        (describes_parts held.0\n', text)
+        self.assertIn('(C.describes defs held.1.0.1.0)', text)
+        self.assertLessEqual(max(len(line) for line in text.split('\n')), 100)
+
+    @unittest.skipUnless(shutil.which('rt'), 'the formatter is not there')
+    def test_the_formatter_leaves_what_is_written(self):
+        kinds = ('u8', 'String', 'Vec<u8>', 'BTreeMap<String, Vec<Option<(u8, String)>>>', '[u8; 32]', '(u64, String)')
+        names = {'short': 'f%d', 'long': 'a_rather_long_name_of_a_field_%d'}
+        types = ['use std::collections::BTreeMap;\n']
+        for size, name in names.items():
+            title = {'short': 'S', 'long': 'ATypeWhoseNameHasMoreThanTwentyLetters'}[size]
+            for count in (1, 2, 3, 4, 5, 6, 8, 11, 12, 13, 16, 20):
+                fields = [(name % n, kinds[(n + count) % len(kinds)]) for n in range(count)]
+                rows = ''.join('    pub %s: %s,\n' % row for row in fields)
+                types.append('// derive: borsh, schema\npub struct %s%d {\n%s}\n' % (title, count, rows))
+                generic = rows.replace('String', 'Vec<A>').replace('u8;', 'A;')
+                types.append('// derive: borsh, schema\npub struct %sOf%d<A> {\n%s}\n' % (title, count, generic))
+                lengths = rows.replace('; 32', '; N')
+                types.append('// derive: borsh\npub struct %sWith%d<const N: usize> {\n%s}\n' % (title, count, lengths))
+                types.append('// derive: borsh, schema\npub struct %sTuple%d(%s);\n' % (title, count, ', '.join('pub ' + kind for _, kind in fields)))
+            for count in (1, 2, 3, 5, 8, 16, 31, 32, 33, 64):
+                rows = ''
+                for n in range(count):
+                    fields = [(name % m, kinds[(n + m) % len(kinds)]) for m in range(n % 6 if n % 16 else 12)]
+                    variant = '%sV%d' % (title[:1] if size == 'short' else title[:24], n)
+                    named = ' { %s }' % ', '.join('%s: %s' % row for row in fields)
+                    rows += '    %s%s,\n' % (variant, ('', '(%s)' % ', '.join(kind for _, kind in fields), named)[n % 3] if fields else '')
+                types.append('// derive: borsh, schema\npub enum %sEnum%d {\n%s}\n' % (title, count, rows))
+        crate = self.crate('\n'.join(types))
+        top = os.path.dirname(crate.folder)
+        os.makedirs(os.path.join(top, 'crates'))
+        shutil.move(crate.folder, os.path.join(top, 'crates'))
+        crate.folder = os.path.join(top, 'crates', 'sample')
+        with open(os.path.join(top, 'crates.txt'), 'w', encoding='utf-8') as file:
+            file.write('sample: borsh borsh_variants borsh_schema borsh_walks borsh_io\n')
+        self.assertEqual(crate.run()[0], 0)
+        before = crate.texts()
+        subprocess.run(['rt', 'fmt'], cwd=crate.folder, stdout=subprocess.PIPE, stderr=subprocess.STDOUT, check=True)
+        differing = [name for name, text in crate.texts().items() if text != before[name] and name != 'types.rt']
+        self.assertEqual(differing, [])
 
 
 class Again(Cases):
@@ -344,7 +463,7 @@ class Refused(Cases):
         self.one('pub struct A(pub Vec<B>);\n\n// derive: borsh\npub struct B(pub Option<A>);\n', 2, '`A` holds itself through `B`')
 
     def test_two_types_of_one_name(self):
-        self.refused('// derive: borsh\npub struct A;\n', 2, 'a second type `A`: the other one is in src/other.rt', other='// derive: borsh\npub enum A {\n    B,\n}\n')
+        self.refused('// derive: borsh\npub struct A;\n', 2, 'a second type `A`: the other one is in src/other.rt', root=HEAD + 'pub mod other;\n', other='// derive: borsh\npub enum A {\n    B,\n}\n')
 
     def test_two_types_with_one_file(self):
         self.refused('// derive: borsh\npub struct ABC;\n\n// derive: borsh\npub struct Abc;\n', 5, 'would have one file, types_abc.rt')
@@ -405,6 +524,112 @@ class Refused(Cases):
         self.one('pub struct A {\n    pub a: u8,\n', 4, 'the file ends within an item')
         self.refused('/* // derive: borsh', 1, 'a comment is not closed')
         self.refused('const A: &str = "', 1, 'a string is not closed')
+
+    def test_types_without_an_encoding(self):
+        for kind, reason in (
+                ('f32', 'the type `f32` of the field `b` has no encoding here: there are no floats here: hold its bits, as a `u32`'),
+                ('Vec<f64>', 'hold its bits, as a `u64`'), ('Arc<u8>', 'threads share no values here: write `Rc<..>`'),
+                ('std::sync::Arc<u8>', 'write `Rc<..>`'), ('Option<RefCell<u8>>', 'hold the value itself'), ('(u8, [Cell<u8>; 2])', 'hold the value itself'),
+                ('char', 'hold its number, as a `u32`'), ('Box<str>', '`BoxedStr` for `Box<str>`'), ('Box<[u8]>', '`BoxedSlice<..>` for `Box<[..]>`'),
+                ('Time', 'the type `SystemTime`')):
+            self.refused('use std::sync::Arc;\n\n// derive: borsh\npub struct A {\n    pub a: u8,\n    pub b: %s,\n}\n' % kind.replace('Time', 'std::time::SystemTime'), 6, reason)
+        self.written('use super::mine::Arc;\n\n// derive: borsh\npub struct A {\n    pub a: Arc,\n    // skip\n    pub b: f32,\n}\n', 'types_a')
+
+    def test_each_names_its_type(self):
+        for field in ('&\'static u8', 'fn(u8)', 'dyn Fn(u8)', 'Box<dyn Fn(u8)>', 'f32', 'impl Copy', '*const u8', '!'):
+            self.refused('// derive: borsh\npub struct Named {\n    pub a: %s,\n}\n' % field, 3, '`Named`')
+
+    def test_attributes_in_place_of_comments(self):
+        for attribute, reason in (('borsh(skip)', 'write a comment `// skip` above the field'), ('borsh(deserialize_with = "f")', 'implement the traits by hand'),
+                                  ('borsh(bound(serialize = ""))', 'write the bounds at the parameters'), ('cfg(test)', 'write two types')):
+            self.one('pub struct A {\n    #[%s]\n    pub a: u8,\n}\n' % attribute, 3, reason)
+        self.one('#[borsh(use_discriminant = true)]\npub enum A {\n    B = 1,\n}\n', 2, 'discriminants are always the tags, so remove it')
+        self.one('#[derive(Drop, BorshSerialize)]\npub struct A;\n', 2, '`BorshSerialize` in `#[derive(Drop, BorshSerialize)]`: the comment is in its place')
+
+    def test_comments_that_are_above_nothing(self):
+        for definition, line, reason in (
+                ('pub struct A {\n    pub a: u8, // skip\n}\n', 3, '`// skip` is not above a field'),
+                ('pub struct A {\n    pub a: u8, // skip\n    pub b: u8,\n}\n', 3, '`// skip` is behind code'),
+                ('pub struct A {\n    pub a: // skip\n    u8,\n}\n', 3, '`// skip` is not above a field'),
+                ('pub struct A {\n    // skip\n    // skip\n    pub a: u8,\n}\n', 4, 'a second comment `// skip`'),
+                ('// skip\npub struct A(pub u8);\n', 2, '`// skip` is not above a field'),
+                ('pub struct A(pub u8); // skip\n', 2, '`// skip` is not above a field'),
+                ('pub struct A {\n    // tag: 3\n    pub a: u8,\n}\n', 3, '`// tag: 3` is not above a variant'),
+                ('pub enum A {\n    // skip\n    B,\n}\n', 3, '`// skip` is not above a field'),
+                ('pub enum A {\n    B, // tag: 3\n}\n', 3, '`// tag: 3` is not above a variant'),
+                ('pub enum A {\n    // tag: 3\n    /// B.\n    // tag: 4\n    B,\n}\n', 5, 'a second comment `// tag: ..`')):
+            self.one(definition, line, reason)
+
+    def test_words_of_the_provers_language(self):
+        self.one('pub struct A {\n    pub deriving: u8,\n}\n', 3, 'the word `deriving`, which names nothing else: choose another name')
+        self.one('pub enum A {\n    B { deriving: u8 },\n}\n', 3, 'choose another name')
+        self.one('pub struct A<Type>(pub Type);\n', 2, 'a meaning of its own for `Type`: choose another name')
+        self.one('pub enum Prim {\n    B,\n}\n', 2, 'a meaning of its own for `Prim`: choose another name')
+
+    def test_roots_and_folders(self):
+        types = '// derive: borsh\npub struct A;\n'
+        for root, place, reason in (
+                ('//! A.\nmod other;\n', 'types.rt:2', 'the file is no module of the crate: src/lib.rt has no line `mod types;`'),
+                (HEAD + '\npub fn types_a() {}\n', 'lib.rt:6', 'the name `types_a` is that of the module to be written'),
+                (HEAD + '\nuse other::types_a;\n', 'lib.rt:6', 'the name `types_a` is that of the module to be written'),
+                (HEAD + '}\n', 'lib.rt:5', '`}` closes nothing'),
+                (HEAD + 'mod a {\n', 'lib.rt:5', 'the bracket `{` is not closed')):
+            crate = self.crate(types, root=root)
+            status, said = crate.run()
+            self.assertEqual(status, 1)
+            self.assertIn('src/%s: %s' % (place, reason), said)
+        crate = self.crate('')
+        os.makedirs(os.path.join(crate.folder, 'src', 'inner'))
+        crate.write('inner/types', types)
+        self.assertIn('src/inner/types.rt:1: only types of files in src/ itself', crate.run()[1])
+
+
+class Errors(Cases):
+    """Whatever the files are, there is one line of error."""
+
+    def error(self, crate, said):
+        for flags in ((), ('--check',)):
+            status, text = crate.run(*flags)
+            self.assertEqual((status, text.count('\n')), (1, 1), text)
+            self.assertIn(said, text)
+
+    def test_files(self):
+        for content, said in ((b'pub struct A;\n// \xff\n', 'src/types.rt:2: the file is not UTF-8'), (b'pub fn a() {\n    (]\n}\n', 'src/types.rt:2: `]` closes the `(` of line 2'),
+                              (b'pub fn a() {\n    (\n', 'src/types.rt:2: the bracket `(` is not closed'), (b'}\n', 'src/types.rt:1: `}` closes nothing'),
+                              (b'\n# foo\n', 'src/types.rt:2: `#` begins no attribute'), (b'# ', 'src/types.rt:1: '), (b'#!', 'src/types.rt:1: '),
+                              (b'const A: &str = r#"\n', 'src/types.rt:1: a string is not closed'), (b'// derive: borsh', 'src/types.rt:1: no type is below'),
+                              (b'// derive: borsh\npub enum A {\n    B = 0x' + b'f' * 5000 + b',\n}\n', 'src/types.rt:3: '),
+                              (b'// derive: borsh\npub struct A(pub ' + b'Vec<' * 3000 + b'u8' + b'>' * 3000 + b');\n', 'src/types.rt:2: `A`: more than 100 levels'),
+                              (b'use a::' + b'{b::' * 3000 + b'c' + b'}' * 3000 + b';\n', 'src/types.rt:1: more than 100 levels')):
+            crate = self.crate('')
+            with open(crate.path('types'), 'wb') as file:
+                file.write(content)
+            self.error(crate, said)
+
+    def test_empty_files(self):
+        crate = self.crate('')
+        self.assertEqual(crate.run(), (0, ''))
+        crate = self.crate('', root='')
+        self.assertEqual(crate.run(), (0, ''))
+
+    def test_what_is_no_file(self):
+        crate = self.crate('// derive: borsh\npub struct A;\n')
+        os.mkdir(crate.path('types_a'))
+        self.error(crate, "src/types_a.rt: can't be read: Is a directory")
+        crate = self.crate('')
+        os.symlink('/no/such/file', crate.path('gone'))
+        self.error(crate, "src/gone.rt: can't be read: No such file or directory")
+        os.remove(crate.path('lib'))
+        os.remove(crate.path('gone'))
+        self.error(crate, 'src: there is neither lib.rt nor main.rt')
+        shutil.rmtree(os.path.join(crate.folder, 'src'))
+        self.error(crate, 'src: there is no such folder: give the folder of a crate')
+
+    def test_arguments(self):
+        for arguments, status in (([], 2), (['a', 'b'], 2), (['--chek', 'a'], 2), (['--check'], 2), (['--help'], 0), (['/no/such/folder'], 1), (['/'], 1), ([''], 1)):
+            out = io.StringIO()
+            with contextlib.redirect_stdout(out), contextlib.redirect_stderr(out):
+                self.assertEqual(borsh_derive.main(arguments), status, arguments)
 
 
 if __name__ == '__main__':

@@ -14,8 +14,10 @@ class Token:
         self.text = text
         self.line = line
 
-    def __repr__(self):
-        return '%s %r in line %d' % (self.kind, self.text, self.line)
+    def shown(self):
+        """The beginning of the text, for a message."""
+        first = self.text.split('\n')[0]
+        return first if first == self.text and len(first) <= 40 else first[:40] + '..'
 
 
 def is_word_start(c):
@@ -51,7 +53,7 @@ def next_token(source, place, line):
         return 'comment', len(source) if end < 0 else end
     if source.startswith('/*', place):
         return 'comment', end_of_block_comment(source, place, line)
-    raw = end_of_raw_string(source, place)
+    raw = end_of_raw_string(source, place, line)
     if raw is not None:
         return 'text', raw
     if source[place] == '"' or source.startswith('b"', place):
@@ -98,7 +100,7 @@ def end_of_block_comment(source, place, line):
     raise Refusal(line, 'a comment is not closed')
 
 
-def end_of_raw_string(source, place):
+def end_of_raw_string(source, place, line):
     """Behind a string `r"..."` or `br#"..."#`; None if there is none here."""
     start = place + (source[place] == 'b')
     if not source.startswith('r', start):
@@ -110,7 +112,9 @@ def end_of_raw_string(source, place):
         return None
     close = '"' + '#' * (quote - start - 1)
     end = source.find(close, quote + 1)
-    return len(source) if end < 0 else end + len(close)
+    if end < 0:
+        raise Refusal(line, 'a string is not closed')
+    return end + len(close)
 
 
 def end_of_string(source, quote, line):

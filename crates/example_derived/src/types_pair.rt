@@ -67,6 +67,7 @@ impl<A: BorshSchema, B: BorshSchema> BorshSchema for Pair<A, B> {
         add_named_with::<A, (B, ()), Chain<Fields<A, B>>>(alloc, "Pair", &["first", "second"], map)
     }
 
-    ghost describes = { λ C h. describes_contramap (λ v. (v.first, v.second))
-        (describes_parts h.0 (all_more (A.describes C h.1.0) (all_one (B.describes C h.1.1.0)))) };
+    ghost describes = { λ defs held. describes_contramap (λ v. (v.first, v.second))
+        (describes_parts held.0
+        (all_more (A.describes defs held.1.0) (all_one (B.describes defs held.1.1.0)))) };
 }

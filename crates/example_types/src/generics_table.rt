@@ -85,6 +85,24 @@ where
         add_named_with::<T, (), Chain<Fields<T>>>(alloc, "Table", &["rows", "by_number"], map)
     }
 
-    ghost describes = { λ C h. describes_contramap (λ v. (v.rows, v.by_number))
-        (describes_parts h.0 (all_more (describes_contramap (λ v. v.items) (describes_elements h.1.0.0 (T.describes C h.1.0.1.0))) (all_one (describes_contramap (λ m. m.entries) (describes_refused_if ⟦<u32 as BorshType>⟧.codec.is_zero_width (describes_ordered ⟦<u32 as Ord>⟧.cmp h.1.1.0.0 (describes_parts h.1.1.0.1.0.0 (all_more (⟦<u32 as BorshSchema>⟧.described.describes C h.1.1.0.1.0.1.0) (all_one (describes_contramap option_view (describes_choice h.1.1.0.1.0.1.1.0.0 (choice_more first_variant refl (describes_unit h.1.1.0.1.0.1.1.0.1.1.0.0) (choice_more (later_variant first_variant) refl (T.describes C h.1.1.0.1.0.1.1.0.1.0) choice_none))))))))))))) };
+    ghost describes = { λ defs held. describes_contramap (λ v. (v.rows, v.by_number))
+        (describes_parts held.0
+        (all_more
+        (describes_contramap (λ list. list.items)
+        (describes_elements held.1.0.0 (T.describes defs held.1.0.1.0)))
+        (all_one
+        (describes_contramap (λ map. map.entries)
+        (describes_refused_if ⟦<u32 as BorshType>⟧.codec.is_zero_width
+        (describes_ordered ⟦<u32 as Ord>⟧.cmp held.1.1.0.0
+        (describes_parts held.1.1.0.1.0.0
+        (all_more
+        (⟦<u32 as BorshSchema>⟧.described.describes defs held.1.1.0.1.0.1.0)
+        (all_one
+        (describes_contramap option_view
+        (describes_choice held.1.1.0.1.0.1.1.0.0
+        (choice_more first_variant refl
+        (describes_unit held.1.1.0.1.0.1.1.0.1.1.0.0)
+        (choice_more (later_variant first_variant) refl
+        (T.describes defs held.1.1.0.1.0.1.1.0.1.0)
+        choice_none))))))))))))) };
 }

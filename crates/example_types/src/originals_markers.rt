@@ -90,7 +90,8 @@ impl<T, U> BorshSchema for Markers<T, U> {
         ⟦<Markers<T, U> as FromCases>⟧.view
         (fork_described
         (case_described (λ v. (v, tt)) ⟦<(PhantomData<T>, ()) as FieldTypes>⟧.described refl refl)
-        (case_described (λ v. (v, tt)) ⟦<(PhantomData<U>, ()) as FieldTypes>⟧.described refl refl)) };
+        (case_described (λ v. (v, tt))
+        ⟦<(PhantomData<U>, ()) as FieldTypes>⟧.described refl refl)) };
 
     fn declaration(alloc: Global) -> SchemaResult<Declaration> {
         declared(alloc, "Markers")

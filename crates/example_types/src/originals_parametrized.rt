@@ -69,6 +69,9 @@ impl<K: BorshSchema, V> BorshSchema for Parametrized<K, V> {
         add_named_with::<K, (), Chain<Fields<K, V>>>(alloc, "Parametrized", &names, map)
     }
 
-    ghost describes = { λ C h. describes_contramap (λ v. (v.field, v.another))
-        (describes_parts h.0 (all_more (K.describes C h.1.0) (all_one (⟦<PhantomData<V> as BorshSchema>⟧.described.describes C h.1.1.0)))) };
+    ghost describes = { λ defs held. describes_contramap (λ v. (v.field, v.another))
+        (describes_parts held.0
+        (all_more
+        (K.describes defs held.1.0)
+        (all_one (⟦<PhantomData<V> as BorshSchema>⟧.described.describes defs held.1.1.0)))) };
 }
