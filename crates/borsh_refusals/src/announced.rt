@@ -59,20 +59,30 @@ fn is_little_asked<T: BorshDeserialize>(alloc: Global, input: Input, most: u32) 
     judge_refused(made, false, MISSED).right && !asked_much
 }
 
-/// The announced elements are missed with few bytes asked for, or an allocation failure is returned; from a slice and from a
-/// reader.
-fn asks_little<T: BorshDeserialize>(rt: HostRuntime, name: &str, most: u32) -> Result<(), Fail> {
+/// The announced elements are missed with few bytes asked for, or an allocation failure is returned.
+fn asks_little_of<T: BorshDeserialize>(
+    rt: HostRuntime,
+    input: Input,
+    call: &str,
+    name: &str,
+    most: u32,
+) -> Result<(), Fail> {
     let alloc = rt.alloc();
+    if !is_little_asked::<T>(alloc, input, most) {
+        return Err(Fail::new(format_args!("{call}, {name}: too much is asked for")));
+    }
+    sweep(rt, call, name, |refusal| {
+        refusal.begin(alloc);
+        let made = decode::<T>(alloc, input);
+        let refused = end_refusal(alloc);
+        Ok(judge_refused(made, refused, MISSED))
+    })
+}
+
+/// The same of each input.
+fn asks_little<T: BorshDeserialize>(rt: HostRuntime, name: &str, most: u32) -> Result<(), Fail> {
     for &(input, call) in &INPUTS {
-        if !is_little_asked::<T>(alloc, input, most) {
-            return Err(Fail::new(format_args!("{call}, {name}: too much is asked for")));
-        }
-        sweep(rt, call, name, |refusal| {
-            refusal.begin(alloc);
-            let made = decode::<T>(alloc, input);
-            let refused = end_refusal(alloc);
-            Ok(judge_refused(made, refused, MISSED))
-        })?;
+        asks_little_of::<T>(rt, input, call, name, most)?;
     }
     Ok(())
 }
