@@ -1,12 +1,13 @@
 // Calls that don't allocate: each is made with every allocation failing, and makes none.
 //
-// They are: all calls of `Error` and `Text`; readers and writers over slices; `by_ref`; `flush` of vectors; `encodes_empty`,
-// `element_size`, `cautious`, `u8_slice` and `strict_order`; the `new` of the adapters, of `Unordered` and of `Counted`; `look`,
-// for each question; `serialize`, `to_writer` and `object_length` of values without hashed maps or sets, into a vector that has
-// room and into a slice; reading numbers, `bool`, types of no bytes, addresses, `Uuid`, and ranges, options, results, tuples and
-// arrays of these; two refusals whose texts are fixed, of a slice that is too short and of a reader that fails behind a value; a
-// container's `new`, `declaration`, `definitions`, `as_map`, `get_definition`, `get_mut_definition` and `remove_definition`; and
-// comparisons. `finish` makes none either, past the writer's own growth: `.ci/sweep.py` shows it, on the program itself.
+// They are: `new`, `other`, `from`, `kind`, `message`, `get_ref` and `into_inner` of `Error`, `from` and `as_str` of `Text`;
+// readers and writers over slices; `by_ref`; `flush` of vectors; `encodes_empty`, `element_size`, `cautious`, `u8_slice` and
+// `strict_order`; the `new` of the adapters, of `Unordered` and of `Counted`; `look`, for each question; `serialize`,
+// `to_writer` and `object_length` of values without hashed maps or sets, into a vector that has room and into a slice; reading
+// numbers, `bool`, types of no bytes, addresses, `Uuid`, and ranges, options, results, tuples and arrays of these; two refusals
+// whose texts are fixed, of a slice that is too short and of a reader that fails behind a value; a container's `new`,
+// `declaration`, `definitions`, `as_map`, `get_definition`, `get_mut_definition` and `remove_definition`; and comparisons.
+// `finish` makes none either, past the writer's own growth: `.ci/sweep.py` shows it, on the program itself.
 use super::heap::{Refusal, end_refusal};
 use super::sweeps::{is_invalid, is_out_of_memory, is_written_as};
 use super::values::with_rest;
