@@ -1,7 +1,7 @@
 // A value of several parts, read by readers of all kinds.
 use borsh::io::{ErrorKind, Result as IoResult};
 use borsh::{BorshDeserialize, from_reader};
-use borsh_devices::encodings::is_error;
+use borsh_devices::encodings::{is_encoding, is_error};
 use borsh_devices::{Course, Failure, TestReader};
 use std::alloc::Global;
 use std::test::Fail;
@@ -24,6 +24,7 @@ fn readers_give_all_at_once_or_pieces(rt: HostRuntime) -> Result<(), Fail> {
     for &piece in &[1usize, 2, 5, 100] {
         assert!(rt; are_read_in_pieces(alloc, piece)?, "pieces of {piece}");
     }
+    assert!(rt; is_encoding::<Parts>(alloc, BYTES)?);
     Ok(())
 }
 

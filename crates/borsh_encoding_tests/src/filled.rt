@@ -1,6 +1,6 @@
 // Maps and sets of texts, filled in any order: they are written by ascending key.
 use borsh::{BorshDeserialize, from_slice};
-use borsh_devices::encodings::{is_refused, is_written};
+use borsh_devices::encodings::{is_encoding, is_refused, is_written};
 use indexmap::{IndexMap, IndexSet};
 use std::alloc::Global;
 use std::collections::{BTreeMap, BTreeSet, HashMap, HashSet};
@@ -70,14 +70,15 @@ fn counted(alloc: Global, count: usize, texts: &[&str]) -> Result<Vec<u8>, Fail>
     Ok(bytes)
 }
 
-/// Whether an ordered set of these keys, put in in this order, is written and read as the bytes.
+/// Whether an ordered set of these keys, put in in this order, is written and read as the bytes, by every device.
 fn is_ordered_set(alloc: Global, keys: &[&str], bytes: &[u8]) -> Result<bool, Fail> {
     let mut set = BTreeSet::new(alloc);
     for key in keys {
         set.insert(String::from_str(alloc, key)?)?;
     }
     let read: BTreeSet<String> = from_slice(alloc, bytes)?;
-    Ok(read == set && is_written(alloc, &set, bytes)?)
+    let is_right = read == set && is_written(alloc, &set, bytes)?;
+    Ok(is_right && is_encoding::<BTreeSet<String>>(alloc, bytes)?)
 }
 
 /// The same of a hashed set.
@@ -86,8 +87,7 @@ fn is_hashed_set(alloc: Global, keys: &[&str], bytes: &[u8]) -> Result<bool, Fai
     for key in keys {
         set.insert(String::from_str(alloc, key)?)?;
     }
-    let read: HashSet<String> = from_slice(alloc, bytes)?;
-    Ok(is_written(alloc, &set, bytes)? && is_written(alloc, &read, bytes)?)
+    Ok(is_written(alloc, &set, bytes)? && is_encoding::<HashSet<String>>(alloc, bytes)?)
 }
 
 /// Whether sets of these keys, put in in this order, are written by ascending key.
@@ -106,7 +106,7 @@ fn sets_are_written_by_ascending_key(rt: HostRuntime) -> Result<(), Fail> {
     Ok(())
 }
 
-/// Whether an ordered map of these entries, put in in this order, is written and read as the bytes.
+/// Whether an ordered map of these entries, put in in this order, is written and read as the bytes, by every device.
 fn is_ordered_map(alloc: Global, entries: &[(&str, &str)], bytes: &[u8]) -> Result<bool, Fail> {
     let mut map = BTreeMap::new(alloc);
     for (key, value) in entries {
@@ -114,7 +114,8 @@ fn is_ordered_map(alloc: Global, entries: &[(&str, &str)], bytes: &[u8]) -> Resu
         map.insert(key, String::from_str(alloc, value)?)?;
     }
     let read: BTreeMap<String, String> = from_slice(alloc, bytes)?;
-    Ok(read == map && is_written(alloc, &map, bytes)?)
+    let is_right = read == map && is_written(alloc, &map, bytes)?;
+    Ok(is_right && is_encoding::<BTreeMap<String, String>>(alloc, bytes)?)
 }
 
 /// The same of a hashed map.
@@ -124,8 +125,7 @@ fn is_hashed_map(alloc: Global, entries: &[(&str, &str)], bytes: &[u8]) -> Resul
         let key = String::from_str(alloc, key)?;
         map.insert(key, String::from_str(alloc, value)?)?;
     }
-    let read: HashMap<String, String> = from_slice(alloc, bytes)?;
-    Ok(is_written(alloc, &map, bytes)? && is_written(alloc, &read, bytes)?)
+    Ok(is_written(alloc, &map, bytes)? && is_encoding::<HashMap<String, String>>(alloc, bytes)?)
 }
 
 /// Whether maps of these entries, put in in this order, are written by ascending key.
@@ -171,14 +171,16 @@ fn keys_in_another_order_are_refused(rt: HostRuntime) -> Result<(), Fail> {
     Ok(())
 }
 
-/// Whether an index map of these entries is written as the bytes, in the order of insertion, and read from them.
+/// Whether an index map of these entries is written as the bytes, in the order of insertion, and read from them, by every
+/// device.
 fn is_index_map(alloc: Global, entries: &[(i32, i32)], bytes: &[u8]) -> Result<bool, Fail> {
     let mut map = IndexMap::new(alloc);
     for &(key, value) in entries {
         map.insert(key, value)?;
     }
     let read = IndexMap::<i32, i32>::try_from_slice(alloc, bytes)?;
-    Ok(read == map && is_written(alloc, &map, bytes)?)
+    let is_right = read == map && is_written(alloc, &map, bytes)?;
+    Ok(is_right && is_encoding::<IndexMap<i32, i32>>(alloc, bytes)?)
 }
 
 /// The same of an index set.
@@ -188,7 +190,8 @@ fn is_index_set(alloc: Global, keys: &[i32], bytes: &[u8]) -> Result<bool, Fail>
         set.insert(key)?;
     }
     let read = IndexSet::<i32>::try_from_slice(alloc, bytes)?;
-    Ok(read == set && is_written(alloc, &set, bytes)?)
+    let is_right = read == set && is_written(alloc, &set, bytes)?;
+    Ok(is_right && is_encoding::<IndexSet<i32>>(alloc, bytes)?)
 }
 
 #[test]

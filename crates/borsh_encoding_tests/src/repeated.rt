@@ -1,6 +1,6 @@
 // Texts, lists and arrays of one part, repeated.
 use borsh::{BorshDeserialize, BorshSerialize, from_slice};
-use borsh_devices::encodings::is_written;
+use borsh_devices::encodings::{is_encoding, is_written};
 use borsh_samples::ShortA;
 use std::alloc::Global;
 use std::test::Fail;
@@ -19,6 +19,15 @@ const TEXTS: [(&str, usize); 9] = [
 ];
 
 const LENGTHS: [u32; 6] = [0, 1, 10, 100, 1000, 10000];
+
+/// Whether the bytes are the encoding of a value of `T` for every device. Long ones are passed over, since devices read and
+/// write each beginning of them.
+fn is_encoding_if_short<T: BorshSerialize + BorshDeserialize>(
+    alloc: Global,
+    bytes: &[u8],
+) -> Result<bool, Fail> {
+    Ok(bytes.len() > 150 || is_encoding::<T>(alloc, bytes)?)
+}
 
 /// A count in four bytes, and as many times the part.
 fn counted(alloc: Global, count: u32, part: &[u8]) -> Result<Vec<u8>, Fail> {
@@ -39,6 +48,7 @@ fn is_text(alloc: Global, value: &String) -> Result<bool, Fail> {
     let read: String = from_slice(alloc, bytes)?;
     Ok(
         read.as_str() == value.as_str()
+            && is_encoding_if_short::<String>(alloc, bytes)?
             && is_written(alloc, value, bytes)?
             && is_written(alloc, &value.as_str(), bytes)?
             && is_written(alloc, &value.as_bytes(), bytes)?,
@@ -71,7 +81,8 @@ fn is_list<T: BorshSerialize + BorshDeserialize + Clone + PartialEq>(
     for _ in 0..len {
         list.push(element.clone()?)?;
     }
-    Ok(read == list && is_written(alloc, &list, bytes.as_slice())?)
+    let is_right = read == list && is_written(alloc, &list, bytes.as_slice())?;
+    Ok(is_right && is_encoding_if_short::<Vec<T>>(alloc, bytes.as_slice())?)
 }
 
 /// Whether lists of this element, of all lengths, are.
@@ -135,7 +146,8 @@ fn is_array<T: BorshSerialize + BorshDeserialize>(
     }
     let bytes = bytes.as_slice();
     let read: T = from_slice(alloc, bytes)?;
-    Ok(is_written(alloc, &array, bytes)? && is_written(alloc, &read, bytes)?)
+    let is_right = is_written(alloc, &array, bytes)? && is_written(alloc, &read, bytes)?;
+    Ok(is_right && is_encoding_if_short::<T>(alloc, bytes)?)
 }
 
 /// The same for arrays of several lengths.

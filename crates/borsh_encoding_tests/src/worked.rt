@@ -5,7 +5,7 @@ use borsh::io::{ErrorKind, Result as IoResult};
 use borsh::{
     BorshDeserialize, BorshSerialize, from_reader, from_slice, object_length, to_vec, to_writer,
 };
-use borsh_devices::encodings::{is_error, is_refused, is_written};
+use borsh_devices::encodings::{is_encoding, is_error, is_refused, is_written};
 use borsh_devices::{Course, Failure, TestReader};
 use borsh_samples::{A, MyEnum, MyStruct, One, OneOrZero};
 use indexmap::IndexMap;
@@ -24,14 +24,15 @@ const TOO_LONG: &str = "Not all bytes read";
 
 const MANY: &str = "MyEnum::Many not allowed here";
 
-/// Whether the value is written as these bytes and read from them.
+/// Whether the value is written as these bytes and read from them, by every device.
 fn is_round_trip<T: BorshSerialize + BorshDeserialize + PartialEq>(
     alloc: Global,
     value: T,
     bytes: &[u8],
 ) -> Result<bool, Fail> {
     let read: T = from_slice(alloc, bytes)?;
-    Ok(read == value && is_written(alloc, &value, bytes)?)
+    let is_right = read == value && is_written(alloc, &value, bytes)?;
+    Ok(is_right && is_encoding::<T>(alloc, bytes)?)
 }
 
 /// Whether reading is refused as invalid data with this text, and takes none of the bytes.

@@ -1,10 +1,14 @@
-// A count announces elements that never come: memory for all of them is never asked for at once.
+// A count announces elements that never come: memory for all of them is never asked for at once, whether the input knows
+// how many bytes it has left or not.
 use super::heap::{Refusal, asked_at_once, asked_in_all, end_refusal};
-use super::sweeps::{Round, is_invalid, is_out_of_memory, sweep};
+use super::sweeps::{judge_refused, sweep};
+use borsh::io::Result as IoResult;
 use borsh::schema::BorshSchemaContainer;
-use borsh::{BorshDeserialize, from_slice};
+use borsh::{BorshDeserialize, from_reader, from_slice};
+use borsh_devices::{Course, TestReader};
 use bytes::{Bytes, BytesMut};
 use indexmap::{IndexMap, IndexSet};
+use std::alloc::Global;
 use std::borrow::{CowSlice, CowStr};
 use std::boxed::{BoxedSlice, BoxedStr};
 use std::collections::{BTreeMap, BTreeSet, HashMap, HashSet, LinkedList, VecDeque};
@@ -22,29 +26,65 @@ const BYTES: u32 = 1048576;
 /// What any other list may ask for at first.
 const ELEMENTS: u32 = 4096;
 
-/// The announced elements are missed, and no request is for more than so many bytes, nor all of them for twice as many.
-fn asks_little<T: BorshDeserialize>(rt: HostRuntime, name: &str, most: u32) -> Result<(), Fail> {
-    let alloc = rt.alloc();
-    Refusal::None.begin(alloc);
-    let made = from_slice::<T>(alloc, ANNOUNCED);
-    let asked_much = asked_at_once(alloc, most) || asked_in_all(alloc, most.saturating_mul(2));
-    let is_missed = match made {
-        Ok(_) => false,
-        Err(e) => is_invalid(&e, MISSED),
-    };
-    if asked_much || !is_missed {
-        return Err(Fail::new(format_args!("{name}: announced elements")));
+/// Where the announced elements are decoded from.
+#[derive(Clone, Copy, Drop)]
+enum Input {
+    /// A slice, which knows how many bytes are left.
+    Slice,
+    /// A reader that gives one byte at a time, and doesn't know how many are left.
+    Reader,
+}
+
+const INPUTS: [(Input, &str); 2] = [
+    (Input::Slice, "from_slice of announced elements"),
+    (Input::Reader, "from_reader of announced elements"),
+];
+
+fn decode<T: BorshDeserialize>(alloc: Global, input: Input) -> IoResult<T> {
+    match input {
+        Input::Slice => from_slice(alloc, ANNOUNCED),
+        Input::Reader => {
+            let course = Course::smooth().in_pieces(1);
+            from_reader(alloc, &mut TestReader::new(ANNOUNCED, course))
+        }
     }
-    sweep(rt, "from_slice of announced elements", name, |refusal| {
+}
+
+/// Whether the announced elements are missed, no request is for more than so many bytes, and all of them together are not for
+/// more than twice as many.
+fn is_little_asked<T: BorshDeserialize>(alloc: Global, input: Input, most: u32) -> bool {
+    Refusal::None.begin(alloc);
+    let made = decode::<T>(alloc, input);
+    let asked_much = asked_at_once(alloc, most) || asked_in_all(alloc, most.saturating_mul(2));
+    judge_refused(made, false, MISSED).right && !asked_much
+}
+
+/// The announced elements are missed with few bytes asked for, or an allocation failure is returned.
+fn asks_little_of<T: BorshDeserialize>(
+    rt: HostRuntime,
+    input: Input,
+    call: &str,
+    name: &str,
+    most: u32,
+) -> Result<(), Fail> {
+    let alloc = rt.alloc();
+    if !is_little_asked::<T>(alloc, input, most) {
+        return Err(Fail::new(format_args!("{call}, {name}: too much is asked for")));
+    }
+    sweep(rt, call, name, |refusal| {
         refusal.begin(alloc);
-        let made = from_slice::<T>(alloc, ANNOUNCED);
+        let made = decode::<T>(alloc, input);
         let refused = end_refusal(alloc);
-        let right = match made {
-            Ok(_) => false,
-            Err(e) => { is_invalid(&e, MISSED) || refused && is_out_of_memory(&e) }
-        };
-        Ok(Round { refused, right })
+        Ok(judge_refused(made, refused, MISSED))
     })
+}
+
+/// The same of each input.
+fn asks_little<T: BorshDeserialize>(rt: HostRuntime, name: &str, most: u32) -> Result<(), Fail> {
+    for &(input, call) in &INPUTS {
+        asks_little_of::<T>(rt, input, call, name, most)?;
+    }
+    Ok(())
 }
 
 #[test]

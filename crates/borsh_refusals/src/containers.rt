@@ -3,11 +3,12 @@ use super::heap::end_refusal;
 use super::sweeps::{Round, sweep};
 use borsh::from_slice;
 use borsh::schema::{
-    BorshSchemaContainer, Definition, Expansions, SchemaContainerValidateError,
+    BorshSchema, BorshSchemaContainer, Definition, Expansions, SchemaContainerValidateError,
     SchemaMaxSerializedSizeError,
 };
 use std::alloc::{AllocError, Global};
 use std::collections::BTreeMap;
+use std::ops::Range;
 use std::test::Fail;
 
 /// A container's encoding as hexadecimal digits, the rule that it breaks and the name that breaks it, and its greatest size
@@ -289,15 +290,32 @@ fn containers_are_judged_sized_and_copied(rt: HostRuntime) -> Result<(), Fail> {
     Ok(())
 }
 
+/// The container of a type: the rule that it breaks, the name that breaks it, and its greatest size.
+fn is_type_judged<T: BorshSchema>(
+    rt: HostRuntime,
+    rule: &str,
+    broken: &str,
+    size: Size,
+) -> Result<(), Fail> {
+    let container = BorshSchemaContainer::for_type::<T>(rt.alloc())?;
+    is_judged(rt, &container, rule, broken)?;
+    is_sized(rt, &container, size)?;
+    is_copied(rt, &container)
+}
+
 #[test]
 fn containers_of_types_are_judged(rt: HostRuntime) -> Result<(), Fail> {
-    let alloc = rt.alloc();
-    let own = BorshSchemaContainer::for_type::<BorshSchemaContainer>(alloc)?;
-    is_judged(rt, &own, "", "")?;
-    is_sized(rt, &own, Size::Overflow)?;
-    is_copied(rt, &own)?;
-    let lists = BorshSchemaContainer::for_type::<Vec<([u8; 0], [u8; 0])>>(alloc)?;
-    is_judged(rt, &lists, "ZSTSequence", "Vec<([u8; 0], [u8; 0])>")
+    is_type_judged::<usize>(rt, "", "", Size::Is(8))?;
+    is_type_judged::<[(); 300]>(rt, "", "", Size::Is(0))?;
+    is_type_judged::<BorshSchemaContainer>(rt, "", "", Size::Overflow)?;
+    is_type_judged::<Vec<Vec<()>>>(rt, "ZSTSequence", "Vec<()>", Size::Is(17179869184))?;
+    is_type_judged::<Vec<Range<()>>>(rt, "ZSTSequence", "Vec<Range<()>>", Size::Is(4))?;
+    is_type_judged::<Vec<([u8; 0], [u8; 0])>>(
+        rt,
+        "ZSTSequence",
+        "Vec<([u8; 0], [u8; 0])>",
+        Size::Is(4),
+    )
 }
 
 /// `L0` to the last one, each the tuple of two of the name before, and the first one byte.

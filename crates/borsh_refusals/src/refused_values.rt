@@ -2,10 +2,13 @@
 use super::heap::end_refusal;
 use super::sweeps::{Round, is_invalid, judge_refused, sweep};
 use borsh::error::ERROR_ZST_FORBIDDEN;
+use borsh::io::Unordered;
 use borsh::schema::BorshSchemaContainer;
 use borsh::{
-    BorshDeserialize, BorshSerialize, from_reader, from_slice, object_length, to_vec, to_writer,
+    BorshDeserialize, BorshSerialize, from_reader, from_slice, from_slice_unordered, object_length,
+    to_vec, to_writer,
 };
+use borsh_devices::{Course, TestReader};
 use borsh_samples::{MyEnum, One, OneOrZero};
 use indexmap::{IndexMap, IndexSet};
 use std::boxed::BoxedSlice;
@@ -23,8 +26,34 @@ const ORDER: &str = "keys were not serialized in ascending order";
 
 const NONE: &[u8] = b"\0\0\0\0";
 
-/// The bytes are refused with this text; or an allocation failure is returned, and what is left is a tail of them.
+/// A reader of the bytes, one at a time.
+fn by_bytes(bytes: &[u8]) -> TestReader<'_> {
+    TestReader::new(bytes, Course::smooth().in_pieces(1))
+}
+
+/// The bytes are refused with this text by every call that decodes; or an allocation failure is returned, and what is left is a
+/// tail of them.
 fn refuses<T: BorshDeserialize>(
+    rt: HostRuntime,
+    name: &str,
+    bytes: &[u8],
+    text: &str,
+) -> Result<(), Fail> {
+    refuses_whole::<T>(rt, name, bytes, text)?;
+    refuses_reader::<T>(rt, name, bytes, text)?;
+    // What is left over is refused only by calls that decode all of the input.
+    if text != LEFT_OVER {
+        refuses_front::<T>(rt, name, bytes, text)?;
+    }
+    // Keys may come in any order there.
+    if text != ORDER {
+        refuses_unordered::<T>(rt, name, bytes, text)?;
+    }
+    Ok(())
+}
+
+/// From a slice, as all of the input.
+fn refuses_whole<T: BorshDeserialize>(
     rt: HostRuntime,
     name: &str,
     bytes: &[u8],
@@ -46,6 +75,91 @@ fn refuses<T: BorshDeserialize>(
         Ok(Round {
             refused,
             right: came.right && bytes.ends_with(rest),
+        })
+    })
+}
+
+/// From a reader that gives single bytes, as all of the input.
+fn refuses_reader<T: BorshDeserialize>(
+    rt: HostRuntime,
+    name: &str,
+    bytes: &[u8],
+    text: &str,
+) -> Result<(), Fail> {
+    let alloc = rt.alloc();
+    sweep(rt, "from_reader of refused bytes", name, |refusal| {
+        let mut reader = by_bytes(bytes);
+        refusal.begin(alloc);
+        let made = from_reader::<_, T>(alloc, &mut reader);
+        let refused = end_refusal(alloc);
+        let came = judge_refused(made, refused, text);
+        Ok(Round {
+            refused,
+            right: came.right && bytes.ends_with(reader.rest()),
+        })
+    })
+}
+
+/// From a slice and from a reader, where more may follow.
+fn refuses_front<T: BorshDeserialize>(
+    rt: HostRuntime,
+    name: &str,
+    bytes: &[u8],
+    text: &str,
+) -> Result<(), Fail> {
+    let alloc = rt.alloc();
+    sweep(rt, "deserialize of refused bytes", name, |refusal| {
+        let mut rest = bytes;
+        refusal.begin(alloc);
+        let made = T::deserialize(alloc, &mut rest);
+        let refused = end_refusal(alloc);
+        let came = judge_refused(made, refused, text);
+        Ok(Round {
+            refused,
+            right: came.right && bytes.ends_with(rest),
+        })
+    })?;
+    sweep(rt, "deserialize_reader of refused bytes", name, |refusal| {
+        let mut reader = by_bytes(bytes);
+        refusal.begin(alloc);
+        let made = T::deserialize_reader(alloc, &mut reader);
+        let refused = end_refusal(alloc);
+        let came = judge_refused(made, refused, text);
+        Ok(Round {
+            refused,
+            right: came.right && bytes.ends_with(reader.rest()),
+        })
+    })
+}
+
+/// From a slice and from a reader, where keys may come in any order.
+fn refuses_unordered<T: BorshDeserialize>(
+    rt: HostRuntime,
+    name: &str,
+    bytes: &[u8],
+    text: &str,
+) -> Result<(), Fail> {
+    let alloc = rt.alloc();
+    sweep(
+        rt,
+        "from_slice_unordered of refused bytes",
+        name,
+        |refusal| {
+            refusal.begin(alloc);
+            let made = from_slice_unordered::<T>(alloc, bytes);
+            let refused = end_refusal(alloc);
+            Ok(judge_refused(made, refused, text))
+        },
+    )?;
+    sweep(rt, "from_reader of refused bytes", name, |refusal| {
+        let mut reader = by_bytes(bytes);
+        refusal.begin(alloc);
+        let made = from_reader::<_, T>(alloc, &mut Unordered::new(&mut reader));
+        let refused = end_refusal(alloc);
+        let came = judge_refused(made, refused, text);
+        Ok(Round {
+            refused,
+            right: came.right && bytes.ends_with(reader.rest()),
         })
     })
 }

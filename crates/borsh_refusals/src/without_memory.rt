@@ -1,13 +1,15 @@
 // Calls that don't allocate: each is made with every allocation failing, and makes none.
 //
-// They are: all calls of `Error` and `Text`; readers and writers over slices; `by_ref`; `flush` of vectors; `encodes_empty`,
-// `element_size`, `cautious`, `u8_slice` and `strict_order`; the `new` of the adapters, of `Unordered` and of `Counted`; `look`;
-// writing and measuring values without hashed maps or sets, past the writer's own growth; reading numbers, `bool`, types of no
-// bytes, addresses, `Uuid`, and ranges, options, results, tuples and arrays of these; a container's `new`, `declaration`,
-// `definitions`, `get_definition`, `get_mut_definition` and `remove_definition`; and comparisons. `finish` takes none past the
-// writer's own growth: `.ci/sweep.py` shows it, on the program itself.
+// They are: `new`, `other`, `from`, `kind`, `message`, `get_ref` and `into_inner` of `Error`, `from` and `as_str` of `Text`;
+// readers and writers over slices; `by_ref`; `flush` of vectors; `encodes_empty`, `element_size`, `cautious`, `u8_slice` and
+// `strict_order`; the `new` of the adapters, of `Unordered` and of `Counted`; `look`, for each question; `serialize`,
+// `to_writer` and `object_length` of values without hashed maps or sets, into a vector that has room and into a slice; reading
+// numbers, `bool`, types of no bytes, addresses, `Uuid`, and ranges, options, results, tuples and arrays of these; two refusals
+// whose texts are fixed, of a slice that is too short and of a reader that fails behind a value; a container's `new`,
+// `declaration`, `definitions`, `as_map`, `get_definition`, `get_mut_definition` and `remove_definition`; and comparisons.
+// `finish` makes none either, past the writer's own growth: `.ci/sweep.py` shows it, on the program itself.
 use super::heap::{Refusal, end_refusal};
-use super::sweeps::{is_invalid, is_written_as};
+use super::sweeps::{is_invalid, is_out_of_memory, is_written_as};
 use super::values::with_rest;
 use borsh::de::hint::cautious;
 use borsh::io::{
@@ -24,13 +26,16 @@ use borsh_devices::{Course, Failure, TestReader};
 use borsh_samples::{A, MyEnum, MyStruct, OneOrZero};
 use bytes::{Bytes, BytesMut};
 use indexmap::{IndexMap, IndexSet};
-use std::alloc::Global;
+use std::alloc::{AllocError, Global};
 use std::borrow::{CowSlice, CowStr};
 use std::boxed::{BoxedSlice, BoxedStr};
 use std::collections::{BTreeMap, BTreeSet, LinkedList, VecDeque};
 use std::marker::PhantomData;
 use std::net::{IpAddr, Ipv4Addr, Ipv6Addr, SocketAddr, SocketAddrV4, SocketAddrV6};
-use std::num::{NonZeroI16, NonZeroU128, NonZeroUsize};
+use std::num::{
+    NonZeroI8, NonZeroI16, NonZeroI32, NonZeroI64, NonZeroI128, NonZeroU8, NonZeroU16, NonZeroU32,
+    NonZeroU64, NonZeroU128, NonZeroUsize,
+};
 use std::ops::{Range, RangeFrom, RangeFull, RangeInclusive, RangeTo, RangeToInclusive};
 use std::rc::{Rc, RcSlice, RcStr};
 use std::test::Fail;
@@ -80,6 +85,11 @@ fn errors_and_texts(rt: HostRuntime) -> Result<(), Fail> {
         let error = Error::from(ErrorKind::NotFound);
         error.get_ref().is_none() && error.message() == "entity not found"
     })?;
+    let too_large: Result<Vec<u64>, AllocError> = Vec::with_capacity(alloc, usize::MAX);
+    let failure = too_large.err().ok_or("granted")?;
+    asks_for_none(alloc, "Error::from of an allocation failure", move || {
+        is_out_of_memory(&Error::from(failure))
+    })?;
     let owned = String::from_str(alloc, "owned")?;
     asks_for_none(alloc, "Text::from", move || {
         Text::from("fixed").as_str() == "fixed" && Text::from(owned).as_str() == "owned"
@@ -96,6 +106,7 @@ fn readers_and_writers(rt: HostRuntime) -> Result<(), Fail> {
         bytes.by_ref().read_exact(&mut two).is_ok()
             && two == [1, 2]
             && bytes.read_exact(&mut four).is_err()
+            && bytes.bytes_left() == Some(2)
             && bytes.read(&mut two).is_ok()
             && two == [3, 4]
             && bytes.strict_order()
@@ -103,7 +114,8 @@ fn readers_and_writers(rt: HostRuntime) -> Result<(), Fail> {
     asks_for_none(alloc, "writing into a slice", || {
         let mut space = [0u8; 3];
         let mut rest = space.as_mut_slice();
-        let done = rest.by_ref().write_all(&[1, 2]).is_ok() && rest.flush().is_ok();
+        let done = rest.by_ref().write_all(&[1]).is_ok() && rest.flush().is_ok();
+        let done = done && matches!(rest.write(&[2]), Ok(1));
         let full = rest.write_all(&[3, 4]).is_err();
         done && full && space == [1, 2, 3]
     })?;
@@ -157,7 +169,8 @@ fn facts_of_types(rt: HostRuntime) -> Result<(), Fail> {
     })
 }
 
-/// The value with this encoding is written with every allocation failing, into a vector with room, and measured.
+/// The value with this encoding is written with every allocation failing, into a vector with room and into a slice, and
+/// measured.
 fn is_written<T: BorshSerialize + BorshDeserialize>(
     rt: HostRuntime,
     name: &str,
@@ -170,22 +183,17 @@ fn is_written<T: BorshSerialize + BorshDeserialize>(
         let done = value.serialize(alloc, &mut out).is_ok();
         let length = object_length(alloc, &value);
         done && out.as_slice() == bytes && matches!(length, Ok(n) if n == bytes.len())
+    })?;
+    let mut space = vec![in alloc; 170u8; bytes.len()]?;
+    asks_for_none(alloc, name, || {
+        let mut room = space.as_mut_slice();
+        let done = to_writer(alloc, &mut room, &value).is_ok() && room.is_empty();
+        done && space.as_slice() == bytes
     })
 }
 
 #[test]
-fn values_are_written(rt: HostRuntime) -> Result<(), Fail> {
-    is_written::<u64>(rt, "u64", b"\x0c\0\0\0\0\0\0\0")?;
-    is_written::<NonZeroI16>(rt, "NonZeroI16", b"\0\x80")?;
-    is_written::<Result<u8, u8>>(rt, "Result<u8, u8>", b"\x01\x07")?;
-    is_written::<Ranges>(
-        rt,
-        "ranges",
-        b"\x01\0\0\0\x02\0\0\0\x03\0\0\0\x04\0\0\0\x05\0\0\0\x06\0\0\0\x07\0\0\0",
-    )?;
-    is_written::<[Option<u8>; 10]>(rt, "[Option<u8>; 10]", b"\0\x01\x07\0\0\0\0\0\0\0\0")?;
-    is_written::<Uuid>(rt, "Uuid", b"0123456789abcdef")?;
-    is_written::<SocketAddr>(rt, "SocketAddr", b"\0\xc0\xa8\0\x01\x50\0")?;
+fn user_types_are_written(rt: HostRuntime) -> Result<(), Fail> {
     is_written::<A>(rt, "A", b"\xe5\x0c\0\0\0\0\0\0\x0c\0\0\0liber primus")?;
     is_written::<MyStruct>(rt, "MyStruct", b"\x0a\0\0\0\0\0\0\0\x03\0\0\0\x01\x02\x03")?;
     is_written::<MyEnum>(rt, "MyEnum", b"\x02\x03\0\0\0\x01\x02\x03")?;
@@ -270,48 +278,74 @@ fn is_value<T: BorshSerialize + BorshDeserialize>(
     }
 }
 
-#[test]
-fn numbers_are_read(rt: HostRuntime) -> Result<(), Fail> {
-    is_read::<u8>(rt, "u8", b"\x07")?;
-    is_read::<u16>(rt, "u16", b"\x01\x02")?;
-    is_read::<u32>(rt, "u32", b"\x01\x02\x03\x04")?;
-    is_read::<u64>(rt, "u64", b"\x0c\0\0\0\0\0\0\0")?;
-    is_read::<u128>(rt, "u128", b"0123456789abcdef")?;
-    is_read::<usize>(rt, "usize", b"\x0c\0\0\0\0\0\0\0")?;
-    is_read::<i8>(rt, "i8", b"\x80")?;
-    is_read::<i16>(rt, "i16", b"\0\x80")?;
-    is_read::<i32>(rt, "i32", b"\x01\x02\x03\x04")?;
-    is_read::<i64>(rt, "i64", b"\0\0\0\0\0\0\0\x80")?;
-    is_read::<i128>(rt, "i128", b"0123456789abcdef")?;
-    is_read::<isize>(rt, "isize", b"\x9c\xff\xff\xff\xff\xff\xff\xff")?;
-    is_read::<NonZeroI16>(rt, "NonZeroI16", b"\0\x80")?;
-    is_read::<NonZeroU128>(rt, "NonZeroU128", b"0123456789abcdef")?;
-    is_read::<NonZeroUsize>(rt, "NonZeroUsize", b"\x01\0\0\0\0\0\0\0")?;
-    is_read::<bool>(rt, "bool", b"\x01")
+/// The bytes are read with every allocation failing, and the value is written and measured so.
+fn is_read_and_written<T: BorshSerialize + BorshDeserialize>(
+    rt: HostRuntime,
+    name: &str,
+    bytes: &[u8],
+) -> Result<(), Fail> {
+    is_read::<T>(rt, name, bytes)?;
+    is_written::<T>(rt, name, bytes)
 }
 
 #[test]
-fn sums_ranges_and_addresses_are_read(rt: HostRuntime) -> Result<(), Fail> {
-    is_read::<()>(rt, "()", b"")?;
-    is_read::<RangeFull>(rt, "RangeFull", b"")?;
-    is_read::<PhantomData<u64>>(rt, "PhantomData<u64>", b"")?;
-    is_read::<Option<u8>>(rt, "Option<u8>", b"\x01\x07")?;
-    is_read::<Result<u8, u8>>(rt, "Result<u8, u8>", b"\x01\x07")?;
-    is_read::<(bool,)>(rt, "(bool,)", b"\x01")?;
-    is_read::<[u8; 3]>(rt, "[u8; 3]", b"\x01\x02\x03")?;
-    is_read::<[Option<u8>; 10]>(rt, "[Option<u8>; 10]", b"\0\x01\x07\0\0\0\0\0\0\0\0")?;
-    is_read::<Ranges>(
+fn numbers(rt: HostRuntime) -> Result<(), Fail> {
+    is_read_and_written::<u8>(rt, "u8", b"\x07")?;
+    is_read_and_written::<u16>(rt, "u16", b"\x01\x02")?;
+    is_read_and_written::<u32>(rt, "u32", b"\x01\x02\x03\x04")?;
+    is_read_and_written::<u64>(rt, "u64", b"\x0c\0\0\0\0\0\0\0")?;
+    is_read_and_written::<u128>(rt, "u128", b"0123456789abcdef")?;
+    is_read_and_written::<usize>(rt, "usize", b"\x0c\0\0\0\0\0\0\0")?;
+    is_read_and_written::<i8>(rt, "i8", b"\x80")?;
+    is_read_and_written::<i16>(rt, "i16", b"\0\x80")?;
+    is_read_and_written::<i32>(rt, "i32", b"\x01\x02\x03\x04")?;
+    is_read_and_written::<i64>(rt, "i64", b"\0\0\0\0\0\0\0\x80")?;
+    is_read_and_written::<i128>(rt, "i128", b"0123456789abcdef")?;
+    is_read_and_written::<isize>(rt, "isize", b"\x9c\xff\xff\xff\xff\xff\xff\xff")?;
+    is_read_and_written::<bool>(rt, "bool", b"\x01")
+}
+
+#[test]
+fn non_zero_numbers(rt: HostRuntime) -> Result<(), Fail> {
+    is_read_and_written::<NonZeroU8>(rt, "NonZeroU8", b"\x07")?;
+    is_read_and_written::<NonZeroU16>(rt, "NonZeroU16", b"\x01\x02")?;
+    is_read_and_written::<NonZeroU32>(rt, "NonZeroU32", b"\x01\x02\x03\x04")?;
+    is_read_and_written::<NonZeroU64>(rt, "NonZeroU64", b"\x0c\0\0\0\0\0\0\0")?;
+    is_read_and_written::<NonZeroU128>(rt, "NonZeroU128", b"0123456789abcdef")?;
+    is_read_and_written::<NonZeroUsize>(rt, "NonZeroUsize", b"\x01\0\0\0\0\0\0\0")?;
+    is_read_and_written::<NonZeroI8>(rt, "NonZeroI8", b"\x80")?;
+    is_read_and_written::<NonZeroI16>(rt, "NonZeroI16", b"\0\x80")?;
+    is_read_and_written::<NonZeroI32>(rt, "NonZeroI32", b"\x01\x02\x03\x04")?;
+    is_read_and_written::<NonZeroI64>(rt, "NonZeroI64", b"\0\0\0\0\0\0\0\x80")?;
+    is_read_and_written::<NonZeroI128>(rt, "NonZeroI128", b"0123456789abcdef")
+}
+
+#[test]
+fn sums_arrays_and_ranges(rt: HostRuntime) -> Result<(), Fail> {
+    is_read_and_written::<()>(rt, "()", b"")?;
+    is_read_and_written::<RangeFull>(rt, "RangeFull", b"")?;
+    is_read_and_written::<PhantomData<u64>>(rt, "PhantomData<u64>", b"")?;
+    is_read_and_written::<Option<u8>>(rt, "Option<u8>", b"\x01\x07")?;
+    is_read_and_written::<Result<u8, u8>>(rt, "Result<u8, u8>", b"\x01\x07")?;
+    is_read_and_written::<(bool,)>(rt, "(bool,)", b"\x01")?;
+    is_read_and_written::<[u8; 3]>(rt, "[u8; 3]", b"\x01\x02\x03")?;
+    is_read_and_written::<[Option<u8>; 10]>(rt, "[Option<u8>; 10]", b"\0\x01\x07\0\0\0\0\0\0\0\0")?;
+    is_read_and_written::<Ranges>(
         rt,
         "ranges",
         b"\x01\0\0\0\x02\0\0\0\x03\0\0\0\x04\0\0\0\x05\0\0\0\x06\0\0\0\x07\0\0\0",
-    )?;
-    is_read::<Ipv4Addr>(rt, "Ipv4Addr", b"\xc0\xa8\0\x01")?;
-    is_read::<Ipv6Addr>(rt, "Ipv6Addr", b"0123456789abcdef")?;
-    is_read::<IpAddr>(rt, "IpAddr", b"\0\xc0\xa8\0\x01")?;
-    is_read::<SocketAddrV4>(rt, "SocketAddrV4", b"\xc0\xa8\0\x01\x50\0")?;
-    is_read::<SocketAddrV6>(rt, "SocketAddrV6", b"0123456789abcdef\x50\0")?;
-    is_read::<SocketAddr>(rt, "SocketAddr", b"\0\xc0\xa8\0\x01\x50\0")?;
-    is_read::<Uuid>(rt, "Uuid", b"0123456789abcdef")
+    )
+}
+
+#[test]
+fn addresses_and_identifiers(rt: HostRuntime) -> Result<(), Fail> {
+    is_read_and_written::<Ipv4Addr>(rt, "Ipv4Addr", b"\xc0\xa8\0\x01")?;
+    is_read_and_written::<Ipv6Addr>(rt, "Ipv6Addr", b"0123456789abcdef")?;
+    is_read_and_written::<IpAddr>(rt, "IpAddr", b"\0\xc0\xa8\0\x01")?;
+    is_read_and_written::<SocketAddrV4>(rt, "SocketAddrV4", b"\xc0\xa8\0\x01\x50\0")?;
+    is_read_and_written::<SocketAddrV6>(rt, "SocketAddrV6", b"0123456789abcdef\x50\0")?;
+    is_read_and_written::<SocketAddr>(rt, "SocketAddr", b"\0\xc0\xa8\0\x01\x50\0")?;
+    is_read_and_written::<Uuid>(rt, "Uuid", b"0123456789abcdef")
 }
 
 fn one_byte(alloc: Global) -> Result<BTreeMap<String, Definition>, Fail> {
@@ -337,6 +371,7 @@ fn is_of_one_byte(container: &BorshSchemaContainer, same: &BorshSchemaContainer)
     *container == *same
         && container.declaration().as_str() == "u8"
         && container.definitions().count() == 1
+        && container.as_map().len() == 1
         && container.get_definition("u8") == Some(&Definition::Primitive(1))
         && container.get_definition("u16").is_none()
 }
@@ -357,6 +392,12 @@ fn is_emptied(container: &mut BorshSchemaContainer) -> bool {
     is_removed && container.definitions().count() == 0
 }
 
+/// Whether the definition of `u8` is found for a question, and none of `u16`.
+fn is_looked_up(counted: &mut Counted<'_, '_>, question: Question) -> bool {
+    let found = counted.look(question, "u8") == Some(&Definition::Primitive(1));
+    found && counted.look(question, "u16").is_none()
+}
+
 #[test]
 fn containers(rt: HostRuntime) -> Result<(), Fail> {
     let alloc = rt.alloc();
@@ -374,9 +415,10 @@ fn containers(rt: HostRuntime) -> Result<(), Fail> {
             rules: 0,
         };
         let mut counted = Counted::new(&definitions, &mut counts);
-        let found = counted.look(Question::Rules, "u8") == Some(&Definition::Primitive(1));
-        let missed = counted.look(Question::Rules, "u16").is_none();
-        found && missed && counts.rules == 1
+        let right = is_looked_up(&mut counted, Question::Size)
+            && is_looked_up(&mut counted, Question::Zero)
+            && is_looked_up(&mut counted, Question::Rules);
+        right && counts.size == 1 && counts.zero == 1 && counts.rules == 1
     })
 }
 

@@ -58,6 +58,10 @@ fn sizes(rt: HostRuntime) -> Result<(), Fail> {
     check_size::<[Option<u8>; 10]>(alloc, "[Option<u8>; 10]", 20)?;
     check_size::<String>(alloc, "String", 4294967299)?;
     check_size::<Vec<Option<u8>>>(alloc, "Vec<Option<u8>>", 8589934594)?;
+    check_size::<[(); 300]>(alloc, "[(); 300]", 0)?;
+    check_size::<Vec<Vec<()>>>(alloc, "Vec<Vec<()>>", 17179869184)?;
+    check_size::<Vec<Range<()>>>(alloc, "Vec<Range<()>>", 4)?;
+    check_size::<Vec<([u8; 0], [u8; 0])>>(alloc, "Vec<([u8; 0], [u8; 0])>", 4)?;
     check_overflow::<Vec<String>>(alloc, "Vec<String>")?;
     check_overflow::<BorshSchemaContainer>(alloc, "BorshSchemaContainer")
 }

@@ -4,21 +4,27 @@ use borsh_devices::encodings::{Checks, check_encoding};
 use std::alloc::Global;
 use std::test::Fail;
 
-const FIELDS: [&[u8]; 3] = [
+const FIELDS: [&[u8]; 5] = [
+    b"\0\0\0\0\0",
     b"\0\x01\0\0\0\x01\0\0\0x\x02\0\0\0u8",
+    b"\0\x02\0\0\0\x01\0\0\0x\x02\0\0\0u8\0\0\0\0\x02\0\0\0()",
     b"\x01\x02\0\0\0\x02\0\0\0u8\x02\0\0\0u8",
     b"\x02",
 ];
 
-const DEFINITIONS: [&[u8]; 5] = [
+const DEFINITIONS: [&[u8]; 9] = [
     b"\0\x04",
     b"\x01\x04\0\0\0\0\0\0\0\0\xff\xff\xff\xff\0\0\0\0\x02\0\0\0u8",
     b"\x02\x02\0\0\0\x02\0\0\0u8\x02\0\0\0u8",
     b"\x03\x01\x01\0\0\0\xff\xff\xff\xff\xff\xff\xff\xff\x02\0\0\0Ok\x02\0\0\0u8",
+    b"\x03\x02\x02\0\0\0\0\0\0\0\0\0\0\0\0\0\0\0\x02\0\0\0u8\x01\0\0\0\0\0\0\0\x01\0\0\0b\x01\0\0\0P",
+    b"\x03\x01\0\0\0\0",
+    b"\x04\0\x01\0\0\0\x01\0\0\0x\x02\0\0\0u8",
+    b"\x04\x01\x01\0\0\0\x02\0\0\0u8",
     b"\x04\x02",
 ];
 
-const CONTAINERS: [&[u8]; 7] = [
+const CONTAINERS: [&[u8]; 25] = [
     // Of u8, and of Option<u8>.
     b"\x02\0\0\0u8\x01\0\0\0\x02\0\0\0u8\0\x01",
     b"\x0a\0\0\0Option<u8>\x03\0\0\0\x02\0\0\0()\0\0\x0a\0\0\0Option<u8>\x03\x01\x02\0\0\0\0\0\0\0\0\0\0\0\x04\0\0\0None\x02\0\0\0()\x01\0\0\0\0\0\0\0\x04\0\0\0Some\x02\0\0\0u8\x02\0\0\0u8\0\x01",
@@ -30,6 +36,32 @@ const CONTAINERS: [&[u8]; 7] = [
     b"\x01\0\0\0A\x01\0\0\0\x01\0\0\0A\x02\x01\0\0\0\x01\0\0\0A",
     b"\x01\0\0\0A\x01\0\0\0\x01\0\0\0A\x03\x01\0\0\0\0",
     b"\x01\0\0\0A\0\0\0\0",
+    // Of the unit type, and of BTreeMap<u8, u8>.
+    b"\x02\0\0\0()\x01\0\0\0\x02\0\0\0()\0\0",
+    b"\x10\0\0\0BTreeMap<u8, u8>\x03\0\0\0\x08\0\0\0(u8, u8)\x02\x02\0\0\0\x02\0\0\0u8\x02\0\0\0u8\x10\0\0\0BTreeMap<u8, u8>\x01\x04\0\0\0\0\0\0\0\0\xff\xff\xff\xff\0\0\0\0\x08\0\0\0(u8, u8)\x02\0\0\0u8\0\x01",
+    // A list of 2^64 - 1 bytes with one more byte, and a list of elements without bytes.
+    b"\x01\0\0\0T\x03\0\0\0\x01\0\0\0A\x01\0\xff\xff\xff\xff\xff\xff\xff\xff\xff\xff\xff\xff\xff\xff\xff\xff\x01\0\0\0P\x01\0\0\0P\0\x01\x01\0\0\0T\x02\x02\0\0\0\x01\0\0\0A\x01\0\0\0P",
+    b"\x01\0\0\0A\x02\0\0\0\x02\0\0\0()\0\0\x01\0\0\0A\x01\0\0\0\0\0\0\0\0\0\xff\xff\xff\xff\xff\xff\xff\xff\x02\0\0\0()",
+    // Names that lead back to themselves.
+    b"\x01\0\0\0A\x02\0\0\0\x01\0\0\0A\x02\x01\0\0\0\x01\0\0\0B\x01\0\0\0B\x02\x01\0\0\0\x01\0\0\0A",
+    b"\x01\0\0\0A\x02\0\0\0\x01\0\0\0A\x01\x04\0\0\0\0\0\0\0\0\x01\0\0\0\0\0\0\0\x01\0\0\0B\x01\0\0\0B\x02\x01\0\0\0\x01\0\0\0B",
+    // Lists with an empty range of lengths, with lengths up to 255 and up to 256 in one byte, with length prefixes of three
+    // and of nine bytes, and without a length prefix.
+    b"\x01\0\0\0A\x02\0\0\0\x01\0\0\0A\x01\x04\x05\0\0\0\0\0\0\0\x03\0\0\0\0\0\0\0\x01\0\0\0P\x01\0\0\0P\0\x01",
+    b"\x01\0\0\0A\x02\0\0\0\x01\0\0\0A\x01\x01\0\0\0\0\0\0\0\0\xff\0\0\0\0\0\0\0\x01\0\0\0P\x01\0\0\0P\0\x01",
+    b"\x01\0\0\0A\x02\0\0\0\x01\0\0\0A\x01\x01\0\0\0\0\0\0\0\0\0\x01\0\0\0\0\0\0\x01\0\0\0P\x01\0\0\0P\0\x01",
+    b"\x01\0\0\0A\x02\0\0\0\x01\0\0\0A\x01\x03\0\0\0\0\0\0\0\0d\0\0\0\0\0\0\0\x01\0\0\0P\x01\0\0\0P\0\x01",
+    b"\x01\0\0\0A\x02\0\0\0\x01\0\0\0A\x01\x09\0\0\0\0\0\0\0\0\x01\0\0\0\0\0\0\0\x01\0\0\0P\x01\0\0\0P\0\x01",
+    b"\x01\0\0\0A\x02\0\0\0\x01\0\0\0A\x01\0\0\0\0\0\0\0\0\0\xff\xff\0\0\0\0\0\0\x01\0\0\0P\x01\0\0\0P\0\x01",
+    // A list without elements, whose element has no definition, and an enum whose tag is too wide.
+    b"\x01\0\0\0A\x01\0\0\0\x01\0\0\0A\x01\0\0\0\0\0\0\0\0\0\0\0\0\0\0\0\0\0\x01\0\0\0X",
+    b"\x01\0\0\0A\x02\0\0\0\x02\0\0\0()\0\0\x01\0\0\0A\x03\xff\x01\0\0\0\xff\xff\xff\xff\xff\xff\xff\xff\x01\0\0\0x\x02\0\0\0()",
+    // A definition that the root does not reach, two types without bytes, and lists of lists.
+    b"\x01\0\0\0A\x03\0\0\0\x01\0\0\0A\0\x01\x01\0\0\0B\x01\x03\0\0\0\0\0\0\0\0\x01\0\0\0\0\0\0\0\x01\0\0\0P\x01\0\0\0P\0\x01",
+    b"\x01\0\0\0A\x02\0\0\0\x01\0\0\0A\0\0\x01\0\0\0B\0\0",
+    b"\x01\0\0\0A\x04\0\0\0\x02\0\0\0()\0\0\x01\0\0\0A\x01\0\xff\xff\xff\xff\0\0\0\0\xff\xff\xff\xff\0\0\0\0\x01\0\0\0B\x01\0\0\0B\x01\0\xff\xff\xff\xff\0\0\0\0\xff\xff\xff\xff\0\0\0\0\x01\0\0\0C\x01\0\0\0C\x01\0\xff\xff\xff\xff\0\0\0\0\xff\xff\xff\xff\0\0\0\0\x02\0\0\0()",
+    // Of Vec<([u8; 0], [u8; 0])>.
+    b"\x17\0\0\0Vec<([u8; 0], [u8; 0])>\x04\0\0\0\x12\0\0\0([u8; 0], [u8; 0])\x02\x02\0\0\0\x07\0\0\0[u8; 0]\x07\0\0\0[u8; 0]\x17\0\0\0Vec<([u8; 0], [u8; 0])>\x01\x04\0\0\0\0\0\0\0\0\xff\xff\xff\xff\0\0\0\0\x12\0\0\0([u8; 0], [u8; 0])\x07\0\0\0[u8; 0]\x01\0\0\0\0\0\0\0\0\0\0\0\0\0\0\0\0\0\x02\0\0\0u8\x02\0\0\0u8\0\x01",
 ];
 
 fn parts(alloc: Global) -> Result<Checks, Fail> {

@@ -43,14 +43,23 @@ fn check_failing_reader(
     check(is_next, "next byte", taken as usize)
 }
 
-#[test]
-fn a_reader_that_fails_keeps_the_rest(rt: HostRuntime) -> Result<(), Fail> {
-    let alloc = rt.alloc();
+/// Lets a reader fail at each byte in both ways, and counts these readers.
+fn count_failing_readers(alloc: Global) -> Result<usize, Fail> {
+    let mut count = 0usize;
     for taken in 0..8u32 {
         for &(failure, kind, text) in &FAILURES {
             check_failing_reader(alloc, taken, failure, kind, text)?;
+            count = count.saturating_add(1);
         }
     }
+    Ok(count)
+}
+
+#[test]
+fn a_reader_that_fails_keeps_the_rest(rt: HostRuntime) -> Result<(), Fail> {
+    let count = count_failing_readers(rt.alloc())?;
+    check(count == 16, "failed reads", count)?;
+    println!(rt; "numbers: {count} failed reads")?;
     Ok(())
 }
 
@@ -94,14 +103,24 @@ fn is_filled(alloc: Global, room: usize) -> bool {
     is_filled && space[..room] == TWELVE[..room]
 }
 
-#[test]
-fn a_full_writer_has_a_beginning(rt: HostRuntime) -> Result<(), Fail> {
-    let alloc = rt.alloc();
+/// Writes into writers and slices of each length, and counts them.
+fn count_full_writers(alloc: Global) -> Result<usize, Fail> {
+    let mut count = 0usize;
     for room in 0..8usize {
         check(has_beginning(alloc, room), "full writer", room)?;
+        count = count.saturating_add(1);
     }
     for room in 0..9usize {
         check(is_filled(alloc, room), "slice", room)?;
+        count = count.saturating_add(1);
     }
+    Ok(count)
+}
+
+#[test]
+fn a_full_writer_has_a_beginning(rt: HostRuntime) -> Result<(), Fail> {
+    let count = count_full_writers(rt.alloc())?;
+    check(count == 17, "full writers and slices", count)?;
+    println!(rt; "numbers: {count} full writers and slices")?;
     Ok(())
 }

@@ -66,6 +66,11 @@ fn repeated_keys(alloc: Global) -> Result<Checks, Fail> {
         b"\x03\0\0\0\x05\x03\x05",
         b"\x02\0\0\0\x05\x03",
     )?);
+    checks.add(check_reading::<IndexMap<String, u8>>(
+        alloc,
+        b"\x03\0\0\0\x01\0\0\0b\x01\x01\0\0\0a\x02\x01\0\0\0b\x03",
+        b"\x02\0\0\0\x01\0\0\0b\x03\x01\0\0\0a\x02",
+    )?);
     Ok(checks)
 }
 

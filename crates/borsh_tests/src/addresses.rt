@@ -1,6 +1,6 @@
 // Addresses, bytes and identifiers.
 use borsh::{BorshDeserialize, BorshSerialize, from_slice};
-use borsh_devices::encodings::{is_encoding, is_written};
+use borsh_devices::encodings::{Checks, check_encoding, is_encoding, is_written};
 use bytes::{Bytes, BytesMut};
 use std::alloc::Global;
 use std::net::{IpAddr, Ipv4Addr, Ipv6Addr, SocketAddr, SocketAddrV4, SocketAddrV6};
@@ -9,46 +9,50 @@ use uuid::Uuid;
 
 const V6: &[u8] = b"\x20\x01\x0d\xb8\0\0\0\0\0\0\0\0\0\0\0\x01\x50\0";
 
-fn addresses(alloc: Global) -> Result<bool, Fail> {
-    Ok(
-        is_encoding::<Ipv4Addr>(alloc, b"\xc0\xa8\0\x01")?
-            && is_encoding::<Ipv6Addr>(alloc, b"0123456789abcdef")?
-            && is_encoding::<IpAddr>(alloc, b"\0\xc0\xa8\0\x01")?,
-    )
+fn addresses(alloc: Global) -> Result<Checks, Fail> {
+    let mut checks = Checks::none();
+    checks.add(check_encoding::<Ipv4Addr>(alloc, b"\xc0\xa8\0\x01")?);
+    checks.add(check_encoding::<Ipv6Addr>(alloc, b"0123456789abcdef")?);
+    checks.add(check_encoding::<IpAddr>(alloc, b"\0\xc0\xa8\0\x01")?);
+    checks.add(check_encoding::<IpAddr>(alloc, b"\x010123456789abcdef")?);
+    Ok(checks)
 }
 
-fn addresses_with_ports(alloc: Global) -> Result<bool, Fail> {
-    Ok(
-        is_encoding::<SocketAddrV4>(alloc, b"\xc0\xa8\0\x01\x50\0")?
-            && is_encoding::<SocketAddrV6>(alloc, V6)?
-            && is_encoding::<SocketAddr>(alloc, b"\0\xc0\xa8\0\x01\x50\0")?,
-    )
+fn addresses_with_ports(alloc: Global) -> Result<Checks, Fail> {
+    let mut checks = Checks::none();
+    checks.add(check_encoding::<SocketAddrV4>(alloc, b"\xc0\xa8\0\x01\x50\0")?);
+    checks.add(check_encoding::<SocketAddrV6>(alloc, V6)?);
+    checks.add(check_encoding::<SocketAddr>(alloc, b"\0\xc0\xa8\0\x01\x50\0")?);
+    checks.add(check_encoding::<SocketAddr>(alloc, b"\x010123456789abcdef\x50\0")?);
+    Ok(checks)
 }
 
-fn bytes_and_identifiers(alloc: Global) -> Result<bool, Fail> {
-    Ok(
-        is_encoding::<Bytes>(alloc, b"\x02\0\0\0hi")?
-            && is_encoding::<BytesMut>(alloc, b"\x02\0\0\0hi")?
-            && is_encoding::<Uuid>(alloc, b"0123456789abcdef")?,
-    )
+fn bytes_and_identifiers(alloc: Global) -> Result<Checks, Fail> {
+    let mut checks = Checks::none();
+    checks.add(check_encoding::<Bytes>(alloc, b"\x02\0\0\0hi")?);
+    checks.add(check_encoding::<BytesMut>(alloc, b"\x02\0\0\0hi")?);
+    checks.add(check_encoding::<Uuid>(alloc, b"0123456789abcdef")?);
+    Ok(checks)
 }
 
-/// Whether the value is written as these bytes and read from them.
+/// Whether the value is written as these bytes and read from them, by every device.
 pub(crate) fn is_value<T: BorshSerialize + BorshDeserialize + PartialEq>(
     alloc: Global,
     value: T,
     bytes: &[u8],
 ) -> Result<bool, Fail> {
     let read: T = from_slice(alloc, bytes)?;
-    Ok(read == value && is_written(alloc, &value, bytes)?)
+    let is_right = read == value && is_written(alloc, &value, bytes)?;
+    Ok(is_right && is_encoding::<T>(alloc, bytes)?)
 }
 
 #[test]
 fn addresses_and_bytes_round_trip(rt: HostRuntime) -> Result<(), Fail> {
     let alloc = rt.alloc();
-    assert!(rt; addresses(alloc)?);
-    assert!(rt; addresses_with_ports(alloc)?);
-    assert!(rt; bytes_and_identifiers(alloc)?);
+    let mut checks = addresses(alloc)?;
+    checks.add(addresses_with_ports(alloc)?);
+    checks.add(bytes_and_identifiers(alloc)?);
+    println!(rt; "addresses and bytes: {checks:?}")?;
     Ok(())
 }
 

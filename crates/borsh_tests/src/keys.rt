@@ -1,6 +1,6 @@
 // Maps and sets: the order of keys.
 use borsh::to_vec;
-use borsh_devices::encodings::{is_encoding, is_refused, is_written};
+use borsh_devices::encodings::{Checks, check_encoding, is_refused, is_written};
 use bytes::Bytes;
 use indexmap::{IndexMap, IndexSet};
 use std::alloc::Global;
@@ -12,39 +12,68 @@ use uuid::Uuid;
 
 const OUT_OF_ORDER: &str = "keys were not serialized in ascending order";
 
-fn ordered(alloc: Global) -> Result<bool, Fail> {
-    Ok(
-        is_encoding::<BTreeSet<u8>>(alloc, b"\0\0\0\0")?
-            && is_encoding::<BTreeSet<u16>>(alloc, b"\x02\0\0\0\0\x01\x01\x01")?
-            && is_encoding::<BTreeMap<u8, u8>>(alloc, b"\x02\0\0\0\x01\x0a\x03\x1e")?
-            && is_encoding::<BTreeMap<u8, BTreeSet<u8>>>(
-                alloc,
-                b"\x01\0\0\0\x01\x02\0\0\0\x02\x03",
-            )?
-            && is_encoding::<BTreeMap<String, String>>(alloc, b"\x01\0\0\0\x01\0\0\0a\0\0\0\0")?,
-    )
+fn ordered(alloc: Global) -> Result<Checks, Fail> {
+    let mut checks = Checks::none();
+    checks.add(check_encoding::<BTreeSet<u8>>(alloc, b"\0\0\0\0")?);
+    checks.add(check_encoding::<BTreeSet<u16>>(alloc, b"\x02\0\0\0\0\x01\x01\x01")?);
+    checks.add(check_encoding::<BTreeMap<u8, u8>>(alloc, b"\x02\0\0\0\x01\x0a\x03\x1e")?);
+    checks.add(check_encoding::<BTreeMap<u8, u8>>(alloc, b"\x02\0\0\0\x01\x09\x02\x08")?);
+    checks.add(check_encoding::<BTreeMap<u8, BTreeSet<u8>>>(
+        alloc,
+        b"\x01\0\0\0\x01\x02\0\0\0\x02\x03",
+    )?);
+    checks.add(check_encoding::<BTreeMap<BTreeSet<u8>, u8>>(
+        alloc,
+        b"\x01\0\0\0\x02\0\0\0\x01\x02\x06",
+    )?);
+    Ok(checks)
 }
 
-fn hashed_and_inserted(alloc: Global) -> Result<bool, Fail> {
-    Ok(
-        is_encoding::<HashSet<u8>>(alloc, b"\x02\0\0\0\x01\x02")?
-            && is_encoding::<HashMap<u8, u8>>(alloc, b"\x02\0\0\0\x01\x0a\x03\x1e")?
-            && is_encoding::<IndexMap<u8, u8>>(alloc, b"\x02\0\0\0\x03\x1e\x01\x0a")?
-            && is_encoding::<IndexSet<u8>>(alloc, b"\x02\0\0\0\x05\x03")?,
-    )
+fn ordered_texts(alloc: Global) -> Result<Checks, Fail> {
+    let mut checks = Checks::none();
+    checks.add(check_encoding::<BTreeSet<String>>(alloc, b"\x02\0\0\0\x02\0\0\0ab\x01\0\0\0b")?);
+    checks.add(check_encoding::<BTreeMap<String, String>>(
+        alloc,
+        b"\x01\0\0\0\x01\0\0\0a\0\0\0\0",
+    )?);
+    checks.add(check_encoding::<HashSet<String>>(alloc, b"\x02\0\0\0\x02\0\0\0ab\x01\0\0\0b")?);
+    checks.add(check_encoding::<HashMap<String, String>>(
+        alloc,
+        b"\x02\0\0\0\x01\0\0\0a\0\0\0\0\x01\0\0\0b\x01\0\0\0c",
+    )?);
+    Ok(checks)
 }
 
-fn keys_of_octets(alloc: Global) -> Result<bool, Fail> {
-    Ok(
-        is_encoding::<BTreeMap<Ipv4Addr, u8>>(alloc, b"\x02\0\0\0\x0a\0\0\x01\x05\x0a\0\0\x02\x04")?
-            && is_encoding::<BTreeSet<IpAddr>>(
-                alloc,
-                b"\x02\0\0\0\0\x0a\0\0\x01\x010123456789abcdef",
-            )?
-            && is_encoding::<HashSet<SocketAddrV4>>(alloc, b"\x01\0\0\0\x0a\0\0\x01\x50\0")?
-            && is_encoding::<IndexMap<Uuid, ()>>(alloc, b"\x01\0\0\00123456789abcdef")?
-            && is_encoding::<BTreeSet<Bytes>>(alloc, b"\x02\0\0\0\0\0\0\0\x01\0\0\0a")?,
-    )
+fn hashed_and_inserted(alloc: Global) -> Result<Checks, Fail> {
+    let mut checks = Checks::none();
+    checks.add(check_encoding::<HashSet<u8>>(alloc, b"\0\0\0\0")?);
+    checks.add(check_encoding::<HashSet<u8>>(alloc, b"\x02\0\0\0\x01\x02")?);
+    checks.add(check_encoding::<HashMap<u8, u8>>(alloc, b"\x02\0\0\0\x01\x0a\x03\x1e")?);
+    checks.add(check_encoding::<IndexMap<u8, u8>>(alloc, b"\x01\0\0\0\x05\x02")?);
+    checks.add(check_encoding::<IndexMap<u8, u8>>(alloc, b"\x02\0\0\0\x03\x1e\x01\x0a")?);
+    checks.add(check_encoding::<IndexMap<i32, i32>>(
+        alloc,
+        b"\x02\0\0\0\x03\0\0\0\x04\0\0\0\x01\0\0\0\x02\0\0\0",
+    )?);
+    checks.add(check_encoding::<IndexSet<u8>>(alloc, b"\x02\0\0\0\x05\x03")?);
+    checks.add(check_encoding::<IndexSet<i32>>(alloc, b"\x02\0\0\0\x02\0\0\0\x01\0\0\0")?);
+    Ok(checks)
+}
+
+fn keys_of_octets(alloc: Global) -> Result<Checks, Fail> {
+    let mut checks = Checks::none();
+    checks.add(check_encoding::<BTreeMap<Ipv4Addr, u8>>(
+        alloc,
+        b"\x02\0\0\0\x0a\0\0\x01\x05\x0a\0\0\x02\x04",
+    )?);
+    checks.add(check_encoding::<BTreeSet<IpAddr>>(
+        alloc,
+        b"\x02\0\0\0\0\x0a\0\0\x01\x010123456789abcdef",
+    )?);
+    checks.add(check_encoding::<HashSet<SocketAddrV4>>(alloc, b"\x01\0\0\0\x0a\0\0\x01\x50\0")?);
+    checks.add(check_encoding::<IndexMap<Uuid, ()>>(alloc, b"\x01\0\0\00123456789abcdef")?);
+    checks.add(check_encoding::<BTreeSet<Bytes>>(alloc, b"\x02\0\0\0\0\0\0\0\x01\0\0\0a")?);
+    Ok(checks)
 }
 
 fn out_of_order(alloc: Global) -> bool {
@@ -59,10 +88,17 @@ fn out_of_order(alloc: Global) -> bool {
 #[test]
 fn maps_and_sets_round_trip(rt: HostRuntime) -> Result<(), Fail> {
     let alloc = rt.alloc();
-    assert!(rt; ordered(alloc)?);
-    assert!(rt; hashed_and_inserted(alloc)?);
-    assert!(rt; keys_of_octets(alloc)?);
-    assert!(rt; out_of_order(alloc));
+    let mut checks = ordered(alloc)?;
+    checks.add(ordered_texts(alloc)?);
+    checks.add(hashed_and_inserted(alloc)?);
+    checks.add(keys_of_octets(alloc)?);
+    println!(rt; "maps and sets: {checks:?}")?;
+    Ok(())
+}
+
+#[test]
+fn keys_in_another_order_are_refused(rt: HostRuntime) -> Result<(), Fail> {
+    assert!(rt; out_of_order(rt.alloc()));
     Ok(())
 }
 

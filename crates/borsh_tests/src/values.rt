@@ -2,195 +2,300 @@
 use super::addresses::is_value;
 use borsh::io::{ErrorKind, Result as IoResult};
 use borsh::{from_slice, object_length, to_vec, to_writer};
-use borsh_devices::encodings::{is_encoding, is_error, is_written};
-use borsh_samples::{A, MyEnum, MyStruct, One, OneOrZero};
+use borsh_devices::encodings::{Checks, check_encoding, is_error, is_written};
+use borsh_samples::{A, LongA, MyEnum, MyStruct, Octet, One, OneOrZero, ShortA};
 use std::alloc::Global;
 use std::borrow::{CowSlice, CowStr};
 use std::boxed::{BoxedSlice, BoxedStr};
 use std::collections::{LinkedList, VecDeque};
 use std::marker::PhantomData;
-use std::num::{NonZeroI16, NonZeroI64, NonZeroU8, NonZeroU32, NonZeroU128, NonZeroUsize};
+use std::num::{
+    NonZeroI8, NonZeroI16, NonZeroI32, NonZeroI64, NonZeroI128, NonZeroU8, NonZeroU16, NonZeroU32,
+    NonZeroU64, NonZeroU128, NonZeroUsize,
+};
 use std::ops::{Range, RangeFrom, RangeFull, RangeInclusive, RangeTo, RangeToInclusive};
 use std::rc::{Rc, RcSlice, RcStr};
 use std::test::Fail;
 
-fn unsigned_numbers(alloc: Global) -> Result<bool, Fail> {
-    Ok(
-        is_encoding::<u8>(alloc, b"\x07")?
-            && is_encoding::<u16>(alloc, b"\x01\x02")?
-            && is_encoding::<u32>(alloc, b"\x01\x02\x03\x04")?
-            && is_encoding::<u64>(alloc, b"\x0c\0\0\0\0\0\0\0")?
-            && is_encoding::<u128>(alloc, b"0123456789abcdef")?
-            && is_encoding::<usize>(alloc, b"\x64\0\0\0\0\0\0\0")?,
-    )
+/// A tuple of twelve different types.
+type TwelveKinds = (
+    u8,
+    String,
+    i8,
+    bool,
+    u16,
+    u32,
+    u64,
+    i16,
+    i32,
+    i64,
+    u128,
+    usize,
+);
+
+fn unsigned_numbers(alloc: Global) -> Result<Checks, Fail> {
+    let mut checks = Checks::none();
+    checks.add(check_encoding::<u8>(alloc, b"\x07")?);
+    checks.add(check_encoding::<u16>(alloc, b"\x01\x02")?);
+    checks.add(check_encoding::<u32>(alloc, b"\x01\x02\x03\x04")?);
+    checks.add(check_encoding::<u64>(alloc, b"\x0c\0\0\0\0\0\0\0")?);
+    checks.add(check_encoding::<u128>(alloc, b"0123456789abcdef")?);
+    checks.add(check_encoding::<usize>(alloc, b"\x64\0\0\0\0\0\0\0")?);
+    Ok(checks)
 }
 
-fn signed_numbers(alloc: Global) -> Result<bool, Fail> {
-    Ok(
-        is_encoding::<i8>(alloc, b"\x80")?
-            && is_encoding::<i16>(alloc, b"\0\x80")?
-            && is_encoding::<i32>(alloc, b"\xff\xff\xff\xff")?
-            && is_encoding::<i64>(alloc, b"\0\0\0\0\0\0\0\x80")?
-            && is_encoding::<i128>(alloc, b"\0123456789abcde\xff")?
-            && is_encoding::<isize>(alloc, b"\x9c\xff\xff\xff\xff\xff\xff\xff")?,
-    )
+fn signed_numbers(alloc: Global) -> Result<Checks, Fail> {
+    let mut checks = Checks::none();
+    checks.add(check_encoding::<i8>(alloc, b"\x80")?);
+    checks.add(check_encoding::<i16>(alloc, b"\0\x80")?);
+    checks.add(check_encoding::<i32>(alloc, b"\xff\xff\xff\xff")?);
+    checks.add(check_encoding::<i64>(alloc, b"\0\0\0\0\0\0\0\x80")?);
+    checks.add(check_encoding::<i128>(alloc, b"\0123456789abcde\xff")?);
+    checks.add(check_encoding::<isize>(alloc, b"\x9c\xff\xff\xff\xff\xff\xff\xff")?);
+    Ok(checks)
 }
 
-fn non_zero_numbers(alloc: Global) -> Result<bool, Fail> {
-    Ok(
-        is_encoding::<NonZeroU8>(alloc, b"\x01")?
-            && is_encoding::<NonZeroI16>(alloc, b"\0\x80")?
-            && is_encoding::<NonZeroU128>(alloc, b"\0\0\0\0\0\0\0\0\0\0\0\0\0\0\0\x01")?
-            && is_encoding::<NonZeroUsize>(alloc, b"\x01\0\0\0\0\0\0\0")?,
-    )
+fn unsigned_non_zero_numbers(alloc: Global) -> Result<Checks, Fail> {
+    let mut checks = Checks::none();
+    checks.add(check_encoding::<NonZeroU8>(alloc, b"\x01")?);
+    checks.add(check_encoding::<NonZeroU16>(alloc, b"\0\x01")?);
+    checks.add(check_encoding::<NonZeroU32>(alloc, b"\xff\0\0\0")?);
+    checks.add(check_encoding::<NonZeroU64>(alloc, b"\0\0\0\0\0\0\0\x01")?);
+    checks.add(check_encoding::<NonZeroU128>(alloc, b"\0\0\0\0\0\0\0\0\0\0\0\0\0\0\0\x01")?);
+    checks.add(check_encoding::<NonZeroUsize>(alloc, b"\x01\0\0\0\0\0\0\0")?);
+    Ok(checks)
 }
 
-fn types_without_bytes(alloc: Global) -> Result<bool, Fail> {
-    Ok(
-        is_encoding::<()>(alloc, b"")?
-            && is_encoding::<RangeFull>(alloc, b"")?
-            && is_encoding::<PhantomData<u64>>(alloc, b"")?
-            && is_encoding::<Range<()>>(alloc, b"")?,
-    )
+fn signed_non_zero_numbers(alloc: Global) -> Result<Checks, Fail> {
+    let mut checks = Checks::none();
+    checks.add(check_encoding::<NonZeroI8>(alloc, b"\xff")?);
+    checks.add(check_encoding::<NonZeroI16>(alloc, b"\0\x80")?);
+    checks.add(check_encoding::<NonZeroI32>(alloc, b"\x01\0\0\0")?);
+    checks.add(check_encoding::<NonZeroI64>(alloc, &[255u8; 8])?);
+    checks.add(check_encoding::<NonZeroI128>(alloc, b"\0\0\0\0\0\0\0\0\0\0\0\0\0\0\0\x80")?);
+    Ok(checks)
 }
 
-fn sums(alloc: Global) -> Result<bool, Fail> {
-    Ok(
-        is_encoding::<bool>(alloc, b"\x01")?
-            && is_encoding::<Option<u8>>(alloc, b"\x01\x07")?
-            && is_encoding::<Option<Option<u8>>>(alloc, b"\x01\0")?
-            && is_encoding::<Result<u8, u16>>(alloc, b"\x01\x07")?
-            && is_encoding::<Result<u8, u16>>(alloc, b"\0\x07\x08")?,
-    )
+fn types_without_bytes(alloc: Global) -> Result<Checks, Fail> {
+    let mut checks = Checks::none();
+    checks.add(check_encoding::<()>(alloc, b"")?);
+    checks.add(check_encoding::<RangeFull>(alloc, b"")?);
+    checks.add(check_encoding::<PhantomData<u64>>(alloc, b"")?);
+    checks.add(check_encoding::<Range<()>>(alloc, b"")?);
+    Ok(checks)
 }
 
-fn tuples(alloc: Global) -> Result<bool, Fail> {
-    Ok(
-        is_encoding::<(bool,)>(alloc, b"\x01")?
-            && is_encoding::<(u8, u16)>(alloc, b"\x01\x02\x03")?
-            && is_encoding::<(u8, u8, u8, u8, u8)>(alloc, b"\x01\x02\x03\x04\x05")?
-            && is_encoding::<(u8, u8, u8, u8, u8, u8, u8, u8, u8, u8, u8, u8)>(
-                alloc,
-                b"0123456789ab",
-            )?,
-    )
+fn sums(alloc: Global) -> Result<Checks, Fail> {
+    let mut checks = Checks::none();
+    checks.add(check_encoding::<bool>(alloc, b"\0")?);
+    checks.add(check_encoding::<bool>(alloc, b"\x01")?);
+    checks.add(check_encoding::<Option<u8>>(alloc, b"\0")?);
+    checks.add(check_encoding::<Option<u8>>(alloc, b"\x01\x07")?);
+    checks.add(check_encoding::<Option<Option<u8>>>(alloc, b"\x01\0")?);
+    checks.add(check_encoding::<Result<u8, u8>>(alloc, b"\x01\x07")?);
+    checks.add(check_encoding::<Result<u8, u16>>(alloc, b"\x01\x07")?);
+    checks.add(check_encoding::<Result<u8, u16>>(alloc, b"\0\x07\x08")?);
+    Ok(checks)
 }
 
-fn ranges(alloc: Global) -> Result<bool, Fail> {
-    Ok(
-        is_encoding::<Range<i16>>(alloc, b"\x01\0\x02\0")?
-            && is_encoding::<RangeInclusive<u8>>(alloc, b"\x03\x04")?
-            && is_encoding::<RangeFrom<u8>>(alloc, b"\x05")?
-            && is_encoding::<RangeTo<u8>>(alloc, b"\x06")?
-            && is_encoding::<RangeToInclusive<u8>>(alloc, b"\x07")?,
-    )
+fn short_tuples(alloc: Global) -> Result<Checks, Fail> {
+    let mut checks = Checks::none();
+    checks.add(check_encoding::<(bool,)>(alloc, b"\x01")?);
+    checks.add(check_encoding::<(u8, u16)>(alloc, b"\x01\x02\x03")?);
+    checks.add(check_encoding::<(String, u64)>(alloc, b"\x05\0\0\0hello\x2a\0\0\0\0\0\0\0")?);
+    checks.add(check_encoding::<(u8, bool, u16)>(alloc, b"\x01\0\x02\x03")?);
+    checks.add(check_encoding::<(u8, u8, u8, u8)>(alloc, b"0123")?);
+    checks.add(check_encoding::<(u8, u8, u8, u8, u8)>(alloc, b"\x01\x02\x03\x04\x05")?);
+    checks.add(check_encoding::<(u8, u8, u8, u8, u8, u8)>(alloc, b"012345")?);
+    Ok(checks)
 }
 
-fn texts(alloc: Global) -> Result<bool, Fail> {
-    Ok(
-        is_encoding::<String>(alloc, b"\0\0\0\0")?
-            && is_encoding::<String>(alloc, b"\x04\0\0\0\xf0\x9f\x92\xa9")?
-            && is_encoding::<BoxedStr>(alloc, b"\x02\0\0\0hi")?
-            && is_encoding::<RcStr>(alloc, b"\x02\0\0\0hi")?
-            && is_encoding::<CowStr>(alloc, b"\x02\0\0\0hi")?,
-    )
+fn long_tuples(alloc: Global) -> Result<Checks, Fail> {
+    let mut checks = Checks::none();
+    checks.add(check_encoding::<(u8, u8, u8, u8, u8, u8, u8)>(alloc, b"0123456")?);
+    checks.add(check_encoding::<(u8, u8, u8, u8, u8, u8, u8, u8)>(alloc, b"01234567")?);
+    checks.add(check_encoding::<(u8, u8, u8, u8, u8, u8, u8, u8, u8)>(alloc, b"012345678")?);
+    checks.add(check_encoding::<(u8, u8, u8, u8, u8, u8, u8, u8, u8, u8)>(alloc, b"0123456789")?);
+    checks.add(check_encoding::<(u8, u8, u8, u8, u8, u8, u8, u8, u8, u8, u8)>(
+        alloc,
+        b"0123456789a",
+    )?);
+    checks.add(check_encoding::<(u8, u8, u8, u8, u8, u8, u8, u8, u8, u8, u8, u8)>(
+        alloc,
+        b"0123456789ab",
+    )?);
+    checks.add(check_encoding::<TwelveKinds>(
+        alloc,
+        b"\x01\x01\0\0\0a\x02\x01\x03\x04012301234567\x05\x06456789abcdef0123456789abcdef01234567",
+    )?);
+    Ok(checks)
 }
 
-fn vectors(alloc: Global) -> Result<bool, Fail> {
-    Ok(
-        is_encoding::<Vec<u8>>(alloc, b"\x03\0\0\0\x01\x02\x03")?
-            && is_encoding::<Vec<u16>>(alloc, b"\x02\0\0\0\x01\x02\x03\x04")?
-            && is_encoding::<Vec<String>>(alloc, b"\x02\0\0\0\x01\0\0\0a\0\0\0\0")?
-            && is_encoding::<Vec<Vec<()>>>(alloc, b"\0\0\0\0")?
-            && is_encoding::<Vec<Option<u8>>>(alloc, b"\x02\0\0\0\0\x01\x05")?,
-    )
+fn ranges(alloc: Global) -> Result<Checks, Fail> {
+    let mut checks = Checks::none();
+    checks.add(check_encoding::<Range<i16>>(alloc, b"\x01\0\x02\0")?);
+    checks.add(check_encoding::<RangeInclusive<u8>>(alloc, b"\x03\x04")?);
+    checks.add(check_encoding::<RangeFrom<u8>>(alloc, b"\x05")?);
+    checks.add(check_encoding::<RangeTo<u8>>(alloc, b"\x06")?);
+    checks.add(check_encoding::<RangeToInclusive<u8>>(alloc, b"\x07")?);
+    Ok(checks)
 }
 
-fn lists(alloc: Global) -> Result<bool, Fail> {
-    Ok(
-        is_encoding::<VecDeque<u8>>(alloc, b"\x02\0\0\0\x08\x09")?
-            && is_encoding::<VecDeque<u16>>(alloc, b"\x01\0\0\0\x08\x09")?
-            && is_encoding::<LinkedList<u8>>(alloc, b"\x03\0\0\0\x07\x08\x09")?
-            && is_encoding::<BoxedSlice<u8>>(alloc, b"\x02\0\0\0\x08\x09")?
-            && is_encoding::<RcSlice<u16>>(alloc, b"\x01\0\0\0\x08\x09")?
-            && is_encoding::<CowSlice<u8>>(alloc, b"\x02\0\0\0\x08\x09")?,
-    )
+fn texts(alloc: Global) -> Result<Checks, Fail> {
+    let mut checks = Checks::none();
+    checks.add(check_encoding::<String>(alloc, b"\0\0\0\0")?);
+    checks.add(check_encoding::<String>(alloc, b"\x01\0\0\0A")?);
+    checks.add(check_encoding::<String>(alloc, b"\x04\0\0\0\xf0\x9f\x92\xa9")?);
+    checks.add(check_encoding::<BoxedStr>(alloc, b"\x02\0\0\0hi")?);
+    checks.add(check_encoding::<RcStr>(alloc, b"\x02\0\0\0hi")?);
+    checks.add(check_encoding::<CowStr>(alloc, b"\x02\0\0\0hi")?);
+    Ok(checks)
 }
 
-fn arrays_of_bytes(alloc: Global) -> Result<bool, Fail> {
-    Ok(
-        is_encoding::<[u8; 0]>(alloc, b"")?
-            && is_encoding::<[u8; 1]>(alloc, b"\x64")?
-            && is_encoding::<[u8; 8]>(alloc, b"\x01\x02\x03\x04\x05\x06\x07\x08")?
-            && is_encoding::<[u8; 65]>(alloc, &[100u8; 65])?,
-    )
+fn vectors(alloc: Global) -> Result<Checks, Fail> {
+    let mut checks = Checks::none();
+    checks.add(check_encoding::<Vec<u8>>(alloc, b"\0\0\0\0")?);
+    checks.add(check_encoding::<Vec<u8>>(alloc, b"\x03\0\0\0\x01\x02\x03")?);
+    checks.add(check_encoding::<Vec<i8>>(alloc, b"\x02\0\0\0\x64\xff")?);
+    checks.add(check_encoding::<Vec<u16>>(alloc, b"\x02\0\0\0\x01\x02\x03\x04")?);
+    checks.add(check_encoding::<Vec<u32>>(alloc, b"\x02\0\0\0\0\xca\x9a\x3b\x01\0\0\0")?);
+    checks.add(check_encoding::<Vec<bool>>(alloc, b"\x02\0\0\0\x01\0")?);
+    checks.add(check_encoding::<Vec<String>>(alloc, b"\x02\0\0\0\x01\0\0\0a\0\0\0\0")?);
+    checks.add(check_encoding::<Vec<Option<u8>>>(alloc, b"\x02\0\0\0\0\x01\x05")?);
+    Ok(checks)
 }
 
-fn arrays(alloc: Global) -> Result<bool, Fail> {
-    Ok(
-        is_encoding::<[u16; 3]>(alloc, b"\x01\x02\x03\x04\x05\x06")?
-            && is_encoding::<[Option<u8>; 3]>(alloc, b"\0\x01\x07\0")?
-            && is_encoding::<[[u8; 2]; 2]>(alloc, b"\x01\x02\x03\x04")?
-            && is_encoding::<[(); 3]>(alloc, b"")?
-            && is_encoding::<[String; 2]>(alloc, b"\x01\0\0\0a\0\0\0\0")?
-            && is_encoding::<[One; 2]>(alloc, b"\0\0")?,
-    )
+fn vectors_of_vectors(alloc: Global) -> Result<Checks, Fail> {
+    let mut checks = Checks::none();
+    checks.add(check_encoding::<Vec<Vec<()>>>(alloc, b"\0\0\0\0")?);
+    checks.add(check_encoding::<Vec<Vec<u8>>>(alloc, b"\x02\0\0\0\x02\0\0\0\x64\x64\0\0\0\0")?);
+    checks.add(check_encoding::<Vec<Vec<u32>>>(
+        alloc,
+        b"\x01\0\0\0\x02\0\0\0\x64\0\0\0\x64\0\0\0",
+    )?);
+    Ok(checks)
 }
 
-fn pointers(alloc: Global) -> Result<bool, Fail> {
-    Ok(
-        is_encoding::<Box<u16>>(alloc, b"\x08\x09")?
-            && is_encoding::<Rc<Option<u8>>>(alloc, b"\x01\x09")?,
-    )
+fn lists(alloc: Global) -> Result<Checks, Fail> {
+    let mut checks = Checks::none();
+    checks.add(check_encoding::<VecDeque<u8>>(alloc, b"\x02\0\0\0\x08\x09")?);
+    checks.add(check_encoding::<VecDeque<u16>>(alloc, b"\x01\0\0\0\x08\x09")?);
+    checks.add(check_encoding::<LinkedList<u8>>(alloc, b"\x03\0\0\0\x07\x08\x09")?);
+    checks.add(check_encoding::<BoxedSlice<u8>>(alloc, b"\x02\0\0\0\x08\x09")?);
+    checks.add(check_encoding::<BoxedSlice<u16>>(alloc, b"\x01\0\0\0\x08\x09")?);
+    checks.add(check_encoding::<RcSlice<u8>>(alloc, b"\x02\0\0\0\x08\x09")?);
+    checks.add(check_encoding::<RcSlice<u16>>(alloc, b"\x01\0\0\0\x08\x09")?);
+    checks.add(check_encoding::<CowSlice<u8>>(alloc, b"\x02\0\0\0\x08\x09")?);
+    Ok(checks)
 }
 
-fn user_types(alloc: Global) -> Result<bool, Fail> {
-    Ok(
-        is_encoding::<A>(alloc, b"\x01\0\0\0\0\0\0\0\x01\0\0\0a")?
-            && is_encoding::<MyStruct>(alloc, b"\x0a\0\0\0\0\0\0\0\x03\0\0\0\x01\x02\x03")?
-            && is_encoding::<OneOrZero>(alloc, b"\x01\x07")?
-            && is_encoding::<Vec<One>>(alloc, b"\x01\0\0\0\0")?,
-    )
+fn arrays_of_bytes(alloc: Global) -> Result<Checks, Fail> {
+    let mut checks = Checks::none();
+    checks.add(check_encoding::<[u8; 0]>(alloc, b"")?);
+    checks.add(check_encoding::<[u8; 1]>(alloc, b"\x64")?);
+    checks.add(check_encoding::<[u8; 8]>(alloc, b"\x01\x02\x03\x04\x05\x06\x07\x08")?);
+    checks.add(check_encoding::<[u8; 65]>(alloc, &[100u8; 65])?);
+    Ok(checks)
 }
 
-fn my_enum(alloc: Global) -> Result<bool, Fail> {
-    Ok(
-        is_encoding::<MyEnum>(alloc, b"\0")?
-            && is_encoding::<MyEnum>(alloc, b"\x01\x07")?
-            && is_encoding::<MyEnum>(alloc, b"\x02\0\0\0\0")?,
-    )
+fn arrays(alloc: Global) -> Result<Checks, Fail> {
+    let mut checks = Checks::none();
+    checks.add(check_encoding::<[u16; 3]>(alloc, b"\x01\x02\x03\x04\x05\x06")?);
+    checks.add(check_encoding::<[Option<u8>; 3]>(alloc, b"\0\x01\x07\0")?);
+    checks.add(check_encoding::<[Option<u8>; 10]>(alloc, b"\0\x01\x07\0\0\0\0\0\0\0\0")?);
+    checks.add(check_encoding::<[[u8; 2]; 2]>(alloc, b"\x01\x02\x03\x04")?);
+    checks.add(check_encoding::<[(); 3]>(alloc, b"")?);
+    checks.add(check_encoding::<[u128; 2]>(alloc, b"0123456789abcdef0123456789abcdef")?);
+    checks.add(check_encoding::<[String; 2]>(alloc, b"\x01\0\0\0a\0\0\0\0")?);
+    checks.add(check_encoding::<[One; 2]>(alloc, b"\0\0")?);
+    checks.add(check_encoding::<[ShortA; 3]>(alloc, b"\0\x01\x02")?);
+    Ok(checks)
+}
+
+fn pointers(alloc: Global) -> Result<Checks, Fail> {
+    let mut checks = Checks::none();
+    checks.add(check_encoding::<Box<u16>>(alloc, b"\x08\x09")?);
+    checks.add(check_encoding::<Box<String>>(alloc, b"\x01\0\0\0A")?);
+    checks.add(check_encoding::<Rc<u8>>(alloc, b"\x08")?);
+    checks.add(check_encoding::<Rc<String>>(alloc, b"\x01\0\0\0A")?);
+    checks.add(check_encoding::<Rc<Option<u8>>>(alloc, b"\x01\x09")?);
+    Ok(checks)
+}
+
+fn structs(alloc: Global) -> Result<Checks, Fail> {
+    let mut checks = Checks::none();
+    checks.add(check_encoding::<A>(alloc, b"\x01\0\0\0\0\0\0\0\x01\0\0\0a")?);
+    checks.add(check_encoding::<MyStruct>(alloc, b"\x0a\0\0\0\0\0\0\0\x03\0\0\0\x01\x02\x03")?);
+    checks.add(check_encoding::<ShortA>(alloc, b"\x07")?);
+    checks.add(check_encoding::<LongA>(alloc, b"\x40\0")?);
+    checks.add(check_encoding::<Vec<LongA>>(alloc, b"\x01\0\0\0\x40\0")?);
+    checks.add(check_encoding::<Octet>(alloc, b"\x07")?);
+    checks.add(check_encoding::<Vec<Octet>>(alloc, b"\x02\0\0\0\x07\x08")?);
+    Ok(checks)
+}
+
+fn enums(alloc: Global) -> Result<Checks, Fail> {
+    let mut checks = Checks::none();
+    checks.add(check_encoding::<MyEnum>(alloc, b"\0")?);
+    checks.add(check_encoding::<MyEnum>(alloc, b"\x01\x07")?);
+    checks.add(check_encoding::<MyEnum>(alloc, b"\x02\0\0\0\0")?);
+    checks.add(check_encoding::<OneOrZero>(alloc, b"\0")?);
+    checks.add(check_encoding::<OneOrZero>(alloc, b"\x01\x07")?);
+    checks.add(check_encoding::<One>(alloc, b"\0")?);
+    checks.add(check_encoding::<Vec<One>>(alloc, b"\x01\0\0\0\0")?);
+    Ok(checks)
 }
 
 #[test]
-fn small_types_round_trip(rt: HostRuntime) -> Result<(), Fail> {
+fn numbers_round_trip(rt: HostRuntime) -> Result<(), Fail> {
     let alloc = rt.alloc();
-    assert!(rt; unsigned_numbers(alloc)?);
-    assert!(rt; signed_numbers(alloc)?);
-    assert!(rt; non_zero_numbers(alloc)?);
-    assert!(rt; types_without_bytes(alloc)?);
-    assert!(rt; sums(alloc)?);
-    assert!(rt; tuples(alloc)?);
-    assert!(rt; ranges(alloc)?);
+    let mut checks = unsigned_numbers(alloc)?;
+    checks.add(signed_numbers(alloc)?);
+    checks.add(unsigned_non_zero_numbers(alloc)?);
+    checks.add(signed_non_zero_numbers(alloc)?);
+    println!(rt; "numbers: {checks:?}")?;
     Ok(())
 }
 
 #[test]
-fn texts_lists_and_user_types_round_trip(rt: HostRuntime) -> Result<(), Fail> {
+fn sums_tuples_and_ranges_round_trip(rt: HostRuntime) -> Result<(), Fail> {
     let alloc = rt.alloc();
-    assert!(rt; texts(alloc)?);
-    assert!(rt; vectors(alloc)?);
-    assert!(rt; lists(alloc)?);
-    assert!(rt; pointers(alloc)?);
-    assert!(rt; user_types(alloc)?);
-    assert!(rt; my_enum(alloc)?);
+    let mut checks = types_without_bytes(alloc)?;
+    checks.add(sums(alloc)?);
+    checks.add(short_tuples(alloc)?);
+    checks.add(long_tuples(alloc)?);
+    checks.add(ranges(alloc)?);
+    println!(rt; "sums, tuples and ranges: {checks:?}")?;
+    Ok(())
+}
+
+#[test]
+fn texts_and_lists_round_trip(rt: HostRuntime) -> Result<(), Fail> {
+    let alloc = rt.alloc();
+    let mut checks = texts(alloc)?;
+    checks.add(vectors(alloc)?);
+    checks.add(vectors_of_vectors(alloc)?);
+    checks.add(lists(alloc)?);
+    checks.add(pointers(alloc)?);
+    println!(rt; "texts and lists: {checks:?}")?;
     Ok(())
 }
 
 #[test]
 fn arrays_round_trip(rt: HostRuntime) -> Result<(), Fail> {
     let alloc = rt.alloc();
-    assert!(rt; arrays_of_bytes(alloc)?);
-    assert!(rt; arrays(alloc)?);
+    let mut checks = arrays_of_bytes(alloc)?;
+    checks.add(arrays(alloc)?);
+    println!(rt; "arrays: {checks:?}")?;
+    Ok(())
+}
+
+#[test]
+fn user_types_round_trip(rt: HostRuntime) -> Result<(), Fail> {
+    let alloc = rt.alloc();
+    let mut checks = structs(alloc)?;
+    checks.add(enums(alloc)?);
+    println!(rt; "user types: {checks:?}")?;
     Ok(())
 }
 
