@@ -1,6 +1,6 @@
 // Reading of maps and sets whose keys come in any order: all other refusals stay as they are.
 use borsh::error::ERROR_ZST_FORBIDDEN;
-use borsh::io::{ErrorKind, Result as IoResult, Unordered};
+use borsh::io::{ErrorKind, Read, Result as IoResult, Unordered};
 use borsh::schema::BorshSchemaContainer;
 use borsh::{BorshDeserialize, BorshSerialize, from_reader, from_slice_unordered};
 use borsh_devices::encodings::{check, is_error, is_written};
@@ -13,6 +13,11 @@ use std::net::{IpAddr, SocketAddr};
 use std::num::NonZeroI16;
 use std::ops::Range;
 use std::test::Fail;
+
+/// Decodes all of the input, whose keys may come in any order.
+fn from_unordered<T: BorshDeserialize, R: Read>(alloc: Global, reader: &mut R) -> IoResult<T> {
+    from_reader(alloc, &mut Unordered::new(reader))
+}
 
 /// Whether old bytes, with keys in any order, are read from a slice and through readers of all kinds as a value that is
 /// written as the new bytes, and each proper beginning of them is refused.
@@ -38,7 +43,7 @@ fn becomes_in_pieces<T: BorshSerialize + BorshDeserialize>(
     piece: usize,
 ) -> Result<bool, Fail> {
     let mut reader = TestReader::new(old, slow(piece));
-    let value: T = from_reader(alloc, &mut Unordered::new(&mut reader))?;
+    let value: T = from_unordered(alloc, &mut reader)?;
     let is_at_end = reader.rest().is_empty() && reader.faults() == 0;
     Ok(is_at_end && is_written(alloc, &value, new)?)
 }
@@ -217,7 +222,7 @@ fn other_readers_ask_for_the_order(rt: HostRuntime) {
 fn is_refused<T: BorshDeserialize>(alloc: Global, bytes: &[u8], text: &str) -> bool {
     for piece in [1usize, 7, 100] {
         let mut reader = TestReader::new(bytes, slow(piece));
-        let outcome: IoResult<T> = from_reader(alloc, &mut Unordered::new(&mut reader));
+        let outcome: IoResult<T> = from_unordered(alloc, &mut reader);
         if !is_error(&outcome, ErrorKind::InvalidData, text) || reader.faults() > 0 {
             return false;
         }
@@ -294,10 +299,7 @@ fn count_failed_reads(alloc: Global) -> Result<usize, Fail> {
         ] {
             let failing = Course::smooth().in_pieces(1).failing(calls, failure);
             let mut reader = TestReader::new(old, failing);
-            let outcome = BTreeSet::<u8>::deserialize_reader(
-                alloc,
-                &mut Unordered::new(&mut reader),
-            );
+            let outcome: IoResult<BTreeSet<u8>> = from_unordered(alloc, &mut reader);
             let is_right = is_error(&outcome, kind, text) && reader.faults() == 1;
             check(is_right, "failed read", calls as usize)?;
             count = count.saturating_add(1);

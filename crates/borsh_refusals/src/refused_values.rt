@@ -2,7 +2,7 @@
 use super::heap::end_refusal;
 use super::sweeps::{Round, is_invalid, judge_refused, sweep};
 use borsh::error::ERROR_ZST_FORBIDDEN;
-use borsh::io::Unordered;
+use borsh::io::{Read, Result as IoResult, Unordered};
 use borsh::schema::BorshSchemaContainer;
 use borsh::{
     BorshDeserialize, BorshSerialize, from_reader, from_slice, from_slice_unordered, object_length,
@@ -11,6 +11,7 @@ use borsh::{
 use borsh_devices::{Course, TestReader};
 use borsh_samples::{MyEnum, One, OneOrZero};
 use indexmap::{IndexMap, IndexSet};
+use std::alloc::Global;
 use std::boxed::BoxedSlice;
 use std::collections::{BTreeMap, BTreeSet, HashMap, HashSet, LinkedList, VecDeque};
 use std::net::{IpAddr, SocketAddr};
@@ -132,6 +133,11 @@ fn refuses_front<T: BorshDeserialize>(
     })
 }
 
+/// Decodes all of the input, whose keys may come in any order.
+fn from_unordered<T: BorshDeserialize, R: Read>(alloc: Global, reader: &mut R) -> IoResult<T> {
+    from_reader(alloc, &mut Unordered::new(reader))
+}
+
 /// From a slice and from a reader, where keys may come in any order.
 fn refuses_unordered<T: BorshDeserialize>(
     rt: HostRuntime,
@@ -154,7 +160,7 @@ fn refuses_unordered<T: BorshDeserialize>(
     sweep(rt, "from_reader of refused bytes", name, |refusal| {
         let mut reader = by_bytes(bytes);
         refusal.begin(alloc);
-        let made = from_reader::<_, T>(alloc, &mut Unordered::new(&mut reader));
+        let made = from_unordered::<T, _>(alloc, &mut reader);
         let refused = end_refusal(alloc);
         let came = judge_refused(made, refused, text);
         Ok(Round {
