@@ -21,6 +21,7 @@ unsafe extern "C" {
         rounds: usize,
     ) -> usize;
     fn ours_refuses(bytes: *const u8, len: usize, rounds: usize) -> usize;
+    fn ours_of_lines(lines: *const u8, len: usize, rounds: usize) -> usize;
 }
 
 const TURNS: usize = 30;
@@ -173,6 +174,73 @@ fn refusals() {
     print(name, "read", times);
 }
 
+/// The program's lines, `read WORD HEX`, against a plain program over the original that answers the same lines.
+fn lines() {
+    let name = "10000 lines of the program";
+    if !is_wanted(name) {
+        return;
+    }
+    let mut lines = String::new();
+    for n in 0..10_000u64 {
+        let (word, bytes) = match n % 4 {
+            0 => ("u64", to_vec(&n).unwrap()),
+            1 => ("string", to_vec(&format!("text {n}")).unwrap()),
+            2 => ("list-u8", to_vec(&vec![n as u8; 24]).unwrap()),
+            // Refused: there is a byte too few.
+            _ => ("string", to_vec(&format!("text {n}")).unwrap()[..8].to_vec()),
+        };
+        lines += &format!("read {word} {}\n", to_hex(&bytes));
+    }
+    let times = compare(
+        20,
+        |n| unsafe { ours_of_lines(lines.as_ptr(), lines.len(), n) },
+        |n| (0..n).map(|_| answers(black_box(&lines)).len()).sum(),
+    );
+    print(name, "answer", times);
+}
+
+fn answers(lines: &str) -> String {
+    let mut answers = String::new();
+    for line in lines.lines() {
+        let mut words = line.splitn(3, ' ');
+        let answer = match (words.next(), words.next(), words.next().and_then(from_hex)) {
+            (Some("read"), Some("u64"), Some(bytes)) => encoded_again::<u64>(&bytes),
+            (Some("read"), Some("string"), Some(bytes)) => encoded_again::<String>(&bytes),
+            (Some("read"), Some("list-u8"), Some(bytes)) => encoded_again::<Vec<u8>>(&bytes),
+            _ => "error line".to_string(),
+        };
+        answers += &answer;
+        answers.push('\n');
+    }
+    answers
+}
+
+fn encoded_again<T: BorshSerialize + BorshDeserialize>(bytes: &[u8]) -> String {
+    match from_slice::<T>(bytes).and_then(|value| to_vec(&value)) {
+        Ok(bytes) => format!("ok {}", to_hex(&bytes)),
+        Err(error) => format!("error {error}"),
+    }
+}
+
+fn to_hex(bytes: &[u8]) -> String {
+    let digits = b"0123456789abcdef";
+    let mut text = String::with_capacity(2 * bytes.len());
+    for byte in bytes {
+        text.push(digits[usize::from(byte >> 4)] as char);
+        text.push(digits[usize::from(byte & 15)] as char);
+    }
+    text
+}
+
+fn from_hex(text: &str) -> Option<Vec<u8>> {
+    let digit = |digit: u8| (digit as char).to_digit(16).map(|digit| digit as u8);
+    if text.len() % 2 > 0 {
+        return None;
+    }
+    let pairs = text.as_bytes().chunks_exact(2);
+    pairs.map(|pair| Some(digit(pair[0])? << 4 | digit(pair[1])?)).collect()
+}
+
 fn main() {
     let many = 65536u64;
     let fewer = 16384u64;
@@ -218,6 +286,7 @@ fn main() {
     row(23, "IndexMap<u64, u64>", (0..many).map(|n| (n, n)).collect::<IndexMap<_, _>>());
     row(24, "Vec<Uuid>", (0..many).map(|n| Uuid::from_u128(u128::from(n))).collect::<Vec<_>>());
     refusals();
+    lines();
 
     let chain = |count| structs(count, |n| vec![n + 1]);
     let tree = structs(2000, |n| vec![2 * n + 1, 2 * n + 2]);

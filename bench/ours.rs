@@ -3,6 +3,7 @@
 
 use borsh::schema::BorshSchemaContainer;
 use borsh::{BorshDeserialize, BorshSerialize, from_slice, object_length, to_vec};
+use borsh_lines::run;
 use borsh_values::{Decoded, Membership, decode, is_member};
 use borsh_walks::Definition;
 use indexmap::IndexMap;
@@ -165,6 +166,20 @@ pub extern "C" fn ours_refuses(alloc: Global, bytes: &[u8], rounds: usize) -> us
     for _ in 0..rounds {
         if from_slice::<Vec<u8>>(alloc, bytes).is_err() {
             sum = sum.wrapping_add(1);
+        }
+    }
+    sum
+}
+
+/// Answers the program's lines so many times; the sum of the lengths of what was answered.
+#[unsafe(no_mangle)]
+pub extern "C" fn ours_of_lines(alloc: Global, lines: &[u8], rounds: usize) -> usize {
+    let mut sum = 0usize;
+    for _ in 0..rounds {
+        let mut input = lines;
+        let mut answers = Vec::new(alloc);
+        if run(alloc, &mut input, &mut answers).is_ok() {
+            sum = sum.wrapping_add(answers.len());
         }
     }
     sum
