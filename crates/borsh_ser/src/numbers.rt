@@ -1,6 +1,6 @@
 // Whole numbers, the lowest byte first, and with a sign in two's complement. A `usize` is
 // written as a `u64`, and an `isize` as an `i64`.
-ghost use Rattle.std.specs.Prelude.{◌≡◌, Some, IsSomeAnd};
+ghost use Rattle.std.specs.Prelude.{◌≡◌, true, Some, IsSomeAnd};
 ghost use Rattle.borsh_codec.specs.Shapes.{
   append_encodings,
   concat_encodings,
@@ -115,6 +115,8 @@ pub(crate) fn put_i128(n: i128, room: &mut [u8]) -> Option<usize>
 }
 
 impl BorshSerialize for u8 {
+    ghost lies_encoded = { true };
+
     #[inline]
     fn serialize<W: Write>(&self, _alloc: Global, writer: &mut W) -> Result<()> {
         write_bytes(&bytes_of_u8(*self), writer)

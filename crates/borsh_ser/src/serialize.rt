@@ -1,5 +1,5 @@
 // What is written.
-ghost use Rattle.std.specs.Prelude.{◌≡◌, Some, IfSome};
+ghost use Rattle.std.specs.Prelude.{◌≡◌, Bool, true, false, Some, IfSome, IsNone};
 ghost use Rattle.borsh_codec.specs.Shapes.{concat_encodings};
 ghost use Rattle.borsh_codec.specs.Writing.{Puts, Writes};
 
@@ -24,11 +24,15 @@ pub trait BorshSerialize: BorshType + Sized {
     fn serialize<W: Write>(&self, alloc: Global, writer: &mut W) -> Result<()>
         ensures { Writes Self.codec self.now W.writing writer.old writer.new result };
 
+    /// Whether [`u8_slice`](BorshSerialize::u8_slice) may return bytes: not unless a type says so.
+    ghost lies_encoded: { Bool } = { false };
+
     /// The encodings of the values, one after another, if that is how they lie in memory: only `u8`
     /// returns them, and types of one's own need not override it.
     fn u8_slice(_slice: &[Self]) -> Option<&[u8]>
-        ensures { IfSome result (λ bytes.
+        ensures bytes { IfSome result (λ bytes.
             concat_encodings Self.codec.encoding _slice.now ≡ Some bytes.now) }
+        ensures others { lies_encoded ≡ false → IsNone result }
     {
         None
     }
