@@ -23,6 +23,11 @@ use std::mem;
 /// The text is as [`crate::to_json`] writes it, in any layout; the fields of a struct may come in any order, and a list of
 /// `u8` may be an array of numbers. What doesn't fit the definitions is refused with its path and what was
 /// expected. The bytes are a member of the root.
+///
+/// ```
+/// let bytes = from_json(alloc, "(u8, bool)", &definitions, "[7, true]")?;
+/// assert_eq!(rt; bytes.as_slice(), b"\x07\x01".as_slice());
+/// ```
 pub fn from_json<'a>(
     alloc: Global,
     root: &'a str,

@@ -32,6 +32,12 @@ pub struct Row<'a> {
 
 /// What each of `bytes` is, in order, in the value of `root` that they are by the definitions of `map` alone. Each byte is
 /// in one row. Values that nest more than 128 deep are refused.
+///
+/// ```
+/// for row in rows_of(alloc, "(u8, bool)", &definitions, &[7, 1])?.as_slice() {
+///     println!(rt; "{}: {} {}", row.offset, row.path, row.value)?;
+/// }
+/// ```
 pub fn rows_of<'a>(
     alloc: Global,
     root: &'a str,

@@ -28,6 +28,11 @@ use std::str;
 /// The text is JSON, and [`crate::from_json`] gives the bytes again. Refused with their path are bytes that the type
 /// itself would refuse (a `bool` of 2, a `String` that isn't UTF-8, a non-zero number of 0), definitions with two fields
 /// or two variants of one name, lists with a length whose elements have no bytes, and values that nest more than 128 deep.
+///
+/// ```
+/// let text = to_json(alloc, "(u8, bool)", &definitions, &[7, 1], Layout::Compact)?;
+/// assert_eq!(rt; text, "[7,true]");
+/// ```
 pub fn to_json<'a>(
     alloc: Global,
     root: &'a str,

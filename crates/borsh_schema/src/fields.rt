@@ -135,6 +135,10 @@ pub fn add_named<P: FieldTypes>(
 
 /// Adds a struct whose fields, of the types `P`, have no names. The answers are those of
 /// [`BorshSchema::add_definitions_recursively`].
+///
+/// ```
+/// add_unnamed::<(u64, (String, ()))>(alloc, "Account", definitions)?;
+/// ```
 pub fn add_unnamed<P: FieldTypes>(
     alloc: Global,
     name: &str,
@@ -157,6 +161,10 @@ pub fn add_unnamed<P: FieldTypes>(
 
 /// Adds a struct without fields. The answers are those of
 /// [`BorshSchema::add_definitions_recursively`].
+///
+/// ```
+/// add_unit(alloc, "Nothing", definitions)?;
+/// ```
 pub fn add_unit(
     alloc: Global,
     name: &str,
@@ -202,6 +210,11 @@ fn push_variants(
 
 /// Adds an enum whose variants have these tags, names and types, and the definitions of the types, `P`.
 /// The answers are those of [`BorshSchema::add_definitions_recursively`].
+///
+/// ```
+/// let types = &["u64", "String"];
+/// add_tagged_enum::<(u64, String)>(alloc, "Event", &[0, 7], &["Paid", "Named"], types, definitions)?;
+/// ```
 pub fn add_tagged_enum<P: SchemaParts>(
     alloc: Global,
     name: &str,

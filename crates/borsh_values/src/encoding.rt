@@ -69,6 +69,12 @@ fn have_nodes(
 /// Where the definitions that are reached are valid and unambiguous, there is no such value if the answer is none;
 /// otherwise none may also say that the definitions don't determine the nodes. The definitions that the nodes have
 /// aren't looked at. The only error is that an allocation failed.
+///
+/// ```
+/// if let Some(bytes) = encode_value(alloc, "Vec<u8>", &definitions, nodes.as_slice())? {
+///     writer.write_all(bytes.as_slice())?;
+/// }
+/// ```
 pub fn encode_value(
     alloc: Global,
     root: &str,

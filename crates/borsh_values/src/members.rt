@@ -122,6 +122,14 @@ fn at_end<'a>(alloc: Global, root: &'a str, bytes: &[u8], left: &[u8]) -> Member
 /// [`Fault::offset`], or bytes are left behind a whole value. The answer is never [`Membership::Ambiguous`] where the
 /// definitions that are reached are valid, as [`borsh_walks::check_rules`] says, and unambiguous. The only
 /// error is that an allocation failed.
+///
+/// ```
+/// match is_member(alloc, "Vec<u8>", &definitions, b"\x01\x00\x00\x00\x07")? {
+///     Membership::Member => println!(rt; "a value")?,
+///     Membership::NoMember(fault) => println!(rt; "{fault}")?,
+///     Membership::Ambiguous(name) => println!(rt; "`{name}` is ambiguous")?,
+/// }
+/// ```
 pub fn is_member<'a>(
     alloc: Global,
     root: &'a str,
@@ -136,6 +144,11 @@ pub fn is_member<'a>(
 
 /// As [`is_member`], and adds to `opened` how many definitions were opened: at most `(n + 1) * (d + 1)` for `n` bytes and
 /// `d` definitions. At its greatest value the count stays.
+///
+/// ```
+/// let mut opened = 0;
+/// let answer = is_member_counted(alloc, "Vec<u8>", &definitions, bytes, &mut opened)?;
+/// ```
 pub fn is_member_counted<'a>(
     alloc: Global,
     root: &'a str,
@@ -170,6 +183,14 @@ pub enum Decoded<'a> {
 /// unambiguous, as [`crate::find_ambiguous`] says, the bytes have these nodes and no others. The own bytes of all
 /// nodes, one after another, are `bytes`, and each node says where its own begin. The only error is
 /// that an allocation failed.
+///
+/// ```
+/// if let Decoded::Nodes(nodes) = decode(alloc, "Vec<u8>", &definitions, bytes)? {
+///     for node in nodes.as_slice() {
+///         println!(rt; "{} at byte {}", node.name, node.offset)?;
+///     }
+/// }
+/// ```
 pub fn decode<'a>(
     alloc: Global,
     root: &'a str,

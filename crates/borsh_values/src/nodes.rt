@@ -29,6 +29,13 @@ pub struct Node<'a> {
 }
 
 /// The index of the variant that a node of an enum encodes; none for a node of another kind.
+///
+/// ```
+/// let name = match (node.definition, variant_of(&node)) {
+///     (Definition::Enum { variants, .. }, Some(index)) => variants[index].1.as_str(),
+///     _ => "",
+/// };
+/// ```
 pub fn variant_of(node: &Node<'_>) -> Option<usize>
     ensures { IsVariantOf (shape_of node.now.definition.now) node.now.bytes.now result }
 {
@@ -40,6 +47,11 @@ pub fn variant_of(node: &Node<'_>) -> Option<usize>
 
 /// How many elements the sequence has whose node this is; none for a node of another kind, and where the count has more
 /// than eight bytes, which no valid container allows.
+///
+/// ```
+/// // the node of `Vec<u8>` in 01 00 00 00 07
+/// assert_eq!(rt; count_of(&node), Some(1));
+/// ```
 pub fn count_of(node: &Node<'_>) -> Option<u64>
     ensures { IsCountOf (shape_of node.now.definition.now) node.now.bytes.now result }
 {
@@ -63,6 +75,11 @@ pub fn count_of(node: &Node<'_>) -> Option<u64>
 
 /// The bytes of the elements that are in the node of their sequence, those behind its count; all own bytes of a node
 /// of another kind.
+///
+/// ```
+/// // the node of `Vec<u8>` in 01 00 00 00 07
+/// assert_eq!(rt; elements_of(&node), b"\x07".as_slice());
+/// ```
 pub fn elements_of<'a>(node: &Node<'a>) -> &'a [u8]
     ensures { AreElementsOf (shape_of node.now.definition.now) node.now.bytes.now result.now }
 {
@@ -115,6 +132,10 @@ pub fn list_node<'a>(
 ///
 /// Whether they are a value at all isn't asked: [`crate::encode_value`] does. The only error is that an allocation
 /// failed.
+///
+/// ```
+/// let bytes = encode(alloc, nodes.as_slice())?;
+/// ```
 pub fn encode(alloc: Global, nodes: &[Node<'_>]) -> Result<Vec<u8>, AllocError>
     ensures { IfOk result (λ bytes. bytes.items ≡ joined_bytes (views nodes.now)) }
 {

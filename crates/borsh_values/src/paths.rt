@@ -26,6 +26,14 @@ struct Around<'a> {
 /// A field is looked for once in all, behind the one before it, so that all paths of a value take as long as its nodes and
 /// the fields of their definitions. Each call returns for any nodes; the paths are those of the value for the nodes that
 /// [`crate::decode`] answers, in order from the first.
+///
+/// ```
+/// let mut paths = Paths::new(alloc, "Pair");
+/// for node in nodes.as_slice() {
+///     paths.enter(node)?;
+///     println!(rt; "{}", paths.path(alloc)?)?;
+/// }
+/// ```
 #[derive(Drop)]
 pub struct Paths<'a> {
     root: &'a str,

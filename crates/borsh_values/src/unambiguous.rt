@@ -80,6 +80,12 @@ fn unseen<'a>(
 ///
 /// A sequence is at fault where its range has more counts than its width can encode, an enum where two variants
 /// have the same tag in its width. Each definition is looked at once. The only error is that an allocation failed.
+///
+/// ```
+/// if let Some(name) = find_ambiguous(alloc, "Event", &definitions)? {
+///     println!(rt; "`{name}` has two variants of one tag")?;
+/// }
+/// ```
 pub fn find_ambiguous<'a>(
     alloc: Global,
     root: &'a str,

@@ -34,6 +34,11 @@ pub fn declared_with<T: BorshSchema, R: FieldTypes>(
 /// Adds a struct whose parameters are `T` and those of `R`, with these names of fields, and the definitions of
 /// their types, `P`. The answers are those of
 /// [`BorshSchema::add_definitions_recursively`](borsh_schema::BorshSchema::add_definitions_recursively).
+///
+/// ```
+/// // struct Pair<A, B> { first: A, second: B }, as Pair<u8, String>
+/// add_named_with::<u8, (String, ()), (u8, (String, ()))>(alloc, "Pair", &["first", "second"], definitions)?;
+/// ```
 pub fn add_named_with<T: BorshSchema, R: FieldTypes, P: FieldTypes>(
     alloc: Global,
     name: &str,
@@ -48,6 +53,11 @@ pub fn add_named_with<T: BorshSchema, R: FieldTypes, P: FieldTypes>(
 }
 
 /// The same of a struct whose fields have no names.
+///
+/// ```
+/// // struct Pair<A, B>(A, B), as Pair<u8, String>
+/// add_unnamed_with::<u8, (String, ()), (u8, (String, ()))>(alloc, "Pair", definitions)?;
+/// ```
 pub fn add_unnamed_with<T: BorshSchema, R: FieldTypes, P: FieldTypes>(
     alloc: Global,
     name: &str,
