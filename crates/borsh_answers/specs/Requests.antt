@@ -24,6 +24,7 @@ pub data Asked : Type 0 where
   -- something about the container whose encoding the bytes are
   about : Inquiry → List ℕ → Asked
 
+-- what a parsed line asks for
 abbrev pub asked_by : Request → Asked
 asked_by (Value word strict bytes) = value word strict bytes.items
 asked_by (Schema word) = schema word

@@ -13,6 +13,7 @@ use Rattle.borsh_answers.specs.Digits.{digits_of}
 abbrev pub Schema : Type 0
 Schema = List ℕ × DefinitionTree
 
+-- a name of so many bytes
 abbrev pub primitive : List ℕ → ℕ → Schema
 primitive name n = (name, primitive_definitions name n)
 
@@ -50,10 +51,12 @@ range_to head s = (applied head s.0, defined (applied head s.0) (range_to_of s.0
 abbrev range_full : Schema
 range_full = (codes "RangeFull", defined (codes "RangeFull") no_fields none)
 
+-- the names of several types
 abbrev names : List Schema → List (List ℕ)
 names [] = []
 names (s ∷ ss) = s.0 ∷ names ss
 
+-- the definitions of several types
 abbrev all_parts : List Schema → DefinitionTree
 all_parts [] = none
 all_parts (s ∷ ss) = both s.1 (all_parts ss)
@@ -67,6 +70,7 @@ ranges =
 
 -- ---- lists and maps, by the beginnings of their names
 
+-- an array of that element and length
 abbrev pub array : Schema → ℕ → Schema
 array s n = (array_name s.0 n, defined (array_name s.0 n) (sequence 0 n n s.0) (both s.1 none))
 
@@ -78,6 +82,7 @@ map head k v = (applied_to_two head k.0 v.0, map_definitions head k.0 v.0 k.1 v.
 
 -- ---- the struct of the samples
 
+-- `struct A { x: u64, y: String }`
 abbrev pub readme : Schema
 readme = (codes "A", defined (codes "A") (named ((codes "x", codes "u64") ∷ (codes "y", codes "String") ∷ [])) (both (primitive_definitions (codes "u64") 8) (both text_definitions none)))
 

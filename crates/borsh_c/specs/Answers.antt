@@ -51,12 +51,15 @@ IsRefused schema N U (Undecided t) = About schema U
 
 -- ---- what the calls say
 
+-- of any container
 abbrev pub Anything : Saying
 Anything C root = ⊤
 
+-- of no container
 abbrev pub Never : Saying
 Never C root = ⊥
 
+-- a reached name breaks a rule
 abbrev pub IsInvalid : Saying
 IsInvalid C root = IsValid C root → ⊥
 
@@ -64,6 +67,7 @@ IsInvalid C root = IsValid C root → ⊥
 abbrev pub HasNoSize : Saying
 HasNoSize C root = (n : ℕ) → MaxSize C root n → n < 2 ^ 64 → ⊥
 
+-- the bytes are no member of the root
 abbrev pub IsNoMember : List ℕ → Saying
 IsNoMember value C root = Member C root value → ⊥
 
@@ -77,12 +81,15 @@ Gives P room needed = (bytes : List ℕ) × P bytes × IsGiven bytes room needed
 
 -- ---- the outcomes of the calls
 
+-- code 0: the container is valid; code 1: it isn't
 abbrev pub AnswersValid : List ℕ → ℕ → Type 0
 AnswersValid schema = Answers schema IsValid IsInvalid Never
 
+-- code 0: the number is the greatest size; code 1: there is none below 2^64
 abbrev pub AnswersSize : List ℕ → ℕ → ℕ → Type 0
 AnswersSize schema most = Answers schema (λ C root. MaxSize C root most) HasNoSize Never
 
+-- code 0: the bytes are a member of the root; code 1: they aren't; code 5: the container breaks a rule or is ambiguous
 abbrev pub AnswersMember : List ℕ → List ℕ → ℕ → Type 0
 AnswersMember schema value = Answers schema (λ C root. Member C root value) (IsNoMember value) IsUnclear
 

@@ -24,5 +24,6 @@ v4_variant = defined (codes "IpAddr__V4") (unnamed (codes "Ipv4Addr" ∷ [])) (b
 abbrev pub v6_variant : DefinitionTree
 v6_variant = defined (codes "IpAddr__V6") (unnamed (codes "Ipv6Addr" ∷ [])) (both ipv6_definitions none)
 
+-- an enum: tag 0 and four octets, or tag 1 and sixteen
 abbrev pub ip_address_definitions : DefinitionTree
 ip_address_definitions = defined (codes "IpAddr") (variants 1 ((pos 0, codes "V4", codes "IpAddr__V4") ∷ (pos 1, codes "V6", codes "IpAddr__V6") ∷ [])) (both v4_variant v6_variant)

@@ -4,11 +4,13 @@ use Rattle.borsh_definitions.specs.Described.{NamedDefinition, variants, named, 
 use Rattle.borsh_definitions.specs.Names.{applied, applied_to_two, tuple_name}
 use Rattle.borsh_definitions.specs.Types.{primitive_definitions, list_definitions, map_definitions, text_definitions, tuple_definitions, range_of}
 
+-- the definition of `u8`
 abbrev byte_parts : DefinitionTree
 byte_parts = primitive_definitions (codes "u8") 1
 
 -- ---- lengths
 
+-- `RangeInclusive<u64>`
 abbrev pub length_range_name : List ℕ
 length_range_name = applied (codes "RangeInclusive<") (codes "u64")
 
@@ -17,6 +19,7 @@ length_range_definitions = defined length_range_name (range_of (codes "u64")) (b
 
 -- ---- fields
 
+-- `Vec<String>`
 abbrev pub texts_name : List ℕ
 texts_name = applied (codes "Vec<") (codes "String")
 
@@ -27,6 +30,7 @@ texts_definitions = list_definitions (codes "Vec<") (codes "String") text_defini
 abbrev two_texts : List (List ℕ)
 two_texts = codes "String" ∷ codes "String" ∷ []
 
+-- `Vec<(String, String)>`
 abbrev pub named_fields_name : List ℕ
 named_fields_name = applied (codes "Vec<") (tuple_name two_texts)
 
@@ -42,6 +46,7 @@ unnamed_fields_variant = defined (codes "Fields__UnnamedFields") (unnamed (texts
 abbrev pub empty_variant : DefinitionTree
 empty_variant = defined (codes "Fields__Empty") no_fields none
 
+-- the variants of `Fields`: tag, name, name of the variant's struct
 abbrev pub fields_variants : NamedDefinition
 fields_variants = variants 1
     ((pos 0, codes "NamedFields", codes "Fields__NamedFields") ∷ (pos 1, codes "UnnamedFields", codes "Fields__UnnamedFields") ∷ (pos 2, codes "Empty", codes "Fields__Empty") ∷ [])
@@ -55,6 +60,7 @@ fields_definitions = defined (codes "Fields") fields_variants (both named_fields
 abbrev number_and_two_texts : List (List ℕ)
 number_and_two_texts = codes "i64" ∷ codes "String" ∷ codes "String" ∷ []
 
+-- `Vec<(i64, String, String)>`
 abbrev pub variants_name : List ℕ
 variants_name = applied (codes "Vec<") (tuple_name number_and_two_texts)
 
@@ -78,6 +84,7 @@ enum_variant = defined (codes "Definition__Enum") (named ((codes "tag_width", co
 abbrev pub struct_variant : DefinitionTree
 struct_variant = defined (codes "Definition__Struct") (named ((codes "fields", codes "Fields") ∷ [])) (both fields_definitions none)
 
+-- the variants of `Definition`
 abbrev pub definition_variants : NamedDefinition
 definition_variants = variants 1
     ((pos 0, codes "Primitive", codes "Definition__Primitive") ∷ (pos 1, codes "Sequence", codes "Definition__Sequence") ∷ (pos 2, codes "Tuple", codes "Definition__Tuple")
@@ -88,6 +95,7 @@ definition_definitions = defined (codes "Definition") definition_variants (both 
 
 -- ---- containers
 
+-- `BTreeMap<String, Definition>`
 abbrev pub map_name : List ℕ
 map_name = applied_to_two (codes "BTreeMap<") (codes "String") (codes "Definition")
 

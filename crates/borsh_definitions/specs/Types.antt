@@ -19,6 +19,7 @@ list_definitions head element parts = defined (applied head element) (list_of el
 abbrev pub text_definitions : DefinitionTree
 text_definitions = defined (codes "String") (list_of (codes "u8")) (both (primitive_definitions (codes "u8") 1) none)
 
+-- `()`, a primitive of no bytes
 abbrev pub unit_definitions : DefinitionTree
 unit_definitions = primitive_definitions (codes "()") 0
 
@@ -30,9 +31,11 @@ tuple_described name names parts = defined name (tuple names) parts
 abbrev pub tuple_definitions : List (List ℕ) → DefinitionTree → DefinitionTree
 tuple_definitions names parts = tuple_described (tuple_name names) names parts
 
+-- `None` with tag 0, `Some` with tag 1
 abbrev pub option_of : List ℕ → NamedDefinition
 option_of some = variants 1 ((pos 0, codes "None", codes "()") ∷ (pos 1, codes "Some", some) ∷ [])
 
+-- `Ok` with tag 1, `Err` with tag 0
 abbrev pub result_of : List ℕ → List ℕ → NamedDefinition
 result_of ok err = variants 1 ((pos 1, codes "Ok", ok) ∷ (pos 0, codes "Err", err) ∷ [])
 
