@@ -168,7 +168,7 @@ fn judge(
     container: &BorshSchemaContainer,
     counts: &mut Expansions,
 ) -> Result<(), AllocError>
-    ensures few { RulesWork (language_of container.now) (root_of container.now)
+    ensures bounded_work { RulesWork (language_of container.now) (root_of container.now)
         (btree_map_len (map_of container.now)) counts.old counts.new }
     ensures rules { OnOk result
         (CountsIfValid (language_of container.now) (root_of container.now) counts.old counts.new) }
@@ -186,7 +186,7 @@ fn measure(
     container: &BorshSchemaContainer,
     counts: &mut Expansions,
 ) -> Result<(), AllocError>
-    ensures few { SizeWork (btree_map_len (map_of container.now)) counts.old counts.new }
+    ensures bounded_work { SizeWork (btree_map_len (map_of container.now)) counts.old counts.new }
     ensures needed { OnlyNeeded (language_of container.now) (root_of container.now)
         counts.old counts.new }
     ensures size { OnOk result

@@ -58,7 +58,7 @@ pub fn decode<'a>(
 ) -> Result<Decoded<'a>, AllocError>
     ensures value { let c = container.now in
         DecodesValue (language_of c) (root_of c) bytes.now result }
-    ensures few { let most = most_opened bytes.now (map_of container.now) in
+    ensures bounded_work { let most = most_opened bytes.now (map_of container.now) in
         IfOk result (λ a. HasAtMost most a) }
 {
     let root = container.declaration().as_str();

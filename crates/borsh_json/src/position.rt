@@ -1,6 +1,6 @@
 // Where in a value the reader or writer is.
 use borsh_values::{Path, PathStep};
-use borsh_walks::parts::mentioned_part;
+use borsh_walks::parts::referenced_part;
 use borsh_walks::{Declaration, Definition, FieldName};
 use std::alloc::{AllocError, Global};
 
@@ -60,7 +60,7 @@ impl<'a> Place<'a> {
                 })
             }
             Parts::Row(definition) => Some(Part {
-                name: mentioned_part(definition, index)?,
+                name: referenced_part(definition, index)?,
                 key: None,
                 may_be_empty: true,
             }),

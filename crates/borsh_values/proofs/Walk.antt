@@ -1,9 +1,8 @@
 -- What the loop keeps, and each of its steps.
 use Rattle.std.proofs.Common.{◌≡◌, ℕ, suc, ◌≤◌, ◌<◌, List, [], ◌∷◌, ◌++◌, length, drop, replicate, Some, None, refl, sym, ◌∙◌, ap, subst, arith, append_assoc, length-drop, ◌⊎◌, inl, inr}
 use Rattle.std.specs.Prelude.{Option, ⊤}
-use Rattle.borsh_walks.specs.Container.{Shape, IsIn, first, later, Member, of_primitive, of_sequence, of_parts, of_choice, Members, no_members, references, Reached, Reaches, stays, onward}
+use Rattle.borsh_walks.specs.Container.{Shape, IsIn, IsDefined, first, later, Member, of_primitive, of_sequence, of_parts, of_choice, Members, no_members, references, Reached, Reaches, stays, onward}
 use Rattle.borsh_walks.specs.SizeAnswer.{Distinct, distinct_none, distinct_more}
-use Rattle.borsh_walks.specs.Tables.{IsDefined}
 use Rattle.borsh_values.specs.Faults.{BeginsWith}
 use Rattle.borsh_values.specs.Steps.{remaining, pending, required_by, OnlyEmpty, AllOnlyEmpty, Takes}
 use Rattle.borsh_values.specs.declared.frames.Frame.{Frame}

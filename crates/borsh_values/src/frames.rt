@@ -4,7 +4,7 @@ ghost use Rattle.std.specs.Prelude.{false, length, true, ◌≡◌, ◌∷◌, �
 
 use crate::faults::Reason;
 use borsh_walks::Definition;
-use borsh_walks::parts::mentioned_part;
+use borsh_walks::parts::referenced_part;
 
 /// The names that are still to be read: copies of one, or the parts of a definition from an index on.
 #[derive(Clone, Copy)]
@@ -56,7 +56,7 @@ pub fn next_part<'a>(rest: Rest<'a>) -> Option<Step<'a>>
                 })
             }
         }
-        Rest::Parts(definition, next) => match mentioned_part(definition, next) {
+        Rest::Parts(definition, next) => match referenced_part(definition, next) {
             Some(part) => Some(Step {
                 part,
                 others: Rest::Parts(definition, next + 1),
@@ -86,7 +86,7 @@ pub fn has_parts(rest: Rest<'_>) -> bool
 {
     match rest {
         Rest::Copies(_, count) => count > 0,
-        Rest::Parts(definition, index) => match mentioned_part(definition, index) {
+        Rest::Parts(definition, index) => match referenced_part(definition, index) {
             Some(_) => true,
             None => false,
         },

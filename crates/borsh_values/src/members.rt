@@ -157,7 +157,7 @@ pub fn is_member_counted<'a>(
     opened: &mut u64,
 ) -> Result<Membership<'a>, AllocError>
     ensures answer { AnswersMembership (definitions_in map.now) root.now bytes.now result }
-    ensures few { opened.new ≤ opened.old + most_opened bytes.now map.now }
+    ensures bounded_work { opened.new ≤ opened.old + most_opened bytes.now map.now }
 {
     let mut zeros: BTreeMap<&'a str, bool> = BTreeMap::new(alloc);
     let mut nodes: Vec<Node<'a>> = Vec::new(alloc);
@@ -198,7 +198,7 @@ pub fn decode<'a>(
     bytes: &'a [u8],
 ) -> Result<Decoded<'a>, AllocError>
     ensures value { DecodesValue (definitions_in map.now) root.now bytes.now result }
-    ensures few { IfOk result (λ a. HasAtMost (most_opened bytes.now map.now) a) }
+    ensures bounded_work { IfOk result (λ a. HasAtMost (most_opened bytes.now map.now) a) }
 {
     let mut zeros: BTreeMap<&'a str, bool> = BTreeMap::new(alloc);
     let mut nodes: Vec<Node<'a>> = Vec::new(alloc);
@@ -237,7 +237,7 @@ fn decide<'a>(
     ensures listed { wanted ≡ true → IfOk result (λ a. a ≡ IsMember →
         Nodes (definitions_in map.now) (root.now ∷ []) bytes.now (views nodes.new.items)) }
     ensures placed { wanted ≡ true → IfOk result (λ a. AreOffsets 0 nodes.new.items) }
-    ensures few { opened.new ≤ opened.old + most_opened bytes.now map.now }
+    ensures bounded_work { opened.new ≤ opened.old + most_opened bytes.now map.now }
     ensures few_nodes { wanted ≡ true →
         IfOk result (λ a. length nodes.new.items ≤ most_opened bytes.now map.now) }
 {

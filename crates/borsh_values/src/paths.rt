@@ -1,7 +1,7 @@
 // The path of each node of a value.
 use crate::faults::{Path, PathStep};
 use crate::nodes::{Node, variant_of};
-use borsh_walks::parts::mentioned_part;
+use borsh_walks::parts::referenced_part;
 use borsh_walks::{Definition, Fields};
 use std::alloc::{AllocError, Global};
 
@@ -103,7 +103,7 @@ fn step_to<'a>(around: &mut Around<'a>, name: &str) -> Option<PathStep<'a>> {
 // The index of the first part of that name, from `from` on: a name before it is of zero size, or it had a node.
 fn find_part(definition: &Definition, from: usize, name: &str) -> Option<usize> {
     for index in from..part_count(definition) {
-        if mentioned_part(definition, index)? == name {
+        if referenced_part(definition, index)? == name {
             return Some(index);
         }
     }

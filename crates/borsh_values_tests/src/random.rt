@@ -1,6 +1,6 @@
 // Random members of a name, made by its definitions.
 use super::build::Definitions;
-use borsh_walks::parts::mentioned_part;
+use borsh_walks::parts::referenced_part;
 use borsh_walks::{Declaration, Definition, DiscriminantValue, LengthRange, VariantName};
 use std::alloc::Global;
 use std::test::Fail;
@@ -82,7 +82,7 @@ fn push_parts<'a>(
 ) -> Result<(), Fail> {
     let mut parts = Vec::new(alloc);
     for index in 0..MOST_PARTS {
-        match mentioned_part(definition, index) {
+        match referenced_part(definition, index) {
             Some(part) => parts.push(part)?,
             None => break,
         }

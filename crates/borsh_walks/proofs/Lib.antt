@@ -7,6 +7,7 @@ pub mod Measure
 pub mod SizeWalk
 pub mod Counting
 pub mod SizeExits
+pub mod SizeClaims
 pub mod SizeDue
 pub mod SizeExists
 pub mod SizeOutcome

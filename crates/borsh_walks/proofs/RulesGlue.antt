@@ -3,12 +3,12 @@ use Rattle.std.proofs.Common.{◌≡◌, ℕ, suc, zero, ◌+◌, ◌<◌, List,
 use Rattle.std.specs.Prelude.{Option, slice_get}
 use Rattle.std.specs.Borrow.{Bor}
 use Rattle.std.specs.BTreeMap.{BTreeMap, btree_map_len}
-use Rattle.borsh_walks.specs.Container.{Shape, IsIn, first, later, Rule, Breaks, Reached, references, stays, onward}
+use Rattle.borsh_walks.specs.Container.{Shape, IsIn, IsDefined, first, later, Rule, Breaks, Reached, references, stays, onward}
 use Rattle.borsh_walks.specs.Definitions.{spot_shape}
 use Rattle.borsh_walks.specs.Counts.{add_to}
 use Rattle.borsh_walks.specs.ZeroAnswer.{ZeroTable}
-use Rattle.borsh_walks.specs.Tables.{mark_of}
-use Rattle.borsh_walks.specs.RulesAnswer.{checked_element, ElementMarked}
+use Rattle.borsh_walks.specs.Tables.{mark_of, IsMarked}
+use Rattle.borsh_walks.specs.RulesAnswer.{checked_element, ElementMarked, ElementReaches, ZeroSizeReaches}
 use Rattle.borsh_walks.specs.RulesState.{RulesState, AllSpots, pending}
 use Rattle.borsh_walks.specs.declared.counted.Question.TheVariants.{Zero as ZeroQuestion, Rules}
 use Rattle.borsh_walks.specs.declared.counted.Expansions.{Expansions}
@@ -22,10 +22,18 @@ use Rattle.borsh_walks.proofs.Counting.{raised-more}
 pub both_more : (j k : ℕ) (a b e : Expansions) → a ≡ add_to Rules j (add_to ZeroQuestion k e) → b ≡ add_to Rules 1 a → b ≡ add_to ZeroQuestion k (add_to Rules (suc j) e)
 both_more j k a b e p q = q ∙ ap (λ s. add_to Rules 1 s) p ∙ ap (λ s. add_to ZeroQuestion k (record e { rules = s })) (raised-more e.rules j)
 
+-- the names that a look at the definition of a reached name counts for zero size
+pub zeros_known : (C : List ℕ → Option Shape) (root : List ℕ) (u : BTreeMap (Bor (List ℕ)) Bool) {zs : List (List ℕ)} (y : List ℕ) (d : Shape) → Reached C root y → C y ≡ Some d → ((x : List ℕ) → IsMarked u x → ZeroSizeReaches C root x) → ((x : List ℕ) → IsIn x zs → IsDefined C x × (IsMarked u x ⊎ ElementReaches C d x)) → (x : List ℕ) → IsIn x zs → ZeroSizeReaches C root x × IsDefined C x
+zeros_known C root u y d r e before known x a = let k = known x a in (from k.1, k.0)
+  where
+    from : IsMarked u x ⊎ ElementReaches C d x → ZeroSizeReaches C root x
+    from (inl m) = before x m
+    from (inr l) = (y, d, r, e, l)
+
 module _ (C : List ℕ → Option Shape) (root : List ℕ) where
   -- a name is seen: it is reached, has a definition and keeps its rules
-  pub rules_visit : {seen sn : BTreeMap (Bor (List ℕ)) Bool} {stack wn : List Spot} {zeros zn : BTreeMap (Bor (List ℕ)) Bool} (g : Spot) → RulesState C root (g.name.now ∷ []) seen stack zeros → Reached C root g.name.now → mark_of seen g.name.now ≡ None → C g.name.now ≡ Some (spot_shape g) → ((r : Rule) → Breaks C r g.name.now → ⊥) → ZeroTable C zn → ElementMarked C (spot_shape g) zeros zn → Updated (mark_of seen) (mark_of sn) g.name.now true → btree_map_len sn ≡ suc (btree_map_len seen) → g.next ≡ 0 → wn ≡ g ∷ stack → RulesState C root [] sn wn zn
-  rules_visit {seen} {sn} {stack} {wn} {zeros} {zn} g s reached none c keeps table marks u len next pushed =
+  pub rules_visit : {seen sn : BTreeMap (Bor (List ℕ)) Bool} {stack wn : List Spot} {zeros zn : BTreeMap (Bor (List ℕ)) Bool} (g : Spot) → RulesState C root (g.name.now ∷ []) seen stack zeros → Reached C root g.name.now → mark_of seen g.name.now ≡ None → C g.name.now ≡ Some (spot_shape g) → ((r : Rule) → Breaks C r g.name.now → ⊥) → ZeroTable C zn → ((x : List ℕ) → IsMarked zn x → ZeroSizeReaches C root x) → ElementMarked C (spot_shape g) zeros zn → Updated (mark_of seen) (mark_of sn) g.name.now true → btree_map_len sn ≡ suc (btree_map_len seen) → g.next ≡ 0 → wn ≡ g ∷ stack → RulesState C root [] sn wn zn
+  rules_visit {seen} {sn} {stack} {wn} {zeros} {zn} g s reached none c keeps table leads marks u len next pushed =
       record {
         names = g.name.now ∷ s.names;
         marks = marks_more s.marks u none (reached, keeps, (spot_shape g, c));
@@ -33,6 +41,7 @@ module _ (C : List ℕ → Option Shape) (root : List ℕ) where
         spots = subst (λ l. AllSpots C root l) (sym pushed) ((c, reached, omega (arith, next)), s.spots);
         closed = λ x d y a e m. subst (λ l. IsIn y (g.name.now ∷ s.names) ⊎ IsIn y [] ⊎ IsIn y (pending l)) (sym pushed) (closed_new x d y a e m);
         zero = table;
+        zeros_reached = leads;
         elements = λ x d e a q k f. elements_new x d e a q k f;
       }
     where
@@ -88,6 +97,7 @@ module _ (C : List ℕ → Option Shape) (root : List ℕ) where
     spots = s.spots.1;
     closed = λ x d y a q m. elim (s.closed x d y a q m) [ inl b ↦ inl b | inr b ↦ (elim b [ inl c ↦ inr (inl c) | inr c ↦ at_last y c ]) ];
     zero = s.zero;
+    zeros_reached = s.zeros_reached;
     elements = s.elements;
   }
     where
@@ -103,6 +113,7 @@ module _ (C : List ℕ → Option Shape) (root : List ℕ) where
     spots = subst (λ l. AllSpots C root l) (sym pushed) ((s.spots.0.0, s.spots.0.1, omega (arith, below)), s.spots.1);
     closed = λ x d y a q m. elim (s.closed x d y a q m) [ inl b ↦ inl b | inr b ↦ (elim b [ inl c ↦ absurd (no_one c) | inr c ↦ subst (λ l. IsIn y s.names ⊎ IsIn y (p ∷ []) ⊎ IsIn y (pending l)) (sym pushed) (at_last y c) ]) ];
     zero = s.zero;
+    zeros_reached = s.zeros_reached;
     elements = s.elements;
   }
     where
@@ -130,6 +141,7 @@ module _ (C : List ℕ → Option Shape) (root : List ℕ) where
     spots = s.spots;
     closed = λ x d y a q m. elim (s.closed x d y a q m) [ inl b ↦ inl b | inr b ↦ (elim b [ inl c ↦ inl (subst (λ z. IsIn z s.names) (sym (among_one c)) (s.marks.marked p (has_mark (mark_of seen p) f).0 (has_mark (mark_of seen p) f).1)) | inr c ↦ inr (inr c) ]) ];
     zero = s.zero;
+    zeros_reached = s.zeros_reached;
     elements = s.elements;
   }
 
@@ -142,6 +154,7 @@ module _ (C : List ℕ → Option Shape) (root : List ℕ) where
     spots = subst (λ l. AllSpots C root l) (sym w) tt;
     closed = λ x d y a. elim a [ ];
     zero = empty_table C zeros z;
+    zeros_reached = λ x k. absurd (k (marks_none zeros z x));
     elements = λ x d k a. elim a [ ];
   }
 

@@ -103,8 +103,8 @@ module _ (C : List ℕ → Option Shape) where
   rules_fault root x r OutOfMemory h l b = tt
 
 -- the element that is checked is referred to
-pub checked_mentioned : (d : Shape) (e : List ℕ) → checked_element d ≡ Some e → IsIn e (references d)
-checked_mentioned (primitive n) e h = cc
-checked_mentioned (sequence w lo hi el) e h = let k = element_fixed w lo hi el e h in subst (λ y. IsIn e (y ∷ [])) (sym k.0) first
-checked_mentioned (product ps) e h = cc
-checked_mentioned (choice w vs) e h = cc
+pub checked_referenced : (d : Shape) (e : List ℕ) → checked_element d ≡ Some e → IsIn e (references d)
+checked_referenced (primitive n) e h = cc
+checked_referenced (sequence w lo hi el) e h = let k = element_fixed w lo hi el e h in subst (λ y. IsIn e (y ∷ [])) (sym k.0) first
+checked_referenced (product ps) e h = cc
+checked_referenced (choice w vs) e h = cc

@@ -2,10 +2,11 @@
 use Rattle.std.proofs.Common.{◌≡◌, ℕ, ◌<◌, ◌≤◌, ◌^◌, List, None, refl, arith, ◌⊎◌, inl, inr}
 use Rattle.std.specs.Prelude.{Option, Result, Ok, Err}
 use Rattle.borsh_walks.specs.Container.{Shape, MaxSize, sized}
-use Rattle.borsh_walks.specs.SizeAnswer.{IsBound, AnswersIfFits, IsSizeAnswer, SizeFault}
+use Rattle.borsh_walks.specs.SizeAnswer.{IsSizeAnswer, SizeFault}
 use Rattle.borsh_walks.specs.declared.error.SchemaMaxSerializedSizeError.{SchemaMaxSerializedSizeError}
 use Rattle.borsh_walks.specs.declared.error.SchemaMaxSerializedSizeError.TheVariants.{Overflow, Recursive, MissingDefinition, OutOfMemory, Redefinition}
-use Rattle.borsh_walks.proofs.Laws.{one_size, partial_bound, no_cycle, size_of_needed, member_bound, size_longest}
+use Rattle.borsh_walks.proofs.Laws.{one_size, partial_bound, no_cycle, size_of_needed}
+use Rattle.borsh_walks.proofs.SizeClaims.{AnswersIfFits}
 
 module _ (C : List ℕ → Option Shape) (root : List ℕ) where
   no_missing : (m : List ℕ) {n : ℕ} → MaxSize C m n → C m ≡ None → ⊥
@@ -25,7 +26,3 @@ module _ (C : List ℕ → Option Shape) (root : List ℕ) where
     (λ m s low. elim (only_overflow e s a) [ inl h ↦ absurd (omega (arith, h.1)) | inr h ↦ h ]),
     λ m s high. elim (only_overflow e s a) [ inl h ↦ inl h.0 | inr h ↦ inr h ],
   )
-
-  pub bound : (r : Result ℕ SchemaMaxSerializedSizeError) → IsSizeAnswer C root r → IsBound C root r
-  bound (Ok n) a = ((λ bs m. member_bound C m a), λ v h. size_longest C root v h a)
-  bound (Err e) a = tt

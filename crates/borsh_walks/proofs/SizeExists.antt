@@ -5,7 +5,8 @@ use Rattle.std.specs.BTreeMap.{BTreeMap, get_by_text}
 use Rattle.borsh_walks.specs.declared.definition.Definition.{Definition}
 use Rattle.borsh_walks.specs.Container.{Shape, IsIn, first, later, size_references, MaxSize, sized, MaxSizes, no_sizes, more_sizes, size_from_parts, Reaches, stays, onward, SizeReaches, IsRecursive}
 use Rattle.borsh_walks.specs.Definitions.{definitions_in}
-use Rattle.borsh_walks.specs.SizeAnswer.{Distinct, distinct_none, distinct_more, HasSize}
+use Rattle.borsh_walks.specs.SizeAnswer.{Distinct, distinct_none, distinct_more}
+use Rattle.borsh_walks.proofs.SizeClaims.{HasSize}
 use Rattle.borsh_walks.proofs.Names.{distinct_within, key_names, found_among, shape_some}
 
 defined : (o : Option Shape) → (o ≡ None → ⊥) → (d : Shape) × (o ≡ Some d)

@@ -1,11 +1,12 @@
 -- The outcome of a walk for a size, from what each answer says.
-use Rattle.std.proofs.Common.{◌≡◌, ℕ, ◌<◌, ◌^◌, List, refl}
+use Rattle.std.proofs.Common.{◌≡◌, ℕ, ◌<◌, ◌^◌, List}
 use Rattle.std.specs.Prelude.{Option, Result, Ok, Err, IfOk, length, ◌≤◌}
 use Rattle.borsh_walks.specs.Container.{Shape, Member, missing_definition, is_missing}
-use Rattle.borsh_walks.specs.SizeAnswer.{IsSizeAnswer, HasSize}
-use Rattle.borsh_walks.specs.SizeOutcome.{IsAnswered, AnswersSize}
+use Rattle.borsh_walks.specs.SizeAnswer.{IsSizeAnswer}
+use Rattle.borsh_walks.specs.SizeOutcome.{AnswersSize}
 use Rattle.borsh_walks.specs.declared.error.SchemaMaxSerializedSizeError.{SchemaMaxSerializedSizeError}
 use Rattle.borsh_walks.proofs.Laws.{needed_reached, member_bound, size_longest}
+use Rattle.borsh_walks.proofs.SizeClaims.{HasSize}
 use Rattle.borsh_walks.proofs.SizeDue.{due}
 
 module _ (C : List ℕ → Option Shape) (root : List ℕ) where

@@ -1,11 +1,11 @@
 -- The walk for a size: what its loop keeps, and each of its steps.
 use Rattle.std.proofs.Common.{◌≡◌, ℕ, suc, zero, ◌+◌, ◌*◌, ◌<◌, ◌≤◌, List, [], ◌∷◌, ◌++◌, length, replicate, take, drop, take-append-drop, Some, None, refl, sym, ◌∙◌, ap, subst, arith, inl, inr}
 use Rattle.std.specs.Prelude.{Option, max, slice_get, ⊤}
-use Rattle.borsh_walks.specs.Container.{Shape, primitive, sequence, product, choice, IsIn, first, later, size_references, sum_of, greatest, size_from_parts, MaxSize, sized, MaxSizes, no_sizes, more_sizes, PartialSize, left_out, taken, PartialSizes, no_partial, more_partial, Reaches, stays, onward, SizeReaches, IsRecursive}
+use Rattle.borsh_walks.specs.Container.{Shape, primitive, sequence, product, choice, IsIn, IsDefined, first, later, size_references, sum_of, greatest, size_from_parts, MaxSize, sized, MaxSizes, no_sizes, more_sizes, PartialSize, left_out, taken, PartialSizes, no_partial, more_partial, Reaches, stays, onward, SizeReaches, IsRecursive}
 use Rattle.borsh_walks.specs.Definitions.{spot_shape}
 use Rattle.borsh_walks.specs.SizeParts.{partial_size, add_part, size_of_parts}
 use Rattle.borsh_walks.specs.SizeAnswer.{Distinct, distinct_none, distinct_more, AreSizeReached}
-use Rattle.borsh_walks.specs.Tables.{IsDefined, Visited}
+use Rattle.borsh_walks.specs.Tables.{Visited}
 use Rattle.borsh_walks.specs.declared.sizes.Frame.{Frame}
 use Rattle.borsh_walks.specs.declared.sizes.Mark.{Mark}
 use Rattle.borsh_walks.specs.declared.sizes.Mark.TheVariants.{Open, Finished}

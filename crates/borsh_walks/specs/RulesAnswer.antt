@@ -3,11 +3,12 @@ use Rattle.std.specs.Prelude.{◌≡◌, ℕ, ◌<◌, ◌≤◌, ◌⊎◌, Lis
 use Rattle.std.specs.Borrow.{Bor}
 use Rattle.std.specs.BTreeMap.{BTreeMap}
 use Rattle.borsh_walks.specs.Tables.{mark_of}
+use Rattle.borsh_walks.specs.ZeroAnswer.{zero_size_parts}
 use Rattle.borsh_walks.specs.declared.rules.Broken.{Broken}
 use Rattle.borsh_walks.specs.declared.rules.Broken.TheVariants.{ZeroSized, Wide, Narrow, NotPowerOfTwo, Missing, EmptyRange}
 use Rattle.borsh_walks.specs.declared.error.SchemaContainerValidateError.{SchemaContainerValidateError}
 use Rattle.borsh_walks.specs.declared.error.SchemaContainerValidateError.TheVariants.{ZSTSequence, TagTooWide, TagTooNarrow, TagNotPowerOfTwo, MissingDefinition, EmptyLengthRange, OutOfMemory}
-use Rattle.borsh_walks.specs.Container.{Shape, primitive, sequence, product, choice, Rule, zst_sequence, tag_too_wide, tag_too_narrow, tag_not_power_of_two, missing_definition, empty_length_range, Breaks, IsValid, Reached}
+use Rattle.borsh_walks.specs.Container.{Shape, primitive, sequence, product, choice, Rule, zst_sequence, tag_too_wide, tag_too_narrow, tag_not_power_of_two, missing_definition, empty_length_range, Breaks, IsValid, Reached, Reaches}
 
 abbrev pub rule_of : Broken → Rule
 rule_of ZeroSized = zst_sequence
@@ -79,7 +80,15 @@ module _ (C : List ℕ → Option Shape) where
   abbrev pub MarksElement : Shape → BTreeMap (Bor (List ℕ)) Bool → BTreeMap (Bor (List ℕ)) Bool → Option Broken → Type 0
   MarksElement d t u o = MatchOption o (ElementMarked d t u) (λ _. ⊤)
 
+  -- the name is the element that is checked, or parts that have to be of zero size lead from there to it
+  abbrev pub ElementReaches : Shape → List ℕ → Type 0
+  ElementReaches d x = (e : List ℕ) × (checked_element d ≡ Some e) × Reaches C zero_size_parts e x
+
   module _ (root : List ℕ) where
+    -- the name is so for the definition of a reached name
+    abbrev pub ZeroSizeReaches : List ℕ → Type 0
+    ZeroSizeReaches x = (y : List ℕ) × (d : Shape) × Reached C root y × (C y ≡ Some d) × ElementReaches d x
+
     -- the error names a reached name and a rule that it breaks
     abbrev pub RulesFault : SchemaContainerValidateError → Type 0
     RulesFault (ZSTSequence m) = Reached C root (string_bytes m) × Breaks C zst_sequence (string_bytes m)

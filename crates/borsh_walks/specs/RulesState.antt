@@ -2,13 +2,13 @@
 use Rattle.std.specs.Prelude.{◌≡◌, ℕ, ◌+◌, ◌≤◌, ◌↔◌, ◌⊎◌, ◌++◌, List, [], ◌∷◌, length, drop, Option, Some, None, Bool, Result, OnOk, Ok, Err, ⊤}
 use Rattle.std.specs.Borrow.{Bor}
 use Rattle.std.specs.BTreeMap.{BTreeMap, btree_map_len}
-use Rattle.borsh_walks.specs.Container.{Shape, IsIn, Rule, Breaks, Reached, references}
+use Rattle.borsh_walks.specs.Container.{Shape, IsIn, IsDefined, Rule, Breaks, Reached, references}
 use Rattle.borsh_walks.specs.Definitions.{spot_shape}
-use Rattle.borsh_walks.specs.Counts.{counts_of, definition_at, definition_count, definitions_of, add_to}
+use Rattle.borsh_walks.specs.Counts.{counts_of, definition_at, definitions_of, add_to}
 use Rattle.borsh_walks.specs.SizeAnswer.{Distinct}
 use Rattle.borsh_walks.specs.ZeroAnswer.{ZeroTable}
-use Rattle.borsh_walks.specs.Tables.{mark_of, IsDefined, Visited}
-use Rattle.borsh_walks.specs.RulesAnswer.{RulesFault, checked_element}
+use Rattle.borsh_walks.specs.Tables.{mark_of, IsMarked, Visited}
+use Rattle.borsh_walks.specs.RulesAnswer.{RulesFault, ZeroSizeReaches, checked_element}
 use Rattle.borsh_walks.specs.declared.counted.Counted.{Counted}
 use Rattle.borsh_walks.specs.declared.counted.Expansions.{Expansions}
 use Rattle.borsh_walks.specs.declared.counted.Question.TheVariants.{Zero, Rules}
@@ -33,18 +33,24 @@ module _ (C : List ℕ → Option Shape) (root : List ℕ) where
     pub spots : AllSpots stack
     pub closed : (x : List ℕ) (d : Shape) (y : List ℕ) → IsIn x names → C x ≡ Some d → IsIn y (references d) → IsIn y names ⊎ IsIn y extra ⊎ IsIn y (pending stack)
     pub zero : ZeroTable C zeros
+    pub zeros_reached : (x : List ℕ) → IsMarked zeros x → ZeroSizeReaches C root x
     pub elements : (x : List ℕ) (d : Shape) (e : List ℕ) → IsIn x names → C x ≡ Some d → checked_element d ≡ Some e → (C e ≡ None → ⊥) → mark_of zeros e ≡ None → ⊥
 
 -- `rules` and `zero` have counted j and k names
 abbrev pub IsBothCount : Counted → ℕ → ℕ → Expansions → Type 0
 IsBothCount c j k base = counts_of c ≡ add_to Rules j (add_to Zero k base)
 
--- names in a list, each there once, reached from the root and defined
-abbrev pub AreReached : (List ℕ → Option Shape) → List ℕ → List (List ℕ) → Type 0
-AreReached C root xs = Distinct xs × ((x : List ℕ) → IsIn x xs → Reached C root x × IsDefined C x)
+module _ (C : List ℕ → Option Shape) (root : List ℕ) where
+  -- names in a list, each there once, reached from the root and defined
+  abbrev pub AreReached : List (List ℕ) → Type 0
+  AreReached xs = Distinct xs × ((x : List ℕ) → IsIn x xs → Reached C root x × IsDefined C x)
+
+  -- names in a list, each there once and defined, that matter for the zero size of an element that a reached name checks
+  abbrev pub AreZeroSizeReached : List (List ℕ) → Type 0
+  AreZeroSizeReached xs = Distinct xs × ((x : List ℕ) → IsIn x xs → ZeroSizeReaches C root x × IsDefined C x)
 
 abbrev pub RulesCounted : {E : Type 0} → List ℕ → Counted → Counted → BTreeMap (Bor (List ℕ)) Bool → BTreeMap (Bor (List ℕ)) Bool → BTreeMap (Bor (List ℕ)) Bool → BTreeMap (Bor (List ℕ)) Bool → Result (Unit {0}) E → Type 0
-RulesCounted root old new s t u v r = (base : Expansions) → IsBothCount old (btree_map_len s) (btree_map_len u) base → (xs : List (List ℕ)) × (k : ℕ) × AreReached (definitions_of old) root xs × (k ≤ definition_count old) × IsBothCount new (length xs) k base × OnOk r ((length xs ≡ btree_map_len t) × (k ≡ btree_map_len v))
+RulesCounted root old new s t u v r = (base : Expansions) → IsBothCount old (btree_map_len s) (btree_map_len u) base → (xs : List (List ℕ)) × (zs : List (List ℕ)) × AreReached (definitions_of old) root xs × AreZeroSizeReached (definitions_of old) root zs × IsBothCount new (length xs) (length zs) base × OnOk r ((length xs ≡ btree_map_len t) × (length zs ≡ btree_map_len v))
 
 -- the name is seen from now on, and what was seen still is
 abbrev pub HasSeen : List ℕ → BTreeMap (Bor (List ℕ)) Bool → BTreeMap (Bor (List ℕ)) Bool → Type 0
@@ -75,12 +81,12 @@ RulesCountedOnYes old new root = (xs : List (List ℕ)) × (zs : List (List ℕ)
     × ((x : List ℕ) (d : Shape) (e : List ℕ) → Reached (definitions_of old) root x → definitions_of old x ≡ Some d → checked_element d ≡ Some e → IsIn e zs)
     × (counts_of new ≡ add_to Rules (length xs) (add_to Zero (length zs) (counts_of old)))
 
--- `rules` rose by the number of `names`, each there once and each reached from the root, and `zero` by `zeros`; neither is more than `most`
+-- `rules` rose by the number of `names` and `zero` by that of `zeros`, neither by more than `most`
 pub record RulesWork (C : List ℕ → Option Shape) (root : List ℕ) (most : ℕ) (old new : Expansions) : Type 0 where
   pub names : List (List ℕ)
-  pub zeros : ℕ
-  pub once : Distinct names
-  pub reached : (x : List ℕ) → IsIn x names → Reached C root x
+  pub zeros : List (List ℕ)
+  pub reached : AreReached C root names
+  pub zeros_reached : AreZeroSizeReached C root zeros
   pub few : length names ≤ most
-  pub few_zeros : zeros ≤ most
-  pub counts : new ≡ add_to Rules (length names) (add_to Zero zeros old)
+  pub few_zeros : length zeros ≤ most
+  pub counts : new ≡ add_to Rules (length names) (add_to Zero (length zeros) old)

@@ -1,11 +1,11 @@
 -- What a result of `root_size` means.
-use Rattle.std.specs.Prelude.{◌≡◌, ℕ, ◌^◌, ◌<◌, ◌≤◌, ◌↔◌, ◌⊎◌, IfOk, List, [], ◌∷◌, length, Option, Some, None, string_bytes, ⊤, MatchResult, OnOk, Result}
+use Rattle.std.specs.Prelude.{◌≡◌, ℕ, ◌^◌, ◌≤◌, ◌↔◌, List, [], ◌∷◌, length, Option, None, string_bytes, ⊤, MatchResult, OnOk, Result}
 use Rattle.borsh_walks.specs.declared.error.SchemaMaxSerializedSizeError.{SchemaMaxSerializedSizeError}
 use Rattle.borsh_walks.specs.declared.error.SchemaMaxSerializedSizeError.TheVariants.{Overflow, Recursive, MissingDefinition, OutOfMemory, Redefinition}
 use Rattle.borsh_walks.specs.declared.counted.Counted.{Counted}
 use Rattle.borsh_walks.specs.declared.counted.Expansions.{Expansions}
 use Rattle.borsh_walks.specs.declared.counted.Question.TheVariants.{Size}
-use Rattle.borsh_walks.specs.Container.{Shape, IsIn, Member, MaxSize, PartialSize, SizeReaches, IsRecursive, IsValid, HasVariants, IsLongest}
+use Rattle.borsh_walks.specs.Container.{Shape, IsIn, IsDefined, MaxSize, PartialSize, SizeReaches, IsRecursive}
 use Rattle.borsh_walks.specs.Counts.{add_to, counts_of}
 
 -- no name twice
@@ -40,26 +40,14 @@ module _ (C : List ℕ → Option Shape) (root : List ℕ) where
 
   -- `size` rose by the number of names looked at, each once, needed and defined; if a size is returned, all that are needed
   abbrev pub IsCounted : Counted → Counted → Result ℕ SchemaMaxSerializedSizeError → Type 0
-  IsCounted old new r = (xs : List (List ℕ)) × Distinct xs × ((x : List ℕ) → IsIn x xs → SizeReaches C root x × ((d : Shape) × (C x ≡ Some d))) × (counts_of new ≡ add_to Size (length xs) (counts_of old)) × OnOk r (AreSizeReached xs)
+  IsCounted old new r = (xs : List (List ℕ)) × Distinct xs × ((x : List ℕ) → IsIn x xs → SizeReaches C root x × IsDefined C x) × (counts_of new ≡ add_to Size (length xs) (counts_of old)) × OnOk r (AreSizeReached xs)
 
-  -- `size` rose by the number of names in a list, each there once and each needed
+  -- `size` rose by the number of names in a list, each there once, needed and defined
   pub record VisitsNeeded (old new : Expansions) (xs : List (List ℕ)) : Type 0 where
     pub once : Distinct xs
-    pub needed : (x : List ℕ) → IsIn x xs → SizeReaches C root x
+    pub needed : (x : List ℕ) → IsIn x xs → SizeReaches C root x × IsDefined C x
     pub counts : new ≡ add_to Size (length xs) old
 
-  -- only names that the size needs were looked at, each once; if a size is returned, these are all that it needs
+  -- only names that the size needs and that are defined were looked at, each once; if a size is returned, these are all that it needs
   abbrev pub CountsNeeded : Expansions → Expansions → Result ℕ SchemaMaxSerializedSizeError → Type 0
   CountsNeeded old new r = (xs : List (List ℕ)) × VisitsNeeded old new xs × OnOk r (AreSizeReached xs)
-
-  -- where the `MaxSize` fits it is returned, and otherwise `Overflow`, unless an allocation fails
-  abbrev pub AnswersIfFits : Result ℕ SchemaMaxSerializedSizeError → Type 0
-  AnswersIfFits r = ((n : ℕ) → MaxSize C root n → n < 2 ^ 64 → MatchResult r (λ m. m ≡ n) (λ e. e ≡ OutOfMemory)) × ((n : ℕ) → MaxSize C root n → 2 ^ 64 ≤ n → MatchResult r (λ m. ⊥) (λ e. (e ≡ Overflow) ⊎ (e ≡ OutOfMemory)))
-
-  -- no member is longer than the size; in a valid container whose reached enums have variants, a member has that length
-  abbrev pub IsBound : Result ℕ SchemaMaxSerializedSizeError → Type 0
-  IsBound r = IfOk r (λ n. ((bs : List ℕ) → Member C root bs → length bs ≤ n) × (IsValid C root → HasVariants C root → IsLongest C root n))
-
-  -- where no needed name is missing or leads back to itself, there is a size
-  abbrev pub HasSize : Type 0
-  HasSize = ((x : List ℕ) → SizeReaches C root x → C x ≡ None → ⊥) → (IsRecursive C root → ⊥) → (n : ℕ) × MaxSize C root n

@@ -1,7 +1,7 @@
 // The parts of a definition, by place.
 ghost use Rattle.borsh_walks.specs.Container.{references, size_references};
 ghost use Rattle.borsh_walks.specs.Definitions.{IsPartAt, names_of_fields, shape_of};
-ghost use Rattle.borsh_walks.specs.ZeroAnswer.{asked};
+ghost use Rattle.borsh_walks.specs.ZeroAnswer.{zero_size_parts};
 ghost use Rattle.std.specs.Prelude.{◌<◌, OnSome, map, string_bytes};
 
 use crate::definition::{Declaration, Definition, DiscriminantValue, Fields, VariantName};
@@ -39,7 +39,7 @@ fn variant_at(
 }
 
 /// The part at `index` of the definition.
-pub fn mentioned_part(definition: &Definition, index: usize) -> Option<&str>
+pub fn referenced_part(definition: &Definition, index: usize) -> Option<&str>
     ensures part { IsPartAt (references (shape_of definition.now)) index result }
     ensures small { OnSome result (index < 18446744073709551615) }
 {
@@ -89,8 +89,8 @@ pub fn needed_part(definition: &Definition, index: usize) -> Option<&str>
 }
 
 /// The part at `index` that has to be of zero size for the definition to be.
-pub fn asked_part(definition: &Definition, index: usize) -> Option<&str>
-    ensures part { IsPartAt (asked (shape_of definition.now)) index result }
+pub fn zero_size_part(definition: &Definition, index: usize) -> Option<&str>
+    ensures part { IsPartAt (zero_size_parts (shape_of definition.now)) index result }
     ensures small { OnSome result (index < 18446744073709551615) }
 {
     match definition {

@@ -1,6 +1,6 @@
 // Whether the names that are reached keep the rules.
 ghost use Rattle.borsh_walks.specs.Counts.{counts_of, definition_count, definitions_of, LooksOn};
-ghost use Rattle.borsh_walks.specs.RulesAnswer.{AcceptsIfValid, AnswersShape, IsRulesError, JudgesRules, IsWidth, BreaksWidth, MarksElement, RuleAnswer, rule_of, checked_element};
+ghost use Rattle.borsh_walks.specs.RulesAnswer.{AcceptsIfValid, AnswersShape, ElementReaches, IsRulesError, JudgesRules, IsWidth, BreaksWidth, MarksElement, RuleAnswer, rule_of, checked_element};
 ghost use Rattle.borsh_walks.specs.Definitions.{shape_of};
 ghost use Rattle.borsh_walks.specs.ZeroAnswer.{ZeroCounted, ZeroTable};
 ghost use Rattle.borsh_walks.specs.RulesState.{CountsVisit, RulesCountedOnYes, RulesWork, Visits};
@@ -9,7 +9,7 @@ ghost use Rattle.std.specs.Prelude.{◌≡◌, IfOk, MatchOption, OnOk, option_m
 use crate::counted::{Counted, Question};
 use crate::definition::Definition;
 use crate::error::SchemaContainerValidateError;
-use crate::parts::mentioned_part;
+use crate::parts::referenced_part;
 use crate::stack::Spot;
 use crate::zero::is_zero;
 use std::alloc::{AllocError, Global};
@@ -116,7 +116,9 @@ fn broken_rule<'a>(
     ensures table { OnOk result (ZeroTable (definitions_of counted.old) table.new) }
     ensures marked { IfOk result
         (MarksElement (definitions_of counted.old) (shape_of definition.now) table.old table.new) }
-    ensures counts { ZeroCounted counted.old counted.new table.old table.new result }
+    ensures counts { ZeroCounted
+        (λ x. ElementReaches (definitions_of counted.old) (shape_of definition.now) x)
+        counted.old counted.new table.old table.new result }
 {
     if let Some(broken) = broken_shape(definition) {
         return Ok(Some(broken));
@@ -221,7 +223,7 @@ fn walk_rules<'a>(
     let mut stack: Vec<Spot<'a>> = Vec::new(alloc);
     visit(alloc, root, &mut seen, &mut stack, &mut table, counted)?;
     while let Some(mut spot) = stack.pop() {
-        let Some(part) = mentioned_part(spot.definition, spot.next) else {
+        let Some(part) = referenced_part(spot.definition, spot.next) else {
             continue;
         };
         spot.next += 1;

@@ -1,13 +1,13 @@
 // Whether all encodings of a name are empty.
-ghost use Rattle.borsh_walks.specs.Container.{zero_size_references};
+ghost use Rattle.borsh_walks.specs.Container.{Reaches, zero_size_references};
 ghost use Rattle.borsh_walks.specs.Counts.{definitions_of, LooksOn};
 ghost use Rattle.borsh_walks.specs.Definitions.{shape_of};
-ghost use Rattle.borsh_walks.specs.ZeroAnswer.{DecidesZeroSize, ZeroCounted, ZeroMarked, ZeroTable};
+ghost use Rattle.borsh_walks.specs.ZeroAnswer.{DecidesZeroSize, ZeroCounted, ZeroMarked, ZeroTable, zero_size_parts};
 ghost use Rattle.std.specs.Prelude.{◌≡◌, IfOk, OnOk, is_none};
 
 use crate::counted::{Counted, Question};
 use crate::definition::Definition;
-use crate::parts::asked_part;
+use crate::parts::zero_size_part;
 use crate::stack::Spot;
 use std::alloc::{AllocError, Global};
 use std::collections::BTreeMap;
@@ -37,7 +37,8 @@ pub fn is_zero<'a>(
     ensures answer { IfOk result (DecidesZeroSize (definitions_of counted.old) name.now) }
     ensures table { OnOk result (ZeroTable (definitions_of counted.old) table.new) }
     ensures marked { OnOk result (ZeroMarked (definitions_of counted.old) name.now table.old table.new) }
-    ensures counts { ZeroCounted counted.old counted.new table.old table.new result }
+    ensures counts { ZeroCounted (λ x. Reaches (definitions_of counted.old) zero_size_parts name.now x)
+        counted.old counted.new table.old table.new result }
 {
     if let Some(zero) = table.get(name) {
         return Ok(*zero);
@@ -52,7 +53,7 @@ pub fn is_zero<'a>(
         if never_zero(spot.definition) {
             return Ok(false);
         }
-        match asked_part(spot.definition, spot.next) {
+        match zero_size_part(spot.definition, spot.next) {
             Some(part) => match table.get(part) {
                 Some(true) => spot.next += 1,
                 Some(false) => return Ok(false),

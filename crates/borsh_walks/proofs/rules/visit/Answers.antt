@@ -1,19 +1,20 @@
-use Rattle.std.proofs.Common.{◌≡◌, suc, ◌≤◌, ◌∷◌, reverse, Some, None, refl, sym, ◌∙◌, ap, subst, arith, true}
+use Rattle.std.proofs.Common.{◌≡◌, ℕ, suc, List, ◌∷◌, length, reverse, Some, None, refl, sym, ◌∙◌, ap, subst, arith, ◌⊎◌, true}
 use Rattle.std.specs.Prelude.{Option, MatchOption}
 use Rattle.std.specs.BTreeMap.{btree_map_len}
-use Rattle.borsh_walks.specs.Container.{is_missing, missing_definition}
+use Rattle.borsh_walks.specs.Container.{IsIn, IsDefined, is_missing, missing_definition}
 use Rattle.borsh_walks.specs.Counts.{counts_of, definitions_of, add_to}
 use Rattle.borsh_walks.specs.Definitions.{definitions_in, shape_of}
 use Rattle.borsh_walks.specs.declared.counted.Question.TheVariants.{Rules, Zero}
 use Rattle.borsh_walks.specs.ZeroAnswer.{ZeroTable}
-use Rattle.borsh_walks.specs.RulesAnswer.{RuleAnswer, ElementMarked, rule_of}
+use Rattle.borsh_walks.specs.Tables.{IsMarked}
+use Rattle.borsh_walks.specs.RulesAnswer.{RuleAnswer, ElementMarked, ElementReaches, rule_of}
 use Rattle.borsh_walks.specs.declared.stack.Spot.{Spot}
 use Rattle.borsh_walks.proofs.RulesLaws.{rules_fault}
 use Rattle.borsh_walks.proofs.Names.{found_shape, found_none, also_known}
-use Rattle.borsh_walks.proofs.Tables.{updated_by, still, grown, few_names, more_names}
+use Rattle.borsh_walks.proofs.Tables.{updated_by, still, grown, more_names}
 use Rattle.borsh_walks.proofs.Spots.{last_first}
 use Rattle.borsh_walks.proofs.Counting.{on_err}
-use Rattle.borsh_walks.proofs.RulesGlue.{both_more, rules_visit}
+use Rattle.borsh_walks.proofs.RulesGlue.{both_more, rules_visit, zeros_known}
 use Rattle.borsh_walks.proofs.rules.visit.Goals as goal
 
 pub returns-in_default-clause-visited : goal.returns-in_default-clause-visited
@@ -22,10 +23,8 @@ returns-in_default-clause-visited c = λ root s r n.
 
 pub returns-in_default-clause-counts : goal.returns-in_default-clause-counts
 returns-in_default-clause-counts c = λ root s r n base h.
-    let z = c.requires in
-    let zeros = few_names c.args.counted.now.map.now (λ x k. k) z.marks in
-    let same = ap (λ i. add_to Rules i (add_to Zero (btree_map_len c.args.table.now) base)) s.len in
-    (s.names, btree_map_len c.args.table.now, (s.marks.distinct, λ x a. (let k = (s.marks.looked x a).1 in (k.0, k.2))), omega (arith, zeros, z.len), c.in_default.ensures.counts ∙ h ∙ same, tt)
+    let same = ap (λ i. add_to Rules i (add_to Zero (btree_map_len c.args.table.now) base)) s.len ∙ ap (λ i. add_to Rules (length s.names) (add_to Zero i base)) s.zero.len in
+    (s.names, s.zero.names, (s.marks.distinct, λ x a. (let k = (s.marks.looked x a).1 in (k.0, k.2))), (s.zero.marks.distinct, λ x a. (let k = s.zero.marks.looked x a in (s.zeros_reached x k.0, k.1))), c.in_default.ensures.counts ∙ h ∙ same, tt)
 
 pub broken_rule-requires : goal.broken_rule-requires
 broken_rule-requires c = subst (λ m. ZeroTable (definitions_in m.now) c.args.table.now) (sym c.in-Some.ensures.same.0) c.requires
@@ -36,9 +35,11 @@ returns-in_err-broken-clause-counts c = λ root s r n base h.
     let e = found_shape c.args.counted.now.map c.args.counted.now.map c.args.name.now c.in-Some.definition.now refl c.in-Some.ensures.found in
     let more = more_names (definitions_of c.args.counted.now) (λ x k. k.2) s.marks n e in
     let known = also_known (r, (_, e)) (λ x a. (let k = (s.marks.looked x a).1 in (k.0, k.2))) in
-    let k = c.in_err-broken.ensures.counts (add_to Rules (suc (btree_map_len c.args.seen.now)) base) (both_more (btree_map_len c.args.seen.now) (btree_map_len c.args.table.now) (counts_of c.args.counted.now) (counts_of c.look.new.self) base h c.in-Some.ensures.counts) in
-    let same = ap (λ i. add_to Rules (suc i) (add_to Zero k.0 base)) s.len in
-    (c.args.name.now ∷ s.names, k.0, (more.0, known), subst (λ m. k.0 ≤ btree_map_len m.now) c.in-Some.ensures.same.0 k.1, k.2 ∙ same, on_err _ c.from_residual.result c.from_residual.ensures.0)
+    let z = c.in_err-broken.ensures.counts in
+    let zeros = zeros_known C root c.args.table.now c.args.name.now (shape_of c.in-Some.definition.now) r e s.zeros_reached (subst (λ m. (x : List ℕ) → IsIn x z.names → IsDefined (definitions_in m.now) x × (IsMarked c.args.table.now x ⊎ ElementReaches (definitions_in m.now) (shape_of c.in-Some.definition.now) x)) c.in-Some.ensures.same.0 z.known) in
+    let k = z.counts (add_to Rules (suc (btree_map_len c.args.seen.now)) base) (both_more (btree_map_len c.args.seen.now) (btree_map_len c.args.table.now) (counts_of c.args.counted.now) (counts_of c.look.new.self) base h c.in-Some.ensures.counts) in
+    let same = ap (λ i. add_to Rules (suc i) (add_to Zero (length z.names) base)) s.len in
+    (c.args.name.now ∷ s.names, z.names, (more.0, known), (z.once, zeros), k ∙ same, on_err _ c.from_residual.result c.from_residual.ensures.0)
 
 pub returns-in-Some-2-clause-visited : goal.returns-in-Some-2-clause-visited
 returns-in-Some-2-clause-visited c = λ root s r n.
@@ -54,9 +55,11 @@ returns-in-Some-2-clause-counts c = λ root s r n base h.
     let e = found_shape c.args.counted.now.map c.args.counted.now.map c.args.name.now c.in-Some.definition.now refl c.in-Some.ensures.found in
     let more = more_names (definitions_of c.args.counted.now) (λ x k. k.2) s.marks n e in
     let known = also_known (r, (_, e)) (λ x a. (let k = (s.marks.looked x a).1 in (k.0, k.2))) in
-    let k = c.in_ok-broken.ensures.counts (add_to Rules (suc (btree_map_len c.args.seen.now)) base) (both_more (btree_map_len c.args.seen.now) (btree_map_len c.args.table.now) (counts_of c.args.counted.now) (counts_of c.look.new.self) base h c.in-Some.ensures.counts) in
-    let same = ap (λ i. add_to Rules (suc i) (add_to Zero k.0 base)) s.len in
-    (c.args.name.now ∷ s.names, k.0, (more.0, known), subst (λ m. k.0 ≤ btree_map_len m.now) c.in-Some.ensures.same.0 k.1, k.2 ∙ same, tt)
+    let z = c.in_ok-broken.ensures.counts in
+    let zeros = zeros_known C root c.args.table.now c.args.name.now (shape_of c.in-Some.definition.now) r e s.zeros_reached (subst (λ m. (x : List ℕ) → IsIn x z.names → IsDefined (definitions_in m.now) x × (IsMarked c.args.table.now x ⊎ ElementReaches (definitions_in m.now) (shape_of c.in-Some.definition.now) x)) c.in-Some.ensures.same.0 z.known) in
+    let k = z.counts (add_to Rules (suc (btree_map_len c.args.seen.now)) base) (both_more (btree_map_len c.args.seen.now) (btree_map_len c.args.table.now) (counts_of c.args.counted.now) (counts_of c.look.new.self) base h c.in-Some.ensures.counts) in
+    let same = ap (λ i. add_to Rules (suc i) (add_to Zero (length z.names) base)) s.len in
+    (c.args.name.now ∷ s.names, z.names, (more.0, known), (z.once, zeros), k ∙ same, tt)
 
 pub returns-in_err-insert-clause-counts : goal.returns-in_err-insert-clause-counts
 returns-in_err-insert-clause-counts c = λ root s r n base h.
@@ -64,9 +67,11 @@ returns-in_err-insert-clause-counts c = λ root s r n base h.
     let e = found_shape c.args.counted.now.map c.args.counted.now.map c.args.name.now c.in-Some.definition.now refl c.in-Some.ensures.found in
     let more = more_names (definitions_of c.args.counted.now) (λ x k. k.2) s.marks n e in
     let known = also_known (r, (_, e)) (λ x a. (let k = (s.marks.looked x a).1 in (k.0, k.2))) in
-    let k = c.in_ok-broken.ensures.counts (add_to Rules (suc (btree_map_len c.args.seen.now)) base) (both_more (btree_map_len c.args.seen.now) (btree_map_len c.args.table.now) (counts_of c.args.counted.now) (counts_of c.look.new.self) base h c.in-Some.ensures.counts) in
-    let same = ap (λ i. add_to Rules (suc i) (add_to Zero k.0 base)) s.len in
-    (c.args.name.now ∷ s.names, k.0, (more.0, known), subst (λ m. k.0 ≤ btree_map_len m.now) c.in-Some.ensures.same.0 k.1, k.2 ∙ same, on_err _ c.from_residual-in_err-insert.result c.from_residual-in_err-insert.ensures.0)
+    let z = c.in_ok-broken.ensures.counts in
+    let zeros = zeros_known C root c.args.table.now c.args.name.now (shape_of c.in-Some.definition.now) r e s.zeros_reached (subst (λ m. (x : List ℕ) → IsIn x z.names → IsDefined (definitions_in m.now) x × (IsMarked c.args.table.now x ⊎ ElementReaches (definitions_in m.now) (shape_of c.in-Some.definition.now) x)) c.in-Some.ensures.same.0 z.known) in
+    let k = z.counts (add_to Rules (suc (btree_map_len c.args.seen.now)) base) (both_more (btree_map_len c.args.seen.now) (btree_map_len c.args.table.now) (counts_of c.args.counted.now) (counts_of c.look.new.self) base h c.in-Some.ensures.counts) in
+    let same = ap (λ i. add_to Rules (suc i) (add_to Zero (length z.names) base)) s.len in
+    (c.args.name.now ∷ s.names, z.names, (more.0, known), (z.once, zeros), k ∙ same, on_err _ c.from_residual-in_err-insert.result c.from_residual-in_err-insert.ensures.0)
 
 pub returns-in_err-push-clause-counts : goal.returns-in_err-push-clause-counts
 returns-in_err-push-clause-counts c = λ root s r n base h.
@@ -74,9 +79,11 @@ returns-in_err-push-clause-counts c = λ root s r n base h.
     let e = found_shape c.args.counted.now.map c.args.counted.now.map c.args.name.now c.in-Some.definition.now refl c.in-Some.ensures.found in
     let more = more_names (definitions_of c.args.counted.now) (λ x k. k.2) s.marks n e in
     let known = also_known (r, (_, e)) (λ x a. (let k = (s.marks.looked x a).1 in (k.0, k.2))) in
-    let k = c.in_ok-broken.ensures.counts (add_to Rules (suc (btree_map_len c.args.seen.now)) base) (both_more (btree_map_len c.args.seen.now) (btree_map_len c.args.table.now) (counts_of c.args.counted.now) (counts_of c.look.new.self) base h c.in-Some.ensures.counts) in
-    let same = ap (λ i. add_to Rules (suc i) (add_to Zero k.0 base)) s.len in
-    (c.args.name.now ∷ s.names, k.0, (more.0, known), subst (λ m. k.0 ≤ btree_map_len m.now) c.in-Some.ensures.same.0 k.1, k.2 ∙ same, on_err _ c.from_residual-in_err-push.result c.from_residual-in_err-push.ensures.0)
+    let z = c.in_ok-broken.ensures.counts in
+    let zeros = zeros_known C root c.args.table.now c.args.name.now (shape_of c.in-Some.definition.now) r e s.zeros_reached (subst (λ m. (x : List ℕ) → IsIn x z.names → IsDefined (definitions_in m.now) x × (IsMarked c.args.table.now x ⊎ ElementReaches (definitions_in m.now) (shape_of c.in-Some.definition.now) x)) c.in-Some.ensures.same.0 z.known) in
+    let k = z.counts (add_to Rules (suc (btree_map_len c.args.seen.now)) base) (both_more (btree_map_len c.args.seen.now) (btree_map_len c.args.table.now) (counts_of c.args.counted.now) (counts_of c.look.new.self) base h c.in-Some.ensures.counts) in
+    let same = ap (λ i. add_to Rules (suc i) (add_to Zero (length z.names) base)) s.len in
+    (c.args.name.now ∷ s.names, z.names, (more.0, known), (z.once, zeros), k ∙ same, on_err _ c.from_residual-in_err-push.result c.from_residual-in_err-push.ensures.0)
 
 none_from : {X : Type 0} (o : Option X) → ((x : X) → o ≡ Some x → ⊥) → o ≡ None
 none_from None f = refl
@@ -96,8 +103,10 @@ returns-clause-visited c = λ root s r n.
     let u = updated_by c.args.name.now c.args.seen.now c.insert.new.self true c.in_ok-insert.ensures.updates in
     let len = grown c.in_ok-insert.field-0 c.in_ok-insert.ensures.len (c.in_ok-insert.ensures.old ∙ n) in
     let g : Spot = record { name = c.args.name; definition = c.in-Some.definition; next = 0 } in
+    let z = c.in_ok-broken.ensures.counts in
+    let zeros = zeros_known C root c.args.table.now c.args.name.now d r e s.zeros_reached (subst (λ m. (x : List ℕ) → IsIn x z.names → IsDefined (definitions_in m.now) x × (IsMarked c.args.table.now x ⊎ ElementReaches (definitions_in m.now) d x)) c.in-Some.ensures.same.0 z.known) in
     let items = last_first c.args.stack.now.items c.push.new.self.items c.at.result c.in_ok-push.ensures.items ∙ ap (λ f. f ∷ reverse c.args.stack.now.items) c.at.ensures in (
-      rules_visit C root g s r n e (keeps c.args.name.now e) t marks u len refl items,
+      rules_visit C root g s r n e (keeps c.args.name.now e) t (λ x m. (zeros x (z.all.1 x m)).0) marks u len refl items,
       (still u, (λ h. let b = u.here in cc), omega (arith, len)),
       (g, items, refl, sym c.in-Some.ensures.found),
     )
@@ -108,7 +117,9 @@ returns-clause-counts c = λ root s r n base h.
     let e = found_shape c.args.counted.now.map c.args.counted.now.map c.args.name.now c.in-Some.definition.now refl c.in-Some.ensures.found in
     let more = more_names (definitions_of c.args.counted.now) (λ x k. k.2) s.marks n e in
     let known = also_known (r, (_, e)) (λ x a. (let k = (s.marks.looked x a).1 in (k.0, k.2))) in
-    let k = c.in_ok-broken.ensures.counts (add_to Rules (suc (btree_map_len c.args.seen.now)) base) (both_more (btree_map_len c.args.seen.now) (btree_map_len c.args.table.now) (counts_of c.args.counted.now) (counts_of c.look.new.self) base h c.in-Some.ensures.counts) in
+    let z = c.in_ok-broken.ensures.counts in
+    let zeros = zeros_known C root c.args.table.now c.args.name.now (shape_of c.in-Some.definition.now) r e s.zeros_reached (subst (λ m. (x : List ℕ) → IsIn x z.names → IsDefined (definitions_in m.now) x × (IsMarked c.args.table.now x ⊎ ElementReaches (definitions_in m.now) (shape_of c.in-Some.definition.now) x)) c.in-Some.ensures.same.0 z.known) in
+    let k = z.counts (add_to Rules (suc (btree_map_len c.args.seen.now)) base) (both_more (btree_map_len c.args.seen.now) (btree_map_len c.args.table.now) (counts_of c.args.counted.now) (counts_of c.look.new.self) base h c.in-Some.ensures.counts) in
     let len = grown c.in_ok-insert.field-0 c.in_ok-insert.ensures.len (c.in_ok-insert.ensures.old ∙ n) in
-    let same = ap (λ i. add_to Rules (suc i) (add_to Zero k.0 base)) s.len in
-    (c.args.name.now ∷ s.names, k.0, (more.0, known), subst (λ m. k.0 ≤ btree_map_len m.now) c.in-Some.ensures.same.0 k.1, k.2 ∙ same, (ap suc (sym s.len) ∙ sym len, k.3))
+    let same = ap (λ i. add_to Rules (suc i) (add_to Zero (length z.names) base)) s.len in
+    (c.args.name.now ∷ s.names, z.names, (more.0, known), (z.once, zeros), k ∙ same, (ap suc (sym s.len) ∙ sym len, z.all.0))

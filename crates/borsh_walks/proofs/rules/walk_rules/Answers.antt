@@ -7,10 +7,10 @@ use Rattle.borsh_walks.specs.Definitions.{definitions_in, shape_of}
 use Rattle.borsh_walks.specs.ZeroAnswer.{ZeroTable}
 use Rattle.borsh_walks.specs.Tables.{mark_of}
 use Rattle.borsh_walks.specs.RulesAnswer.{RulesFault}
-use Rattle.borsh_walks.specs.RulesState.{RulesState, AreReached}
+use Rattle.borsh_walks.specs.RulesState.{RulesState, AreReached, AreZeroSizeReached}
 use Rattle.borsh_walks.specs.declared.counted.Question.TheVariants.{Rules, Zero}
 use Rattle.borsh_walks.specs.declared.counted.Expansions.{Expansions}
-use Rattle.borsh_walks.proofs.RulesLaws.{checked_mentioned}
+use Rattle.borsh_walks.proofs.RulesLaws.{checked_referenced}
 use Rattle.borsh_walks.proofs.Names.{names_within}
 use Rattle.borsh_walks.proofs.Tables.{marks_none, has_mark, no_items, few_names, few_more}
 use Rattle.borsh_walks.proofs.Spots.{moved, last_first}
@@ -47,7 +47,7 @@ loop-spot-init c =
     let n = marks_none c.new-seen.result c.new-seen.ensures.empty root in
     let v = c.in_ok-visit.ensures.visited root s stays n in
     let k = c.in_ok-visit.ensures.counts root s stays n (counts_of c.args.counted.now) (both_none (btree_map_len c.new-seen.result) (btree_map_len c.new-table.result) (counts_of c.args.counted.now) c.new-seen.ensures.len c.new-table.ensures.len) in
-    record { state = v.0; root_seen = v.1.1; looks = both_at (length k.0) k.1 _ _ (counts_of c.visit.new.counted) (counts_of c.args.counted.now) k.4 k.5.0 k.5.1; same = (c.in_ok-visit.ensures.same.0, c.in_ok-visit.ensures.same.1) }
+    record { state = v.0; root_seen = v.1.1; looks = both_at (length k.0) (length k.1) _ _ (counts_of c.visit.new.counted) (counts_of c.args.counted.now) k.4 k.5.0 k.5.1; same = (c.in_ok-visit.ensures.same.0, c.in_ok-visit.ensures.same.1) }
 
 pub returns-in_err-visit-clause-answer : goal.returns-in_err-visit-clause-answer
 returns-in_err-visit-clause-answer c =
@@ -64,23 +64,23 @@ returns-in_err-visit-clause-work c =
     let s = rules_start C root c.new-seen.result c.new-table.result (reverse c.new-stack.result.items) c.new-seen.ensures.empty c.new-table.ensures.empty (ap (λ l. reverse l) c.new-stack.ensures.items) in
     let n = marks_none c.new-seen.result c.new-seen.ensures.empty root in
     let k = c.in_err-visit.ensures.counts root s stays n (counts_of c.args.counted.now) (both_none (btree_map_len c.new-seen.result) (btree_map_len c.new-table.result) (counts_of c.args.counted.now) c.new-seen.ensures.len c.new-table.ensures.len) in
-    record { names = k.0; zeros = k.1; once = k.2.0; reached = λ x a. (k.2.1 x a).0; few = names_within c.args.counted.now.map.now k.0 k.2.0 (λ x a. (k.2.1 x a).1); few_zeros = k.3; counts = k.4 }
+    record { names = k.0; zeros = k.1; reached = k.2; zeros_reached = k.3; few = names_within c.args.counted.now.map.now k.0 k.2.0 (λ x a. (k.2.1 x a).1); few_zeros = names_within c.args.counted.now.map.now k.1 k.3.0 (λ x a. (k.3.1 x a).1); counts = k.4 }
 
-pub loop-spot-smaller-in_default-mentioned_part : goal.loop-spot-smaller-in_default-mentioned_part
-loop-spot-smaller-in_default-mentioned_part c =
+pub loop-spot-smaller-in_default-referenced_part : goal.loop-spot-smaller-in_default-referenced_part
+loop-spot-smaller-in_default-referenced_part c =
     let i = c.loop-spot.invariant in
     let C = definitions_of c.args.counted.now in
     let items = last_first c.pop.new.self.items c.loop-spot.stack.items c.in-Some.spot c.in-Some.ensures.items in
     let s = subst (λ l. RulesState C c.args.root.now [] c.loop-spot.seen l c.loop-spot.table) items i.state in
     left_popped references c.loop-spot.counted.map.now (btree_map_len c.loop-spot.seen) (btree_map_len c.loop-spot.seen) c.in-Some.spot (reverse c.pop.new.self.items) (reverse c.loop-spot.stack.items) refl items s.spots.0.2
 
-pub loop-spot-preserved-in_default-mentioned_part : goal.loop-spot-preserved-in_default-mentioned_part
-loop-spot-preserved-in_default-mentioned_part c =
+pub loop-spot-preserved-in_default-referenced_part : goal.loop-spot-preserved-in_default-referenced_part
+loop-spot-preserved-in_default-referenced_part c =
     let i = c.loop-spot.invariant in
     let C = definitions_of c.args.counted.now in
     let items = last_first c.pop.new.self.items c.loop-spot.stack.items c.in-Some.spot c.in-Some.ensures.items in
     let s = subst (λ l. RulesState C c.args.root.now [] c.loop-spot.seen l c.loop-spot.table) items i.state in
-    record { state = rules_pop C c.args.root.now (reverse c.pop.new.self.items) c.in-Some.spot s (sym c.in_default-mentioned_part.ensures.part); root_seen = i.root_seen; looks = i.looks; same = (i.same.0, i.same.1) }
+    record { state = rules_pop C c.args.root.now (reverse c.pop.new.self.items) c.in-Some.spot s (sym c.in_default-referenced_part.ensures.part); root_seen = i.root_seen; looks = i.looks; same = (i.same.0, i.same.1) }
 
 pub visit-requires-then-not-contains_key : goal.visit-requires-then-not-contains_key
 visit-requires-then-not-contains_key c = let i = c.loop-spot.invariant in
@@ -90,18 +90,18 @@ pub loop-spot-smaller : goal.loop-spot-smaller
 loop-spot-smaller c =
     let items = last_first c.pop.new.self.items c.loop-spot.stack.items c.in-Some.spot c.in-Some.ensures.items in
     let back = last_first c.pop.new.self.items c.push.new.self.items (moved c.in-Some.spot) c.in_ok-push.ensures.items in
-    let step = rests_moved references ((btree_map_len c.loop-spot.counted.map.now - btree_map_len c.loop-spot.seen) * (2 + work references c.loop-spot.counted.map.now.entries)) c.in-Some.spot (reverse c.pop.new.self.items) c.in-Some-mentioned_part.part.now (sym c.in-Some-mentioned_part.ensures.part) in
+    let step = rests_moved references ((btree_map_len c.loop-spot.counted.map.now - btree_map_len c.loop-spot.seen) * (2 + work references c.loop-spot.counted.map.now.entries)) c.in-Some.spot (reverse c.pop.new.self.items) c.in-Some-referenced_part.part.now (sym c.in-Some-referenced_part.ensures.part) in
     omega (arith, step, ap (λ l. rests references l) items, ap (λ l. rests references l) back)
 
 pub loop-spot-preserved : goal.loop-spot-preserved
 loop-spot-preserved c =
     let i = c.loop-spot.invariant in
     let C = definitions_of c.args.counted.now in
-    let p = c.in-Some-mentioned_part.part.now in
+    let p = c.in-Some-referenced_part.part.now in
     let items = last_first c.pop.new.self.items c.loop-spot.stack.items c.in-Some.spot c.in-Some.ensures.items in
     let s = subst (λ l. RulesState C c.args.root.now [] c.loop-spot.seen l c.loop-spot.table) items i.state in
     let back = last_first c.pop.new.self.items c.push.new.self.items (moved c.in-Some.spot) c.in_ok-push.ensures.items in
-    let t = rules_take C c.args.root.now (reverse c.pop.new.self.items) (reverse c.push.new.self.items) c.in-Some.spot p s (sym c.in-Some-mentioned_part.ensures.part) back in
+    let t = rules_take C c.args.root.now (reverse c.pop.new.self.items) (reverse c.push.new.self.items) c.in-Some.spot p s (sym c.in-Some-referenced_part.ensures.part) back in
     record { state = rules_seen C c.args.root.now p t (seen_some _ c.if-not-contains_key.ensures); root_seen = i.root_seen; looks = i.looks; same = (i.same.0, i.same.1) }
 
 pub loop-spot-smaller-in-Continue-branch-3 : goal.loop-spot-smaller-in-Continue-branch-3
@@ -109,12 +109,12 @@ loop-spot-smaller-in-Continue-branch-3 c =
     let i = c.loop-spot.invariant in
     let C = definitions_of c.args.counted.now in
     let root = c.args.root.now in
-    let p = c.in-Some-mentioned_part.part.now in
+    let p = c.in-Some-referenced_part.part.now in
     let items = last_first c.pop.new.self.items c.loop-spot.stack.items c.in-Some.spot c.in-Some.ensures.items in
     let s = subst (λ l. RulesState C root [] c.loop-spot.seen l c.loop-spot.table) items i.state in
     let back = last_first c.pop.new.self.items c.push.new.self.items (moved c.in-Some.spot) c.in_ok-push.ensures.items in
-    let t = rules_take C root (reverse c.pop.new.self.items) (reverse c.push.new.self.items) c.in-Some.spot p s (sym c.in-Some-mentioned_part.ensures.part) back in
-    let r = rules_reached C root (reverse c.pop.new.self.items) c.in-Some.spot p s (sym c.in-Some-mentioned_part.ensures.part) in
+    let t = rules_take C root (reverse c.pop.new.self.items) (reverse c.push.new.self.items) c.in-Some.spot p s (sym c.in-Some-referenced_part.ensures.part) back in
+    let r = rules_reached C root (reverse c.pop.new.self.items) c.in-Some.spot p s (sym c.in-Some-referenced_part.ensures.part) in
     let t' = subst (λ m. RulesState (definitions_in m.now) root (p ∷ []) c.loop-spot.seen (reverse c.push.new.self.items) c.loop-spot.table) (sym i.same.0) t in
     let r' = subst (λ m. Reached (definitions_in m.now) root p) (sym i.same.0) r in
     let n = seen_none _ c.if-not-contains_key.ensures in
@@ -123,7 +123,7 @@ loop-spot-smaller-in-Continue-branch-3 c =
     let e : C p ≡ Some (shape_of f.definition.now) = ap (λ m. option_map shape_of (get_by_text m.now p)) (sym i.same.0) ∙ ap (λ o. option_map shape_of o) v.2.3 in
     let few = few_more c.args.counted.now.map.now (λ x k. k.2) i.state.marks n e in
     let room : suc (btree_map_len c.loop-spot.seen) ≤ btree_map_len c.loop-spot.counted.map.now = omega (arith, few, i.state.len, ap (λ m. btree_map_len m.now) i.same.0) in
-    let moves = rests_moved references 0 c.in-Some.spot (reverse c.pop.new.self.items) p (sym c.in-Some-mentioned_part.ensures.part) in
+    let moves = rests_moved references 0 c.in-Some.spot (reverse c.pop.new.self.items) p (sym c.in-Some-referenced_part.ensures.part) in
     let fewer : rests references (reverse c.push.new.self.items) ≤ rests references (reverse c.loop-spot.stack.items) = omega (arith, moves, ap (λ l. rests references l) items, ap (λ l. rests references l) back) in
     left_pushed references c.loop-spot.counted.map.now c.visit-then-not-contains_key.new.counted.map.now p (btree_map_len c.loop-spot.seen) (btree_map_len c.visit-then-not-contains_key.new.seen) f (reverse c.loop-spot.stack.items) (reverse c.push.new.self.items) (reverse c.visit-then-not-contains_key.new.stack.items) (ap (λ m. m.now) c.in_ok-visit-2.ensures.same.0) (v.1.2 ∙ add-one _) room v.2.3 v.2.2 fewer v.2.1
 
@@ -132,12 +132,12 @@ loop-spot-preserved-in-Continue-branch-3 c =
     let i = c.loop-spot.invariant in
     let C = definitions_of c.args.counted.now in
     let root = c.args.root.now in
-    let p = c.in-Some-mentioned_part.part.now in
+    let p = c.in-Some-referenced_part.part.now in
     let items = last_first c.pop.new.self.items c.loop-spot.stack.items c.in-Some.spot c.in-Some.ensures.items in
     let s = subst (λ l. RulesState C root [] c.loop-spot.seen l c.loop-spot.table) items i.state in
     let back = last_first c.pop.new.self.items c.push.new.self.items (moved c.in-Some.spot) c.in_ok-push.ensures.items in
-    let t = rules_take C root (reverse c.pop.new.self.items) (reverse c.push.new.self.items) c.in-Some.spot p s (sym c.in-Some-mentioned_part.ensures.part) back in
-    let r = rules_reached C root (reverse c.pop.new.self.items) c.in-Some.spot p s (sym c.in-Some-mentioned_part.ensures.part) in
+    let t = rules_take C root (reverse c.pop.new.self.items) (reverse c.push.new.self.items) c.in-Some.spot p s (sym c.in-Some-referenced_part.ensures.part) back in
+    let r = rules_reached C root (reverse c.pop.new.self.items) c.in-Some.spot p s (sym c.in-Some-referenced_part.ensures.part) in
     let t' = subst (λ m. RulesState (definitions_in m.now) root (p ∷ []) c.loop-spot.seen (reverse c.push.new.self.items) c.loop-spot.table) (sym i.same.0) t in
     let r' = subst (λ m. Reached (definitions_in m.now) root p) (sym i.same.0) r in
     let n = seen_none _ c.if-not-contains_key.ensures in
@@ -147,7 +147,7 @@ loop-spot-preserved-in-Continue-branch-3 c =
     record {
       state = b;
       root_seen = v.1.0 root i.root_seen;
-      looks = both_at (length k.0) k.1 _ _ (counts_of c.visit-then-not-contains_key.new.counted) (counts_of c.args.counted.now) k.4 k.5.0 k.5.1;
+      looks = both_at (length k.0) (length k.1) _ _ (counts_of c.visit-then-not-contains_key.new.counted) (counts_of c.args.counted.now) k.4 k.5.0 k.5.1;
       same = (c.in_ok-visit-2.ensures.same.0 ∙ i.same.0, c.in_ok-visit-2.ensures.same.1 ∙ i.same.1);
     }
 
@@ -156,12 +156,12 @@ returns-in_err-visit-2-clause-answer c =
     let i = c.loop-spot.invariant in
     let C = definitions_of c.args.counted.now in
     let root = c.args.root.now in
-    let p = c.in-Some-mentioned_part.part.now in
+    let p = c.in-Some-referenced_part.part.now in
     let items = last_first c.pop.new.self.items c.loop-spot.stack.items c.in-Some.spot c.in-Some.ensures.items in
     let s = subst (λ l. RulesState C root [] c.loop-spot.seen l c.loop-spot.table) items i.state in
     let back = last_first c.pop.new.self.items c.push.new.self.items (moved c.in-Some.spot) c.in_ok-push.ensures.items in
-    let t = rules_take C root (reverse c.pop.new.self.items) (reverse c.push.new.self.items) c.in-Some.spot p s (sym c.in-Some-mentioned_part.ensures.part) back in
-    let r = rules_reached C root (reverse c.pop.new.self.items) c.in-Some.spot p s (sym c.in-Some-mentioned_part.ensures.part) in
+    let t = rules_take C root (reverse c.pop.new.self.items) (reverse c.push.new.self.items) c.in-Some.spot p s (sym c.in-Some-referenced_part.ensures.part) back in
+    let r = rules_reached C root (reverse c.pop.new.self.items) c.in-Some.spot p s (sym c.in-Some-referenced_part.ensures.part) in
     let t' = subst (λ m. RulesState (definitions_in m.now) root (p ∷ []) c.loop-spot.seen (reverse c.push.new.self.items) c.loop-spot.table) (sym i.same.0) t in
     let r' = subst (λ m. Reached (definitions_in m.now) root p) (sym i.same.0) r in
     let n = seen_none _ c.if-not-contains_key.ensures in
@@ -174,18 +174,19 @@ returns-in_err-visit-2-clause-work c =
     let i = c.loop-spot.invariant in
     let C = definitions_of c.args.counted.now in
     let root = c.args.root.now in
-    let p = c.in-Some-mentioned_part.part.now in
+    let p = c.in-Some-referenced_part.part.now in
     let items = last_first c.pop.new.self.items c.loop-spot.stack.items c.in-Some.spot c.in-Some.ensures.items in
     let s = subst (λ l. RulesState C root [] c.loop-spot.seen l c.loop-spot.table) items i.state in
     let back = last_first c.pop.new.self.items c.push.new.self.items (moved c.in-Some.spot) c.in_ok-push.ensures.items in
-    let t = rules_take C root (reverse c.pop.new.self.items) (reverse c.push.new.self.items) c.in-Some.spot p s (sym c.in-Some-mentioned_part.ensures.part) back in
-    let r = rules_reached C root (reverse c.pop.new.self.items) c.in-Some.spot p s (sym c.in-Some-mentioned_part.ensures.part) in
+    let t = rules_take C root (reverse c.pop.new.self.items) (reverse c.push.new.self.items) c.in-Some.spot p s (sym c.in-Some-referenced_part.ensures.part) back in
+    let r = rules_reached C root (reverse c.pop.new.self.items) c.in-Some.spot p s (sym c.in-Some-referenced_part.ensures.part) in
     let t' = subst (λ m. RulesState (definitions_in m.now) root (p ∷ []) c.loop-spot.seen (reverse c.push.new.self.items) c.loop-spot.table) (sym i.same.0) t in
     let r' = subst (λ m. Reached (definitions_in m.now) root p) (sym i.same.0) r in
     let n = seen_none _ c.if-not-contains_key.ensures in
     let k = c.in_err-visit-2.ensures.counts root t' r' n (counts_of c.args.counted.now) i.looks in
     let all = subst (λ m. AreReached (definitions_in m.now) root k.0) i.same.0 k.2 in
-    record { names = k.0; zeros = k.1; once = all.0; reached = λ x a. (all.1 x a).0; few = names_within c.args.counted.now.map.now k.0 all.0 (λ x a. (all.1 x a).1); few_zeros = subst (λ m. k.1 ≤ btree_map_len m.now) i.same.0 k.3; counts = k.4 }
+    let zeros = subst (λ m. AreZeroSizeReached (definitions_in m.now) root k.1) i.same.0 k.3 in
+    record { names = k.0; zeros = k.1; reached = all; zeros_reached = zeros; few = names_within c.args.counted.now.map.now k.0 all.0 (λ x a. (all.1 x a).1); few_zeros = names_within c.args.counted.now.map.now k.1 zeros.0 (λ x a. (zeros.1 x a).1); counts = k.4 }
 
 pub returns-clause-answer : goal.returns-clause-answer
 returns-clause-answer c =
@@ -200,7 +201,15 @@ returns-clause-work c =
     let st = i.state in
     let few = few_names c.args.counted.now.map.now (λ x k. k.2) st.marks in
     let zeros = few_names c.args.counted.now.map.now (λ x k. k) st.zero.marks in
-    record { names = st.names; zeros = btree_map_len c.loop-spot.table; once = st.marks.distinct; reached = λ x a. (st.marks.looked x a).1.0; few = few; few_zeros = omega (arith, zeros, st.zero.len); counts = both_at _ _ _ _ (counts_of c.loop-spot.counted) (counts_of c.args.counted.now) i.looks st.len refl }
+    record {
+      names = st.names;
+      zeros = st.zero.names;
+      reached = (st.marks.distinct, λ x a. (let k = (st.marks.looked x a).1 in (k.0, k.2)));
+      zeros_reached = (st.zero.marks.distinct, λ x a. (let k = st.zero.marks.looked x a in (st.zeros_reached x k.0, k.1)));
+      few = few;
+      few_zeros = zeros;
+      counts = both_at _ _ _ _ (counts_of c.loop-spot.counted) (counts_of c.args.counted.now) i.looks st.len st.zero.len;
+    }
 
 pub returns-clause-counts : goal.returns-clause-counts
 returns-clause-counts c =
@@ -214,7 +223,7 @@ returns-clause-counts c =
       st.marks.distinct,
       st.zero.marks.distinct,
       (λ x. ((λ a. (st.marks.looked x a).1.0), all x)),
-      (λ x d e r q k. let known = (st.marks.looked e (all e (onward d r q (checked_mentioned d e k)))).1.2 in
+      (λ x d e r q k. let known = (st.marks.looked e (all e (onward d r q (checked_referenced d e k)))).1.2 in
           let mark = has_mark (mark_of c.loop-spot.table e) (st.elements x d e (all x r) q k (λ h. let g = known.1 in cc)) in
           st.zero.marks.marked e mark.0 mark.1),
       both_at _ _ _ _ (counts_of c.loop-spot.counted) (counts_of c.args.counted.now) i.looks st.len st.zero.len,

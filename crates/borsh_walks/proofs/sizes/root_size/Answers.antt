@@ -1,8 +1,6 @@
-use Rattle.std.proofs.Common.{◌≡◌, ℕ, ◌<◌, ◌^◌, List, length, arith}
-use Rattle.std.specs.Prelude.{Result, Ok, Err, IfOk, OnOk}
-use Rattle.borsh_walks.specs.Counts.{counts_of, definitions_of, add_to}
-use Rattle.borsh_walks.specs.declared.counted.Question.TheVariants.{Size}
-use Rattle.borsh_walks.specs.SizeAnswer.{AreSizeReached}
+use Rattle.std.proofs.Common.{◌≡◌, ℕ, ◌<◌, ◌^◌, length, arith}
+use Rattle.std.specs.Prelude.{Result, Ok, Err, IfOk}
+use Rattle.borsh_walks.specs.Counts.{definitions_of}
 use Rattle.borsh_walks.proofs.SizeOutcome.{answers_size}
 use Rattle.borsh_walks.proofs.SizeExists.{has_size}
 use Rattle.borsh_walks.proofs.Names.{names_within}
@@ -13,7 +11,7 @@ fits (Ok m) h n e = let q : m ≡ n = cc in omega (arith, q, h)
 fits (Err x) h n e = cc
 
 pub returns-clause-counts : goal.returns-clause-counts
-returns-clause-counts c = let k = c.walk_sizes.ensures.counts in (k.0, record { once = k.1; needed = λ x a. (k.2 x a).0; counts = k.3 }, k.4)
+returns-clause-counts c = let k = c.walk_sizes.ensures.counts in (k.0, record { once = k.1; needed = k.2; counts = k.3 }, k.4)
 
 pub returns-clause-bounded_work : goal.returns-clause-bounded_work
 returns-clause-bounded_work c = let k = c.walk_sizes.ensures.counts in (length k.0, names_within c.args.counted.now.map.now k.0 k.1 (λ x a. (k.2 x a).1), k.3)
