@@ -56,7 +56,7 @@ counts_text e = codes "rules " ++ (decimal e.rules ++ (codes " zero " ++ (decima
 abbrev pub nothing_counted : Expansions
 nothing_counted = record { size = 0; zero = 0; rules = 0 }
 
--- `size` rose by the number of names in some list, each there once and each needed
+-- `size` rose by the number of names in some list, each there once, needed and defined
 abbrev pub OnlyNeeded : (List ℕ → Option Shape) → List ℕ → Expansions → Expansions → Type 0
 OnlyNeeded C root old new = (xs : List (List ℕ)) × VisitsNeeded C root old new xs
 
@@ -65,12 +65,12 @@ pub record IsCountsText (c : BorshSchemaContainer) (out : List ℕ) : Type 0 whe
   pub judged : Expansions
   pub counts : Expansions
   pub is : out ≡ counts_text counts
-  -- the first question raised `rules` and `zero`, and the second one `size`, each by at most the number of definitions; the names that the first one checked are reached
+  -- the first question raised `rules` and `zero`, and the second one `size`, each by at most the number of definitions; the names that the first one checked are reached and defined
   pub few_judged : RulesWork (language_of c) (root_of c) (btree_map_len (map_of c)) nothing_counted judged
   pub few_sized : SizeWork (btree_map_len (map_of c)) judged counts
   -- where the container is valid, `rules` is the number of reached names, and `zero` at least that of checked elements
   pub rules : IsValid (language_of c) (root_of c) → JudgedCounts (language_of c) (root_of c) nothing_counted judged
-  -- the names that the second question looked at are needed, whatever it answered
+  -- the names that the second question looked at are needed and defined, whatever it answered
   pub needed : OnlyNeeded (language_of c) (root_of c) judged counts
   -- where there is a size that fits, `size` is the number of names that it needs
   pub size : (n : ℕ) → MaxSize (language_of c) (root_of c) n → n < 2 ^ 64 → SizedCounts (language_of c) (root_of c) judged counts

@@ -49,7 +49,7 @@ module _ (c : BorshSchemaContainer) where
     pub complete : AcceptsIfValid (language_of c) (root_of c) result
     -- `Ok`: `rules` rose by the number of reached names, and `zero` by at least the number of elements that are checked
     pub counts : OnOk result (JudgedCounts (language_of c) (root_of c) old new)
-    -- only reached names were checked, each once, and at most all definitions tested for zero size, whatever the result
+    -- only reached definitions were checked, each once, and only those tested for zero size that a checked element depends on, whatever the result
     pub work : RulesWork (language_of c) (root_of c) (btree_map_len (map_of c)) old new
 
   -- the outcome of a call that computes a container's greatest size; no encoding is longer

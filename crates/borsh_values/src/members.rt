@@ -91,7 +91,8 @@ fn offset_of(bytes: &[u8], left: &[u8]) -> usize
 }
 
 fn count_one(count: &mut u64)
-    ensures { count.new ≤ count.old + 1 }
+    ensures risen { count.old ≤ count.new }
+    ensures by_one { count.new ≤ count.old + 1 }
 {
     *count = count.saturating_add(1);
 }
@@ -157,6 +158,7 @@ pub fn is_member_counted<'a>(
     opened: &mut u64,
 ) -> Result<Membership<'a>, AllocError>
     ensures answer { AnswersMembership (definitions_in map.now) root.now bytes.now result }
+    ensures risen { opened.old ≤ opened.new }
     ensures bounded_work { opened.new ≤ opened.old + most_opened bytes.now map.now }
 {
     let mut zeros: BTreeMap<&'a str, bool> = BTreeMap::new(alloc);
@@ -237,6 +239,7 @@ fn decide<'a>(
     ensures listed { wanted ≡ true → IfOk result (λ a. a ≡ IsMember →
         Nodes (definitions_in map.now) (root.now ∷ []) bytes.now (views nodes.new.items)) }
     ensures placed { wanted ≡ true → IfOk result (λ a. AreOffsets 0 nodes.new.items) }
+    ensures risen { opened.old ≤ opened.new }
     ensures bounded_work { opened.new ≤ opened.old + most_opened bytes.now map.now }
     ensures few_nodes { wanted ≡ true →
         IfOk result (λ a. length nodes.new.items ≤ most_opened bytes.now map.now) }

@@ -1,4 +1,4 @@
-use Rattle.std.proofs.Common.{◌≡◌, ℕ, suc, ◌+◌, ◌-◌, ◌<◌, ◌≤◌, List, [], ◌∷◌, ◌++◌, length, drop, length-drop, zero, reverse, replicate, append_assoc, refl, sym, ◌∙◌, ap, subst, arith, add-one}
+use Rattle.std.proofs.Common.{◌≡◌, ℕ, suc, ◌+◌, ◌<◌, ◌≤◌, List, [], ◌∷◌, ◌++◌, length, drop, length-drop, zero, reverse, replicate, append_assoc, refl, sym, ◌∙◌, ap, subst, arith, add-one}
 use Rattle.std.specs.Prelude.{Option}
 use Rattle.std.specs.BTreeMap.{btree_map_len}
 use Rattle.borsh_walks.specs.Definitions.{definitions_in, shape_of}
@@ -38,6 +38,7 @@ loop-step-init c =
       count = refl;
       within = omega arith;
       suffix = suffix_start c.args.bytes.now;
+      risen = omega arith;
       opened = omega arith;
       few = λ _. (let e = ap (λ l. length l) c.requires.empty in omega (arith, e));
       placed = λ _. (subst (λ l. AreOffsets 0 l) (sym c.requires.empty) tt, (let t = ap (λ l. total l) c.requires.empty in omega (arith, t)));
@@ -66,6 +67,7 @@ loop-step-preserved-in-Empty c =
       count = i.count;
       within = i.within;
       suffix = i.suffix;
+      risen = i.risen;
       opened = i.opened;
       few = i.few;
       placed = i.placed;
@@ -159,7 +161,8 @@ loop-step-preserved-in-New c =
       count = ap suc i.count ∙ sym (add-one c.loop-step.idle);
       within = i.within;
       suffix = i.suffix;
-      opened = opened_still (btree_map_len c.args.map.now) (length c.args.bytes.now) c.args.opened.now c.loop-step.opened c.count_one.new.count (length c.loop-step.left.now) c.loop-step.idle room i.opened c.count_one.ensures;
+      risen = omega (arith, i.risen, c.count_one.ensures.risen);
+      opened = opened_still (btree_map_len c.args.map.now) (length c.args.bytes.now) c.args.opened.now c.loop-step.opened c.count_one.new.count (length c.loop-step.left.now) c.loop-step.idle room i.opened c.count_one.ensures.by_one;
       few = λ w. few_still (btree_map_len c.args.map.now) (length c.args.bytes.now) (length c.loop-step.nodes.items) (length c.list_node.new.nodes.items) (length c.loop-step.left.now) c.loop-step.idle room (i.few w) (listed_more C node c.loop-step.nodes.items c.list_node.new.nodes.items (c.in_ok-list_node-in-New.ensures.listed w));
       placed = λ w. placed_more C node c.loop-step.nodes.items c.list_node.new.nodes.items c.in-Taken.taken (length c.args.bytes.now) c.loop-step.left.now c.loop-step.left.now c.offset_of-offset.ensures c.front.ensures (sym (ap (λ k. drop k c.loop-step.left.now) c.if-taken-eq0.true)) (c.in_ok-list_node-in-New.ensures.listed w) (i.placed w);
       table = c.in_ok-list_node-in-New.ensures.table;
@@ -214,7 +217,8 @@ loop-step-preserved-then-has_parts c =
       count = refl;
       within = ends.0;
       suffix = ends.1;
-      opened = opened_on (btree_map_len c.args.map.now) (length c.args.bytes.now) c.args.opened.now c.loop-step.opened c.count_one-else-taken-eq0.new.count (length c.after-left.result.now) (length c.loop-step.left.now) c.loop-step.idle fewer i.opened c.count_one-else-taken-eq0.ensures;
+      risen = omega (arith, i.risen, c.count_one-else-taken-eq0.ensures.risen);
+      opened = opened_on (btree_map_len c.args.map.now) (length c.args.bytes.now) c.args.opened.now c.loop-step.opened c.count_one-else-taken-eq0.new.count (length c.after-left.result.now) (length c.loop-step.left.now) c.loop-step.idle fewer i.opened c.count_one-else-taken-eq0.ensures.by_one;
       few = λ w. few_on (btree_map_len c.args.map.now) (length c.args.bytes.now) (length c.loop-step.nodes.items) (length c.list_node-else-taken-eq0.new.nodes.items) (length c.after-left.result.now) (length c.loop-step.left.now) c.loop-step.idle fewer (i.few w) (listed_more C node c.loop-step.nodes.items c.list_node-else-taken-eq0.new.nodes.items (c.in_ok-list_node-in-Taken.ensures.listed w));
       placed = λ w. placed_more C node c.loop-step.nodes.items c.list_node-else-taken-eq0.new.nodes.items c.in-Taken.taken (length c.args.bytes.now) c.loop-step.left.now c.after-left.result.now c.offset_of-offset.ensures c.front.ensures c.after-left.ensures (c.in_ok-list_node-in-Taken.ensures.listed w) (i.placed w);
       table = c.in_ok-list_node-in-Taken.ensures.table;
@@ -256,7 +260,8 @@ loop-step-preserved-else-has_parts c =
       count = refl;
       within = ends.0;
       suffix = ends.1;
-      opened = opened_on (btree_map_len c.args.map.now) (length c.args.bytes.now) c.args.opened.now c.loop-step.opened c.count_one-else-taken-eq0.new.count (length c.after-left.result.now) (length c.loop-step.left.now) c.loop-step.idle fewer i.opened c.count_one-else-taken-eq0.ensures;
+      risen = omega (arith, i.risen, c.count_one-else-taken-eq0.ensures.risen);
+      opened = opened_on (btree_map_len c.args.map.now) (length c.args.bytes.now) c.args.opened.now c.loop-step.opened c.count_one-else-taken-eq0.new.count (length c.after-left.result.now) (length c.loop-step.left.now) c.loop-step.idle fewer i.opened c.count_one-else-taken-eq0.ensures.by_one;
       few = λ w. few_on (btree_map_len c.args.map.now) (length c.args.bytes.now) (length c.loop-step.nodes.items) (length c.list_node-else-taken-eq0.new.nodes.items) (length c.after-left.result.now) (length c.loop-step.left.now) c.loop-step.idle fewer (i.few w) (listed_more C node c.loop-step.nodes.items c.list_node-else-taken-eq0.new.nodes.items (c.in_ok-list_node-in-Taken.ensures.listed w));
       placed = λ w. placed_more C node c.loop-step.nodes.items c.list_node-else-taken-eq0.new.nodes.items c.in-Taken.taken (length c.args.bytes.now) c.loop-step.left.now c.after-left.result.now c.offset_of-offset.ensures c.front.ensures c.after-left.ensures (c.in_ok-list_node-in-Taken.ensures.listed w) (i.placed w);
       table = c.in_ok-list_node-in-Taken.ensures.table;
@@ -285,7 +290,7 @@ loop-step-preserved-in_ok-insert-in-Some-pop c =
     let items = last_first c.pop.new.self.items c.loop-step.stack.items c.in-Some-pop.above c.in-Some-pop.ensures.items in
     let s = subst (λ l. Walk C c.args.root.now c.args.bytes.now (mark_of c.loop-step.table) l c.loop-step.frame c.loop-step.left.now i.names) items i.state in
     let u = updated_by c.loop-step.frame.name.now c.loop-step.table c.insert-then-frame-left.new.self Empty c.in_ok-insert-in-Some-pop.ensures.updates in
-    record { names = i.names; state = walk_up_empty C s c.in-None.ensures.parts c.if-frame-left.true u; count = i.count; within = i.within; suffix = i.suffix; opened = i.opened; few = i.few; placed = i.placed; table = i.table; tags = i.tags; listed = λ w es n. i.listed w es (subst (λ l. Nodes C l c.loop-step.left.now es) (sym (ap (λ l. l ++ pending (reverse c.loop-step.stack.items)) c.in-None.ensures.parts ∙ ap (λ l. pending l) items)) n) }
+    record { names = i.names; state = walk_up_empty C s c.in-None.ensures.parts c.if-frame-left.true u; count = i.count; within = i.within; suffix = i.suffix; risen = i.risen; opened = i.opened; few = i.few; placed = i.placed; table = i.table; tags = i.tags; listed = λ w es n. i.listed w es (subst (λ l. Nodes C l c.loop-step.left.now es) (sym (ap (λ l. l ++ pending (reverse c.loop-step.stack.items)) c.in-None.ensures.parts ∙ ap (λ l. pending l) items)) n) }
 
 pub loop-step-smaller : goal.loop-step-smaller
 loop-step-smaller c =
@@ -301,7 +306,7 @@ loop-step-preserved c =
     let i = c.loop-step.invariant in
     let items = last_first c.pop.new.self.items c.loop-step.stack.items c.in-Some-pop.above c.in-Some-pop.ensures.items in
     let s = subst (λ l. Walk C c.args.root.now c.args.bytes.now (mark_of c.loop-step.table) l c.loop-step.frame c.loop-step.left.now i.names) items i.state in
-    record { names = i.names; state = walk_up C s c.in-None.ensures.parts c.if-frame-left.false; count = i.count; within = i.within; suffix = i.suffix; opened = i.opened; few = i.few; placed = i.placed; table = i.table; tags = i.tags; listed = λ w es n. i.listed w es (subst (λ l. Nodes C l c.loop-step.left.now es) (sym (ap (λ l. l ++ pending (reverse c.loop-step.stack.items)) c.in-None.ensures.parts ∙ ap (λ l. pending l) items)) n) }
+    record { names = i.names; state = walk_up C s c.in-None.ensures.parts c.if-frame-left.false; count = i.count; within = i.within; suffix = i.suffix; risen = i.risen; opened = i.opened; few = i.few; placed = i.placed; table = i.table; tags = i.tags; listed = λ w es n. i.listed w es (subst (λ l. Nodes C l c.loop-step.left.now es) (sym (ap (λ l. l ++ pending (reverse c.loop-step.stack.items)) c.in-None.ensures.parts ∙ ap (λ l. pending l) items)) n) }
 
 end_answer : (C : List ℕ → Option Shape) (root bytes rest : List ℕ) (a : Membership) → length rest ≤ length bytes → IsAnswerAtEnd root (length bytes) rest a → (Member C root bytes → rest ≡ []) × (rest ≡ [] → Member C root bytes) → IsAnswer C root bytes a
 end_answer C root bytes rest IsMember low h w = w.1 h

@@ -18,6 +18,7 @@ invariant-loop-step l = record {
   count : length names ≡ l.idle;
   within : length l.left ≤ length l.fn.bytes;
   suffix : l.left ≡ drop (length l.fn.bytes - length l.left) l.fn.bytes;
+  risen : l.fn.opened ≤ l.opened;
   opened : l.opened + opens (btree_map_len l.fn.map) (length l.left) l.idle ≤ l.fn.opened + opens (btree_map_len l.fn.map) (length l.fn.bytes) 0;
   few : l.wanted ≡ true → length l.nodes.items + opens (btree_map_len l.fn.map) (length l.left) l.idle ≤ opens (btree_map_len l.fn.map) (length l.fn.bytes) 0;
   placed : l.wanted ≡ true → Placed (length l.fn.bytes) l.nodes.items l.left;
