@@ -12,7 +12,7 @@ use Rattle.borsh_walks.specs.declared.error.SchemaMaxSerializedSizeError.{Schema
 use Rattle.borsh_walks.specs.declared.error.SchemaMaxSerializedSizeError.TheVariants.{OutOfMemory as NoMemory}
 use Rattle.borsh_values.proofs.Valid.{none_ambiguous}
 use Rattle.borsh_json.specs.declared.error.JsonError.{JsonError}
-use Rattle.borsh_json.specs.Errors.{IsReason, IsTextReason}
+use Rattle.borsh_json.specs.Errors.{IsNoJsonReason, IsTextReason}
 use Rattle.borsh_c.specs.declared.refusal.Refusal.{Refusal}
 use Rattle.borsh_c.specs.declared.refusal.Refusal.TheVariants.{No, Malformed, OutOfMemory, Undecided}
 use Rattle.borsh_c.specs.Answers.{Saying, About, Anything, GivesBytes, GivesJson, HasNoSize, IsInvalid, IsRefused, IsUnclear, Never}
@@ -54,11 +54,11 @@ module _ {schema : List ℕ} (c : String Global × BTreeMap (String Global) Defi
   undecided_told N U u OutOfMemory told = tt
   undecided_told N U u (Undecided t) told = about_told U u
 
-  pub bytes_refused : (value : List ℕ) (e : JsonError) → IsReason C root value e → (r : Refusal) → TellsNoValue e r → IsRefused schema Anything IsUnclear r
+  pub bytes_refused : (value : List ℕ) (e : JsonError) → IsNoJsonReason C root value e → (r : Refusal) → TellsNoValue e r → IsRefused schema Anything IsUnclear r
   bytes_refused value e reason (No t) told = about_told Anything tt
   bytes_refused value e reason (Malformed t) told = absurd told
   bytes_refused value e reason OutOfMemory told = tt
-  bytes_refused value e reason (Undecided t) told = about_told IsUnclear (λ v u. none_ambiguous C told.0.now v u (subst (IsReason C root value) told.1 reason))
+  bytes_refused value e reason (Undecided t) told = about_told IsUnclear (λ v u. none_ambiguous C told.0.now v u (subst (IsNoJsonReason C root value) told.1 reason))
 
   pub text_refused : (text : List ℕ) (e : JsonError) → IsTextReason C root text e → (r : Refusal) → TellsNoValue e r → IsRefused schema Anything IsUnclear r
   text_refused text e reason (No t) told = about_told Anything tt

@@ -1,5 +1,5 @@
 // Values as JSON, and byte by byte.
-ghost use Rattle.borsh_json.specs.Errors.{IsReason, IsTextReason};
+ghost use Rattle.borsh_json.specs.Errors.{IsNoJsonReason, IsNoRowsReason, IsTextReason};
 ghost use Rattle.borsh_schema.specs.Containers.{language_of, root_of};
 ghost use Rattle.borsh_walks.specs.Container.{Member};
 ghost use Rattle.json.specs.Json.{document};
@@ -24,7 +24,7 @@ pub fn to_json<'a>(
         OnOk result (Member (language_of c) (root_of c) bytes.now) }
     ensures json { IfOk result (λ text. IsSome (document (string_bytes text))) }
     ensures reason { let c = container.now in
-        IfErr result (λ e. IsReason (language_of c) (root_of c) bytes.now e) }
+        IfErr result (λ e. IsNoJsonReason (language_of c) (root_of c) bytes.now e) }
 {
     let root = container.declaration().as_str();
     borsh_json::to_json(alloc, root, container.as_map(), bytes, layout)
@@ -63,7 +63,7 @@ pub fn rows_of<'a>(
     ensures member { let c = container.now in
         OnOk result (Member (language_of c) (root_of c) bytes.now) }
     ensures reason { let c = container.now in
-        IfErr result (λ e. IsReason (language_of c) (root_of c) bytes.now e) }
+        IfErr result (λ e. IsNoRowsReason (language_of c) (root_of c) bytes.now e) }
 {
     let root = container.declaration().as_str();
     borsh_json::rows_of(alloc, root, container.as_map(), bytes)

@@ -8,30 +8,99 @@ use Rattle.borsh_json.specs.declared.error.JsonError.{JsonError}
 use Rattle.borsh_json.specs.declared.error.JsonError.TheVariants.{OutOfMemory, NoMember, NoValue, Ambiguous, NotJson, Refused}
 use Rattle.borsh_json.specs.declared.error.PartError.{PartError}
 use Rattle.borsh_json.specs.declared.error.PartError.TheVariants.{OutOfMemory as NoMemory, Refused as RefusedPart}
+use Rattle.borsh_json.specs.declared.error.Refusal.{Refusal}
+use Rattle.borsh_json.specs.declared.error.Refusal.TheVariants.{TooDeep, RepeatedName, EmptyElements, NotBool, NotUtf8, Zero, OtherNodes, Expected, MissingField, UnknownName, RepeatedKey, Undefined}
+
+-- ---- which refusals a call may return
+
+-- a value whose parts nest too deep
+abbrev pub IsTooDeep : Refusal → Type 0
+IsTooDeep TooDeep = ⊤
+IsTooDeep (RepeatedName name) = ⊥
+IsTooDeep EmptyElements = ⊥
+IsTooDeep NotBool = ⊥
+IsTooDeep NotUtf8 = ⊥
+IsTooDeep Zero = ⊥
+IsTooDeep OtherNodes = ⊥
+IsTooDeep (Expected wanted) = ⊥
+IsTooDeep MissingField = ⊥
+IsTooDeep (UnknownName name) = ⊥
+IsTooDeep (RepeatedKey name) = ⊥
+IsTooDeep (Undefined name) = ⊥
+
+-- a value that can't be written as JSON: of its bytes and definitions, and not of any text
+abbrev pub IsUnwritable : Refusal → Type 0
+IsUnwritable TooDeep = ⊤
+IsUnwritable (RepeatedName name) = ⊤
+IsUnwritable EmptyElements = ⊤
+IsUnwritable NotBool = ⊤
+IsUnwritable NotUtf8 = ⊤
+IsUnwritable Zero = ⊤
+IsUnwritable OtherNodes = ⊤
+IsUnwritable (Expected wanted) = ⊥
+IsUnwritable MissingField = ⊥
+IsUnwritable (UnknownName name) = ⊥
+IsUnwritable (RepeatedKey name) = ⊥
+IsUnwritable (Undefined name) = ⊥
+
+-- JSON that can't be read as a value: of a text and the definitions, and not of any bytes
+abbrev pub IsUnreadable : Refusal → Type 0
+IsUnreadable TooDeep = ⊤
+IsUnreadable (RepeatedName name) = ⊤
+IsUnreadable EmptyElements = ⊤
+IsUnreadable NotBool = ⊥
+IsUnreadable NotUtf8 = ⊥
+IsUnreadable Zero = ⊥
+IsUnreadable OtherNodes = ⊤
+IsUnreadable (Expected wanted) = ⊤
+IsUnreadable MissingField = ⊤
+IsUnreadable (UnknownName name) = ⊤
+IsUnreadable (RepeatedKey name) = ⊤
+IsUnreadable (Undefined name) = ⊤
+
+-- an allocation failed, or a part is refused in one of these ways
+abbrev pub IsPartError : (Refusal → Type 0) → PartError → Type 0
+IsPartError May NoMemory = ⊤
+IsPartError May (RefusedPart path refusal) = May refusal
 
 -- the error of a part, as that of the whole value
 abbrev pub error_of : PartError → JsonError
 error_of NoMemory = OutOfMemory
 error_of (RefusedPart path refusal) = Refused path refusal
 
--- the error may be answered for a text that is no JSON
+-- ---- errors of whole calls
+
+-- the error may be returned for a text that is no JSON: an allocation failed, or the text is wrong at a byte or nests too deep
 abbrev pub TellsNoJson : JsonError → Type 0
 TellsNoJson OutOfMemory = ⊤
 TellsNoJson (NoMember f) = ⊥
 TellsNoJson NoValue = ⊥
 TellsNoJson (Ambiguous x) = ⊥
 TellsNoJson (NotJson offset) = ⊤
-TellsNoJson (Refused path refusal) = ⊤
+TellsNoJson (Refused path refusal) = IsTooDeep refusal
+
+-- a text may be refused so: whether it is JSON or not, since it nests too deep; otherwise only if it is JSON that can't be read
+abbrev pub IsTextRefusal : List ℕ → Refusal → Type 0
+IsTextRefusal text TooDeep = ⊤
+IsTextRefusal text refusal = IsSome (document text) × IsUnreadable refusal
 
 module _ (C : List ℕ → Option Shape) (root : List ℕ) where
-  -- the error is a true reason why the bytes have no JSON and no rows: they are no member of the root, or undecided, or a part of them is refused
-  abbrev pub IsReason : List ℕ → JsonError → Type 0
-  IsReason bytes OutOfMemory = ⊤
-  IsReason bytes (NoMember f) = (Member C root bytes → ⊥) × IsFault C root bytes f
-  IsReason bytes NoValue = ⊥
-  IsReason bytes (Ambiguous x) = IsUndecided C root x.now
-  IsReason bytes (NotJson offset) = ⊥
-  IsReason bytes (Refused path refusal) = ⊤
+  -- the error is a true reason why a call has no answer for the bytes: they are no member of the root, or undecided, or a member that is refused in one of these ways
+  abbrev pub IsReason : (Refusal → Type 0) → List ℕ → JsonError → Type 0
+  IsReason May bytes OutOfMemory = ⊤
+  IsReason May bytes (NoMember f) = (Member C root bytes → ⊥) × IsFault C root bytes f
+  IsReason May bytes NoValue = ⊥
+  IsReason May bytes (Ambiguous x) = IsUndecided C root x.now
+  IsReason May bytes (NotJson offset) = ⊥
+  IsReason May bytes (Refused path refusal) = Member C root bytes × May refusal
+
+  -- why the bytes have no JSON
+  abbrev pub IsNoJsonReason : List ℕ → JsonError → Type 0
+  IsNoJsonReason = IsReason IsUnwritable
+
+  -- why the bytes have no rows: a member has them unless its parts nest too deep
+  abbrev pub IsNoRowsReason : List ℕ → JsonError → Type 0
+  IsNoRowsReason = IsReason IsTooDeep
 
   -- the error is a true reason why the text says no value of the root: it is no JSON, or the definitions are undecided, or a part of it is refused
   abbrev pub IsTextReason : List ℕ → JsonError → Type 0
@@ -40,7 +109,7 @@ module _ (C : List ℕ → Option Shape) (root : List ℕ) where
   IsTextReason text NoValue = IsSome (document text)
   IsTextReason text (Ambiguous x) = IsSome (document text) × IsUndecided C root x.now
   IsTextReason text (NotJson offset) = document text ≡ None
-  IsTextReason text (Refused path refusal) = ⊤
+  IsTextReason text (Refused path refusal) = IsTextRefusal text refusal
 
   -- the error is a true reason why bytes that were read are not answered
   abbrev pub IsBytesReason : JsonError → Type 0
@@ -49,4 +118,4 @@ module _ (C : List ℕ → Option Shape) (root : List ℕ) where
   IsBytesReason NoValue = ⊤
   IsBytesReason (Ambiguous x) = IsUndecided C root x.now
   IsBytesReason (NotJson offset) = ⊥
-  IsBytesReason (Refused path refusal) = ⊤
+  IsBytesReason (Refused path refusal) = ⊥

@@ -1,7 +1,7 @@
 // The bytes of a value that JSON says.
 ghost use Rattle.borsh_walks.specs.Container.{Member};
 ghost use Rattle.borsh_walks.specs.Definitions.{definitions_in};
-ghost use Rattle.borsh_json.specs.Errors.{IsBytesReason, IsTextReason, TellsNoJson};
+ghost use Rattle.borsh_json.specs.Errors.{IsBytesReason, IsPartError, IsTextReason, IsUnreadable, TellsNoJson};
 ghost use Rattle.json.specs.Json.{document};
 ghost use Rattle.std.specs.Prelude.{◌≡◌, IfErr, IfOk, IfSome, IsSome, OnOk};
 
@@ -128,7 +128,9 @@ fn read_value<'a>(
     root: &'a str,
     map: &'a BTreeMap<String, Definition>,
     element: Element<'_, '_>,
-) -> Result<Vec<u8>, PartError<'a>> {
+) -> Result<Vec<u8>, PartError<'a>>
+    ensures { IfErr result (IsPartError IsUnreadable) }
+{
     let mut reading = Reading {
         root,
         definitions: Definitions::new(alloc, map)?,
@@ -174,7 +176,9 @@ struct Reading<'a, 't, 's> {
 }
 
 impl<'a, 't, 's> Reading<'a, 't, 's> {
-    fn read_all(&mut self, alloc: Global) -> Result<(), PartError<'a>> {
+    fn read_all(&mut self, alloc: Global) -> Result<(), PartError<'a>>
+        ensures { IfErr result (IsPartError IsUnreadable) }
+    {
         for _ in 0..u64::MAX {
             match self.place.next_part() {
                 Some(part) => {
@@ -201,7 +205,9 @@ impl<'a, 't, 's> Reading<'a, 't, 's> {
         alloc: Global,
         part: Part<'a>,
         element: Element<'t, 's>,
-    ) -> Result<(), PartError<'a>> {
+    ) -> Result<(), PartError<'a>>
+        ensures { IfErr result (IsPartError IsUnreadable) }
+    {
         if part.may_be_empty && self.definitions.is_zero_size(part.name) {
             if element.is_null() {
                 return Ok(());
@@ -247,7 +253,9 @@ impl<'a, 't, 's> Reading<'a, 't, 's> {
         alloc: Global,
         number: Number,
         element: &Element<'t, 's>,
-    ) -> Result<(), PartError<'a>> {
+    ) -> Result<(), PartError<'a>>
+        ensures { IfErr result (IsPartError IsUnreadable) }
+    {
         let text = if number.is_quoted() {
             element.as_str()
         } else {
@@ -272,7 +280,9 @@ impl<'a, 't, 's> Reading<'a, 't, 's> {
         alloc: Global,
         size: u8,
         element: &Element<'t, 's>,
-    ) -> Result<(), PartError<'a>> {
+    ) -> Result<(), PartError<'a>>
+        ensures { IfErr result (IsPartError IsUnreadable) }
+    {
         if let Some(text) = element.as_str() {
             let bytes = self.hexadecimal(alloc, text)?;
             if bytes.len() == usize::from(size) {
@@ -284,7 +294,9 @@ impl<'a, 't, 's> Reading<'a, 't, 's> {
     }
 
     /// The bytes that `0x` and digits say.
-    fn hexadecimal(&self, alloc: Global, text: &str) -> Result<Vec<u8>, PartError<'a>> {
+    fn hexadecimal(&self, alloc: Global, text: &str) -> Result<Vec<u8>, PartError<'a>>
+        ensures { IfErr result (IsPartError IsUnreadable) }
+    {
         let Some(digits) = text.strip_prefix("0x") else {
             return Err(self.expected(alloc, "\"0x..\", hexadecimal digits"));
         };
@@ -301,7 +313,9 @@ impl<'a, 't, 's> Reading<'a, 't, 's> {
         alloc: Global,
         definition: &'a Definition,
         bytes: &[u8],
-    ) -> Result<(), PartError<'a>> {
+    ) -> Result<(), PartError<'a>>
+        ensures { IfErr result (IsPartError IsUnreadable) }
+    {
         self.put_count(alloc, definition, bytes.len())?;
         Ok(self.out.extend_from_slice(bytes)?)
     }
@@ -312,7 +326,9 @@ impl<'a, 't, 's> Reading<'a, 't, 's> {
         alloc: Global,
         definition: &'a Definition,
         count: usize,
-    ) -> Result<(), PartError<'a>> {
+    ) -> Result<(), PartError<'a>>
+        ensures { IfErr result (IsPartError IsUnreadable) }
+    {
         let Definition::Sequence {
             length_width,
             length_range,
@@ -344,7 +360,9 @@ impl<'a, 't, 's> Reading<'a, 't, 's> {
         alloc: Global,
         parts: Parts<'a>,
         source: Source<'t, 's>,
-    ) -> Result<(), PartError<'a>> {
+    ) -> Result<(), PartError<'a>>
+        ensures { IfErr result (IsPartError IsUnreadable) }
+    {
         if self.outer.len() >= MAX_DEPTH {
             return Err(self.refused(alloc, Refusal::TooDeep));
         }
@@ -361,7 +379,9 @@ impl<'a, 't, 's> Reading<'a, 't, 's> {
         definition: &'a Definition,
         name: &'a str,
         element: &Element<'t, 's>,
-    ) -> Result<(), PartError<'a>> {
+    ) -> Result<(), PartError<'a>>
+        ensures { IfErr result (IsPartError IsUnreadable) }
+    {
         if self.definitions.is_zero_size(name) {
             return Err(self.refused(alloc, Refusal::EmptyElements));
         }
@@ -378,7 +398,9 @@ impl<'a, 't, 's> Reading<'a, 't, 's> {
         definition: &'a Definition,
         count: usize,
         element: &Element<'t, 's>,
-    ) -> Result<(), PartError<'a>> {
+    ) -> Result<(), PartError<'a>>
+        ensures { IfErr result (IsPartError IsUnreadable) }
+    {
         match element.items() {
             Some(items) if count_items(element) == Some(count) => {
                 self.open(alloc, Parts::Row(definition), Source::Items(items))
@@ -395,7 +417,9 @@ impl<'a, 't, 's> Reading<'a, 't, 's> {
         alloc: Global,
         fields: &'a Vec<(FieldName, Declaration)>,
         element: &Element<'t, 's>,
-    ) -> Result<(), PartError<'a>> {
+    ) -> Result<(), PartError<'a>>
+        ensures { IfErr result (IsPartError IsUnreadable) }
+    {
         let Some(mut members) = element.members() else {
             return Err(self.expected(alloc, "an object"));
         };
@@ -418,7 +442,9 @@ impl<'a, 't, 's> Reading<'a, 't, 's> {
         tag_width: u8,
         variants: &'a Vec<(DiscriminantValue, VariantName, Declaration)>,
         element: &Element<'t, 's>,
-    ) -> Result<(), PartError<'a>> {
+    ) -> Result<(), PartError<'a>>
+        ensures { IfErr result (IsPartError IsUnreadable) }
+    {
         let Some((name, value)) = variant_in(element) else {
             return Err(self.expected(alloc, "a variant: \"Name\" or {\"Name\": value}"));
         };
@@ -447,7 +473,9 @@ impl<'a, 't, 's> Reading<'a, 't, 's> {
     }
 
     /// Refuses keys of an object that are no fields.
-    fn check_left(&self, alloc: Global, source: &Source<'t, 's>) -> Result<(), PartError<'a>> {
+    fn check_left(&self, alloc: Global, source: &Source<'t, 's>) -> Result<(), PartError<'a>>
+        ensures { IfErr result (IsPartError IsUnreadable) }
+    {
         let Source::Members(members) = source else {
             return Ok(());
         };
@@ -466,7 +494,9 @@ impl<'a, 't, 's> Reading<'a, 't, 's> {
         alloc: Global,
         name: &'a str,
         definition: &'a Definition,
-    ) -> Result<(), PartError<'a>> {
+    ) -> Result<(), PartError<'a>>
+        ensures { IfErr result (IsPartError IsUnreadable) }
+    {
         match self.definitions.repeated(alloc, name, definition)? {
             Some(name) => {
                 let name = String::from_str(alloc, name)?;
@@ -476,7 +506,9 @@ impl<'a, 't, 's> Reading<'a, 't, 's> {
         }
     }
 
-    fn expected(&self, alloc: Global, wanted: &str) -> PartError<'a> {
+    fn expected(&self, alloc: Global, wanted: &str) -> PartError<'a>
+        ensures { IsPartError IsUnreadable result }
+    {
         match String::from_str(alloc, wanted) {
             Ok(wanted) => self.refused(alloc, Refusal::Expected(wanted)),
             Err(_) => PartError::OutOfMemory,
@@ -484,7 +516,9 @@ impl<'a, 't, 's> Reading<'a, 't, 's> {
     }
 
     /// The error of the part that was begun last.
-    fn refused(&self, alloc: Global, refusal: Refusal) -> PartError<'a> {
+    fn refused(&self, alloc: Global, refusal: Refusal) -> PartError<'a>
+        ensures { IsUnreadable refusal → IsPartError IsUnreadable result }
+    {
         match path_of(alloc, self.root, self.outer.as_slice(), &self.place) {
             Ok(path) => PartError::Refused(path, refusal),
             Err(_) => PartError::OutOfMemory,

@@ -1,7 +1,7 @@
 // What each of the bytes of a value is.
 ghost use Rattle.borsh_walks.specs.Container.{Member};
 ghost use Rattle.borsh_walks.specs.Definitions.{definitions_in};
-ghost use Rattle.borsh_json.specs.Errors.{IsReason};
+ghost use Rattle.borsh_json.specs.Errors.{IsNoRowsReason, IsPartError, IsTooDeep};
 ghost use Rattle.std.specs.Prelude.{IfErr, OnOk};
 
 use crate::definitions::Definitions;
@@ -46,7 +46,7 @@ pub fn rows_of<'a>(
 ) -> Result<Vec<Row<'a>>, JsonError<'a>>
     ensures member { OnOk result (Member (definitions_in map.now) root.now bytes.now) }
     ensures reason { IfErr result
-        (λ e. IsReason (definitions_in map.now) root.now bytes.now e) }
+        (λ e. IsNoRowsReason (definitions_in map.now) root.now bytes.now e) }
 {
     match decode(alloc, root, map, bytes)? {
         Decoded::Nodes(nodes) => Ok(list_rows(alloc, root, map, nodes.as_slice())?),
@@ -60,7 +60,9 @@ fn list_rows<'a>(
     root: &'a str,
     map: &'a BTreeMap<String, Definition>,
     nodes: &[Node<'a>],
-) -> Result<Vec<Row<'a>>, PartError<'a>> {
+) -> Result<Vec<Row<'a>>, PartError<'a>>
+    ensures { IfErr result (IsPartError IsTooDeep) }
+{
     let definitions = Definitions::new(alloc, map)?;
     let mut rows = Vec::new(alloc);
     let mut paths = Paths::new(alloc, root);

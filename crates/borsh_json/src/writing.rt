@@ -1,7 +1,7 @@
 // A value as JSON.
 ghost use Rattle.borsh_walks.specs.Container.{Member};
 ghost use Rattle.borsh_walks.specs.Definitions.{definitions_in};
-ghost use Rattle.borsh_json.specs.Errors.{IsReason};
+ghost use Rattle.borsh_json.specs.Errors.{IsNoJsonReason, IsPartError, IsUnwritable};
 ghost use Rattle.json.specs.Json.{document};
 ghost use Rattle.std.specs.Prelude.{IfErr, IfOk, IsSome, OnOk, string_bytes};
 
@@ -43,7 +43,7 @@ pub fn to_json<'a>(
     ensures member { OnOk result (Member (definitions_in map.now) root.now bytes.now) }
     ensures json { IfOk result (λ text. IsSome (document (string_bytes text))) }
     ensures reason { IfErr result
-        (λ e. IsReason (definitions_in map.now) root.now bytes.now e) }
+        (λ e. IsNoJsonReason (definitions_in map.now) root.now bytes.now e) }
 {
     match decode(alloc, root, map, bytes)? {
         Decoded::Nodes(nodes) => Ok(write_nodes(alloc, root, map, nodes.as_slice(), layout)?),
@@ -59,7 +59,8 @@ fn write_nodes<'a>(
     nodes: &[Node<'a>],
     layout: Layout,
 ) -> Result<String, PartError<'a>>
-    ensures { IfOk result (λ text. IsSome (document (string_bytes text))) }
+    ensures json { IfOk result (λ text. IsSome (document (string_bytes text))) }
+    ensures refusal { IfErr result (IsPartError IsUnwritable) }
 {
     let mut writing = Writing {
         root,
@@ -79,7 +80,8 @@ fn write_nodes<'a>(
 
 /// Refuses a text that isn't JSON.
 fn check_json<'a>(alloc: Global, root: &'a str, text: &str) -> Result<(), PartError<'a>>
-    ensures { OnOk result (IsSome (document text.now)) }
+    ensures json { OnOk result (IsSome (document text.now)) }
+    ensures refusal { IfErr result (IsPartError IsUnwritable) }
 {
     if is_valid(text, &mut Scratch::new(alloc))? {
         Ok(())
@@ -89,7 +91,9 @@ fn check_json<'a>(alloc: Global, root: &'a str, text: &str) -> Result<(), PartEr
 }
 
 /// That the text that was written isn't JSON, as it is where the nodes are those of the definitions.
-fn no_json<'a>(alloc: Global, root: &'a str) -> PartError<'a> {
+fn no_json<'a>(alloc: Global, root: &'a str) -> PartError<'a>
+    ensures { IsPartError IsUnwritable result }
+{
     let steps = Vec::new(alloc);
     PartError::Refused(Path { root, steps }, Refusal::OtherNodes)
 }
@@ -106,7 +110,9 @@ struct Writing<'a, 'n> {
 }
 
 impl<'a, 'n> Writing<'a, 'n> {
-    fn write_all(&mut self, alloc: Global) -> Result<(), PartError<'a>> {
+    fn write_all(&mut self, alloc: Global) -> Result<(), PartError<'a>>
+        ensures { IfErr result (IsPartError IsUnwritable) }
+    {
         for _ in 0..u64::MAX {
             match self.place.next_part() {
                 Some(part) => self.write_part(alloc, part)?,
@@ -131,7 +137,9 @@ impl<'a, 'n> Writing<'a, 'n> {
         }
     }
 
-    fn write_part(&mut self, alloc: Global, part: Part<'a>) -> Result<(), PartError<'a>> {
+    fn write_part(&mut self, alloc: Global, part: Part<'a>) -> Result<(), PartError<'a>>
+        ensures { IfErr result (IsPartError IsUnwritable) }
+    {
         if let Some(key) = part.key {
             self.out.key(key)?;
         }
@@ -163,7 +171,9 @@ impl<'a, 'n> Writing<'a, 'n> {
         }
     }
 
-    fn take_node(&mut self, alloc: Global) -> Result<Node<'a>, PartError<'a>> {
+    fn take_node(&mut self, alloc: Global) -> Result<Node<'a>, PartError<'a>>
+        ensures { IfErr result (IsPartError IsUnwritable) }
+    {
         match self.nodes {
             [node, others @ ..] => {
                 self.nodes = others;
@@ -174,7 +184,9 @@ impl<'a, 'n> Writing<'a, 'n> {
     }
 
     /// How many elements a list has.
-    fn count_of(&self, alloc: Global, node: &Node<'a>) -> Result<u64, PartError<'a>> {
+    fn count_of(&self, alloc: Global, node: &Node<'a>) -> Result<u64, PartError<'a>>
+        ensures { IfErr result (IsPartError IsUnwritable) }
+    {
         match count_of(node) {
             Some(count) => Ok(count),
             None => Err(self.refused(alloc, Refusal::OtherNodes)),
@@ -182,7 +194,9 @@ impl<'a, 'n> Writing<'a, 'n> {
     }
 
     /// Begins the parts of a value, whose bracket was written.
-    fn open(&mut self, alloc: Global, parts: Parts<'a>) -> Result<(), PartError<'a>> {
+    fn open(&mut self, alloc: Global, parts: Parts<'a>) -> Result<(), PartError<'a>>
+        ensures { IfErr result (IsPartError IsUnwritable) }
+    {
         if self.outer.len() >= MAX_DEPTH {
             return Err(self.refused(alloc, Refusal::TooDeep));
         }
@@ -196,7 +210,9 @@ impl<'a, 'n> Writing<'a, 'n> {
         alloc: Global,
         node: &Node<'a>,
         element: &'a str,
-    ) -> Result<(), PartError<'a>> {
+    ) -> Result<(), PartError<'a>>
+        ensures { IfErr result (IsPartError IsUnwritable) }
+    {
         let count = self.count_of(alloc, node)?;
         if self.definitions.is_zero_size(element) {
             return Err(self.refused(alloc, Refusal::EmptyElements));
@@ -210,7 +226,9 @@ impl<'a, 'n> Writing<'a, 'n> {
         alloc: Global,
         node: &Node<'a>,
         variants: &'a Vec<(DiscriminantValue, VariantName, Declaration)>,
-    ) -> Result<(), PartError<'a>> {
+    ) -> Result<(), PartError<'a>>
+        ensures { IfErr result (IsPartError IsUnwritable) }
+    {
         let Some((_, variant, name)) = variant_of(node).and_then(|index| variants.get(index)) else {
             return Err(self.refused(alloc, Refusal::OtherNodes));
         };
@@ -228,7 +246,9 @@ impl<'a, 'n> Writing<'a, 'n> {
         name: &'a str,
         size: u8,
         bytes: &[u8],
-    ) -> Result<(), PartError<'a>> {
+    ) -> Result<(), PartError<'a>>
+        ensures { IfErr result (IsPartError IsUnwritable) }
+    {
         let size = usize::from(size);
         if size == 0 {
             return Err(self.refused(alloc, Refusal::EmptyElements));
@@ -247,7 +267,9 @@ impl<'a, 'n> Writing<'a, 'n> {
         alloc: Global,
         name: &str,
         bytes: &[u8],
-    ) -> Result<(), PartError<'a>> {
+    ) -> Result<(), PartError<'a>>
+        ensures { IfErr result (IsPartError IsUnwritable) }
+    {
         let size = bytes.len().min(255) as u8;
         match kind_of_primitive(name, size) {
             Kind::Number(number) => self.write_number(alloc, number, bytes),
@@ -261,7 +283,9 @@ impl<'a, 'n> Writing<'a, 'n> {
         alloc: Global,
         number: Number,
         bytes: &[u8],
-    ) -> Result<(), PartError<'a>> {
+    ) -> Result<(), PartError<'a>>
+        ensures { IfErr result (IsPartError IsUnwritable) }
+    {
         let text = number.decimal(alloc, bytes)?;
         if number.is_non_zero && text.as_str() == "0" {
             return Err(self.refused(alloc, Refusal::Zero));
@@ -273,7 +297,9 @@ impl<'a, 'n> Writing<'a, 'n> {
         }
     }
 
-    fn write_bool(&mut self, alloc: Global, bytes: &[u8]) -> Result<(), PartError<'a>> {
+    fn write_bool(&mut self, alloc: Global, bytes: &[u8]) -> Result<(), PartError<'a>>
+        ensures { IfErr result (IsPartError IsUnwritable) }
+    {
         match bytes {
             [0] => Ok(self.out.boolean(false)?),
             [1] => Ok(self.out.boolean(true)?),
@@ -281,21 +307,27 @@ impl<'a, 'n> Writing<'a, 'n> {
         }
     }
 
-    fn write_text(&mut self, alloc: Global, bytes: &[u8]) -> Result<(), PartError<'a>> {
+    fn write_text(&mut self, alloc: Global, bytes: &[u8]) -> Result<(), PartError<'a>>
+        ensures { IfErr result (IsPartError IsUnwritable) }
+    {
         match str::from_utf8(bytes) {
             Ok(text) => Ok(self.out.string(text)?),
             Err(_) => Err(self.refused(alloc, Refusal::NotUtf8)),
         }
     }
 
-    fn write_bytes(&mut self, alloc: Global, bytes: &[u8]) -> Result<(), PartError<'a>> {
+    fn write_bytes(&mut self, alloc: Global, bytes: &[u8]) -> Result<(), PartError<'a>>
+        ensures { IfErr result (IsPartError IsUnwritable) }
+    {
         let digits = hex::encode(alloc, bytes)?;
         let text = format!(in alloc; "0x{digits}")?;
         Ok(self.out.string(text.as_str())?)
     }
 
     /// Refuses two fields, or two variants, of one name.
-    fn check_names(&mut self, alloc: Global, node: &Node<'a>) -> Result<(), PartError<'a>> {
+    fn check_names(&mut self, alloc: Global, node: &Node<'a>) -> Result<(), PartError<'a>>
+        ensures { IfErr result (IsPartError IsUnwritable) }
+    {
         match self
             .definitions
             .repeated(alloc, node.name, node.definition)?
@@ -309,7 +341,9 @@ impl<'a, 'n> Writing<'a, 'n> {
     }
 
     /// The error of the part that was begun last.
-    fn refused(&self, alloc: Global, refusal: Refusal) -> PartError<'a> {
+    fn refused(&self, alloc: Global, refusal: Refusal) -> PartError<'a>
+        ensures { IsUnwritable refusal → IsPartError IsUnwritable result }
+    {
         match path_of(alloc, self.root, self.outer.as_slice(), &self.place) {
             Ok(path) => PartError::Refused(path, refusal),
             Err(_) => PartError::OutOfMemory,

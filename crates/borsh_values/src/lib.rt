@@ -7,18 +7,18 @@
 //! without a definition, and 18446744073709551615 elements without bytes. None recurses.
 #![tactic(auto)]
 
-pub mod encoding;
-pub mod faults;
-pub mod frames;
-pub mod keys;
-pub mod members;
-pub mod nodes;
-pub mod numbers;
-pub mod opening;
-pub mod paths;
-pub mod tag_tables;
-pub mod tags;
-pub mod unambiguous;
+mod encoding;
+mod faults;
+mod frames;
+mod keys;
+mod members;
+mod nodes;
+mod numbers;
+mod opening;
+mod paths;
+mod tag_tables;
+mod tags;
+mod unambiguous;
 
 pub use encoding::encode_value;
 pub use faults::{Fault, Path, PathStep, Reason};
