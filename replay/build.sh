@@ -42,3 +42,27 @@ ask_original() {
     "$room/strict" answer <"$room/lines" >"$room/strict.answers"
     "$room/any-order" answer <"$room/lines" >"$room/any-order.answers"
 }
+
+# Answers $room/lines by our program into $room/ours.
+ask_ours() {
+    local started
+    (cd crates/borsh_check && rt run </dev/null) >&2
+    started=$SECONDS
+    crates/borsh_check/out/borsh_check <"$room/lines" >"$room/ours"
+    echo "ours answered in $((SECONDS - started)) s"
+}
+
+# The same without a proof. `rt try` takes no program's output past 1 MiB, so the program is run on 10000 lines at a time;
+# --steps 1, since the compiled run is enough. It prints the answers to each part below a line `== PART`.
+ask_ours_unproved() {
+    local started=$SECONDS
+    mkdir "$room/parts"
+    split --lines 10000 --suffix-length 6 --numeric-suffixes "$room/lines" "$room/parts/"
+    (cd crates/borsh_check && rt try --steps 1 --cases "$room/parts") >"$room/answers" 2>"$room/tried" || {
+        grep -v 'run=ended status=0 ' "$room/tried" >&2
+        return 1
+    }
+    tail -n 1 "$room/tried"
+    grep -v '^== ' "$room/answers" >"$room/ours"
+    echo "ours was built without a proof, and answered, in $((SECONDS - started)) s"
+}
