@@ -1,13 +1,13 @@
 -- The container of a type, from the answers of its calls.
-use Rattle.std.proofs.Common.{◌≡◌, ℕ, Bool, List, length, subst, ◌∙◌, sym, ap, Decides, String, Global, string_bytes}
+use Rattle.std.proofs.Common.{◌≡◌, ℕ, Bool, List, Some, length, subst, ◌∙◌, sym, ap, inl, inr, Decides, String, Global, string_bytes}
 use Rattle.std.specs.BTreeMap.{BTreeMap, IsOrdered, btree_map_len}
 use Rattle.std.specs.String.{string_cmp}
 use Rattle.std.proofs.lemmas.List.{length-map}
 use Rattle.borsh_walks.specs.declared.definition.Definition.{Definition}
 use Rattle.borsh_schema.specs.declared.container.BorshSchemaContainer.{BorshSchemaContainer}
-use Rattle.borsh_definitions.specs.Described.{DefinitionTree, definitions_by_name, nothing_defined}
-use Rattle.borsh_schema.specs.Joined.{IsUnion}
-use Rattle.borsh_schema.specs.Containers.{declaration_of, map_of, IsContainerOf}
+use Rattle.borsh_definitions.specs.Described.{NamedDefinition, DefinitionTree, definitions_by_name, nothing_defined}
+use Rattle.borsh_schema.specs.Joined.{AreConsistent, IsDefinedIn, IsUnion}
+use Rattle.borsh_schema.specs.Containers.{declaration_of, defined_in, map_of, IsContainerOf}
 use Rattle.borsh_schema.proofs.Laws.Sameness.{said_entry, SayTheSame, container_as, container_once}
 
 pub container_made : {name : List ℕ} {ps : DefinitionTree} (m n : BTreeMap (String Global) Definition) {d : String Global} (c : BorshSchemaContainer)
@@ -25,3 +25,14 @@ module _ {name : List ℕ} {ps : DefinitionTree} (own sent : BorshSchemaContaine
   pub compared_short : (btree_map_len (map_of sent) ≡ btree_map_len (map_of own) → ⊥) → IsContainerOf name ps sent → ⊥
   compared_short f h =
       f (sym (length-map (map_of sent).entries said_entry) ∙ ap length (container_once sent own s o h is).1 ∙ length-map (map_of own).entries said_entry)
+
+-- a type that has a container gives no name two definitions
+module _ {name : List ℕ} {ps : DefinitionTree} (c : BorshSchemaContainer) (is : IsContainerOf name ps c) where
+  has : (n : List ℕ) (d : NamedDefinition) → IsDefinedIn nothing_defined ps n d → defined_in c n ≡ Some d
+  has n d (inl h) = absurd (cc)
+  has n d (inr h) = is.definitions.has n d h
+
+  pub consistent : AreConsistent ps
+  consistent n two =
+      let one : Some two.first ≡ Some two.second = sym (has n two.first two.has_first) ∙ has n two.second two.has_second in
+      two.apart (cc)

@@ -5,7 +5,7 @@ use Rattle.std.specs.BTreeMap.{BTreeMap}
 use Rattle.borsh_walks.specs.declared.definition.Definition.{Definition}
 use Rattle.borsh_schema.specs.declared.definitions.SchemaBuildError.{SchemaBuildError}
 use Rattle.borsh_schema.specs.declared.definitions.SchemaBuildError.TheVariants.{Redefinition, OutOfMemory}
-use Rattle.borsh_definitions.specs.Described.{NamedDefinition, named_definition, DefinitionMap, definitions_by_name, DefinitionTree, defined, IsInTree}
+use Rattle.borsh_definitions.specs.Described.{NamedDefinition, named_definition, DefinitionMap, definitions_by_name, nothing_defined, DefinitionTree, defined, IsInTree}
 
 -- the name has the definition in the old definitions, or among the new parts
 abbrev pub IsDefinedIn : DefinitionMap → DefinitionTree → List ℕ → NamedDefinition → Type 0
@@ -29,6 +29,10 @@ pub record Conflicts (old : DefinitionMap) (ps : DefinitionTree) (n : List ℕ) 
   pub has_first : IsDefinedIn old ps n first
   pub has_second : IsDefinedIn old ps n second
   pub apart : first ≡ second → ⊥
+
+-- no name has two definitions
+abbrev pub AreConsistent : DefinitionTree → Type 0
+AreConsistent ps = (n : List ℕ) → Conflicts nothing_defined ps n → ⊥
 
 -- the error is a name with two definitions, or an allocation failed
 abbrev pub BuildFault : DefinitionMap → DefinitionTree → SchemaBuildError → Type 0

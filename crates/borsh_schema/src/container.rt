@@ -6,7 +6,7 @@ ghost use Rattle.std.specs.String.{string_cmp};
 ghost use Rattle.std.specs.BTreeMap.{IsOrdered, IsUnchanged};
 ghost use Rattle.borsh_schema.specs.Containers.{declaration_of, map_of, definition_of, left_of, IsContainerOf, DescribesRoot, ReplacesDefinition};
 ghost use Rattle.borsh_definitions.specs.Described.{nothing_defined};
-ghost use Rattle.borsh_schema.specs.Joined.{BuildFault};
+ghost use Rattle.borsh_schema.specs.Joined.{AreConsistent, BuildFault};
 ghost use Rattle.borsh_schema.specs.Lending.{LendsDefinition};
 
 use super::definitions::SchemaBuildError;
@@ -71,6 +71,7 @@ impl BorshSchemaContainer {
     /// ```
     pub fn is_of_type<T: BorshSchema>(&self, alloc: Global) -> Result<bool, SchemaBuildError>
         ensures ok { IfOk result (λ yes. Decides yes (IsContainerOf T.name T.parts self.now)) }
+        ensures consistent { OnOk result (AreConsistent T.parts) }
         ensures err { IfErr result (λ e. BuildFault nothing_defined T.parts e) }
     {
         let own = BorshSchemaContainer::for_type::<T>(alloc)?;
