@@ -1,6 +1,5 @@
 // A run of the tool.
-ghost use Rattle.std.specs.Prelude.{IfErr, IfOk};
-ghost use Rattle.borsh_commands.specs.Failures.{IsNoContainer};
+ghost use Rattle.std.specs.Prelude.{IfOk};
 ghost use Rattle.borsh_commands.specs.Printed.{printed};
 ghost use Rattle.borsh_commands.specs.Questions.{AnswersRequest};
 
@@ -221,9 +220,8 @@ pub fn answer_about<'a>(
     request: &Request<'a>,
     bytes: &[u8],
 ) -> Result<Answer, Failure<'a>>
-    ensures ok { IfOk result (λ a. AnswersRequest request.now.question bytes.now
+    ensures { IfOk result (λ a. AnswersRequest request.now.question bytes.now
         a.is_yes (printed a.text)) }
-    ensures err { IfErr result (IsNoContainer request.now.path.now bytes.now) }
 {
     match container_from(alloc, bytes) {
         Ok(container) => Ok(answer_to(alloc, request.question, &container)?),

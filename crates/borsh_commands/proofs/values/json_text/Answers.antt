@@ -5,4 +5,4 @@ use Rattle.borsh_commands.proofs.values.json_text.Goals as goal
 
 pub returns-in-Err-clause-err : goal.returns-in-Err-clause-err
 returns-in-Err-clause-err c =
-    led (λ h. h) (reasoned (λ r. IsNoJsonReason (definitions_in c.args.schema.now.definitions) r c.args.bytes.now) c.in-Err.error c.as_str.ensures.value c.in-Err.ensures.reason) (λ h. h) c.no_value.result c.no_value.ensures
+    led _ (λ h. h) (reasoned (λ r. IsNoJsonReason (definitions_in c.args.schema.now.definitions) r c.args.bytes.now) c.in-Err.error c.as_str.ensures.value c.in-Err.ensures.reason) (λ h. h) c.no_value.result c.no_value.ensures

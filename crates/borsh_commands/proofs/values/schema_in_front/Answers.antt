@@ -8,4 +8,4 @@ returns-in-Ok-clause-ok c = sent (record { root = c.in-Ok.root; definitions = c.
 
 pub returns-in-Err-clause-err : goal.returns-in-Err-clause-err
 returns-in-Err-clause-err c =
-    led (none_in_front c.args.bytes.now c.deserialize-decoded.new.buf.now (error_kind c.in-Err.error) c.in-Err.ensures.err) (λ h. h) (λ h. h) c.no_container.result c.no_container.ensures
+    led _ (none_in_front c.args.bytes.now c.deserialize-decoded.new.buf.now (error_kind c.in-Err.error) c.in-Err.ensures.err) (λ h. h) (λ h. h) c.no_container.result c.no_container.ensures
