@@ -1,3 +1,4 @@
 mod Told
 mod Painting
 mod Sending
+mod Failing

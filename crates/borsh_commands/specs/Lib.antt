@@ -6,3 +6,4 @@ pub mod Questions
 pub mod Answers
 pub mod Definitions
 pub mod Sent
+pub mod Failures

@@ -1,8 +1,12 @@
 // What is asked of a value by its container.
-ghost use Rattle.std.specs.Prelude.{◌≡◌, IfOk, OnOk, Decides, Some, string_bytes};
+ghost use Rattle.std.specs.Prelude.{◌≡◌, IfErr, IfOk, OnOk, Decides, Some, string_bytes};
+ghost use Rattle.borsh.specs.Errors.{error_kind};
 ghost use Rattle.borsh_commands.specs.Colors.{IsPainted};
 ghost use Rattle.borsh_commands.specs.Colored.{has_colors, printed_colors};
+ghost use Rattle.borsh_commands.specs.Failures.{IsFailure, IsNoAnswer, IsNoContainer, IsNoContainerInFront, IsNoContainerJson, IsNoJson, IsNoMemory, IsNotShown, IsNoValue};
 ghost use Rattle.borsh_commands.specs.Sent.{IsContainer, IsSent, schema_encoding};
+ghost use Rattle.borsh_io.specs.declared.error.ErrorKind.TheVariants.{OutOfMemory as NoRoom};
+ghost use Rattle.borsh_json.specs.declared.error.JsonError.TheVariants.{OutOfMemory as NoMemory};
 ghost use Rattle.borsh_walks.specs.Container.{Member};
 ghost use Rattle.borsh_walks.specs.Definitions.{definitions_in};
 
@@ -36,7 +40,8 @@ pub struct Schema {
 /// println!(rt; "{}", schema.root)?;
 /// ```
 pub fn schema_from<'a>(alloc: Global, path: &'a str, bytes: &[u8]) -> Result<Schema, Failure<'a>>
-    ensures { IfOk result (λ s. schema_encoding s ≡ Some bytes.now) }
+    ensures ok { IfOk result (λ s. schema_encoding s ≡ Some bytes.now) }
+    ensures err { IfErr result (IsNoContainer path.now bytes.now) }
 {
     let decoded: Result<(String, BTreeMap<String, Definition>), Error> = from_slice(alloc, bytes);
     match decoded {
@@ -57,7 +62,8 @@ pub fn schema_in_front<'a, 'b>(
     path: &'a str,
     bytes: &'b [u8],
 ) -> Result<(Schema, &'b [u8]), Failure<'a>>
-    ensures { IfOk result (λ r. IsSent r.0 r.1.now bytes.now) }
+    ensures ok { IfOk result (λ r. IsSent r.0 r.1.now bytes.now) }
+    ensures err { IfErr result (IsNoContainerInFront path.now bytes.now) }
 {
     let mut rest = bytes;
     let decoded: Result<(String, BTreeMap<String, Definition>), Error> =
@@ -87,7 +93,9 @@ pub fn with_schema(alloc: Global, schema: &Schema, value: &[u8]) -> Result<Vec<u
 }
 
 /// The container of containers.
-pub fn own_schema<'a>(alloc: Global) -> Result<Schema, Failure<'a>> {
+pub fn own_schema<'a>(alloc: Global) -> Result<Schema, Failure<'a>>
+    ensures { IfErr result IsNoMemory }
+{
     let Ok(container) = schema_container_of::<BorshSchemaContainer>(alloc) else {
         return Err(Failure::OutOfMemory);
     };
@@ -108,14 +116,17 @@ pub fn own_schema<'a>(alloc: Global) -> Result<Schema, Failure<'a>> {
 /// assert_eq!(rt; again.as_slice(), bytes.as_slice());
 /// ```
 pub fn schema_json<'a>(alloc: Global, path: &'a str, bytes: &[u8]) -> Result<PlainText, Failure<'a>>
-    ensures { OnOk result (IsContainer bytes.now) }
+    ensures ok { OnOk result (IsContainer bytes.now) }
+    ensures err { IfErr result (IsNoContainerJson path.now bytes.now) }
 {
     let _schema = schema_from(alloc, path, bytes)?;
     let own = own_schema(alloc)?;
     json_text(alloc, &own, path, bytes, Layout::Pretty)
 }
 
-fn no_container<'a>(path: &'a str, error: Error) -> Failure<'a> {
+fn no_container<'a>(path: &'a str, error: Error) -> Failure<'a>
+    ensures { IsFailure path.now (error_kind error ≡ NoRoom → ⊥) ⊥ ⊥ result }
+{
     if error.kind() == ErrorKind::OutOfMemory {
         return Failure::OutOfMemory;
     }
@@ -137,8 +148,10 @@ pub fn json_text<'a>(
     bytes: &[u8],
     layout: Layout,
 ) -> Result<PlainText, Failure<'a>>
-    ensures { OnOk result (Member (definitions_in schema.now.definitions)
+    ensures ok { OnOk result (Member (definitions_in schema.now.definitions)
         (string_bytes schema.now.root) bytes.now) }
+    ensures err { IfErr result (IsNoJson (definitions_in schema.now.definitions)
+        (string_bytes schema.now.root) path.now bytes.now) }
 {
     match to_json(
         alloc,
@@ -171,8 +184,10 @@ pub fn bytes_said<'a>(
     path: &'a str,
     json: &[u8],
 ) -> Result<Vec<u8>, Failure<'a>>
-    ensures { IfOk result (λ bytes. Member (definitions_in schema.now.definitions)
+    ensures ok { IfOk result (λ bytes. Member (definitions_in schema.now.definitions)
         (string_bytes schema.now.root) bytes.items) }
+    ensures err { IfErr result (IsNoValue (definitions_in schema.now.definitions)
+        (string_bytes schema.now.root) path.now json.now) }
 {
     let Ok(text) = str::from_utf8(json) else {
         return Err(Failure::NotText(path));
@@ -196,8 +211,10 @@ pub fn member<'a>(
     path: &'a str,
     bytes: &[u8],
 ) -> Result<Answer, Failure<'a>>
-    ensures { IfOk result (λ a. Decides a.is_yes (Member (definitions_in schema.now.definitions)
+    ensures ok { IfOk result (λ a. Decides a.is_yes (Member (definitions_in schema.now.definitions)
         (string_bytes schema.now.root) bytes.now)) }
+    ensures err { IfErr result (IsNoAnswer (definitions_in schema.now.definitions)
+        (string_bytes schema.now.root) path.now) }
 {
     let mut text = PlainText::new(alloc);
     match is_member(alloc, schema.root.as_str(), &schema.definitions, bytes)? {
@@ -238,6 +255,8 @@ pub fn shown<'a>(
     ensures member { OnOk result (Member (definitions_in schema.now.definitions)
         (string_bytes schema.now.root) bytes.now) }
     ensures colors { IfOk result (λ t. IsPainted is_colored (printed_colors t)) }
+    ensures err { IfErr result (IsNotShown (definitions_in schema.now.definitions)
+        (string_bytes schema.now.root) path.now bytes.now) }
 {
     match rows_of(alloc, schema.root.as_str(), &schema.definitions, bytes) {
         Ok(rows) => Ok(text_of_rows(alloc, rows.as_slice(), is_colored)?),
@@ -307,7 +326,9 @@ pub fn hex_line(alloc: Global, bytes: &[u8]) -> Result<PlainText, AllocError> {
     Ok(out)
 }
 
-fn no_value<'a>(alloc: Global, path: &'a str, error: JsonError<'_>) -> Failure<'a> {
+fn no_value<'a>(alloc: Global, path: &'a str, error: JsonError<'_>) -> Failure<'a>
+    ensures { IsFailure path.now ⊥ (error.entry ≡ NoMemory → ⊥) ⊥ result }
+{
     if matches!(error, JsonError::OutOfMemory) {
         return Failure::OutOfMemory;
     }
