@@ -51,18 +51,6 @@ only_memory path f g h TwoInputs k = absurd k
 only_memory path f g h (Unwritable e) k = absurd k
 only_memory path f g h OutOfMemory k = tt
 
--- and may be returned wherever there are failures
-pub of_memory : (path : List ℕ) (x y z : Type 0) (f : Failure) → IsNoMemory f → IsFailure path x y z f
-of_memory path x y z NoCommand k = absurd k
-of_memory path x y z (Unreadable p e) k = absurd k
-of_memory path x y z (NotHexadecimal p e) k = absurd k
-of_memory path x y z (NotContainer p e) k = absurd k.1
-of_memory path x y z (NotValue p t) k = absurd k.1
-of_memory path x y z (NotText p) k = absurd k.1
-of_memory path x y z TwoInputs k = absurd k
-of_memory path x y z (Unwritable e) k = absurd k
-of_memory path x y z OutOfMemory k = tt
-
 -- the bytes are those of a container, so a call that reads one from them fails only by an allocation
 pub own_read : {A : Type 0} (path : List ℕ) (c : BorshSchemaContainer) (bytes given : List ℕ) → container.encoding c ≡ Some bytes → given ≡ bytes → (r : Result A Failure) → IfErr r (IsFailure path (IsContainer given → ⊥) ⊥ ⊥) → IfErr r IsNoMemory
 own_read path c bytes given is same (Ok v) k = tt
@@ -78,13 +66,6 @@ reasoned Reason e same reason other = (e, subst (λ (r : List ℕ). Reason r e) 
 pub none_decoded : (bytes : List ℕ) (kind : ErrorKind) → WhyNotDecoded root_and_map true bytes kind → (kind ≡ NoRoom → ⊥) → IsContainer bytes → ⊥
 none_decoded bytes kind (malformed k none) other is = none ((is.0.root, is.0.definitions), root_and_map-lawful.round_trip true (is.0.root, is.0.definitions) bytes is.1)
 none_decoded bytes kind (no_memory k a) other is = absurd (other k)
-
--- the same of the type of containers
-pub none_from : (bytes : List ℕ) (kind : ErrorKind) → WhyNotDecoded container true bytes kind → (kind ≡ NoRoom → ⊥) → IsContainer bytes → ⊥
-none_from bytes kind (malformed k none) other is =
-    let c : BorshSchemaContainer = record { declaration = is.0.root; definitions = is.0.definitions } in
-    none (c, root_and_map-lawful.round_trip true (is.0.root, is.0.definitions) bytes is.1)
-none_from bytes kind (no_memory k a) other is = absurd (other k)
 
 no_fault : CountedUp 0 0 → ⊥
 no_fault r = let one : 0 ≡ 0 + 1 = r.0 (omega arith) in omega arith

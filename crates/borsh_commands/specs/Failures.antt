@@ -51,11 +51,11 @@ abbrev pub HasReason : (JsonError → Type 0) → Type 0
 HasReason Reason = (e : JsonError) × Reason e × (e ≡ NoMemory → ⊥)
 
 module _ (C : List ℕ → Option Shape) (root path : List ℕ) where
-  -- no JSON only if the bytes are no member, or the definitions are undecided, or a part of the member can't be written
+  -- no JSON only if the bytes are no member, or the definitions are undecided, or they are a member, of which a part may be refused
   abbrev pub IsNoJson : List ℕ → Failure → Type 0
   IsNoJson bytes = IsFailure path ⊥ (HasReason (IsNoJsonReason C root bytes)) ⊥
 
-  -- no rows only if the bytes are no member, or the definitions are undecided, or the parts of the member nest too deep
+  -- no rows only if the bytes are no member, or the definitions are undecided, or they are a member, which may be refused as too deep
   abbrev pub IsNotShown : List ℕ → Failure → Type 0
   IsNotShown bytes = IsFailure path ⊥ (HasReason (IsNoRowsReason C root bytes)) ⊥
 
