@@ -1,7 +1,8 @@
 /* A heap that can be told which request for memory to refuse.
  *
- * It is linked in the place of the toolchain's liblibc_c.a, whose three functions are all that a Rattle program asks for
- * memory. It includes no header, since the toolchain's clang comes without them.
+ * It is a shared library that is loaded into a program by LD_PRELOAD, so that its `malloc`, `realloc` and `free` are found
+ * before those of the C library. A Rattle program asks these three for all of its memory. What the C library itself asks for
+ * is no request, and is always granted. It includes no header, since the toolchain's clang comes without them.
  *
  * A request for 2^60 bytes or more, which no heap grants, is an order. Its upper bits say what is ordered, and the lower
  * sixty bits are the order's number n:
@@ -20,17 +21,12 @@
  * how many blocks were never freed.
  */
 typedef __SIZE_TYPE__ size_t;
-void *malloc(size_t);
-void *realloc(void *, size_t);
-void free(void *);
+void *__libc_malloc(size_t);
+void *__libc_realloc(void *, size_t);
+void __libc_free(void *);
+unsigned long getauxval(unsigned long);
 char *getenv(const char *);
 int dprintf(int, const char *, ...);
-
-/* What the toolchain's functions answer; the pointer is never null, also where the request was refused. */
-struct answer {
-    _Bool granted;
-    void *block;
-};
 
 enum { ORDER_SHIFT = 60 };
 
@@ -46,7 +42,7 @@ static size_t refused, largest, sum;
 /* Since the program began. */
 static size_t requests, all_refused, blocks;
 
-static char no_block, granted_order;
+static char granted_order;
 
 static void refuse(size_t n, _Bool rest) {
     countdown = n;
@@ -54,7 +50,7 @@ static void refuse(size_t n, _Bool rest) {
     refused = largest = sum = 0;
 }
 
-static struct answer obey(size_t order, size_t n) {
+static void *obey(size_t order, size_t n) {
     _Bool granted = 0;
     switch (order) {
     case REFUSE_ONE:
@@ -71,7 +67,7 @@ static struct answer obey(size_t order, size_t n) {
         granted = sum > n;
         break;
     }
-    return (struct answer){granted, granted ? &granted_order : &no_block};
+    return granted ? &granted_order : 0;
 }
 
 static _Bool is_refused(size_t size) {
@@ -92,29 +88,34 @@ static _Bool is_refused(size_t size) {
     return 1;
 }
 
-struct answer rattle_alloc(size_t size, size_t align) {
+/* Whether the program itself made the call that returns to `caller`, and not the C library, which lies far from it. */
+static _Bool is_request(const void *caller) {
+    enum { ADDRESS_OF_PROGRAM_HEADERS = 3 };
+    size_t program = getauxval(ADDRESS_OF_PROGRAM_HEADERS);
+    return (size_t)caller >= program && (size_t)caller - program < (size_t)1 << 30;
+}
+
+void *malloc(size_t size) {
+    if (!is_request(__builtin_return_address(0)))
+        return __libc_malloc(size);
     if (size >> ORDER_SHIFT)
         return obey(size >> ORDER_SHIFT, size & (((size_t)1 << ORDER_SHIFT) - 1));
-    void *block = is_refused(size) ? 0 : malloc(size ? size : align);
-    if (!block)
-        return (struct answer){0, &no_block};
-    blocks++;
-    return (struct answer){1, block};
+    void *block = is_refused(size) ? 0 : __libc_malloc(size);
+    blocks += block != 0;
+    return block;
 }
 
-struct answer rattle_realloc(void *block, size_t kept, size_t size, size_t align) {
-    (void)kept;
-    void *moved = is_refused(size) ? 0 : realloc(block, size ? size : align);
-    if (!moved)
-        return (struct answer){0, &no_block};
-    return (struct answer){1, moved};
+void *realloc(void *block, size_t size) {
+    if (!is_request(__builtin_return_address(0)))
+        return __libc_realloc(block, size);
+    return is_refused(size) ? 0 : __libc_realloc(block, size);
 }
 
-void rattle_dealloc(void *block) {
+void free(void *block) {
     if (block == &granted_order)
         return;
-    blocks--;
-    free(block);
+    blocks -= block != 0 && is_request(__builtin_return_address(0));
+    __libc_free(block);
 }
 
 /* The number that the text begins with; afterwards the text is what follows it. */

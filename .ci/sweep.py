@@ -1,7 +1,7 @@
 #!/usr/bin/env python3
-"""Refuses each request for memory of borsh_check in turn: sweep.py PROGRAM ROWS
+"""Refuses each request for memory of borsh_check in turn: sweep.py PROGRAM HEAP ROWS
 
-PROGRAM is borsh_check, linked over heap.c. Each line of ROWS is a line of input and its answer, as `INPUT => ANSWER`; a
+PROGRAM is borsh_check, and HEAP is heap.c as a shared library. Each line of ROWS is a line of input and its answer, as `INPUT => ANSWER`; a
 `*` in an answer matches any text. The n-th request is refused, for each n, and then all requests from the n-th on. The
 program either answers all lines, or it says that it is out of memory, its status is 1, and what it wrote is whole answers to
 the first lines, all among them that were answered before the refusal. It never leaks a block.
@@ -23,7 +23,7 @@ OUT_OF_MEMORY = b"borsh_check: out of memory\n"
 class Run:
     """The program, run on some lines, with a request refused."""
 
-    def __init__(self, program, lines, refuse="0"):
+    def __init__(self, program, heap, lines, refuse="0"):
         report, told = os.pipe()
         # A file and no pipe: so each read gets as many bytes in every run.
         with tempfile.TemporaryFile() as file:
@@ -33,7 +33,7 @@ class Run:
                 [program],
                 stdin=file,
                 capture_output=True,
-                env={"REFUSE": refuse, "HEAP_REPORT": str(told)},
+                env={"LD_PRELOAD": heap, "REFUSE": refuse, "HEAP_REPORT": str(told)},
                 pass_fds=[told],
             )
         os.close(told)
@@ -68,10 +68,10 @@ def faults_of(run, answers, first_request):
         yield f"lost answers: {len(run.out)} bytes were written of {len(given)}"
 
 
-def sweep(program, rows, pool):
+def sweep(program, heap, rows, pool):
     """How many runs met a refusal, how many answered all lines in spite of it, and what was wrong."""
     lines = [line for line, _ in rows]
-    whole = Run(program, lines)
+    whole = Run(program, heap, lines)
     answers = whole.out.splitlines(keepends=True)
     faults = [
         f"{line}: {answer}"
@@ -80,10 +80,10 @@ def sweep(program, rows, pool):
     ]
     if whole.status or whole.blocks or len(answers) != len(rows):
         faults.append(f"status {whole.status}, {len(answers)} answers, {whole.blocks} blocks leaked")
-    fronts = pool.map(lambda count: Run(program, lines[:count]), range(1, len(lines) + 1))
+    fronts = pool.map(lambda count: Run(program, heap, lines[:count]), range(1, len(lines) + 1))
     answers = list(zip(answers, [front.requests for front in fronts]))
     orders = [(n, f"{n}{rest}") for n in range(1, whole.requests + 1) for rest in ("", "..")]
-    runs = pool.map(lambda order: Run(program, lines, order[1]), orders)
+    runs = pool.map(lambda order: Run(program, heap, lines, order[1]), orders)
     survived = 0
     for (n, refuse), run in zip(orders, runs):
         survived += run.status == 0
@@ -95,12 +95,12 @@ def sweep(program, rows, pool):
 
 
 def main():
-    program, path = sys.argv[1:]
+    program, heap, path = sys.argv[1:]
     rows = read_rows(path)
     refused, survived, faults = 0, 0, []
     with concurrent.futures.ThreadPoolExecutor(os.cpu_count()) as pool:
         for begin in range(0, len(rows), GROUP):
-            counts = sweep(program, rows[begin : begin + GROUP], pool)
+            counts = sweep(program, heap, rows[begin : begin + GROUP], pool)
             refused += counts[0]
             survived += counts[1]
             faults += counts[2]
