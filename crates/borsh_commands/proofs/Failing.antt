@@ -67,6 +67,13 @@ pub none_decoded : (bytes : List ℕ) (kind : ErrorKind) → WhyNotDecoded root_
 none_decoded bytes kind (malformed k none) other is = none ((is.0.root, is.0.definitions), root_and_map-lawful.round_trip true (is.0.root, is.0.definitions) bytes is.1)
 none_decoded bytes kind (no_memory k a) other is = absurd (other k)
 
+-- the same of the container of `borsh_schema`
+pub no_own_decoded : (bytes : List ℕ) (kind : ErrorKind) → WhyNotDecoded container true bytes kind → (kind ≡ NoRoom → ⊥) → IsContainer bytes → ⊥
+no_own_decoded bytes kind (malformed k none) other is =
+    let c : BorshSchemaContainer = record { declaration = is.0.root; definitions = is.0.definitions } in
+    none (c, root_and_map-lawful.round_trip true (is.0.root, is.0.definitions) bytes is.1)
+no_own_decoded bytes kind (no_memory k a) other is = absurd (other k)
+
 no_fault : CountedUp 0 0 → ⊥
 no_fault r = let one : 0 ≡ 0 + 1 = r.0 (omega arith) in omega arith
 

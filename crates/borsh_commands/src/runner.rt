@@ -1,5 +1,6 @@
 // A run of the tool.
-ghost use Rattle.std.specs.Prelude.{IfOk};
+ghost use Rattle.std.specs.Prelude.{IfErr, IfOk};
+ghost use Rattle.borsh_commands.specs.Failures.{IsNoContainer};
 ghost use Rattle.borsh_commands.specs.Printed.{printed};
 ghost use Rattle.borsh_commands.specs.Questions.{AnswersRequest};
 
@@ -7,10 +8,9 @@ use super::answers::{Answer, answer_to, container_from};
 use super::command::{Action, Request, ValueRequest, command, request_from, value_request_from};
 use super::failure::{Failure, failure_line, usage_line};
 use super::values::{
-    Schema, bytes_said, hex_line, json_text, member, own_schema, schema_from, schema_in_front,
-    schema_json, shown, with_schema,
+    Schema, bytes_said, hex_line, json_text, member, no_container, own_schema, schema_from,
+    schema_in_front, schema_json, shown, with_schema,
 };
-use borsh::io::ErrorKind;
 use borsh_json::Layout;
 use clap::ArgMatches;
 use hex::FromHexError;
@@ -215,18 +215,25 @@ fn print_bytes<'a, R: Print + AllocGlobal>(rt: &R, bytes: &[u8]) -> Result<(), F
 }
 
 /// The answer to a request about the container whose encoding the bytes are.
+///
+/// Returns `NotContainer` with the request's path if they are none, and `OutOfMemory` if an allocation fails.
+///
+/// ```
+/// let answer = answer_about(alloc, &request, bytes.as_slice())?;
+/// assert!(rt; answer.is_yes);
+/// ```
 pub fn answer_about<'a>(
     alloc: Global,
     request: &Request<'a>,
     bytes: &[u8],
 ) -> Result<Answer, Failure<'a>>
-    ensures { IfOk result (λ a. AnswersRequest request.now.question bytes.now
+    ensures ok { IfOk result (λ a. AnswersRequest request.now.question bytes.now
         a.is_yes (printed a.text)) }
+    ensures err { IfErr result (IsNoContainer request.now.path.now bytes.now) }
 {
     match container_from(alloc, bytes) {
         Ok(container) => Ok(answer_to(alloc, request.question, &container)?),
-        Err(error) if error.kind() == ErrorKind::OutOfMemory => Err(Failure::OutOfMemory),
-        Err(error) => Err(Failure::NotContainer(request.path, error)),
+        Err(error) => Err(no_container(request.path, error)),
     }
 }
 

@@ -124,7 +124,8 @@ pub fn schema_json<'a>(alloc: Global, path: &'a str, bytes: &[u8]) -> Result<Pla
     json_text(alloc, &own, path, bytes, Layout::Pretty)
 }
 
-fn no_container<'a>(path: &'a str, error: Error) -> Failure<'a>
+/// The failure that an error of decoding a container is.
+pub(crate) fn no_container<'a>(path: &'a str, error: Error) -> Failure<'a>
     ensures { IsFailure path.now (error_kind error ≡ NoRoom → ⊥) ⊥ ⊥ result }
 {
     if error.kind() == ErrorKind::OutOfMemory {

@@ -41,6 +41,26 @@ fn answers_about_values(rt: HostRuntime) -> Result<(), Fail> {
 }
 
 #[test]
+fn refuses_json_that_is_no_text(rt: HostRuntime) -> Result<(), Fail> {
+    let alloc = rt.alloc();
+    let container = to_vec(alloc, &schema_container_of::<String>(alloc)?)?;
+    let schema = schema_from(alloc, "s", container.as_slice())?;
+    assert_eq!(rt;
+        bytes_said(alloc, &schema, "v", b"\"a\"".as_slice())?.as_slice(),
+        b"\x01\0\0\0a".as_slice()
+    );
+    match bytes_said(alloc, &schema, "v", b"\"\xff\"".as_slice()) {
+        Ok(_) => return Err(Fail::from("it was encoded")),
+        Err(failure) => {
+            assert_eq!(rt; failure.status(), 1);
+            let text = format!(in alloc; "{failure}")?;
+            assert_eq!(rt; text.as_str(), "v: not UTF-8");
+        }
+    }
+    Ok(())
+}
+
+#[test]
 fn a_container_is_a_value_of_its_own_container(rt: HostRuntime) -> Result<(), Fail> {
     let alloc = rt.alloc();
     let bytes = to_vec(alloc, &schema_container_of::<BorshSchemaContainer>(alloc)?)?;

@@ -2,7 +2,7 @@
 //!
 //! The tests tell the heap which allocations are to fail, by allocations of more bytes than any heap grants. `rt ci` runs them
 //! over an ordinary heap, which refuses these and nothing else, so each call is made with ample memory there. `.ci/refused`
-//! then links the same proved tests over `.ci/heap.c`, which does as it is told.
+//! then runs the same proved tests with the heap of `.ci/heap.c` loaded in its place, which does as it is told.
 #![tactic(auto)]
 
 #[cfg(test)]

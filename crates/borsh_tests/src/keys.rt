@@ -22,6 +22,10 @@ fn ordered(alloc: Global) -> Result<Checks, Fail> {
         alloc,
         b"\x01\0\0\0\x01\x02\0\0\0\x02\x03",
     )?);
+    checks.add(check_encoding::<BTreeMap<u8, BTreeSet<u8>>>(
+        alloc,
+        b"\x01\0\0\0\x01\x01\0\0\0\x05",
+    )?);
     checks.add(check_encoding::<BTreeMap<BTreeSet<u8>, u8>>(
         alloc,
         b"\x01\0\0\0\x02\0\0\0\x01\x02\x06",
