@@ -5,7 +5,7 @@ mod signing;
 
 use borsh::io::StdReader;
 use borsh::{from_reader, schema_container_of, to_vec};
-use signing::{bytes_to_sign, signed_value};
+use signing::{bytes_to_sign, signed_list, signed_value};
 use std::collections::BTreeMap;
 
 /// How often standard input may be interrupted before that counts as an error.
@@ -30,6 +30,10 @@ fn main(rt: HostRuntime) -> Result<(), anyhow::Error> {
     let signed = bytes_to_sign(alloc, &balances)?;
     let again: BTreeMap<String, u64> = signed_value(alloc, signed.as_slice())?;
     println!(rt; "decoded {} entries", again.len())?;
+
+    // A list, which can't have more elements than bytes.
+    let flags: Vec<bool> = signed_list(alloc, b"\x02\0\0\0\x01\0".as_slice())?;
+    println!(rt; "decoded {} flags", flags.len())?;
 
     // The schema of the type, and the rules that every schema has to keep.
     let container = schema_container_of::<BTreeMap<String, u64>>(alloc)?;
