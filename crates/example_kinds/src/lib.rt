@@ -1,6 +1,6 @@
-//! More types as a program has them: a key with a schema, fields that are left out, each type of
-//! the library as a field, and enums of many variants. `borsh_derive.py` writes how they are
-//! encoded and decoded.
+//! More types as a program has them: a key with a schema, fields that are left out, the library's
+//! types as fields, and enums of many variants. `borsh_derive.py` writes how they are encoded and
+//! decoded.
 #![tactic(auto)]
 
 pub mod events;
@@ -19,6 +19,8 @@ mod library_ranges;
 mod library_shared;
 mod library_sockets;
 mod library_tuples;
+pub mod opcodes;
+mod opcodes_opcode;
 pub mod originals_more;
 mod originals_more_a;
 mod originals_more_custom_struct;
