@@ -21,7 +21,7 @@ from emit import GHOST_NAMES, WRITTEN, Place, Writer, blocks_of
 from ghost import MODULES, NO_NAME, RESERVED
 from refusal import Refusal
 from root import modules_of, refuse_taken, with_modules
-from rust_types import NO_ENCODING, bare_names, without_encoding
+from rust_types import NO_ENCODING, arrays_in, bare_names, names_on_the_heap, without_encoding
 from schema import with_schema
 from source import mark_of, read_module
 from tokens import tokens_of
@@ -259,6 +259,8 @@ def refuse_fields(marked, place):
             reason = 'more than %d fields: put some of them into a struct of their own, whose bytes are the same'
             raise Refusal(encoded[most].line, reason % most)
         for field in group.all:
+            refuse_array_of_parameter(marked, field)
+            refuse_length_on_the_heap(marked, field)
             if marked.variants is not None:
                 refuse_bare_parameter(marked, field)
             elif not field.public and place.module_name:
@@ -292,6 +294,27 @@ def refuse_type(marked, field, place):
         if name not in own and (path == name or path.split('::')[0] in ('std', 'core', 'alloc')):
             reason = '`%s`: the type `%s` of the field `%s` has no encoding here: %s'
             raise Refusal(field.line, reason % (marked.name, name, field.name, NO_ENCODING[name]))
+
+
+def refuse_array_of_parameter(marked, field):
+    """An array whose elements hold a parameter by itself: that it fits in memory doesn't follow."""
+    for array in arrays_in(field.type):
+        names = bare_names(array.element)
+        for parameter in marked.parameters:
+            if not parameter.constant and parameter.name in names:
+                reason = ('the parameter `%s` is by itself in an array, and the proofs need an array of a known size: '
+                          'write `Vec<..>`, or a tuple')
+                raise Refusal(field.line, reason % parameter.name)
+
+
+def refuse_length_on_the_heap(marked, field):
+    """A parameter that is a length, within a list: that an element fits in memory doesn't follow."""
+    names = names_on_the_heap(field.type)
+    for parameter in marked.parameters:
+        if parameter.constant and parameter.name in names:
+            reason = ('the length `%s` is within a type like `Vec`, and the proofs need elements of a known size: write '
+                      'the length as a number, or hold the array by itself')
+            raise Refusal(field.line, reason % parameter.name)
 
 
 def refuse_bare_parameter(marked, field):

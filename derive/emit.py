@@ -6,7 +6,7 @@ from ghost import KNOWN, RESERVED, Term, ghost_cases, ghost_member, ghost_name, 
 from layout import (WIDTH, Group, arm, binding, block_arm, call, chain, chain_fits, conjunction, doc_line, flat,
                     function_head, impl_head, import_lines, pattern, statement, struct_of, tuple_of, tuple_type,
                     type_layout, type_text, within)
-from rust_types import Array
+from rust_types import Array, arrays_in, heads
 
 NUMBERS = ('zero', 'one', 'two', 'three', 'four', 'five', 'six', 'seven', 'eight', 'nine', 'ten', 'eleven',
            'twelve', 'thirteen', 'fourteen', 'fifteen', 'sixteen', 'seventeen', 'eighteen', 'nineteen', 'twenty')
@@ -214,7 +214,7 @@ GHOST_OFFERED = {
         enum_definitions enum_described enum_lawful_if fields first_variant fork_described from key_facts
         later_variant left name_with named_described no_fields_described option_view result_view right
         struct_described struct_parts unit_entries unit_struct unnamed_described unnamed_struct'''.split(),
-    'Rattle.std.specs.Prelude': ['codes', 'refl', '◌∷◌', '[]'],
+    'Rattle.std.specs.Prelude': ['codes', 'refl', '⊤', '◌∷◌', '[]'],
 }
 
 
@@ -600,11 +600,17 @@ def enum_decoding(writer):
 
 
 def own_width(writer):
-    """The method `width` of a type with a length as a parameter: that it fits in memory, which the provided one has to
-    know, doesn't follow from the length."""
-    if not any(parameter.constant for parameter in writer.marked.parameters):
+    """The method `width` of a type with a length as a parameter, or with an array whose elements name a parameter: that it
+    fits in memory, which the provided one has to know, doesn't follow from these."""
+    if not any(parameter.constant for parameter in writer.marked.parameters) and not has_array_of_parameter(writer.marked):
         return []
     return ['', '    fn width() -> usize {', '        0', '    }']
+
+
+def has_array_of_parameter(marked):
+    names = {parameter.name for parameter in marked.parameters}
+    types = [field.type for group in marked.groups() for field in group.all]
+    return any(names & set(heads(array.element)) for type in types for array in arrays_in(type))
 
 
 def enum_after_tag(writer):

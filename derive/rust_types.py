@@ -174,6 +174,27 @@ def bare_names(tree):
     return []
 
 
+def arrays_in(tree):
+    """The arrays in a type, but those in a `PhantomData`."""
+    if isinstance(tree, Path):
+        name, arguments = tree.segments[-1]
+        return [found for argument in arguments for found in arrays_in(argument)] if name != 'PhantomData' else []
+    if isinstance(tree, Tuple):
+        return [found for item in tree.items for found in arrays_in(item)]
+    return [tree] + arrays_in(tree.element) if isinstance(tree, Array) else []
+
+
+def names_on_the_heap(tree):
+    """The names in a type that are within a type of `HELD`."""
+    if isinstance(tree, Path):
+        name, arguments = tree.segments[-1]
+        inner = heads if name in HELD else names_on_the_heap
+        return [found for argument in arguments for found in inner(argument)] if name != 'PhantomData' else []
+    if isinstance(tree, Tuple):
+        return [found for item in tree.items for found in names_on_the_heap(item)]
+    return names_on_the_heap(tree.element) if isinstance(tree, Array) else []
+
+
 # marks with no space before them, and those with none behind them
 TIGHT = (',', ';', ')', ']', '>', '::', '?', '.', ':')
 OPEN = ('', '(', '[', '<', '::', '&', '?', '.')

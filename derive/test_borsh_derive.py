@@ -9,6 +9,7 @@ import subprocess
 import tempfile
 import time
 import unittest
+import unittest.mock
 
 import borsh_derive
 
@@ -101,10 +102,15 @@ class Taken(Cases):
         self.assertIn('write_bytes(&[], writer)', text)
 
     def test_parameters_bounds_and_where(self):
-        text = self.written('// derive: borsh\npub struct Pair<A: Clone, B, const N: usize>\nwhere\n    B: Copy,\n{\n    pub a: A,\n    pub b: [B; N],\n}\n', 'types_pair')
+        text = self.written('// derive: borsh\npub struct Pair<A: Clone, B, const N: usize>\nwhere\n    B: Copy,\n{\n    pub a: A,\n    pub b: B,\n    pub c: [u8; N],\n}\n', 'types_pair')
         self.assertIn('impl<A: Clone + BorshType, B: BorshType, const N: usize> BorshType for Pair<A, B, N>\nwhere\n    B: Copy,\n{', text)
-        self.assertIn('type Fields<A, B, const N: usize> = (A, [B; N]);', text)
+        self.assertIn('type Fields<A, B, const N: usize> = (A, B, [u8; N]);', text)
         self.assertIn('Prim.search (key_facts, A.premises, B.premises)', text)
+        self.assertIn('    fn width() -> usize {\n        0\n', text)
+        text = self.written('// derive: borsh\npub struct Rows<A>(pub [Vec<A>; 2]);\n', 'types_rows')
+        self.assertIn('    fn width() -> usize {\n        0\n', text)
+        text = self.written('// derive: borsh\npub struct Rows<A>(pub Vec<A>, pub [u8; 2]);\n', 'types_rows')
+        self.assertNotIn('width', text)
 
     def test_nested_types_in_one_line(self):
         text = self.written('// derive: borsh\npub struct Deep {\n\tpub map: Map<\n\t\tString,\n\t\tVec<Option<Vec<(u8,\n\t\tu16)>>>,\n\t>,\n}\n', 'types_deep')
@@ -195,6 +201,16 @@ class Taken(Cases):
         self.assertIn('declared_with::<A, (B, ())>(alloc, "P")', text)
         self.assertIn('impl<A: BorshSchema, B: BorshSchema, N> BorshSchema for P<A, B, N> {', text)
         self.assertIn('(describes_contramap (λ list. list.items)\n        (describes_elements held.1.0.0 (A.describes defs held.1.0.1.0)))', text)
+
+    def test_schemas_of_sets_maps_and_pointers_of_parameters(self):
+        head = 'use borsh::BorshKey;\n\n// derive: borsh, schema\npub struct P<K: BorshKey + Ord + Hash, V>'
+        text = self.written(head + '(pub Set<u8>, pub HashSet<K>, pub Box<V>);\n', 'types_p')
+        self.assertIn('ghost use Rattle.std.specs.Prelude.{codes, ⊤, ◌∷◌, []};\n', text)
+        self.assertIn('(describes_sorted K.cmp (λ _ _. ⊤) held.1.1.0.0\n', text)
+        self.assertIn('(describes_contramap (λ boxed. boxed.value)\n', text)
+        text = self.written(head + '(pub HashMap<K, V>, pub BTreeMap<u8, V>);\n', 'types_p')
+        self.assertIn('(describes_sorted K.cmp V.codec.equivalent held.1.0.0\n', text)
+        self.assertIn('(describes_ordered ⟦<u8 as Ord>⟧.cmp held.1.1.0.0\n', text)
 
     def test_parameters_that_are_keys(self):
         text = self.written('use borsh::BorshKey;\n\n// derive: borsh\npub struct Book<K: BorshKey + Ord, V> {\n    pub map: Map<K, V>,\n}\n', 'types_book')
@@ -355,7 +371,7 @@ class Taken(Cases):
                 fields = [(name % n, kinds[(n + count) % len(kinds)]) for n in range(count)]
                 rows = ''.join('    pub %s: %s,\n' % row for row in fields)
                 types.append('// derive: borsh, schema\npub struct %s%d {\n%s}\n' % (title, count, rows))
-                generic = rows.replace('String', 'Vec<A>').replace('u8;', 'A;')
+                generic = rows.replace('String', 'Vec<A>').replace('u8;', 'Vec<A>;')
                 types.append('// derive: borsh, schema\npub struct %sOf%d<A> {\n%s}\n' % (title, count, generic))
                 lengths = rows.replace('; 32', '; N')
                 types.append('// derive: borsh\npub struct %sWith%d<const N: usize> {\n%s}\n' % (title, count, lengths))
@@ -491,6 +507,12 @@ class Refused(Cases):
         self.one('pub struct A {\n    pub a: *const u8,\n}\n', 3, 'a raw pointer')
         self.one('pub struct A {\n    pub a: [u8],\n}\n', 3, 'a slice without a length')
         self.one('pub struct A {\n    pub a: <u8 as B>::C,\n}\n', 3, 'a type by its trait')
+        self.one('pub struct A {\n    pub a: \'a,\n}\n', 3, 'the lifetime `\'a`')
+        self.one('pub struct A {\n    pub a: Box<Fn(u8) -> u8>,\n}\n', 3, 'a function pointer')
+        self.one('pub struct A {\n    pub a: list![u8],\n}\n', 3, 'a macro in the place of a type')
+        self.one('pub struct A {\n    pub a: = 3,\n}\n', 3, '`=` begins no type')
+        self.one('pub struct A {\n    pub a u8,\n}\n', 3, '`u8` where `:` is expected')
+        self.one('pub struct A {\n    pub 3: u8,\n}\n', 3, '`3` where a name is expected')
         self.one('pub struct A {\n    pub r#type: u8,\n}\n', 3, 'the raw identifier `r#type`')
         self.one('pub struct A {\n    pub a: u8,\n    ghost small: { a < 3 },\n}\n', 4, 'a ghost field')
         self.one('pub struct A {\n    pub a: u8,\n    b: u8,\n}\n', 4, 'the field `b` of `A` is private')
@@ -504,6 +526,17 @@ class Refused(Cases):
 
     def test_parameters(self):
         self.one('pub struct A<T = u8>(pub T);\n', 2, 'the parameter `T` has a default')
+
+    def test_arrays_of_parameters(self):
+        for kind in ('[T; 2]', 'Vec<[T; 2]>', '[(u8, T); N]', '[[T; 2]; 3]', 'Option<[Option<T>; 2]>'):
+            self.one('pub struct A<T, const N: usize> {\n    pub a: %s,\n}\n' % kind, 3, 'the parameter `T` is by itself in an array')
+        self.one('pub enum A<T> {\n    B(Vec<[T; 2]>),\n}\n', 3, 'the parameter `T` is by itself in an array')
+        self.written('// derive: borsh\npub struct A<T, const N: usize>(pub [Vec<T>; 2], pub [u8; N], pub PhantomData<[T; 2]>);\n', 'types_a')
+
+    def test_lengths_on_the_heap(self):
+        for kind in ('Vec<[u8; N]>', 'Option<Box<[[u8; N]; 2]>>', '(u8, Vec<Grid<N>>)', '[Vec<Grid<N>>; 2]'):
+            self.one('pub struct A<const N: usize> {\n    pub a: %s,\n}\n' % kind, 3, 'the length `N` is within a type like `Vec`')
+        self.written('// derive: borsh\npub struct A<const N: usize>(pub (u8, [u8; N]), pub PhantomData<[u8; N]>);\n', 'types_a')
 
     def test_parameters_of_enums(self):
         self.one('pub enum A<T> {\n    B(Vec<T>),\n    C(Option<T>),\n}\n', 4, 'the parameter `T` is by itself in a variant')
@@ -573,6 +606,7 @@ class Refused(Cases):
                 (HEAD + '\npub fn types_a() {}\n', 'lib.rt:6', 'the name `types_a` is that of the module to be written'),
                 (HEAD + '\nuse other::types_a;\n', 'lib.rt:6', 'the name `types_a` is that of the module to be written'),
                 (HEAD + '}\n', 'lib.rt:5', '`}` closes nothing'),
+                (HEAD + '# mod a;\n', 'lib.rt:5', '`mod` where a bracket is expected'),
                 (HEAD + 'mod a {\n', 'lib.rt:5', 'the bracket `{` is not closed')):
             crate = self.crate(types, root=root)
             status, said = crate.run()
@@ -619,11 +653,19 @@ class Errors(Cases):
         crate = self.crate('')
         os.symlink('/no/such/file', crate.path('gone'))
         self.error(crate, "src/gone.rt: can't be read: No such file or directory")
+        with unittest.mock.patch('os.listdir', side_effect=PermissionError(13, 'Permission denied')):
+            self.error(crate, "src: can't be read: Permission denied")
         os.remove(crate.path('lib'))
         os.remove(crate.path('gone'))
         self.error(crate, 'src: there is neither lib.rt nor main.rt')
         shutil.rmtree(os.path.join(crate.folder, 'src'))
         self.error(crate, 'src: there is no such folder: give the folder of a crate')
+
+    def test_a_file_that_cannot_be_written(self):
+        name = 'A' * 300
+        status, said = self.crate('// derive: borsh\npub struct %s;\n' % name).run()
+        self.assertEqual(status, 1)
+        self.assertIn("types_%s.rt: can't be written: File name too long" % name.lower(), said)
 
     def test_arguments(self):
         for arguments, status in (([], 2), (['a', 'b'], 2), (['--chek', 'a'], 2), (['--check'], 2), (['--help'], 0), (['/no/such/folder'], 1), (['/'], 1), ([''], 1)):

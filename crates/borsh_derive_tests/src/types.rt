@@ -1,9 +1,6 @@
 // The encodings of the types, worked out by the rules of the format, and what is refused.
-use borsh::io::{ErrorKind, Result as IoResult};
-use borsh::{
-    BorshDeserialize, BorshSchema, BorshSerialize, from_slice, max_serialized_size,
-    schema_container_of, to_vec,
-};
+use super::checks::{SHORT, has_schema, is_encoding, is_refused, text};
+use borsh::{BorshSchema, from_slice, max_serialized_size};
 use example_types::generics::{Grid, Ledger, Listed, Pair, Table};
 use example_types::messages::{Envelope, Level, Message, Request, Version};
 use example_types::originals::{
@@ -14,37 +11,11 @@ use example_types::records::{
 };
 use example_types::shapes::Shape;
 use std::alloc::{AllocError, Global};
+use std::boxed::{BoxedSlice, BoxedStr};
 use std::collections::{BTreeMap, BTreeSet, HashMap};
 use std::marker::PhantomData;
 use std::net::Ipv4Addr;
 use std::test::Fail;
-
-/// Whether the bytes are the value's encoding, and decode to a value with this encoding.
-fn is_encoding<T: BorshSerialize + BorshDeserialize>(
-    alloc: Global,
-    value: T,
-    bytes: &[u8],
-) -> Result<bool, Fail> {
-    let again: T = from_slice(alloc, bytes)?;
-    Ok(is_written(alloc, &value, bytes)? && is_written(alloc, &again, bytes)?)
-}
-
-fn is_written<T: BorshSerialize>(alloc: Global, value: &T, bytes: &[u8]) -> Result<bool, Fail> {
-    Ok(to_vec(alloc, value)?.as_slice() == bytes)
-}
-
-/// Whether the bytes are refused as a `T`, as wrong, with this text.
-fn is_refused<T: BorshDeserialize>(alloc: Global, bytes: &[u8], text: &str) -> bool {
-    let outcome: IoResult<T> = from_slice(alloc, bytes);
-    match outcome {
-        Ok(_) => false,
-        Err(e) => e.kind() == ErrorKind::InvalidData && e.message() == text,
-    }
-}
-
-fn text(alloc: Global, text: &str) -> Result<String, AllocError> {
-    String::from_str(alloc, text)
-}
 
 fn name(alloc: Global, called: &str) -> Result<Name, AllocError> {
     Ok(Name {
@@ -372,12 +343,6 @@ fn schemas_give_sizes(rt: HostRuntime) -> Result<(), Fail> {
     Ok(())
 }
 
-/// Whether the type's schema container has this encoding.
-fn has_schema<T: BorshSchema>(alloc: Global, bytes: &[u8]) -> Result<bool, Fail> {
-    let container = schema_container_of::<T>(alloc)?;
-    Ok(to_vec(alloc, &container)?.as_slice() == bytes)
-}
-
 const SCHEMA_OF_A: &[u8] =
     b"\x01\0\0\0A\x04\0\0\0\x01\0\0\0A\x04\0\x02\0\0\0\x01\0\0\0x\x03\0\0\0u64\x01\0\0\0y\x06\
       \0\0\0String\x06\0\0\0String\x01\x04\0\0\0\0\0\0\0\0\xff\xff\xff\xff\0\0\0\0\x02\0\0\0u8\
@@ -477,7 +442,8 @@ fn schemas_of_parameters(alloc: Global) -> Result<bool, Fail> {
         has_schema::<Parametrized<String, u32>>(alloc, SCHEMA_OF_PARAMETRIZED)?
             && has_schema::<Markers<u8, u16>>(alloc, SCHEMA_OF_MARKERS)?
             && has_schema::<Boxed>(alloc, SCHEMA_OF_BOXED)?
-            && has_schema::<Pair<u8, Option<bool>>>(alloc, SCHEMA_OF_PAIR)?,
+            && has_schema::<Pair<u8, Option<bool>>>(alloc, SCHEMA_OF_PAIR)?
+            && has_schema::<Table<u8>>(alloc, SCHEMA_OF_TABLE)?,
     )
 }
 
@@ -488,6 +454,34 @@ fn schemas_are_those_of_the_original(rt: HostRuntime) -> Result<(), Fail> {
     assert!(rt; schemas_of_parameters(alloc)?);
     Ok(())
 }
+
+const SCHEMA_OF_MESSAGE: &[u8] =
+    b"\x07\0\0\0Message\x12\0\0\0\x02\0\0\0()\0\0\x0d\0\0\0(String,\x20u64)\x02\x02\0\0\0\x06\
+      \0\0\0String\x03\0\0\0u64\x09\0\0\0(u8,\x20u16)\x02\x02\0\0\0\x02\0\0\0u8\x03\0\0\0u16\
+      \x07\0\0\0Account\x04\0\x03\0\0\0\x02\0\0\0id\x03\0\0\0u64\x08\0\0\0balances\x15\0\0\0BT\
+      reeMap<String,\x20u64>\x04\0\0\0note\x0e\0\0\0Option<String>\x15\0\0\0BTreeMap<String,\
+      \x20u64>\x01\x04\0\0\0\0\0\0\0\0\xff\xff\xff\xff\0\0\0\0\x0d\0\0\0(String,\x20u64)\x10\0\
+      \0\0HashMap<u8,\x20u16>\x01\x04\0\0\0\0\0\0\0\0\xff\xff\xff\xff\0\0\0\0\x09\0\0\0(u8,\
+      \x20u16)\x07\0\0\0Message\x03\x01\x05\0\0\0\0\0\0\0\0\0\0\0\x04\0\0\0Ping\x0d\0\0\0Messa\
+      ge__Ping\x01\0\0\0\0\0\0\0\x04\0\0\0Text\x0d\0\0\0Message__Text\x02\0\0\0\0\0\0\0\x04\0\
+      \0\0Move\x0d\0\0\0Message__Move\x03\0\0\0\0\0\0\0\x04\0\0\0Open\x0d\0\0\0Message__Open\
+      \x04\0\0\0\0\0\0\0\x05\0\0\0Index\x0e\0\0\0Message__Index\x0e\0\0\0Message__Index\x04\
+      \x01\x01\0\0\0\x10\0\0\0HashMap<u8,\x20u16>\x0d\0\0\0Message__Move\x04\0\x02\0\0\0\x01\0\
+      \0\0x\x03\0\0\0i32\x01\0\0\0y\x03\0\0\0i32\x0d\0\0\0Message__Open\x04\x01\x02\0\0\0\x02\
+      \0\0\0u8\x07\0\0\0Account\x0d\0\0\0Message__Ping\x04\x02\x0d\0\0\0Message__Text\x04\x01\
+      \x01\0\0\0\x06\0\0\0String\x0e\0\0\0Option<String>\x03\x01\x02\0\0\0\0\0\0\0\0\0\0\0\x04\
+      \0\0\0None\x02\0\0\0()\x01\0\0\0\0\0\0\0\x04\0\0\0Some\x06\0\0\0String\x06\0\0\0String\
+      \x01\x04\0\0\0\0\0\0\0\0\xff\xff\xff\xff\0\0\0\0\x02\0\0\0u8\x03\0\0\0i32\0\x04\x03\0\0\
+      \0u16\0\x02\x03\0\0\0u64\0\x08\x02\0\0\0u8\0\x01";
+
+const SCHEMA_OF_TABLE: &[u8] =
+    b"\x09\0\0\0Table<u8>\x08\0\0\0\x02\0\0\0()\0\0\x11\0\0\0(u32,\x20Option<u8>)\x02\x02\0\0\
+      \0\x03\0\0\0u32\x0a\0\0\0Option<u8>\x19\0\0\0BTreeMap<u32,\x20Option<u8>>\x01\x04\0\0\0\
+      \0\0\0\0\0\xff\xff\xff\xff\0\0\0\0\x11\0\0\0(u32,\x20Option<u8>)\x0a\0\0\0Option<u8>\x03\
+      \x01\x02\0\0\0\0\0\0\0\0\0\0\0\x04\0\0\0None\x02\0\0\0()\x01\0\0\0\0\0\0\0\x04\0\0\0Some\
+      \x02\0\0\0u8\x09\0\0\0Table<u8>\x04\0\x02\0\0\0\x04\0\0\0rows\x07\0\0\0Vec<u8>\x09\0\0\0\
+      by_number\x19\0\0\0BTreeMap<u32,\x20Option<u8>>\x07\0\0\0Vec<u8>\x01\x04\0\0\0\0\0\0\0\0\
+      \xff\xff\xff\xff\0\0\0\0\x02\0\0\0u8\x03\0\0\0u32\0\x04\x02\0\0\0u8\0\x01";
 
 fn schemas_of_structs(alloc: Global) -> Result<bool, Fail> {
     Ok(
@@ -502,7 +496,8 @@ fn schemas_of_enums(alloc: Global) -> Result<bool, Fail> {
     Ok(
         has_schema::<Level>(alloc, SCHEMA_OF_LEVEL)?
             && has_schema::<Request>(alloc, SCHEMA_OF_REQUEST)?
-            && has_schema::<Version>(alloc, SCHEMA_OF_VERSION)?,
+            && has_schema::<Version>(alloc, SCHEMA_OF_VERSION)?
+            && has_schema::<Message>(alloc, SCHEMA_OF_MESSAGE)?,
     )
 }
 
@@ -595,6 +590,30 @@ fn a_map_in_a_struct(alloc: Global) -> Result<bool, Fail> {
     is_encoding(alloc, hashed, bytes)
 }
 
+fn boxed(alloc: Global) -> Result<bool, Fail> {
+    let boxed = Boxed {
+        f1: Box::new(alloc, 1u64)?,
+        f2: BoxedStr::from(text(alloc, "x")?),
+        f3: BoxedSlice::from(vec![in alloc; 2u8, 3u8]?),
+    };
+    let bytes = b"\x01\0\0\0\0\0\0\0\x01\0\0\0x\x02\0\0\0\x02\x03";
+    is_encoding(alloc, boxed, bytes)
+}
+
+fn markers(alloc: Global) -> Result<bool, Fail> {
+    let parametrized: Parametrized<String, u32> = Parametrized {
+        field: text(alloc, "x")?,
+        another: PhantomData,
+    };
+    let item: Markers<u8, u16> = Markers::Item(PhantomData);
+    let other: Markers<u8, u16> = Markers::Other(PhantomData);
+    Ok(
+        is_encoding(alloc, parametrized, b"\x01\0\0\0x")?
+            && is_encoding(alloc, item, b"\0")?
+            && is_encoding(alloc, other, b"\x01")?,
+    )
+}
+
 #[test]
 fn types_of_the_original_s_tests_have_its_encodings(rt: HostRuntime) -> Result<(), Fail> {
     let alloc = rt.alloc();
@@ -604,12 +623,11 @@ fn types_of_the_original_s_tests_have_its_encodings(rt: HostRuntime) -> Result<(
     assert!(rt; an_enum_in_a_list(alloc)?);
     assert!(rt; is_encoding(alloc, generic(alloc)?, GENERIC)?);
     assert!(rt; a_map_in_a_struct(alloc)?);
+    assert!(rt; boxed(alloc)? && markers(alloc)?);
     Ok(())
 }
 
 const NO_TAG: &str = "Unexpected variant tag: 0";
-
-const SHORT: &str = "Unexpected length of input";
 
 const LONG: &str = "Not all bytes read";
 

@@ -1,0 +1,70 @@
+// Written by borsh_derive.py from keys.rt: edit that file, and run the program again.
+ghost use Rattle.borsh.specs.Derived.{contramap, contramap-lawful, from, key_facts};
+ghost use Rattle.borsh.specs.Derived.{named_described, struct_parts};
+ghost use Rattle.std.specs.Prelude.{codes, refl, ◌∷◌, []};
+
+use super::keys::Lodger;
+use borsh::derived::*;
+use example_types::records::Name;
+
+/// The fields of [`Lodger`], in order.
+type Fields = (Name, u16);
+
+impl BorshType for Lodger {
+    ghost codec = { contramap ⟦<Lodger as FromParts>⟧.view ⟦<Fields as BorshType>⟧.codec };
+
+    ghost lawful_if = { from (contramap-lawful ⟦<Lodger as FromParts>⟧.view)
+        ⟦<Fields as BorshType>⟧.lawful_if };
+
+    ghost premises = { Prim.search key_facts };
+
+    fn encodes_empty() -> bool {
+        <Fields>::encodes_empty()
+    }
+
+    fn element_size() -> usize {
+        <Fields>::element_size()
+    }
+}
+
+impl BorshSerialize for Lodger {
+    fn serialize<W: Write>(&self, alloc: Global, writer: &mut W) -> Result<()> {
+        write_two(&self.name, &self.room, alloc, writer)
+    }
+}
+
+impl FromParts for Lodger {
+    type Parts = Fields;
+
+    ghost view = { λ v. (v.name, v.room) };
+
+    fn from_parts((name, room): Fields) -> Lodger {
+        Lodger { name, room }
+    }
+}
+
+impl BorshDeserialize for Lodger {
+    fn deserialize_reader<R: Read>(alloc: Global, reader: &mut R) -> Result<Lodger> {
+        read_parts(alloc, reader)
+    }
+}
+
+impl BorshSchema for Lodger {
+    ghost name = { codes "Lodger" };
+
+    ghost parts = { struct_parts (codes "Lodger") (codes "name" ∷ codes "room" ∷ [])
+        ⟦<Chain<Fields> as FieldTypes>⟧.described };
+
+    ghost described = { named_described (λ v. (v.name, (v.room, tt)))
+        (codes "name" ∷ codes "room" ∷ []) ⟦<Chain<Fields> as FieldTypes>⟧.described refl };
+
+    fn declaration(alloc: Global) -> SchemaResult<Declaration> {
+        declared(alloc, "Lodger")
+    }
+
+    fn add_definitions_recursively(alloc: Global, map: &mut DefinitionMap) -> SchemaResult<()> {
+        add_named::<Chain<Fields>>(alloc, "Lodger", &["name", "room"], map)
+    }
+
+    ghost describes = { Self.described.describes };
+}

@@ -1,0 +1,95 @@
+// Written by borsh_derive.py from library.rt: edit that file, and run the program again.
+ghost use Rattle.borsh.specs.Derived.{contramap, contramap-lawful, from, key_facts};
+ghost use Rattle.borsh.specs.Derived.{named_described, struct_parts};
+ghost use Rattle.std.specs.Prelude.{codes, refl, ◌∷◌, []};
+
+use super::library::Lists;
+use borsh::derived::*;
+use std::boxed::BoxedSlice;
+use std::collections::{BTreeSet, HashSet, LinkedList, VecDeque};
+
+/// The fields of [`Lists`], in order.
+type Fields = Tuple5<
+    VecDeque<u16>,
+    LinkedList<u8>,
+    BTreeSet<String>,
+    HashSet<u32>,
+    BoxedSlice<u16>,
+>;
+
+impl BorshType for Lists {
+    ghost codec = { contramap ⟦<Lists as FromParts>⟧.view ⟦<Fields as BorshType>⟧.codec };
+
+    ghost lawful_if = { from (contramap-lawful ⟦<Lists as FromParts>⟧.view)
+        ⟦<Fields as BorshType>⟧.lawful_if };
+
+    ghost premises = { Prim.search key_facts };
+
+    fn encodes_empty() -> bool {
+        <Fields>::encodes_empty()
+    }
+
+    fn element_size() -> usize {
+        <Fields>::element_size()
+    }
+}
+
+impl BorshSerialize for Lists {
+    fn serialize<W: Write>(&self, alloc: Global, writer: &mut W) -> Result<()> {
+        write_five(
+            &self.queue,
+            &self.linked,
+            &self.names,
+            &self.seen,
+            &self.fixed,
+            alloc,
+            writer,
+        )
+    }
+}
+
+impl FromParts for Lists {
+    type Parts = Fields;
+
+    ghost view = { λ v. (v.queue, v.linked, v.names, v.seen, v.fixed) };
+
+    fn from_parts((queue, linked, names, seen, fixed): Fields) -> Lists {
+        Lists {
+            queue,
+            linked,
+            names,
+            seen,
+            fixed,
+        }
+    }
+}
+
+impl BorshDeserialize for Lists {
+    fn deserialize_reader<R: Read>(alloc: Global, reader: &mut R) -> Result<Lists> {
+        read_parts(alloc, reader)
+    }
+}
+
+impl BorshSchema for Lists {
+    ghost name = { codes "Lists" };
+
+    ghost parts = { struct_parts (codes "Lists")
+        (codes "queue" ∷ codes "linked" ∷ codes "names" ∷ codes "seen" ∷ codes "fixed" ∷ [])
+        ⟦<Chain<Fields> as FieldTypes>⟧.described };
+
+    ghost described = { named_described
+        (λ v. (v.queue, (v.linked, (v.names, (v.seen, (v.fixed, tt))))))
+        (codes "queue" ∷ codes "linked" ∷ codes "names" ∷ codes "seen" ∷ codes "fixed" ∷ [])
+        ⟦<Chain<Fields> as FieldTypes>⟧.described refl };
+
+    fn declaration(alloc: Global) -> SchemaResult<Declaration> {
+        declared(alloc, "Lists")
+    }
+
+    fn add_definitions_recursively(alloc: Global, map: &mut DefinitionMap) -> SchemaResult<()> {
+        let names = ["queue", "linked", "names", "seen", "fixed"];
+        add_named::<Chain<Fields>>(alloc, "Lists", &names, map)
+    }
+
+    ghost describes = { Self.described.describes };
+}

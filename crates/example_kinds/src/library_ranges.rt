@@ -1,0 +1,99 @@
+// Written by borsh_derive.py from library.rt: edit that file, and run the program again.
+ghost use Rattle.borsh.specs.Derived.{contramap, contramap-lawful, from, key_facts};
+ghost use Rattle.borsh.specs.Derived.{named_described, struct_parts};
+ghost use Rattle.std.specs.Prelude.{codes, refl, ◌∷◌, []};
+
+use super::library::Ranges;
+use borsh::derived::*;
+use std::ops::{Range, RangeFrom, RangeFull, RangeInclusive, RangeTo, RangeToInclusive};
+
+/// The fields of [`Ranges`], in order.
+type Fields = Tuple6<
+    Range<u8>,
+    RangeInclusive<u8>,
+    RangeFrom<u16>,
+    RangeTo<u8>,
+    RangeToInclusive<u8>,
+    RangeFull,
+>;
+
+impl BorshType for Ranges {
+    ghost codec = { contramap ⟦<Ranges as FromParts>⟧.view ⟦<Fields as BorshType>⟧.codec };
+
+    ghost lawful_if = { from (contramap-lawful ⟦<Ranges as FromParts>⟧.view)
+        ⟦<Fields as BorshType>⟧.lawful_if };
+
+    ghost premises = { Prim.search key_facts };
+
+    fn encodes_empty() -> bool {
+        <Fields>::encodes_empty()
+    }
+
+    fn element_size() -> usize {
+        <Fields>::element_size()
+    }
+}
+
+impl BorshSerialize for Ranges {
+    fn serialize<W: Write>(&self, alloc: Global, writer: &mut W) -> Result<()> {
+        write_six(
+            &self.half_open,
+            &self.closed,
+            &self.from,
+            &self.to,
+            &self.through,
+            &self.all,
+            alloc,
+            writer,
+        )
+    }
+}
+
+impl FromParts for Ranges {
+    type Parts = Fields;
+
+    ghost view = { λ v. (v.half_open, v.closed, v.from, v.to, v.through, v.all) };
+
+    fn from_parts((half_open, closed, from, to, through, all): Fields) -> Ranges {
+        Ranges {
+            half_open,
+            closed,
+            from,
+            to,
+            through,
+            all,
+        }
+    }
+}
+
+impl BorshDeserialize for Ranges {
+    fn deserialize_reader<R: Read>(alloc: Global, reader: &mut R) -> Result<Ranges> {
+        read_parts(alloc, reader)
+    }
+}
+
+impl BorshSchema for Ranges {
+    ghost name = { codes "Ranges" };
+
+    ghost parts = { struct_parts (codes "Ranges")
+        (codes "half_open" ∷ codes "closed" ∷ codes "from" ∷ codes "to" ∷ codes "through"
+        ∷ codes "all" ∷ [])
+        ⟦<Chain<Fields> as FieldTypes>⟧.described };
+
+    ghost described = { named_described
+        (λ v. (v.half_open, (v.closed, (v.from, (v.to, (v.through, (v.all, tt)))))))
+        (codes "half_open" ∷ codes "closed" ∷ codes "from" ∷ codes "to" ∷ codes "through"
+        ∷ codes "all" ∷ [])
+        ⟦<Chain<Fields> as FieldTypes>⟧.described refl };
+
+    fn declaration(alloc: Global) -> SchemaResult<Declaration> {
+        declared(alloc, "Ranges")
+    }
+
+    fn add_definitions_recursively(alloc: Global, map: &mut DefinitionMap) -> SchemaResult<()> {
+        let names = ["half_open", "closed", "from", "to", "through", "all"];
+        add_named::<Chain<Fields>>(alloc, "Ranges", &names, map)
+    }
+
+    ghost describes = { Self.described.describes };
+}

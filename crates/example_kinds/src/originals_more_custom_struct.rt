@@ -1,0 +1,70 @@
+// Written by borsh_derive.py from originals_more.rt: edit that file, and run the program again.
+ghost use Rattle.borsh.specs.Derived.{contramap, contramap-lawful, from, key_facts};
+ghost use Rattle.borsh.specs.Derived.{unnamed_described, unnamed_struct};
+ghost use Rattle.std.specs.Prelude.{codes};
+
+use super::originals_more::CustomStruct;
+use borsh::derived::*;
+
+/// The fields of [`CustomStruct`], in order.
+type Fields = u8;
+
+impl BorshType for CustomStruct {
+    ghost codec = { contramap ⟦<CustomStruct as FromParts>⟧.view ⟦<Fields as BorshType>⟧.codec };
+
+    ghost lawful_if = { from (contramap-lawful ⟦<CustomStruct as FromParts>⟧.view)
+        ⟦<Fields as BorshType>⟧.lawful_if };
+
+    ghost premises = { Prim.search key_facts };
+
+    fn encodes_empty() -> bool {
+        <Fields>::encodes_empty()
+    }
+
+    fn element_size() -> usize {
+        <Fields>::element_size()
+    }
+}
+
+impl BorshSerialize for CustomStruct {
+    fn serialize<W: Write>(&self, alloc: Global, writer: &mut W) -> Result<()> {
+        self.0.serialize(alloc, writer)
+    }
+}
+
+impl FromParts for CustomStruct {
+    type Parts = Fields;
+
+    ghost view = { λ v. v.0 };
+
+    fn from_parts(part0: Fields) -> CustomStruct {
+        CustomStruct(part0)
+    }
+}
+
+impl BorshDeserialize for CustomStruct {
+    fn deserialize_reader<R: Read>(alloc: Global, reader: &mut R) -> Result<CustomStruct> {
+        read_parts(alloc, reader)
+    }
+}
+
+impl BorshSchema for CustomStruct {
+    ghost name = { codes "CustomStruct" };
+
+    ghost parts = { unnamed_struct (codes "CustomStruct")
+        ⟦<(Fields, ()) as FieldTypes>⟧.described.names
+        ⟦<(Fields, ()) as FieldTypes>⟧.described.parts };
+
+    ghost described = { unnamed_described (λ v. (v.0, tt))
+        ⟦<(Fields, ()) as FieldTypes>⟧.described };
+
+    fn declaration(alloc: Global) -> SchemaResult<Declaration> {
+        declared(alloc, "CustomStruct")
+    }
+
+    fn add_definitions_recursively(alloc: Global, map: &mut DefinitionMap) -> SchemaResult<()> {
+        add_unnamed::<(Fields, ())>(alloc, "CustomStruct", map)
+    }
+
+    ghost describes = { Self.described.describes };
+}

@@ -1,0 +1,121 @@
+// Written by borsh_derive.py from parameters.rt: edit that file, and run the program again.
+ghost use Rattle.borsh.specs.Derived.{all_more, all_one, choice_more, choice_none, contramap};
+ghost use Rattle.borsh.specs.Derived.{contramap-lawful, describes_choice, describes_contramap};
+ghost use Rattle.borsh.specs.Derived.{describes_elements, describes_parts, describes_row};
+ghost use Rattle.borsh.specs.Derived.{describes_stored, first_variant, from, key_facts};
+ghost use Rattle.borsh.specs.Derived.{later_variant, name_with, named_described, result_view};
+ghost use Rattle.borsh.specs.Derived.{struct_parts};
+ghost use Rattle.std.specs.Prelude.{codes, refl, ◌∷◌, []};
+
+use super::parameters::Held;
+use borsh::derived::{
+    BorshDeserialize, BorshSchema, BorshSerialize, BorshType, Chain, Declaration, DefinitionMap,
+    FieldTypes, FromParts, Global, Read, SchemaResult, Write, add_named_with, declared_with,
+    read_parts, write_four,
+};
+
+/// The fields of [`Held`], in order.
+type Fields<T> = (Box<T>, Result<T, u8>, (T, u8), [Vec<T>; 2]);
+
+impl<T: BorshType> BorshType for Held<T> {
+    ghost codec = { contramap (λ v. (v.boxed, v.tried, v.pair, v.rows))
+        ⟦<Fields<T> as BorshType>⟧.codec };
+
+    ghost lawful_if = { from (contramap-lawful (λ v. (v.boxed, v.tried, v.pair, v.rows)))
+        ⟦<Fields<T> as BorshType>⟧.lawful_if };
+
+    ghost premises = { Prim.search (key_facts, T.premises) };
+
+    fn encodes_empty() -> bool {
+        <Fields<T>>::encodes_empty()
+    }
+
+    fn element_size() -> usize {
+        <Fields<T>>::element_size()
+    }
+}
+
+impl<T: BorshSerialize> BorshSerialize for Held<T> {
+    fn serialize<W: Write>(&self, alloc: Global, writer: &mut W) -> borsh::derived::Result<()> {
+        write_four(
+            &self.boxed,
+            &self.tried,
+            &self.pair,
+            &self.rows,
+            alloc,
+            writer,
+        )
+    }
+}
+
+impl<T: BorshDeserialize> FromParts for Held<T> {
+    type Parts = Fields<T>;
+
+    ghost view = { λ v. (v.boxed, v.tried, v.pair, v.rows) };
+
+    fn from_parts((boxed, tried, pair, rows): Fields<T>) -> Held<T> {
+        Held {
+            boxed,
+            tried,
+            pair,
+            rows,
+        }
+    }
+}
+
+impl<T: BorshDeserialize> BorshDeserialize for Held<T> {
+    fn deserialize_reader<R: Read>(
+        alloc: Global,
+        reader: &mut R,
+    ) -> borsh::derived::Result<Held<T>> {
+        read_parts(alloc, reader)
+    }
+
+    fn width() -> usize {
+        0
+    }
+}
+
+impl<T: BorshSchema> BorshSchema for Held<T> {
+    ghost name = { name_with (codes "Held") T.name [] };
+
+    ghost parts = { struct_parts (name_with (codes "Held") T.name [])
+        (codes "boxed" ∷ codes "tried" ∷ codes "pair" ∷ codes "rows" ∷ [])
+        ⟦<Chain<Fields<T>> as FieldTypes>⟧.described };
+
+    ghost described = { named_described (λ v. (v.boxed, (v.tried, (v.pair, (v.rows, tt)))))
+        (codes "boxed" ∷ codes "tried" ∷ codes "pair" ∷ codes "rows" ∷ [])
+        ⟦<Chain<Fields<T>> as FieldTypes>⟧.described refl };
+
+    fn declaration(alloc: Global) -> SchemaResult<Declaration> {
+        declared_with::<T, ()>(alloc, "Held")
+    }
+
+    fn add_definitions_recursively(alloc: Global, map: &mut DefinitionMap) -> SchemaResult<()> {
+        let names = ["boxed", "tried", "pair", "rows"];
+        add_named_with::<T, (), Chain<Fields<T>>>(alloc, "Held", &names, map)
+    }
+
+    ghost describes = { λ defs held. describes_contramap
+        (λ v. (v.boxed, (v.tried, (v.pair, v.rows))))
+        (describes_parts held.0
+        (all_more
+        (describes_contramap (λ boxed. boxed.value) (describes_stored (T.describes defs held.1.0)))
+        (all_more
+        (describes_contramap result_view
+        (describes_choice held.1.1.0.0
+        (choice_more (later_variant first_variant) refl
+        (⟦<u8 as BorshSchema>⟧.described.describes defs held.1.1.0.1.1.0)
+        (choice_more first_variant refl (T.describes defs held.1.1.0.1.0) choice_none))))
+        (all_more
+        (describes_contramap (λ tuple. (tuple.0, tuple.1))
+        (describes_parts held.1.1.1.0.0
+        (all_more
+        (T.describes defs held.1.1.1.0.1.0)
+        (all_one (⟦<u8 as BorshSchema>⟧.described.describes defs held.1.1.1.0.1.1.0)))))
+        (all_one
+        (describes_row 2 held.1.1.1.1.0.0
+        (describes_contramap (λ list. list.items)
+        (describes_elements held.1.1.1.1.0.1.0.0
+        (T.describes defs held.1.1.1.1.0.1.0.1.0))))))))) };
+}
