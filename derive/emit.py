@@ -6,7 +6,7 @@ from ghost import KNOWN, RESERVED, Term, ghost_cases, ghost_member, ghost_name, 
 from layout import (WIDTH, Group, arm, binding, block_arm, call, chain, chain_fits, conjunction, doc_line, flat,
                     function_head, impl_head, import_lines, pattern, statement, struct_of, tuple_of, tuple_type,
                     type_layout, type_text, within)
-from rust_types import Array, arrays_in, heads
+from rust_types import Array, arrays_in, grows, heads
 
 NUMBERS = ('zero', 'one', 'two', 'three', 'four', 'five', 'six', 'seven', 'eight', 'nine', 'ten', 'eleven',
            'twelve', 'thirteen', 'fourteen', 'fifteen', 'sixteen', 'seventeen', 'eighteen', 'nineteen', 'twenty')
@@ -20,8 +20,9 @@ DERIVED = 'borsh::derived'
 OFFERED = set('''BorshDeserialize BorshKey BorshSchema BorshSerialize BorshType Case Cases Chain Declaration DefinitionMap
     EnumExt FieldTypes Fork FromCases FromParts Global Read Result SchemaResult Tag TupleTypes VariantTypes Write add_enum
     add_named add_named_with add_unit add_unnamed add_unnamed_with declared declared_with read_enum read_parts
-    read_variant write_bytes'''.split())
-OFFERED |= {'write_' + number for number in NUMBERS[2:]} | {'Tuple%d' % count for count in range(2, TUPLE + 1)}
+    read_variant put_bytes write_bytes'''.split())
+OFFERED |= {'write_' + number for number in NUMBERS[2:]} | {'put_' + number for number in NUMBERS[2:TUPLE + 1]}
+OFFERED |= {'Tuple%d' % count for count in range(2, TUPLE + 1)}
 
 
 class Place:
@@ -403,8 +404,24 @@ def struct_encoding(writer):
     else:
         arguments = ['&' + name for name in names] + ['alloc', 'writer']
         body = statement('', call(writer.lib('write_' + NUMBERS[len(names)]), arguments), '', 8)
-    rows = [serialize_head(writer, used=bool(names)), body, '    }']
+    rows = [serialize_head(writer, used=bool(names)), body, '    }'] + struct_put(writer, names)
     return writer.block('BorshSerialize', 'BorshSerialize', rows)
+
+
+# the head of the method by which a list writes many elements at a time
+PUT = '    fn put(&self, room: &mut [u8]) -> Option<usize> {'
+
+
+def struct_put(writer, names):
+    """The method `put`, which a struct with a text, a list or a map gains nothing from."""
+    if not 0 < len(names) <= TUPLE or any(grows(field.type) for field in writer.marked.fields.encoded()):
+        return []
+    if len(names) == 1:
+        body = chain('self', [names[0][len('self'):], '.put(room)'], 8)
+    else:
+        arguments = ['&' + name for name in names] + ['room']
+        body = statement('', call(writer.lib('put_' + NUMBERS[len(names)]), arguments), '', 8)
+    return ['', PUT, body, '    }']
 
 
 def serialize_head(writer, used):
@@ -565,7 +582,17 @@ def enum_encoding(writer):
     used = any(variant.fields.encoded() for variant in writer.marked.variants)
     rows = [serialize_head(writer, used), '        match self {']
     rows += [written_variant(writer, variant) for variant in writer.marked.variants]
-    return writer.block('BorshSerialize', 'BorshSerialize', rows + ['        }', '    }'])
+    rows += ['        }', '    }'] + ([] if used else enum_put(writer))
+    return writer.block('BorshSerialize', 'BorshSerialize', rows)
+
+
+def enum_put(writer):
+    """The method `put` of an enum of which no variant has fields."""
+    rows = ['', PUT, '        match self {']
+    for variant in writer.marked.variants:
+        node = matched('%s::%s' % (writer.marked.name, variant.name), variant.fields, {})
+        rows.append(arm(node, call(writer.lib('put_bytes'), ['&[%d]' % variant.tag, 'room']), 12))
+    return rows + ['        }', '    }']
 
 
 def written_variant(writer, variant):

@@ -195,6 +195,21 @@ def names_on_the_heap(tree):
     return names_on_the_heap(tree.element) if isinstance(tree, Array) else []
 
 
+# types whose encodings may have any length
+GROWING = {'String', 'BoxedStr', 'RcStr', 'Vec', 'VecDeque', 'LinkedList', 'BTreeMap', 'BTreeSet', 'HashMap', 'HashSet',
+           'IndexMap', 'IndexSet', 'BoxedSlice', 'RcSlice', 'Bytes', 'BytesMut'}
+
+
+def grows(tree):
+    """Whether a type's encoding has a text, a list or a map in it, as far as its own text says."""
+    if isinstance(tree, Path):
+        name, arguments = tree.segments[-1]
+        return name in GROWING or name != 'PhantomData' and any(grows(argument) for argument in arguments)
+    if isinstance(tree, Tuple):
+        return any(grows(item) for item in tree.items)
+    return isinstance(tree, Array) and grows(tree.element)
+
+
 # marks with no space before them, and those with none behind them
 TIGHT = (',', ';', ')', ']', '>', '::', '?', '.', ':')
 OPEN = ('', '(', '[', '<', '::', '&', '?', '.')

@@ -1,16 +1,16 @@
 // What the tests compare: encodings, refusals and schemas.
-use borsh::io::{ErrorKind, Result as IoResult};
 use borsh::{
     BorshDeserialize, BorshSchema, BorshSerialize, from_slice, schema_container_of, to_vec,
 };
+use borsh_devices::encodings::{is_refused, is_written};
 use std::alloc::{AllocError, Global};
 use std::test::Fail;
 
 /// The text for bytes that end early.
-pub const SHORT: &str = "Unexpected length of input";
+pub(crate) const SHORT: &str = "Unexpected length of input";
 
 /// Whether the bytes are the value's encoding, and decode to a value with this encoding.
-pub fn is_encoding<T: BorshSerialize + BorshDeserialize>(
+pub(crate) fn is_encoding<T: BorshSerialize + BorshDeserialize>(
     alloc: Global,
     value: T,
     bytes: &[u8],
@@ -19,27 +19,14 @@ pub fn is_encoding<T: BorshSerialize + BorshDeserialize>(
     Ok(is_written(alloc, &value, bytes)? && is_written(alloc, &again, bytes)?)
 }
 
-fn is_written<T: BorshSerialize>(alloc: Global, value: &T, bytes: &[u8]) -> Result<bool, Fail> {
-    Ok(to_vec(alloc, value)?.as_slice() == bytes)
-}
-
-/// Whether the bytes are refused as a `T`, as wrong, with this text.
-pub fn is_refused<T: BorshDeserialize>(alloc: Global, bytes: &[u8], text: &str) -> bool {
-    let outcome: IoResult<T> = from_slice(alloc, bytes);
-    match outcome {
-        Ok(_) => false,
-        Err(e) => e.kind() == ErrorKind::InvalidData && e.message() == text,
-    }
-}
-
 /// A text of one's own.
-pub fn text(alloc: Global, text: &str) -> Result<String, AllocError> {
+pub(crate) fn text(alloc: Global, text: &str) -> Result<String, AllocError> {
     String::from_str(alloc, text)
 }
 
 /// Whether the bytes are the value's encoding, and decode to a value with this encoding, which no
 /// proper beginning of them does.
-pub fn is_whole<T: BorshSerialize + BorshDeserialize>(
+pub(crate) fn is_whole<T: BorshSerialize + BorshDeserialize>(
     alloc: Global,
     value: T,
     bytes: &[u8],
@@ -57,7 +44,7 @@ fn are_beginnings_refused<T: BorshDeserialize>(alloc: Global, bytes: &[u8]) -> b
 }
 
 /// Whether the type's schema container has this encoding.
-pub fn has_schema<T: BorshSchema>(alloc: Global, bytes: &[u8]) -> Result<bool, Fail> {
+pub(crate) fn has_schema<T: BorshSchema>(alloc: Global, bytes: &[u8]) -> Result<bool, Fail> {
     let container = schema_container_of::<T>(alloc)?;
     Ok(to_vec(alloc, &container)?.as_slice() == bytes)
 }

@@ -1,7 +1,8 @@
 // The encodings of the types of `example_kinds`, worked out by the rules of the format, and what is
 // refused.
-use super::checks::{SHORT, is_encoding, is_refused, is_whole, text};
+use super::checks::{SHORT, is_encoding, is_whole, text};
 use borsh::from_slice;
+use borsh_devices::encodings::is_refused;
 use bytes::{Bytes, BytesMut};
 use example_kinds::events::Event;
 use example_kinds::keys::{Lodger, Place, Visits};

@@ -1,6 +1,7 @@
 // The encodings of the types, worked out by the rules of the format, and what is refused.
-use super::checks::{SHORT, has_schema, is_encoding, is_refused, text};
+use super::checks::{SHORT, has_schema, is_encoding, text};
 use borsh::{BorshSchema, from_slice, max_serialized_size};
+use borsh_devices::encodings::is_refused;
 use example_types::generics::{Grid, Ledger, Listed, Pair, Table};
 use example_types::messages::{Envelope, Level, Message, Request, Version};
 use example_types::originals::{

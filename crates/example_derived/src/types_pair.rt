@@ -31,6 +31,10 @@ impl<A: BorshSerialize, B: BorshSerialize> BorshSerialize for Pair<A, B> {
     fn serialize<W: Write>(&self, alloc: Global, writer: &mut W) -> Result<()> {
         write_two(&self.first, &self.second, alloc, writer)
     }
+
+    fn put(&self, room: &mut [u8]) -> Option<usize> {
+        put_two(&self.first, &self.second, room)
+    }
 }
 
 impl<A: BorshDeserialize, B: BorshDeserialize> FromParts for Pair<A, B> {

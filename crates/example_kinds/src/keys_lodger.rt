@@ -31,6 +31,10 @@ impl BorshSerialize for Lodger {
     fn serialize<W: Write>(&self, alloc: Global, writer: &mut W) -> Result<()> {
         write_two(&self.name, &self.room, alloc, writer)
     }
+
+    fn put(&self, room: &mut [u8]) -> Option<usize> {
+        put_two(&self.name, &self.room, room)
+    }
 }
 
 impl FromParts for Lodger {

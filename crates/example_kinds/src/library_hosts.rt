@@ -31,6 +31,10 @@ impl BorshSerialize for Hosts {
     fn serialize<W: Write>(&self, alloc: Global, writer: &mut W) -> Result<()> {
         write_three(&self.old, &self.new, &self.either, alloc, writer)
     }
+
+    fn put(&self, room: &mut [u8]) -> Option<usize> {
+        put_three(&self.old, &self.new, &self.either, room)
+    }
 }
 
 impl FromParts for Hosts {

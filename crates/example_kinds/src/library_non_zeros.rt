@@ -38,6 +38,10 @@ impl BorshSerialize for NonZeros {
             writer,
         )
     }
+
+    fn put(&self, room: &mut [u8]) -> Option<usize> {
+        put_four(&self.byte, &self.delta, &self.large, &self.size, room)
+    }
 }
 
 impl FromParts for NonZeros {

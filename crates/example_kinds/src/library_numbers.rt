@@ -39,6 +39,18 @@ impl BorshSerialize for Numbers {
             writer,
         )
     }
+
+    fn put(&self, room: &mut [u8]) -> Option<usize> {
+        put_six(
+            &self.small,
+            &self.medium,
+            &self.large,
+            &self.signed,
+            &self.size,
+            &self.offset,
+            room,
+        )
+    }
 }
 
 impl FromParts for Numbers {

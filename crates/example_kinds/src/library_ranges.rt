@@ -47,6 +47,18 @@ impl BorshSerialize for Ranges {
             writer,
         )
     }
+
+    fn put(&self, room: &mut [u8]) -> Option<usize> {
+        put_six(
+            &self.half_open,
+            &self.closed,
+            &self.from,
+            &self.to,
+            &self.through,
+            &self.all,
+            room,
+        )
+    }
 }
 
 impl FromParts for Ranges {

@@ -30,6 +30,10 @@ impl BorshSerialize for CustomStruct {
     fn serialize<W: Write>(&self, alloc: Global, writer: &mut W) -> Result<()> {
         self.0.serialize(alloc, writer)
     }
+
+    fn put(&self, room: &mut [u8]) -> Option<usize> {
+        self.0.put(room)
+    }
 }
 
 impl FromParts for CustomStruct {

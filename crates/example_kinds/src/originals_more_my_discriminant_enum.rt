@@ -48,6 +48,12 @@ impl BorshSerialize for MyDiscriminantEnum {
             MyDiscriminantEnum::A => write_bytes(&[20], writer),
         }
     }
+
+    fn put(&self, room: &mut [u8]) -> Option<usize> {
+        match self {
+            MyDiscriminantEnum::A => put_bytes(&[20], room),
+        }
+    }
 }
 
 impl BorshDeserialize for MyDiscriminantEnum {

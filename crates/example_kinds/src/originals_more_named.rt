@@ -30,6 +30,10 @@ impl BorshSerialize for Named {
     fn serialize<W: Write>(&self, alloc: Global, writer: &mut W) -> Result<()> {
         write_two(&self.foo, &self.bar, alloc, writer)
     }
+
+    fn put(&self, room: &mut [u8]) -> Option<usize> {
+        put_two(&self.foo, &self.bar, room)
+    }
 }
 
 impl FromParts for Named {

@@ -30,6 +30,10 @@ impl BorshSerialize for Unnamed {
     fn serialize<W: Write>(&self, alloc: Global, writer: &mut W) -> Result<()> {
         write_two(&self.0, &self.1, alloc, writer)
     }
+
+    fn put(&self, room: &mut [u8]) -> Option<usize> {
+        put_two(&self.0, &self.1, room)
+    }
 }
 
 impl FromParts for Unnamed {

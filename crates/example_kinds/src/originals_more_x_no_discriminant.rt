@@ -68,6 +68,17 @@ impl BorshSerialize for XNoDiscriminant {
             XNoDiscriminant::F => write_bytes(&[5], writer),
         }
     }
+
+    fn put(&self, room: &mut [u8]) -> Option<usize> {
+        match self {
+            XNoDiscriminant::A => put_bytes(&[0], room),
+            XNoDiscriminant::B => put_bytes(&[1], room),
+            XNoDiscriminant::C => put_bytes(&[2], room),
+            XNoDiscriminant::D => put_bytes(&[3], room),
+            XNoDiscriminant::E => put_bytes(&[4], room),
+            XNoDiscriminant::F => put_bytes(&[5], room),
+        }
+    }
 }
 
 impl BorshDeserialize for XNoDiscriminant {

@@ -30,6 +30,10 @@ impl BorshSerialize for Session {
     fn serialize<W: Write>(&self, alloc: Global, writer: &mut W) -> Result<()> {
         write_two(&self.user, &self.token, alloc, writer)
     }
+
+    fn put(&self, room: &mut [u8]) -> Option<usize> {
+        put_two(&self.user, &self.token, room)
+    }
 }
 
 impl FromParts for Session {

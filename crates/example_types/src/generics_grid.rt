@@ -28,6 +28,10 @@ impl<const N: usize> BorshSerialize for Grid<N> {
     fn serialize<W: Write>(&self, alloc: Global, writer: &mut W) -> Result<()> {
         write_two(&self.cells, &self.turned, alloc, writer)
     }
+
+    fn put(&self, room: &mut [u8]) -> Option<usize> {
+        put_two(&self.cells, &self.turned, room)
+    }
 }
 
 impl<const N: usize> FromParts for Grid<N> {

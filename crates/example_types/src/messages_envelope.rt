@@ -29,6 +29,10 @@ impl BorshSerialize for Envelope {
     fn serialize<W: Write>(&self, alloc: Global, writer: &mut W) -> Result<()> {
         write_three(&self.from, &self.message, &self.level, alloc, writer)
     }
+
+    fn put(&self, room: &mut [u8]) -> Option<usize> {
+        put_three(&self.from, &self.message, &self.level, room)
+    }
 }
 
 impl FromParts for Envelope {

@@ -56,6 +56,14 @@ impl BorshSerialize for Level {
             Level::Top => write_bytes(&[10], writer),
         }
     }
+
+    fn put(&self, room: &mut [u8]) -> Option<usize> {
+        match self {
+            Level::Low => put_bytes(&[1], room),
+            Level::High => put_bytes(&[9], room),
+            Level::Top => put_bytes(&[10], room),
+        }
+    }
 }
 
 impl BorshDeserialize for Level {

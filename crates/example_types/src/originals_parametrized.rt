@@ -32,6 +32,10 @@ impl<K: BorshSerialize, V> BorshSerialize for Parametrized<K, V> {
     fn serialize<W: Write>(&self, alloc: Global, writer: &mut W) -> Result<()> {
         write_two(&self.field, &self.another, alloc, writer)
     }
+
+    fn put(&self, room: &mut [u8]) -> Option<usize> {
+        put_two(&self.field, &self.another, room)
+    }
 }
 
 impl<K: BorshDeserialize, V> FromParts for Parametrized<K, V> {
