@@ -83,6 +83,23 @@ class Taken(Cases):
         self.assertIn('write_two(&self.x, &self.y, alloc, writer)', text)
         self.assertIn('    fn from_parts((x, y): Fields) -> Point {\n        Point { x, y }\n', text)
 
+    def test_put(self):
+        text = self.written('// derive: borsh\npub struct Point {\n    pub x: u32,\n    pub y: Option<[u8; 4]>,\n}\n', 'types_point')
+        self.assertIn('    fn put(&self, room: &mut [u8]) -> Option<usize> {\n        put_two(&self.x, &self.y, room)\n', text)
+        text = self.written('// derive: borsh\npub struct Id<A>(pub A, pub PhantomData<String>);\n', 'types_id')
+        self.assertIn('        put_two(&self.0, &self.1, room)\n', text)
+        text = self.written('// derive: borsh\npub struct Id(pub u64);\n', 'types_id')
+        self.assertIn('        self.0.put(room)\n', text)
+        text = self.written('// derive: borsh\npub enum Side {\n    Left,\n    Right,\n}\n', 'types_side')
+        self.assertIn('            Side::Right => put_bytes(&[1], room),\n', text)
+
+    def test_no_put(self):
+        fields = ''.join('    pub f%d: u8,\n' % index for index in range(13))
+        for types in ('struct S(pub Option<String>);', 'struct S(pub u8, pub [Vec<u8>; 2]);', 'struct S;',
+                      'struct S {\n%s}' % fields, 'enum S {\n    A,\n    B(u8),\n}'):
+            text = self.written('// derive: borsh\npub %s\n' % types, 'types_s')
+            self.assertNotIn('fn put', text)
+
     def test_fields_named_as_the_parameter(self):
         one = self.written('// derive: borsh\npub struct Form {\n    pub fields: u64,\n}\n', 'types_form')
         self.assertIn('    fn from_parts(fields: Fields) -> Form {\n        Form { fields }\n', one)

@@ -10,4 +10,6 @@ mod kind_schemas;
 #[cfg(test)]
 mod kinds;
 #[cfg(test)]
+mod lists;
+#[cfg(test)]
 mod types;
