@@ -6,7 +6,7 @@ from ghost import KNOWN, RESERVED, Term, ghost_cases, ghost_member, ghost_name, 
 from layout import (WIDTH, Group, arm, binding, block_arm, call, chain, chain_fits, conjunction, doc_line, flat,
                     function_head, impl_head, import_lines, pattern, statement, struct_of, tuple_of, tuple_type,
                     type_layout, type_text, within)
-from rust_types import Array, arrays_in, grows, heads
+from rust_types import Array, arrays_in, grows, heads, is_never_empty
 
 NUMBERS = ('zero', 'one', 'two', 'three', 'four', 'five', 'six', 'seven', 'eight', 'nine', 'ten', 'eleven',
            'twelve', 'thirteen', 'fourteen', 'fifteen', 'sixteen', 'seventeen', 'eighteen', 'nineteen', 'twenty')
@@ -215,7 +215,7 @@ GHOST_OFFERED = {
         enum_definitions enum_described enum_lawful_if fields first_variant fork_described from key_facts
         later_variant left name_with named_described no_fields_described option_view result_view right
         struct_described struct_parts unit_entries unit_struct unnamed_described unnamed_struct'''.split(),
-    'Rattle.std.specs.Prelude': ['codes', 'refl', '⊤', '◌∷◌', '[]'],
+    'Rattle.std.specs.Prelude': ['codes', 'refl', '⊤', '◌∷◌', '[]', '◌≡◌'],
 }
 
 
@@ -224,7 +224,8 @@ GHOST_NAMES = {name for names in GHOST_OFFERED.values() for name in names}
 
 def ghost_imports(writer, body):
     """The imports of ghost terms."""
-    ghost = ' '.join(re.findall(r'ghost \w+ = \{(.*?)\};', body, re.S))
+    ghost = ' '.join(member + clause for member, clause in
+                     re.findall(r'ghost \w+ = \{(.*?)\};|ensures \{(.*?)\}\n', body, re.S))
     rows = []
     for path, offered in GHOST_OFFERED.items():
         rows += ghost_lines(path, [name for name in offered if is_used(name, ghost)])
@@ -358,11 +359,22 @@ def struct_meaning(writer):
 
 
 def encodes_empty(writer):
+    """What `encodes_empty` returns. It is `false` where a field's type says so, which the prover computes; a call brings
+    the laws of all fields with it, and takes it longer."""
+    marked, module = writer.marked, writer.place.module
+    own = set(module.items) | set(module.imports)
+    if not marked.parameters and any(is_never_empty(field.type, own) for field in marked.fields.encoded()):
+        return ' ' * 8 + 'false'
     calls = of_fields(writer, 'encodes_empty')
     return ' ' * 8 + conjunction(calls, 8, 8, 0)
 
 
 def element_size(writer):
+    """What `element_size` returns: the size of the type; with parameters, which may have any, that of the fields."""
+    if not writer.marked.parameters:
+        return ' ' * 8 + 'size_of::<%s>()' % writer.own()
+    if writer.marked.variants is not None:
+        return ' ' * 8 + '<%s>::element_size()' % writer.alias_use()
     calls = of_fields(writer, 'element_size')
     added = [within('.saturating_add(', call, ')') for call in calls[1:]]
     if len(calls) == 2 and not chain_fits(calls[0], added, 8):
@@ -544,11 +556,24 @@ def ghost_binders(fields):
 def enum_cases(writer):
     head = function_head('from_cases', ['cases: %s' % writer.alias_use()], writer.own_layout(), 4)
     view = ghost_cases('view', enum_view(writer), 4)
-    rows = ['    type Cases = %s;' % writer.alias_use(), '', view, '', head, '        match cases {']
+    clause = with_clause(head, equation_later(quote(writer, writer.own(), 'FromCases', '.view').flat()))
+    rows = ['    type Cases = %s;' % writer.alias_use(), '', view, '', clause, '        match cases {']
     for variant, turns in on_tree(writer.marked.variants):
         rows += from_case(writer, variant, turns)
     rows += ['        }', '    }', '', '    ghost distinct_tags = { refl };']
     return writer.block('FromCases', 'BorshType', rows)
+
+
+def equation_later(view):
+    """What `from_cases` ensures. It says no less than the trait's clause, `view result ≡ cases`. Where the goal is an
+    equation, `search` first computes both sides with all that is known of the variants, and gives up after ten million
+    steps; behind a premise it leaves the equation to the next tactic, which needs few."""
+    return '⊤ → %s result ≡ cases' % view
+
+
+def with_clause(head, clause):
+    """The head of a function with a clause."""
+    return '%s\n        ensures { %s }\n    {' % (head[:-len(' {')], clause)
 
 
 def from_case(writer, variant, turns):
@@ -574,8 +599,7 @@ def enum_meaning(writer):
     view = quote(writer, writer.own(), 'FromCases', '.view')
     variants = quote(writer, writer.alias_use(), 'Cases', '.variants')
     laws = ghost_member('lawful_if', 'enum_lawful_if', [view, variants, Term('', ['refl'])], 4)
-    size = ' ' * 8 + '<%s>::element_size()' % writer.alias_use()
-    return meaning(writer, view, 'Cases', laws, '        false', size)
+    return meaning(writer, view, 'Cases', laws, '        false', element_size(writer))
 
 
 def enum_encoding(writer):

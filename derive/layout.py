@@ -53,10 +53,6 @@ def pattern(name, items):
     return Group(name, '(', items, ')')
 
 
-def array(items):
-    return Group('', '[', items, ']', ARRAY_WIDTH, fills=True)
-
-
 def struct_of(name, fields):
     return Group(name, ' {', fields, '}', STRUCT_WIDTH, ' ')
 

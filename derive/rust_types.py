@@ -160,6 +160,19 @@ HELD = ('Box', 'Rc', 'Vec', 'VecDeque', 'LinkedList', 'BTreeMap', 'BTreeSet', 'H
         'IndexSet', 'BoxedSlice', 'RcSlice', 'PhantomData')
 
 
+# types whose encodings are never empty, whatever their arguments are
+NEVER_EMPTY = {'bool', 'String', 'Vec', 'Option', 'Result', 'u8', 'u16', 'u32', 'u64', 'u128', 'usize', 'i8', 'i16',
+               'i32', 'i64', 'i128', 'isize'}
+
+
+def is_never_empty(tree, own):
+    """Whether no encoding of a type is empty, by its text alone; `own` has the names that mean something else here."""
+    if isinstance(tree, Path):
+        name = tree.segments[0][0]
+        return len(tree.segments) == 1 and name in NEVER_EMPTY and name not in own
+    return isinstance(tree, Tuple) and any(is_never_empty(item, own) for item in tree.items)
+
+
 def bare_names(tree):
     """The names in a type that aren't within a type of `HELD`."""
     if isinstance(tree, Path):

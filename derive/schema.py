@@ -3,7 +3,7 @@
 from describe import describes_fields
 from emit import TUPLE, generic_group, quote, tree
 from ghost import Applied, Term, ghost_list, ghost_member, ghost_name, nested_pairs
-from layout import (ARRAY_WIDTH, TUPLE_WIDTH, Group, array, call, doc_line, flat, function_head, statement, tuple_type,
+from layout import (ARRAY_WIDTH, TUPLE_WIDTH, Group, call, doc_line, flat, function_head, statement, tuple_type,
                     type_layout)
 
 def with_schema(writer, blocks):
@@ -129,7 +129,8 @@ def struct_parts(writer, kind, described):
 
 
 def struct_call(writer, kind, chained):
-    """The statements that add these definitions; names that don't fit into the call's line are bound before it."""
+    """The statements that add these definitions. The names are a constant: an array that a function makes takes the
+    prover longer."""
     parameters = named_parameters(writer)
     name = '"%s"' % writer.marked.name
     if kind == 'unit':
@@ -142,12 +143,9 @@ def struct_call(writer, kind, chained):
     function = '%s::<%s>' % (writer.lib(function), ', '.join(types))
     if kind == 'tuple':
         return statement('', call(function, ['alloc', name, 'map']), '', 8)
-    names = array(['"%s"' % field.name for field in writer.marked.fields.encoded()])
-    whole = statement('', call(function, ['alloc', name, '&' + flat(names), 'map']), '', 8)
-    if '\n' not in whole:
-        return whole
-    return '\n'.join([statement('let names = ', names, ';', 8),
-                      statement('', call(function, ['alloc', name, '&names', 'map']), '', 8)])
+    names = reference_to(['"%s"' % field.name for field in writer.marked.fields.encoded()])
+    return '\n'.join([statement('const NAMES: &[&str] = ', names, ';', 8),
+                      statement('', call(function, ['alloc', name, 'NAMES', 'map']), '', 8)])
 
 
 # ---- enums
@@ -210,8 +208,9 @@ def enum_call(writer):
     for variant in writer.marked.variants:
         names = ['"%s"' % field.name for field in variant.fields.encoded() if variant.fields.kind == 'named']
         rows.append(Group('', '(', ['"%s"' % variant.name, reference_to(names)], ')', TUPLE_WIDTH))
-    arguments = ['alloc', '"%s"' % writer.marked.name, reference_to(rows), 'map']
-    return statement('', call('%s::<%s>' % (writer.lib('add_enum'), writer.list_use()), arguments), '', 8)
+    arguments = ['alloc', '"%s"' % writer.marked.name, 'NAMES', 'map']
+    return '\n'.join([statement('const NAMES: &[(&str, &[&str])] = ', reference_to(rows), ';', 8),
+                      statement('', call('%s::<%s>' % (writer.lib('add_enum'), writer.list_use()), arguments), '', 8)])
 
 
 def reference_to(items):

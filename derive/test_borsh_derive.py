@@ -144,8 +144,26 @@ class Taken(Cases):
         self.assertIn('type Variants = Fork<Fork<Case<0, ()>, Case<1, (u8, String)>>, Case<2, u64>>;', text)
         self.assertIn('E.B part0 part1 ↦ left (right (fields (part0, part1)))', text)
         self.assertIn('Fork::Right(Case(x)) => E::C { x },', text)
+        self.assertIn('    fn from_cases(cases: Variants) -> E\n        ensures { ⊤ → ⟦<E as FromCases>⟧.view result ≡ cases }\n    {\n', text)
         self.assertIn('E::A => write_bytes(&[0], writer),', text)
         self.assertIn('E::B(part0, part1) => write_three(&Tag(1), part0, part1, alloc, writer),', text)
+
+    def test_empty_encodings_and_sizes(self):
+        def shown(types, file='types_a'):
+            text = self.written('// derive: borsh\n' + types, file)
+            return text[text.index('fn encodes_empty'):text.index(' BorshSerialize for ')]
+
+        text = shown('pub struct A {\n    pub a: (),\n    pub b: Vec<u8>,\n}\n')
+        self.assertIn('        false\n', text)
+        self.assertIn('        size_of::<A>()\n', text)
+        # a name may be the file's own, and an array may have no elements
+        for types in ('pub struct A(pub ());\n', 'pub struct A(pub [u8; N]);\npub const N: usize = 0;\n',
+                      'pub struct A(pub String);\n\npub struct String;\n', 'pub struct A(pub other::Vec);\n'):
+            self.assertIn('        <Fields>::encodes_empty()\n', shown(types))
+        text = shown('pub struct A<T> {\n    pub a: T,\n    pub b: u8,\n}\n')
+        self.assertIn('        <Fields<T>>::encodes_empty()\n', text)
+        self.assertIn('        <Fields<T>>::element_size()\n', text)
+        self.assertIn('        size_of::<A>()\n', shown('pub enum A {\n    B(u8),\n    C,\n}\n'))
 
     def test_tags(self):
         text = self.written('// derive: borsh\npub enum E {\n    A = 3,\n    B,\n    C = 0x1_0,\n}\n', 'types_e')
@@ -196,7 +214,8 @@ class Taken(Cases):
         text = self.written('// derive: borsh, schema\npub struct P {\n    pub x: u8,\n    pub y: String,\n}\n', 'types_p')
         self.assertIn('(codes "x" ∷ codes "y" ∷ [])', text)
         self.assertIn('⟦<Chain<Fields> as FieldTypes>⟧.described', text)
-        self.assertIn('add_named::<Chain<Fields>>(alloc, "P", &["x", "y"], map)', text)
+        self.assertIn('        const NAMES: &[&str] = &["x", "y"];\n', text)
+        self.assertIn('add_named::<Chain<Fields>>(alloc, "P", NAMES, map)', text)
         text = self.written('// derive: borsh, schema\npub struct P(pub u8);\n', 'types_p')
         self.assertIn('add_unnamed::<(Fields, ())>(alloc, "P", map)', text)
         text = self.written('// derive: borsh, schema\npub struct P;\n', 'types_p')
@@ -293,7 +312,7 @@ class Taken(Cases):
     def test_names_of_variants_that_are_too_wide(self):
         fields = ', '.join('%s_field: u8' % name for name in ('first', 'second', 'third', 'fourth'))
         text = self.written('// derive: borsh, schema\npub enum E {\n    First { %s },\n    Other,\n}\n' % fields, 'types_e')
-        self.assertIn('                (\n                    "First",\n                    &["first_field", ', text)
+        self.assertIn('        const NAMES: &[(&str, &[&str])] = &[\n            (\n                "First",\n                &["first_field", ', text)
 
     def test_lines_are_short(self):
         fields = ''.join('    pub a_rather_long_name_%d: std::collections::BTreeMap<String, Vec<u8>>,\n' % index for index in range(12))

@@ -19,11 +19,11 @@ impl BorshType for Stock {
     ghost premises = { Prim.search key_facts };
 
     fn encodes_empty() -> bool {
-        <Fields>::encodes_empty()
+        false
     }
 
     fn element_size() -> usize {
-        <Fields>::element_size()
+        size_of::<Stock>()
     }
 }
 
@@ -63,7 +63,8 @@ impl BorshSchema for Stock {
     }
 
     fn add_definitions_recursively(alloc: Global, map: &mut DefinitionMap) -> SchemaResult<()> {
-        add_named::<Chain<Fields>>(alloc, "Stock", &["pieces", "note"], map)
+        const NAMES: &[&str] = &["pieces", "note"];
+        add_named::<Chain<Fields>>(alloc, "Stock", NAMES, map)
     }
 
     ghost describes = { Self.described.describes };

@@ -2,7 +2,7 @@
 ghost use Rattle.borsh.specs.Derived.{case_described, contramap, enum_definitions, enum_described};
 ghost use Rattle.borsh.specs.Derived.{enum_lawful_if, fields, fork_described, key_facts, left};
 ghost use Rattle.borsh.specs.Derived.{no_fields_described, right};
-ghost use Rattle.std.specs.Prelude.{codes, refl, ◌∷◌, []};
+ghost use Rattle.std.specs.Prelude.{codes, refl, ⊤, ◌∷◌, [], ◌≡◌};
 ghost use Rattle.example_kinds.specs.declared.events.Event.{Event};
 
 use super::events::Event;
@@ -48,7 +48,9 @@ impl FromCases for Event {
       | Event.Closed part0 ↦ right (right (right (right (fields part0))))
     ] };
 
-    fn from_cases(cases: Variants) -> Event {
+    fn from_cases(cases: Variants) -> Event
+        ensures { ⊤ → ⟦<Event as FromCases>⟧.view result ≡ cases }
+    {
         match cases {
             Fork::Left(Fork::Left(Fork::Left(Fork::Left(Case(()))))) => Event::Opened,
             Fork::Left(Fork::Left(Fork::Left(Fork::Right(Case(fields))))) => {
@@ -109,7 +111,7 @@ impl BorshType for Event {
     }
 
     fn element_size() -> usize {
-        <Variants>::element_size()
+        size_of::<Event>()
     }
 }
 
@@ -243,29 +245,25 @@ impl BorshSchema for Event {
     }
 
     fn add_definitions_recursively(alloc: Global, map: &mut DefinitionMap) -> SchemaResult<()> {
-        add_enum::<VariantList>(
-            alloc,
-            "Event",
-            &[
-                ("Opened", &[]),
-                ("Joined", &[]),
-                ("Charged", &["a", "b"]),
-                ("Left", &[]),
-                ("Paused", &[]),
-                ("Renamed", &[]),
-                ("Uploaded", &["a", "b"]),
-                ("Rated", &[]),
-                ("Resumed", &[]),
-                ("Invited", &[]),
-                ("Shipped", &["a", "b"]),
-                ("Priced", &[]),
-                ("Locked", &[]),
-                ("Tagged", &[]),
-                ("Signed", &["a", "b"]),
-                ("Closed", &[]),
-            ],
-            map,
-        )
+        const NAMES: &[(&str, &[&str])] = &[
+            ("Opened", &[]),
+            ("Joined", &[]),
+            ("Charged", &["a", "b"]),
+            ("Left", &[]),
+            ("Paused", &[]),
+            ("Renamed", &[]),
+            ("Uploaded", &["a", "b"]),
+            ("Rated", &[]),
+            ("Resumed", &[]),
+            ("Invited", &[]),
+            ("Shipped", &["a", "b"]),
+            ("Priced", &[]),
+            ("Locked", &[]),
+            ("Tagged", &[]),
+            ("Signed", &["a", "b"]),
+            ("Closed", &[]),
+        ];
+        add_enum::<VariantList>(alloc, "Event", NAMES, map)
     }
 
     ghost describes = { Self.described.describes };

@@ -19,11 +19,11 @@ impl BorshType for Lodger {
     ghost premises = { Prim.search key_facts };
 
     fn encodes_empty() -> bool {
-        <Fields>::encodes_empty()
+        false
     }
 
     fn element_size() -> usize {
-        <Fields>::element_size()
+        size_of::<Lodger>()
     }
 }
 
@@ -67,7 +67,8 @@ impl BorshSchema for Lodger {
     }
 
     fn add_definitions_recursively(alloc: Global, map: &mut DefinitionMap) -> SchemaResult<()> {
-        add_named::<Chain<Fields>>(alloc, "Lodger", &["name", "room"], map)
+        const NAMES: &[&str] = &["name", "room"];
+        add_named::<Chain<Fields>>(alloc, "Lodger", NAMES, map)
     }
 
     ghost describes = { Self.described.describes };

@@ -18,11 +18,11 @@ impl BorshType for Place {
     ghost premises = { Prim.search key_facts };
 
     fn encodes_empty() -> bool {
-        <Fields>::encodes_empty()
+        false
     }
 
     fn element_size() -> usize {
-        <Fields>::element_size()
+        size_of::<Place>()
     }
 }
 
@@ -69,7 +69,8 @@ impl BorshSchema for Place {
     }
 
     fn add_definitions_recursively(alloc: Global, map: &mut DefinitionMap) -> SchemaResult<()> {
-        add_named::<Chain<Fields>>(alloc, "Place", &["zone", "street"], map)
+        const NAMES: &[&str] = &["zone", "street"];
+        add_named::<Chain<Fields>>(alloc, "Place", NAMES, map)
     }
 
     ghost describes = { Self.described.describes };

@@ -23,7 +23,7 @@ impl BorshType for Visits {
     }
 
     fn element_size() -> usize {
-        <Fields>::element_size()
+        size_of::<Visits>()
     }
 }
 
@@ -63,7 +63,8 @@ impl BorshSchema for Visits {
     }
 
     fn add_definitions_recursively(alloc: Global, map: &mut DefinitionMap) -> SchemaResult<()> {
-        add_named::<Chain<Fields>>(alloc, "Visits", &["counts", "closed"], map)
+        const NAMES: &[&str] = &["counts", "closed"];
+        add_named::<Chain<Fields>>(alloc, "Visits", NAMES, map)
     }
 
     ghost describes = { Self.described.describes };

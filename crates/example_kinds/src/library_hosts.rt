@@ -23,7 +23,7 @@ impl BorshType for Hosts {
     }
 
     fn element_size() -> usize {
-        <Fields>::element_size()
+        size_of::<Hosts>()
     }
 }
 
@@ -68,7 +68,8 @@ impl BorshSchema for Hosts {
     }
 
     fn add_definitions_recursively(alloc: Global, map: &mut DefinitionMap) -> SchemaResult<()> {
-        add_named::<Chain<Fields>>(alloc, "Hosts", &["old", "new", "either"], map)
+        const NAMES: &[&str] = &["old", "new", "either"];
+        add_named::<Chain<Fields>>(alloc, "Hosts", NAMES, map)
     }
 
     ghost describes = { Self.described.describes };

@@ -30,7 +30,7 @@ impl BorshType for Lists {
     }
 
     fn element_size() -> usize {
-        <Fields>::element_size()
+        size_of::<Lists>()
     }
 }
 
@@ -87,8 +87,8 @@ impl BorshSchema for Lists {
     }
 
     fn add_definitions_recursively(alloc: Global, map: &mut DefinitionMap) -> SchemaResult<()> {
-        let names = ["queue", "linked", "names", "seen", "fixed"];
-        add_named::<Chain<Fields>>(alloc, "Lists", &names, map)
+        const NAMES: &[&str] = &["queue", "linked", "names", "seen", "fixed"];
+        add_named::<Chain<Fields>>(alloc, "Lists", NAMES, map)
     }
 
     ghost describes = { Self.described.describes };

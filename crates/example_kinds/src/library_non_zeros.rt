@@ -23,7 +23,7 @@ impl BorshType for NonZeros {
     }
 
     fn element_size() -> usize {
-        <Fields>::element_size()
+        size_of::<NonZeros>()
     }
 }
 
@@ -81,7 +81,8 @@ impl BorshSchema for NonZeros {
     }
 
     fn add_definitions_recursively(alloc: Global, map: &mut DefinitionMap) -> SchemaResult<()> {
-        add_named::<Chain<Fields>>(alloc, "NonZeros", &["byte", "delta", "large", "size"], map)
+        const NAMES: &[&str] = &["byte", "delta", "large", "size"];
+        add_named::<Chain<Fields>>(alloc, "NonZeros", NAMES, map)
     }
 
     ghost describes = { Self.described.describes };

@@ -18,11 +18,11 @@ impl BorshType for Numbers {
     ghost premises = { Prim.search key_facts };
 
     fn encodes_empty() -> bool {
-        <Fields>::encodes_empty()
+        false
     }
 
     fn element_size() -> usize {
-        <Fields>::element_size()
+        size_of::<Numbers>()
     }
 }
 
@@ -95,8 +95,8 @@ impl BorshSchema for Numbers {
     }
 
     fn add_definitions_recursively(alloc: Global, map: &mut DefinitionMap) -> SchemaResult<()> {
-        let names = ["small", "medium", "large", "signed", "size", "offset"];
-        add_named::<Chain<Fields>>(alloc, "Numbers", &names, map)
+        const NAMES: &[&str] = &["small", "medium", "large", "signed", "size", "offset"];
+        add_named::<Chain<Fields>>(alloc, "Numbers", NAMES, map)
     }
 
     ghost describes = { Self.described.describes };

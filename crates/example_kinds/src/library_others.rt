@@ -23,7 +23,7 @@ impl BorshType for Others {
     }
 
     fn element_size() -> usize {
-        <Fields>::element_size()
+        size_of::<Others>()
     }
 }
 

@@ -30,7 +30,7 @@ impl BorshType for Ranges {
     }
 
     fn element_size() -> usize {
-        <Fields>::element_size()
+        size_of::<Ranges>()
     }
 }
 
@@ -103,8 +103,8 @@ impl BorshSchema for Ranges {
     }
 
     fn add_definitions_recursively(alloc: Global, map: &mut DefinitionMap) -> SchemaResult<()> {
-        let names = ["half_open", "closed", "from", "to", "through", "all"];
-        add_named::<Chain<Fields>>(alloc, "Ranges", &names, map)
+        const NAMES: &[&str] = &["half_open", "closed", "from", "to", "through", "all"];
+        add_named::<Chain<Fields>>(alloc, "Ranges", NAMES, map)
     }
 
     ghost describes = { Self.described.describes };

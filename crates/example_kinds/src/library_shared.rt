@@ -23,7 +23,7 @@ impl BorshType for Shared {
     }
 
     fn element_size() -> usize {
-        <Fields>::element_size()
+        size_of::<Shared>()
     }
 }
 
@@ -69,7 +69,8 @@ impl BorshSchema for Shared {
     }
 
     fn add_definitions_recursively(alloc: Global, map: &mut DefinitionMap) -> SchemaResult<()> {
-        add_named::<Chain<Fields>>(alloc, "Shared", &["count", "label", "parts"], map)
+        const NAMES: &[&str] = &["count", "label", "parts"];
+        add_named::<Chain<Fields>>(alloc, "Shared", NAMES, map)
     }
 
     ghost describes = { Self.described.describes };

@@ -18,11 +18,11 @@ impl BorshType for Tuples {
     ghost premises = { Prim.search key_facts };
 
     fn encodes_empty() -> bool {
-        <Fields>::encodes_empty()
+        false
     }
 
     fn element_size() -> usize {
-        <Fields>::element_size()
+        size_of::<Tuples>()
     }
 }
 
@@ -63,7 +63,8 @@ impl BorshSchema for Tuples {
     }
 
     fn add_definitions_recursively(alloc: Global, map: &mut DefinitionMap) -> SchemaResult<()> {
-        add_named::<Chain<Fields>>(alloc, "Tuples", &["one", "two", "four"], map)
+        const NAMES: &[&str] = &["one", "two", "four"];
+        add_named::<Chain<Fields>>(alloc, "Tuples", NAMES, map)
     }
 
     ghost describes = { Self.described.describes };

@@ -2,7 +2,7 @@
 ghost use Rattle.borsh.specs.Derived.{case_described, contramap, enum_definitions, enum_described};
 ghost use Rattle.borsh.specs.Derived.{enum_lawful_if, fields, fork_described, key_facts, left};
 ghost use Rattle.borsh.specs.Derived.{no_fields_described, right};
-ghost use Rattle.std.specs.Prelude.{codes, refl, ◌∷◌, []};
+ghost use Rattle.std.specs.Prelude.{codes, refl, ⊤, ◌∷◌, [], ◌≡◌};
 ghost use Rattle.example_kinds.specs.declared.opcodes.Opcode.{Opcode};
 
 use super::opcodes::Opcode;
@@ -94,7 +94,9 @@ impl FromCases for Opcode {
       | Opcode.Last part0 ↦ right (right (right (right (right (fields part0)))))
     ] };
 
-    fn from_cases(cases: Variants) -> Opcode {
+    fn from_cases(cases: Variants) -> Opcode
+        ensures { ⊤ → ⟦<Opcode as FromCases>⟧.view result ≡ cases }
+    {
         match cases {
             Fork::Left(Fork::Left(Fork::Left(Fork::Left(Fork::Left(Case(())))))) => Opcode::Halt,
             Fork::Left(Fork::Left(Fork::Left(Fork::Left(Fork::Right(Case(fields)))))) => {
@@ -205,7 +207,7 @@ impl BorshType for Opcode {
     }
 
     fn element_size() -> usize {
-        <Variants>::element_size()
+        size_of::<Opcode>()
     }
 }
 
@@ -435,45 +437,41 @@ impl BorshSchema for Opcode {
     }
 
     fn add_definitions_recursively(alloc: Global, map: &mut DefinitionMap) -> SchemaResult<()> {
-        add_enum::<VariantList>(
-            alloc,
-            "Opcode",
-            &[
-                ("Halt", &[]),
-                ("Call", &[]),
-                ("Load", &["a", "b"]),
-                ("Push", &[]),
-                ("Wait", &[]),
-                ("Jump", &[]),
-                ("Store", &["a", "b"]),
-                ("Pop", &[]),
-                ("Return", &[]),
-                ("Trap", &[]),
-                ("Copy", &["a", "b"]),
-                ("Add", &[]),
-                ("Yield", &[]),
-                ("Log", &[]),
-                ("Move", &["a", "b"]),
-                ("Subtract", &[]),
-                ("Lock", &[]),
-                ("Print", &[]),
-                ("Fill", &["a", "b"]),
-                ("Multiply", &[]),
-                ("Unlock", &[]),
-                ("Read", &[]),
-                ("Clear", &["a", "b"]),
-                ("Divide", &[]),
-                ("Reset", &[]),
-                ("Write", &[]),
-                ("Scan", &["a", "b"]),
-                ("Shift", &[]),
-                ("Sleep", &[]),
-                ("Name", &[]),
-                ("Join", &["a", "b"]),
-                ("Last", &[]),
-            ],
-            map,
-        )
+        const NAMES: &[(&str, &[&str])] = &[
+            ("Halt", &[]),
+            ("Call", &[]),
+            ("Load", &["a", "b"]),
+            ("Push", &[]),
+            ("Wait", &[]),
+            ("Jump", &[]),
+            ("Store", &["a", "b"]),
+            ("Pop", &[]),
+            ("Return", &[]),
+            ("Trap", &[]),
+            ("Copy", &["a", "b"]),
+            ("Add", &[]),
+            ("Yield", &[]),
+            ("Log", &[]),
+            ("Move", &["a", "b"]),
+            ("Subtract", &[]),
+            ("Lock", &[]),
+            ("Print", &[]),
+            ("Fill", &["a", "b"]),
+            ("Multiply", &[]),
+            ("Unlock", &[]),
+            ("Read", &[]),
+            ("Clear", &["a", "b"]),
+            ("Divide", &[]),
+            ("Reset", &[]),
+            ("Write", &[]),
+            ("Scan", &["a", "b"]),
+            ("Shift", &[]),
+            ("Sleep", &[]),
+            ("Name", &[]),
+            ("Join", &["a", "b"]),
+            ("Last", &[]),
+        ];
+        add_enum::<VariantList>(alloc, "Opcode", NAMES, map)
     }
 
     ghost describes = { Self.described.describes };

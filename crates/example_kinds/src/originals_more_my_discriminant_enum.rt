@@ -1,7 +1,7 @@
 // Written by borsh_derive.py from originals_more.rt: edit that file, and run the program again.
 ghost use Rattle.borsh.specs.Derived.{case_described, contramap, enum_definitions, enum_described};
 ghost use Rattle.borsh.specs.Derived.{enum_lawful_if, fields, key_facts, no_fields_described};
-ghost use Rattle.std.specs.Prelude.{codes, refl, ◌∷◌, []};
+ghost use Rattle.std.specs.Prelude.{codes, refl, ⊤, ◌∷◌, [], ◌≡◌};
 ghost use Rattle.example_kinds.specs.declared.originals_more.MyDiscriminantEnum.{MyDiscriminantEnum};
 
 use super::originals_more::MyDiscriminantEnum;
@@ -15,7 +15,9 @@ impl FromCases for MyDiscriminantEnum {
 
     ghost view = { elim [ MyDiscriminantEnum.A ↦ fields tt ] };
 
-    fn from_cases(cases: Variants) -> MyDiscriminantEnum {
+    fn from_cases(cases: Variants) -> MyDiscriminantEnum
+        ensures { ⊤ → ⟦<MyDiscriminantEnum as FromCases>⟧.view result ≡ cases }
+    {
         match cases {
             Case(()) => MyDiscriminantEnum::A,
         }
@@ -38,7 +40,7 @@ impl BorshType for MyDiscriminantEnum {
     }
 
     fn element_size() -> usize {
-        <Variants>::element_size()
+        size_of::<MyDiscriminantEnum>()
     }
 }
 
@@ -93,7 +95,8 @@ impl BorshSchema for MyDiscriminantEnum {
     }
 
     fn add_definitions_recursively(alloc: Global, map: &mut DefinitionMap) -> SchemaResult<()> {
-        add_enum::<VariantList>(alloc, "MyDiscriminantEnum", &[("A", &[])], map)
+        const NAMES: &[(&str, &[&str])] = &[("A", &[])];
+        add_enum::<VariantList>(alloc, "MyDiscriminantEnum", NAMES, map)
     }
 
     ghost describes = { Self.described.describes };

@@ -18,11 +18,11 @@ impl BorshType for Named {
     ghost premises = { Prim.search key_facts };
 
     fn encodes_empty() -> bool {
-        <Fields>::encodes_empty()
+        false
     }
 
     fn element_size() -> usize {
-        <Fields>::element_size()
+        size_of::<Named>()
     }
 }
 
@@ -66,7 +66,8 @@ impl BorshSchema for Named {
     }
 
     fn add_definitions_recursively(alloc: Global, map: &mut DefinitionMap) -> SchemaResult<()> {
-        add_named::<Chain<Fields>>(alloc, "Named", &["foo", "bar"], map)
+        const NAMES: &[&str] = &["foo", "bar"];
+        add_named::<Chain<Fields>>(alloc, "Named", NAMES, map)
     }
 
     ghost describes = { Self.described.describes };

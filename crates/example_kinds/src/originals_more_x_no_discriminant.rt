@@ -2,7 +2,7 @@
 ghost use Rattle.borsh.specs.Derived.{case_described, contramap, enum_definitions, enum_described};
 ghost use Rattle.borsh.specs.Derived.{enum_lawful_if, fields, fork_described, key_facts, left};
 ghost use Rattle.borsh.specs.Derived.{no_fields_described, right};
-ghost use Rattle.std.specs.Prelude.{codes, refl, ◌∷◌, []};
+ghost use Rattle.std.specs.Prelude.{codes, refl, ⊤, ◌∷◌, [], ◌≡◌};
 ghost use Rattle.example_kinds.specs.declared.originals_more.XNoDiscriminant.{XNoDiscriminant};
 
 use super::originals_more::XNoDiscriminant;
@@ -26,7 +26,9 @@ impl FromCases for XNoDiscriminant {
       | XNoDiscriminant.F ↦ right (right (fields tt))
     ] };
 
-    fn from_cases(cases: Variants) -> XNoDiscriminant {
+    fn from_cases(cases: Variants) -> XNoDiscriminant
+        ensures { ⊤ → ⟦<XNoDiscriminant as FromCases>⟧.view result ≡ cases }
+    {
         match cases {
             Fork::Left(Fork::Left(Fork::Left(Case(())))) => XNoDiscriminant::A,
             Fork::Left(Fork::Left(Fork::Right(Case(())))) => XNoDiscriminant::B,
@@ -53,7 +55,7 @@ impl BorshType for XNoDiscriminant {
     }
 
     fn element_size() -> usize {
-        <Variants>::element_size()
+        size_of::<XNoDiscriminant>()
     }
 }
 
@@ -136,19 +138,15 @@ impl BorshSchema for XNoDiscriminant {
     }
 
     fn add_definitions_recursively(alloc: Global, map: &mut DefinitionMap) -> SchemaResult<()> {
-        add_enum::<VariantList>(
-            alloc,
-            "XNoDiscriminant",
-            &[
-                ("A", &[]),
-                ("B", &[]),
-                ("C", &[]),
-                ("D", &[]),
-                ("E", &[]),
-                ("F", &[]),
-            ],
-            map,
-        )
+        const NAMES: &[(&str, &[&str])] = &[
+            ("A", &[]),
+            ("B", &[]),
+            ("C", &[]),
+            ("D", &[]),
+            ("E", &[]),
+            ("F", &[]),
+        ];
+        add_enum::<VariantList>(alloc, "XNoDiscriminant", NAMES, map)
     }
 
     ghost describes = { Self.described.describes };

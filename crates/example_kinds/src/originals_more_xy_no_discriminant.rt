@@ -2,7 +2,7 @@
 ghost use Rattle.borsh.specs.Derived.{case_described, contramap, enum_definitions, enum_described};
 ghost use Rattle.borsh.specs.Derived.{enum_lawful_if, fields, fork_described, key_facts, left};
 ghost use Rattle.borsh.specs.Derived.{no_fields_described, right};
-ghost use Rattle.std.specs.Prelude.{codes, refl, ◌∷◌, []};
+ghost use Rattle.std.specs.Prelude.{codes, refl, ⊤, ◌∷◌, [], ◌≡◌};
 ghost use Rattle.example_kinds.specs.declared.originals_more.XYNoDiscriminant.{XYNoDiscriminant};
 
 use super::originals_more::XYNoDiscriminant;
@@ -26,7 +26,9 @@ impl FromCases for XYNoDiscriminant {
       | XYNoDiscriminant.F part0 ↦ right (right (fields part0))
     ] };
 
-    fn from_cases(cases: Variants) -> XYNoDiscriminant {
+    fn from_cases(cases: Variants) -> XYNoDiscriminant
+        ensures { ⊤ → ⟦<XYNoDiscriminant as FromCases>⟧.view result ≡ cases }
+    {
         match cases {
             Fork::Left(Fork::Left(Fork::Left(Case(())))) => XYNoDiscriminant::A,
             Fork::Left(Fork::Left(Fork::Right(Case(())))) => XYNoDiscriminant::B,
@@ -56,7 +58,7 @@ impl BorshType for XYNoDiscriminant {
     }
 
     fn element_size() -> usize {
-        <Variants>::element_size()
+        size_of::<XYNoDiscriminant>()
     }
 }
 
@@ -129,19 +131,15 @@ impl BorshSchema for XYNoDiscriminant {
     }
 
     fn add_definitions_recursively(alloc: Global, map: &mut DefinitionMap) -> SchemaResult<()> {
-        add_enum::<VariantList>(
-            alloc,
-            "XYNoDiscriminant",
-            &[
-                ("A", &[]),
-                ("B", &[]),
-                ("C", &[]),
-                ("D", &[]),
-                ("E", &[]),
-                ("F", &[]),
-            ],
-            map,
-        )
+        const NAMES: &[(&str, &[&str])] = &[
+            ("A", &[]),
+            ("B", &[]),
+            ("C", &[]),
+            ("D", &[]),
+            ("E", &[]),
+            ("F", &[]),
+        ];
+        add_enum::<VariantList>(alloc, "XYNoDiscriminant", NAMES, map)
     }
 
     ghost describes = { Self.described.describes };

@@ -78,8 +78,8 @@ impl<K: BorshKey + Ord + Hash + Eq + BorshSchema, V: BorshSchema> BorshSchema fo
     }
 
     fn add_definitions_recursively(alloc: Global, map: &mut DefinitionMap) -> SchemaResult<()> {
-        let names = ["entries", "keys", "order"];
-        add_named_with::<K, (V, ()), Chain<Fields<K, V>>>(alloc, "Hashed", &names, map)
+        const NAMES: &[&str] = &["entries", "keys", "order"];
+        add_named_with::<K, (V, ()), Chain<Fields<K, V>>>(alloc, "Hashed", NAMES, map)
     }
 
     ghost describes = { λ defs held. describes_contramap (λ v. (v.entries, (v.keys, v.order)))

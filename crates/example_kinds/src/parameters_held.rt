@@ -92,8 +92,8 @@ impl<T: BorshSchema> BorshSchema for Held<T> {
     }
 
     fn add_definitions_recursively(alloc: Global, map: &mut DefinitionMap) -> SchemaResult<()> {
-        let names = ["boxed", "tried", "pair", "rows"];
-        add_named_with::<T, (), Chain<Fields<T>>>(alloc, "Held", &names, map)
+        const NAMES: &[&str] = &["boxed", "tried", "pair", "rows"];
+        add_named_with::<T, (), Chain<Fields<T>>>(alloc, "Held", NAMES, map)
     }
 
     ghost describes = { λ defs held. describes_contramap

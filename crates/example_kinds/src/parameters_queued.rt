@@ -73,8 +73,8 @@ impl<T: BorshSchema> BorshSchema for Queued<T> {
     }
 
     fn add_definitions_recursively(alloc: Global, map: &mut DefinitionMap) -> SchemaResult<()> {
-        let names = ["queue", "linked", "shared"];
-        add_named_with::<T, (), Chain<Fields<T>>>(alloc, "Queued", &names, map)
+        const NAMES: &[&str] = &["queue", "linked", "shared"];
+        add_named_with::<T, (), Chain<Fields<T>>>(alloc, "Queued", NAMES, map)
     }
 
     ghost describes = { λ defs held. describes_contramap (λ v. (v.queue, (v.linked, v.shared)))

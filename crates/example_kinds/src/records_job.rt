@@ -2,7 +2,7 @@
 ghost use Rattle.borsh.specs.Derived.{case_described, contramap, enum_definitions, enum_described};
 ghost use Rattle.borsh.specs.Derived.{enum_lawful_if, fields, fork_described, key_facts, left};
 ghost use Rattle.borsh.specs.Derived.{no_fields_described, right};
-ghost use Rattle.std.specs.Prelude.{codes, refl, ◌∷◌, []};
+ghost use Rattle.std.specs.Prelude.{codes, refl, ⊤, ◌∷◌, [], ◌≡◌};
 ghost use Rattle.example_kinds.specs.declared.records.Job.{Job};
 
 use super::records::Job;
@@ -21,7 +21,9 @@ impl FromCases for Job {
       | Job.Stop _ ↦ right (right (fields tt))
     ] };
 
-    fn from_cases(cases: Variants) -> Job {
+    fn from_cases(cases: Variants) -> Job
+        ensures { ⊤ → ⟦<Job as FromCases>⟧.view result ≡ cases }
+    {
         match cases {
             Fork::Left(Fork::Left(Case(()))) => Job::Idle,
             Fork::Left(Fork::Right(Case(id))) => Job::Run {
@@ -51,7 +53,7 @@ impl BorshType for Job {
     }
 
     fn element_size() -> usize {
-        <Variants>::element_size()
+        size_of::<Job>()
     }
 }
 
@@ -111,17 +113,13 @@ impl BorshSchema for Job {
     }
 
     fn add_definitions_recursively(alloc: Global, map: &mut DefinitionMap) -> SchemaResult<()> {
-        add_enum::<VariantList>(
-            alloc,
-            "Job",
-            &[
-                ("Idle", &[]),
-                ("Run", &["id"]),
-                ("Wait", &[]),
-                ("Stop", &[]),
-            ],
-            map,
-        )
+        const NAMES: &[(&str, &[&str])] = &[
+            ("Idle", &[]),
+            ("Run", &["id"]),
+            ("Wait", &[]),
+            ("Stop", &[]),
+        ];
+        add_enum::<VariantList>(alloc, "Job", NAMES, map)
     }
 
     ghost describes = { Self.described.describes };

@@ -31,11 +31,11 @@ impl BorshType for Panel {
     ghost premises = { Prim.search key_facts };
 
     fn encodes_empty() -> bool {
-        <Fields>::encodes_empty()
+        false
     }
 
     fn element_size() -> usize {
-        <Fields>::element_size()
+        size_of::<Panel>()
     }
 }
 
@@ -203,11 +203,11 @@ impl BorshSchema for Panel {
     }
 
     fn add_definitions_recursively(alloc: Global, map: &mut DefinitionMap) -> SchemaResult<()> {
-        let names = [
+        const NAMES: &[&str] = &[
             "a", "b", "c", "d", "e", "f", "g", "h", "i", "j", "k", "l", "m", "n", "o", "p", "q",
             "r", "s", "t",
         ];
-        add_named::<FieldList>(alloc, "Panel", &names, map)
+        add_named::<FieldList>(alloc, "Panel", NAMES, map)
     }
 
     ghost describes = { Self.described.describes };

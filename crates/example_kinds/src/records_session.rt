@@ -18,11 +18,11 @@ impl BorshType for Session {
     ghost premises = { Prim.search key_facts };
 
     fn encodes_empty() -> bool {
-        <Fields>::encodes_empty()
+        false
     }
 
     fn element_size() -> usize {
-        <Fields>::element_size()
+        size_of::<Session>()
     }
 }
 
@@ -70,7 +70,8 @@ impl BorshSchema for Session {
     }
 
     fn add_definitions_recursively(alloc: Global, map: &mut DefinitionMap) -> SchemaResult<()> {
-        add_named::<Chain<Fields>>(alloc, "Session", &["user", "token"], map)
+        const NAMES: &[&str] = &["user", "token"];
+        add_named::<Chain<Fields>>(alloc, "Session", NAMES, map)
     }
 
     ghost describes = { Self.described.describes };

@@ -1,6 +1,6 @@
 // Written by borsh_derive.py from generics.rt: edit that file, and run the program again.
 ghost use Rattle.borsh.specs.Derived.{contramap, enum_lawful_if, fields, key_facts, left, right};
-ghost use Rattle.std.specs.Prelude.{refl};
+ghost use Rattle.std.specs.Prelude.{refl, ⊤, ◌≡◌};
 ghost use Rattle.example_types.specs.declared.generics.Listed.{Listed};
 
 use super::generics::Listed;
@@ -18,7 +18,9 @@ impl<T: BorshType> FromCases for Listed<T> {
       | Listed.None ↦ right (fields tt)
     ] };
 
-    fn from_cases(cases: Variants<T>) -> Listed<T> {
+    fn from_cases(cases: Variants<T>) -> Listed<T>
+        ensures { ⊤ → ⟦<Listed<T> as FromCases>⟧.view result ≡ cases }
+    {
         match cases {
             Fork::Left(Fork::Left(Case(part0))) => Listed::Many(part0),
             Fork::Left(Fork::Right(Case(part0))) => Listed::One(part0),

@@ -68,7 +68,8 @@ impl<A: BorshSchema, B: BorshSchema> BorshSchema for Pair<A, B> {
     }
 
     fn add_definitions_recursively(alloc: Global, map: &mut DefinitionMap) -> SchemaResult<()> {
-        add_named_with::<A, (B, ()), Chain<Fields<A, B>>>(alloc, "Pair", &["first", "second"], map)
+        const NAMES: &[&str] = &["first", "second"];
+        add_named_with::<A, (B, ()), Chain<Fields<A, B>>>(alloc, "Pair", NAMES, map)
     }
 
     ghost describes = { λ defs held. describes_contramap (λ v. (v.first, v.second))

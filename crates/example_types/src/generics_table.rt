@@ -82,7 +82,8 @@ where
     }
 
     fn add_definitions_recursively(alloc: Global, map: &mut DefinitionMap) -> SchemaResult<()> {
-        add_named_with::<T, (), Chain<Fields<T>>>(alloc, "Table", &["rows", "by_number"], map)
+        const NAMES: &[&str] = &["rows", "by_number"];
+        add_named_with::<T, (), Chain<Fields<T>>>(alloc, "Table", NAMES, map)
     }
 
     ghost describes = { λ defs held. describes_contramap (λ v. (v.rows, v.by_number))

@@ -21,7 +21,7 @@ impl BorshType for Envelope {
     }
 
     fn element_size() -> usize {
-        <Fields>::element_size()
+        size_of::<Envelope>()
     }
 }
 

@@ -2,7 +2,7 @@
 ghost use Rattle.borsh.specs.Derived.{case_described, contramap, enum_definitions, enum_described};
 ghost use Rattle.borsh.specs.Derived.{enum_lawful_if, fields, fork_described, key_facts, left};
 ghost use Rattle.borsh.specs.Derived.{no_fields_described, right};
-ghost use Rattle.std.specs.Prelude.{codes, refl, ◌∷◌, []};
+ghost use Rattle.std.specs.Prelude.{codes, refl, ⊤, ◌∷◌, [], ◌≡◌};
 ghost use Rattle.example_types.specs.declared.messages.Level.{Level};
 
 use super::messages::Level;
@@ -20,7 +20,9 @@ impl FromCases for Level {
       | Level.Top ↦ right (fields tt)
     ] };
 
-    fn from_cases(cases: Variants) -> Level {
+    fn from_cases(cases: Variants) -> Level
+        ensures { ⊤ → ⟦<Level as FromCases>⟧.view result ≡ cases }
+    {
         match cases {
             Fork::Left(Fork::Left(Case(()))) => Level::Low,
             Fork::Left(Fork::Right(Case(()))) => Level::High,
@@ -44,7 +46,7 @@ impl BorshType for Level {
     }
 
     fn element_size() -> usize {
-        <Variants>::element_size()
+        size_of::<Level>()
     }
 }
 
@@ -105,12 +107,8 @@ impl BorshSchema for Level {
     }
 
     fn add_definitions_recursively(alloc: Global, map: &mut DefinitionMap) -> SchemaResult<()> {
-        add_enum::<VariantList>(
-            alloc,
-            "Level",
-            &[("Low", &[]), ("High", &[]), ("Top", &[])],
-            map,
-        )
+        const NAMES: &[(&str, &[&str])] = &[("Low", &[]), ("High", &[]), ("Top", &[])];
+        add_enum::<VariantList>(alloc, "Level", NAMES, map)
     }
 
     ghost describes = { Self.described.describes };

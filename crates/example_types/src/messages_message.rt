@@ -2,7 +2,7 @@
 ghost use Rattle.borsh.specs.Derived.{case_described, contramap, enum_definitions, enum_described};
 ghost use Rattle.borsh.specs.Derived.{enum_lawful_if, fields, fork_described, key_facts, left};
 ghost use Rattle.borsh.specs.Derived.{no_fields_described, right};
-ghost use Rattle.std.specs.Prelude.{codes, refl, ◌∷◌, []};
+ghost use Rattle.std.specs.Prelude.{codes, refl, ⊤, ◌∷◌, [], ◌≡◌};
 ghost use Rattle.example_types.specs.declared.messages.Message.{Message};
 
 use super::messages::Message;
@@ -27,7 +27,9 @@ impl FromCases for Message {
       | Message.Index part0 ↦ right (right (fields part0))
     ] };
 
-    fn from_cases(cases: Variants) -> Message {
+    fn from_cases(cases: Variants) -> Message
+        ensures { ⊤ → ⟦<Message as FromCases>⟧.view result ≡ cases }
+    {
         match cases {
             Fork::Left(Fork::Left(Fork::Left(Case(())))) => Message::Ping,
             Fork::Left(Fork::Left(Fork::Right(Case(part0)))) => Message::Text(part0),
@@ -59,7 +61,7 @@ impl BorshType for Message {
     }
 
     fn element_size() -> usize {
-        <Variants>::element_size()
+        size_of::<Message>()
     }
 }
 
@@ -126,18 +128,14 @@ impl BorshSchema for Message {
     }
 
     fn add_definitions_recursively(alloc: Global, map: &mut DefinitionMap) -> SchemaResult<()> {
-        add_enum::<VariantList>(
-            alloc,
-            "Message",
-            &[
-                ("Ping", &[]),
-                ("Text", &[]),
-                ("Move", &["x", "y"]),
-                ("Open", &[]),
-                ("Index", &[]),
-            ],
-            map,
-        )
+        const NAMES: &[(&str, &[&str])] = &[
+            ("Ping", &[]),
+            ("Text", &[]),
+            ("Move", &["x", "y"]),
+            ("Open", &[]),
+            ("Index", &[]),
+        ];
+        add_enum::<VariantList>(alloc, "Message", NAMES, map)
     }
 
     ghost describes = { Self.described.describes };

@@ -2,7 +2,7 @@
 ghost use Rattle.borsh.specs.Derived.{case_described, contramap, enum_definitions, enum_described};
 ghost use Rattle.borsh.specs.Derived.{enum_lawful_if, fields, fork_described, key_facts, left};
 ghost use Rattle.borsh.specs.Derived.{no_fields_described, right};
-ghost use Rattle.std.specs.Prelude.{codes, refl, ◌∷◌, []};
+ghost use Rattle.std.specs.Prelude.{codes, refl, ⊤, ◌∷◌, [], ◌≡◌};
 ghost use Rattle.example_types.specs.declared.messages.Request.{Request};
 
 use super::messages::Request;
@@ -20,7 +20,9 @@ impl FromCases for Request {
       | Request.Stop ↦ right (fields tt)
     ] };
 
-    fn from_cases(cases: Variants) -> Request {
+    fn from_cases(cases: Variants) -> Request
+        ensures { ⊤ → ⟦<Request as FromCases>⟧.view result ≡ cases }
+    {
         match cases {
             Fork::Left(Fork::Left(Case(part0))) => Request::Get(part0),
             Fork::Left(Fork::Right(Case(fields))) => {
@@ -47,7 +49,7 @@ impl BorshType for Request {
     }
 
     fn element_size() -> usize {
-        <Variants>::element_size()
+        size_of::<Request>()
     }
 }
 
@@ -101,12 +103,12 @@ impl BorshSchema for Request {
     }
 
     fn add_definitions_recursively(alloc: Global, map: &mut DefinitionMap) -> SchemaResult<()> {
-        add_enum::<VariantList>(
-            alloc,
-            "Request",
-            &[("Get", &[]), ("Put", &["key", "value"]), ("Stop", &[])],
-            map,
-        )
+        const NAMES: &[(&str, &[&str])] = &[
+            ("Get", &[]),
+            ("Put", &["key", "value"]),
+            ("Stop", &[]),
+        ];
+        add_enum::<VariantList>(alloc, "Request", NAMES, map)
     }
 
     ghost describes = { Self.described.describes };

@@ -1,7 +1,7 @@
 // Written by borsh_derive.py from messages.rt: edit that file, and run the program again.
 ghost use Rattle.borsh.specs.Derived.{case_described, contramap, enum_definitions, enum_described};
 ghost use Rattle.borsh.specs.Derived.{enum_lawful_if, fields, key_facts};
-ghost use Rattle.std.specs.Prelude.{codes, refl, ◌∷◌, []};
+ghost use Rattle.std.specs.Prelude.{codes, refl, ⊤, ◌∷◌, [], ◌≡◌};
 ghost use Rattle.example_types.specs.declared.messages.Version.{Version};
 
 use super::messages::Version;
@@ -15,7 +15,9 @@ impl FromCases for Version {
 
     ghost view = { elim [ Version.V1 number ↦ fields number ] };
 
-    fn from_cases(cases: Variants) -> Version {
+    fn from_cases(cases: Variants) -> Version
+        ensures { ⊤ → ⟦<Version as FromCases>⟧.view result ≡ cases }
+    {
         match cases {
             Case(number) => Version::V1 { number },
         }
@@ -37,7 +39,7 @@ impl BorshType for Version {
     }
 
     fn element_size() -> usize {
-        <Variants>::element_size()
+        size_of::<Version>()
     }
 }
 
@@ -82,7 +84,8 @@ impl BorshSchema for Version {
     }
 
     fn add_definitions_recursively(alloc: Global, map: &mut DefinitionMap) -> SchemaResult<()> {
-        add_enum::<VariantList>(alloc, "Version", &[("V1", &["number"])], map)
+        const NAMES: &[(&str, &[&str])] = &[("V1", &["number"])];
+        add_enum::<VariantList>(alloc, "Version", NAMES, map)
     }
 
     ghost describes = { Self.described.describes };

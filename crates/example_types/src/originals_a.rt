@@ -18,11 +18,11 @@ impl BorshType for A {
     ghost premises = { Prim.search key_facts };
 
     fn encodes_empty() -> bool {
-        <Fields>::encodes_empty()
+        false
     }
 
     fn element_size() -> usize {
-        <Fields>::element_size()
+        size_of::<A>()
     }
 }
 
@@ -62,7 +62,8 @@ impl BorshSchema for A {
     }
 
     fn add_definitions_recursively(alloc: Global, map: &mut DefinitionMap) -> SchemaResult<()> {
-        add_named::<Chain<Fields>>(alloc, "A", &["x", "y"], map)
+        const NAMES: &[&str] = &["x", "y"];
+        add_named::<Chain<Fields>>(alloc, "A", NAMES, map)
     }
 
     ghost describes = { Self.described.describes };

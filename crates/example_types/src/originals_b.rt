@@ -1,6 +1,6 @@
 // Written by borsh_derive.py from originals.rt: edit that file, and run the program again.
 ghost use Rattle.borsh.specs.Derived.{contramap, enum_lawful_if, fields, key_facts, left, right};
-ghost use Rattle.std.specs.Prelude.{refl};
+ghost use Rattle.std.specs.Prelude.{refl, ⊤, ◌≡◌};
 ghost use Rattle.example_types.specs.declared.originals.B.{B};
 
 use super::originals::B;
@@ -14,7 +14,9 @@ impl<W: BorshType, G: BorshType> FromCases for B<W, G> {
 
     ghost view = { elim [ B.X f ↦ left (fields f) | B.Y part0 ↦ right (fields part0) ] };
 
-    fn from_cases(cases: Variants<W, G>) -> B<W, G> {
+    fn from_cases(cases: Variants<W, G>) -> B<W, G>
+        ensures { ⊤ → ⟦<B<W, G> as FromCases>⟧.view result ≡ cases }
+    {
         match cases {
             Fork::Left(Case(f)) => B::X { f },
             Fork::Right(Case(part0)) => B::Y(part0),

@@ -23,7 +23,7 @@ impl BorshType for Boxed {
     }
 
     fn element_size() -> usize {
-        <Fields>::element_size()
+        size_of::<Boxed>()
     }
 }
 
@@ -64,7 +64,8 @@ impl BorshSchema for Boxed {
     }
 
     fn add_definitions_recursively(alloc: Global, map: &mut DefinitionMap) -> SchemaResult<()> {
-        add_named::<Chain<Fields>>(alloc, "Boxed", &["f1", "f2", "f3"], map)
+        const NAMES: &[&str] = &["f1", "f2", "f3"];
+        add_named::<Chain<Fields>>(alloc, "Boxed", NAMES, map)
     }
 
     ghost describes = { Self.described.describes };

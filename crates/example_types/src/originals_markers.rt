@@ -2,7 +2,7 @@
 ghost use Rattle.borsh.specs.Derived.{case_described, contramap, enum_definitions, enum_described};
 ghost use Rattle.borsh.specs.Derived.{enum_lawful_if, fields, fork_described, key_facts, left};
 ghost use Rattle.borsh.specs.Derived.{right};
-ghost use Rattle.std.specs.Prelude.{codes, refl, ◌∷◌, []};
+ghost use Rattle.std.specs.Prelude.{codes, refl, ⊤, ◌∷◌, [], ◌≡◌};
 ghost use Rattle.example_types.specs.declared.originals.Markers.{Markers};
 
 use super::originals::Markers;
@@ -20,7 +20,9 @@ impl<T, U> FromCases for Markers<T, U> {
       | Markers.Other part0 ↦ right (fields part0)
     ] };
 
-    fn from_cases(cases: Variants<T, U>) -> Markers<T, U> {
+    fn from_cases(cases: Variants<T, U>) -> Markers<T, U>
+        ensures { ⊤ → ⟦<Markers<T, U> as FromCases>⟧.view result ≡ cases }
+    {
         match cases {
             Fork::Left(Case(part0)) => Markers::Item(part0),
             Fork::Right(Case(part0)) => Markers::Other(part0),
@@ -98,7 +100,8 @@ impl<T, U> BorshSchema for Markers<T, U> {
     }
 
     fn add_definitions_recursively(alloc: Global, map: &mut DefinitionMap) -> SchemaResult<()> {
-        add_enum::<VariantList<T, U>>(alloc, "Markers", &[("Item", &[]), ("Other", &[])], map)
+        const NAMES: &[(&str, &[&str])] = &[("Item", &[]), ("Other", &[])];
+        add_enum::<VariantList<T, U>>(alloc, "Markers", NAMES, map)
     }
 
     ghost describes = { Self.described.describes };

@@ -1,6 +1,6 @@
 // Written by borsh_derive.py from originals.rt: edit that file, and run the program again.
 ghost use Rattle.borsh.specs.Derived.{contramap, enum_lawful_if, fields, key_facts, left, right};
-ghost use Rattle.std.specs.Prelude.{refl};
+ghost use Rattle.std.specs.Prelude.{refl, ⊤, ◌≡◌};
 ghost use Rattle.example_types.specs.declared.originals.MixedWithUnitVariants.{MixedWithUnitVariants};
 
 use super::originals::MixedWithUnitVariants;
@@ -19,7 +19,9 @@ impl FromCases for MixedWithUnitVariants {
       | MixedWithUnitVariants.D ↦ right (right (fields tt))
     ] };
 
-    fn from_cases(cases: Variants) -> MixedWithUnitVariants {
+    fn from_cases(cases: Variants) -> MixedWithUnitVariants
+        ensures { ⊤ → ⟦<MixedWithUnitVariants as FromCases>⟧.view result ≡ cases }
+    {
         match cases {
             Fork::Left(Fork::Left(Case(part0))) => MixedWithUnitVariants::A(part0),
             Fork::Left(Fork::Right(Case(()))) => MixedWithUnitVariants::B,
@@ -48,7 +50,7 @@ impl BorshType for MixedWithUnitVariants {
     }
 
     fn element_size() -> usize {
-        <Variants>::element_size()
+        size_of::<MixedWithUnitVariants>()
     }
 }
 

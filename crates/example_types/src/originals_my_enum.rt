@@ -2,7 +2,7 @@
 ghost use Rattle.borsh.specs.Derived.{case_described, contramap, enum_definitions, enum_described};
 ghost use Rattle.borsh.specs.Derived.{enum_lawful_if, fields, fork_described, key_facts, left};
 ghost use Rattle.borsh.specs.Derived.{no_fields_described, right};
-ghost use Rattle.std.specs.Prelude.{codes, refl, ◌∷◌, []};
+ghost use Rattle.std.specs.Prelude.{codes, refl, ⊤, ◌∷◌, [], ◌≡◌};
 ghost use Rattle.example_types.specs.declared.originals.MyEnum.{MyEnum};
 
 use super::originals::MyEnum;
@@ -20,7 +20,9 @@ impl FromCases for MyEnum {
       | MyEnum.Many part0 ↦ right (fields part0)
     ] };
 
-    fn from_cases(cases: Variants) -> MyEnum {
+    fn from_cases(cases: Variants) -> MyEnum
+        ensures { ⊤ → ⟦<MyEnum as FromCases>⟧.view result ≡ cases }
+    {
         match cases {
             Fork::Left(Fork::Left(Case(()))) => MyEnum::Zero,
             Fork::Left(Fork::Right(Case(part0))) => MyEnum::One(part0),
@@ -44,7 +46,7 @@ impl BorshType for MyEnum {
     }
 
     fn element_size() -> usize {
-        <Variants>::element_size()
+        size_of::<MyEnum>()
     }
 }
 
@@ -97,12 +99,8 @@ impl BorshSchema for MyEnum {
     }
 
     fn add_definitions_recursively(alloc: Global, map: &mut DefinitionMap) -> SchemaResult<()> {
-        add_enum::<VariantList>(
-            alloc,
-            "MyEnum",
-            &[("Zero", &[]), ("One", &[]), ("Many", &[])],
-            map,
-        )
+        const NAMES: &[(&str, &[&str])] = &[("Zero", &[]), ("One", &[]), ("Many", &[])];
+        add_enum::<VariantList>(alloc, "MyEnum", NAMES, map)
     }
 
     ghost describes = { Self.described.describes };

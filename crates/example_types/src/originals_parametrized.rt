@@ -69,8 +69,8 @@ impl<K: BorshSchema, V> BorshSchema for Parametrized<K, V> {
     }
 
     fn add_definitions_recursively(alloc: Global, map: &mut DefinitionMap) -> SchemaResult<()> {
-        let names = ["field", "another"];
-        add_named_with::<K, (), Chain<Fields<K, V>>>(alloc, "Parametrized", &names, map)
+        const NAMES: &[&str] = &["field", "another"];
+        add_named_with::<K, (), Chain<Fields<K, V>>>(alloc, "Parametrized", NAMES, map)
     }
 
     ghost describes = { λ defs held. describes_contramap (λ v. (v.field, v.another))

@@ -2,7 +2,7 @@
 ghost use Rattle.borsh.specs.Derived.{case_described, contramap, enum_definitions, enum_described};
 ghost use Rattle.borsh.specs.Derived.{enum_lawful_if, fields, fork_described, key_facts, left};
 ghost use Rattle.borsh.specs.Derived.{no_fields_described, right};
-ghost use Rattle.std.specs.Prelude.{codes, refl, ◌∷◌, []};
+ghost use Rattle.std.specs.Prelude.{codes, refl, ⊤, ◌∷◌, [], ◌≡◌};
 ghost use Rattle.example_types.specs.declared.originals.XY.{XY};
 
 use super::originals::XY;
@@ -26,7 +26,9 @@ impl FromCases for XY {
       | XY.F part0 ↦ right (right (fields part0))
     ] };
 
-    fn from_cases(cases: Variants) -> XY {
+    fn from_cases(cases: Variants) -> XY
+        ensures { ⊤ → ⟦<XY as FromCases>⟧.view result ≡ cases }
+    {
         match cases {
             Fork::Left(Fork::Left(Fork::Left(Case(())))) => XY::A,
             Fork::Left(Fork::Left(Fork::Right(Case(())))) => XY::B,
@@ -56,7 +58,7 @@ impl BorshType for XY {
     }
 
     fn element_size() -> usize {
-        <Variants>::element_size()
+        size_of::<XY>()
     }
 }
 
@@ -125,19 +127,15 @@ impl BorshSchema for XY {
     }
 
     fn add_definitions_recursively(alloc: Global, map: &mut DefinitionMap) -> SchemaResult<()> {
-        add_enum::<VariantList>(
-            alloc,
-            "XY",
-            &[
-                ("A", &[]),
-                ("B", &[]),
-                ("C", &[]),
-                ("D", &[]),
-                ("E", &[]),
-                ("F", &[]),
-            ],
-            map,
-        )
+        const NAMES: &[(&str, &[&str])] = &[
+            ("A", &[]),
+            ("B", &[]),
+            ("C", &[]),
+            ("D", &[]),
+            ("E", &[]),
+            ("F", &[]),
+        ];
+        add_enum::<VariantList>(alloc, "XY", NAMES, map)
     }
 
     ghost describes = { Self.described.describes };

@@ -19,11 +19,11 @@ impl BorshType for Account {
     ghost premises = { Prim.search key_facts };
 
     fn encodes_empty() -> bool {
-        <Fields>::encodes_empty()
+        false
     }
 
     fn element_size() -> usize {
-        <Fields>::element_size()
+        size_of::<Account>()
     }
 }
 
@@ -65,7 +65,8 @@ impl BorshSchema for Account {
     }
 
     fn add_definitions_recursively(alloc: Global, map: &mut DefinitionMap) -> SchemaResult<()> {
-        add_named::<Chain<Fields>>(alloc, "Account", &["id", "balances", "note"], map)
+        const NAMES: &[&str] = &["id", "balances", "note"];
+        add_named::<Chain<Fields>>(alloc, "Account", NAMES, map)
     }
 
     ghost describes = { Self.described.describes };

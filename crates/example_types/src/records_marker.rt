@@ -22,7 +22,7 @@ impl BorshType for Marker {
     }
 
     fn element_size() -> usize {
-        <Fields>::element_size()
+        size_of::<Marker>()
     }
 }
 

@@ -18,11 +18,11 @@ impl BorshType for Name {
     ghost premises = { Prim.search key_facts };
 
     fn encodes_empty() -> bool {
-        <Fields>::encodes_empty()
+        false
     }
 
     fn element_size() -> usize {
-        <Fields>::element_size()
+        size_of::<Name>()
     }
 }
 
@@ -62,7 +62,8 @@ impl BorshSchema for Name {
     }
 
     fn add_definitions_recursively(alloc: Global, map: &mut DefinitionMap) -> SchemaResult<()> {
-        add_named::<(Fields, ())>(alloc, "Name", &["text"], map)
+        const NAMES: &[&str] = &["text"];
+        add_named::<(Fields, ())>(alloc, "Name", NAMES, map)
     }
 
     ghost describes = { Self.described.describes };

@@ -1,7 +1,7 @@
 // Written by borsh_derive.py from shapes.rt: edit that file, and run the program again.
 ghost use Rattle.borsh.specs.Derived.{contramap, enum_lawful_if, fields, from, key_facts, left};
 ghost use Rattle.borsh.specs.Derived.{right};
-ghost use Rattle.std.specs.Prelude.{refl};
+ghost use Rattle.std.specs.Prelude.{refl, ⊤, ◌≡◌};
 ghost use Rattle.example_types.specs.declared.shapes.Shape.{Shape};
 
 use super::shapes::Shape;
@@ -47,7 +47,9 @@ impl FromCases for Shape {
       | Shape.Last ↦ right (right (right (right (fields tt))))
     ] };
 
-    fn from_cases(cases: Variants) -> Shape {
+    fn from_cases(cases: Variants) -> Shape
+        ensures { ⊤ → ⟦<Shape as FromCases>⟧.view result ≡ cases }
+    {
         match cases {
             Fork::Left(Fork::Left(Fork::Left(Fork::Left(Case(()))))) => Shape::Empty,
             Fork::Left(Fork::Left(Fork::Left(Fork::Right(Case(fields))))) => {
@@ -102,7 +104,7 @@ impl BorshType for Shape {
     }
 
     fn element_size() -> usize {
-        <Variants>::element_size()
+        size_of::<Shape>()
     }
 }
 
