@@ -1,5 +1,5 @@
 // The fields of structs, tuples and variants: their types, one after another.
-ghost use Rattle.std.specs.Prelude.{◌≡◌, ◌∷◌, [], ◌++◌, List, ℕ, IfErr, OnOk, map, string_bytes};
+ghost use Rattle.std.specs.Prelude.{◌≡◌, ◌++◌, IfErr, OnOk, map, string_bytes};
 ghost use Rattle.borsh_schema.specs.declared.definitions.SchemaBuildError.TheVariants.{OutOfMemory};
 ghost use Rattle.borsh_definitions.specs.Described.{field_bytes, variant_bytes};
 ghost use Rattle.borsh_schema.specs.Joined.{AddsDefinitions};
@@ -16,9 +16,9 @@ use std::alloc::Global;
 use std::collections::BTreeMap;
 
 /// The types of fields, one after another, as `(A, (B, ()))`.
-pub trait FieldTypes: SchemaParts {
-    ghost names: { List (List ℕ) };
-
+///
+/// `described` has their names, their definitions and the codec of the fields.
+pub trait FieldTypes {
     ghost described: { DescribedFields Self };
 
     /// How many there are.
@@ -26,12 +26,12 @@ pub trait FieldTypes: SchemaParts {
 
     /// Puts the names of the types at the end of the list.
     fn push_types(alloc: Global, types: &mut Vec<Declaration>) -> Result<(), SchemaBuildError>
-        ensures ok { OnOk result (AppendsNames types.old.items types.new.items names) }
+        ensures ok { OnOk result (AppendsNames types.old.items types.new.items described.names) }
         ensures err { IfErr result (λ e. e ≡ OutOfMemory) };
 
     /// Puts the names at the end of the text, each behind a comma.
     fn push_names(alloc: Global, text: &mut String) -> Result<(), SchemaBuildError>
-        ensures ok { OnOk result (AppendsFollowing text.old text.new names) }
+        ensures ok { OnOk result (AppendsFollowing text.old text.new described.names) }
         ensures err { IfErr result (λ e. e ≡ OutOfMemory) };
 
     /// Puts fields of these names and types at the end of the list.
@@ -41,13 +41,22 @@ pub trait FieldTypes: SchemaParts {
         list: &mut Vec<(FieldName, Declaration)>,
     ) -> Result<(), SchemaBuildError>
         ensures ok { OnOk result (map field_bytes list.new.items
-            ≡ map field_bytes list.old.items ++ beside (texts fields.now) names) }
+            ≡ map field_bytes list.old.items ++ beside (texts fields.now) described.names) }
         ensures err { IfErr result (λ e. e ≡ OutOfMemory) };
+
+    /// Adds the definitions of the types, with the errors of [`BorshSchema::add_definitions_recursively`].
+    ///
+    /// ```
+    /// <(u8, (String, ()))>::add_types(alloc, &mut definitions)?;
+    /// ```
+    fn add_types(
+        alloc: Global,
+        definitions: &mut BTreeMap<Declaration, Definition>,
+    ) -> Result<(), SchemaBuildError>
+        ensures { AddsDefinitions definitions.old definitions.new described.parts result };
 }
 
 impl FieldTypes for () {
-    ghost names = { [] };
-
     ghost described = { no_fields_described };
 
     fn count() -> usize {
@@ -69,11 +78,17 @@ impl FieldTypes for () {
     ) -> Result<(), SchemaBuildError> {
         Ok(())
     }
+
+    #[inline]
+    fn add_types(
+        _alloc: Global,
+        _definitions: &mut BTreeMap<Declaration, Definition>,
+    ) -> Result<(), SchemaBuildError> {
+        Ok(())
+    }
 }
 
 impl<T: BorshSchema, R: FieldTypes> FieldTypes for (T, R) {
-    ghost names = { T.name ∷ R.names };
-
     ghost described = { fields_described T.described R.described };
 
     fn count() -> usize {
@@ -104,6 +119,15 @@ impl<T: BorshSchema, R: FieldTypes> FieldTypes for (T, R) {
         }
         Ok(())
     }
+
+    #[inline]
+    fn add_types(
+        alloc: Global,
+        definitions: &mut BTreeMap<Declaration, Definition>,
+    ) -> Result<(), SchemaBuildError> {
+        T::add_definitions_recursively(alloc, definitions)?;
+        R::add_types(alloc, definitions)
+    }
 }
 
 /// Adds a struct with these names of fields, and the definitions of their types, `P`. The answers are
@@ -119,7 +143,7 @@ pub fn add_named<P: FieldTypes>(
     definitions: &mut BTreeMap<Declaration, Definition>,
 ) -> Result<(), SchemaBuildError>
     ensures { AddsDefinitions definitions.old definitions.new
-        (named_struct name.now (texts fields.now) P.names P.all_parts) result }
+        (named_struct name.now (texts fields.now) P.described.names P.described.parts) result }
 {
     let mut list = Vec::new(alloc);
     P::push_fields(alloc, fields, &mut list)?;
@@ -145,7 +169,7 @@ pub fn add_unnamed<P: FieldTypes>(
     definitions: &mut BTreeMap<Declaration, Definition>,
 ) -> Result<(), SchemaBuildError>
     ensures { AddsDefinitions definitions.old definitions.new
-        (unnamed_struct name.now P.names P.all_parts) result }
+        (unnamed_struct name.now P.described.names P.described.parts) result }
 {
     let mut list = Vec::with_capacity(alloc, P::count())?;
     P::push_types(alloc, &mut list)?;

@@ -6,13 +6,15 @@ ghost use Rattle.borsh_schema.specs.Joined.{AddsDefinitions, definition_with};
 ghost use Rattle.borsh_definitions.specs.Types.{primitive_definitions, list_of};
 
 use super::definitions::{SchemaBuildError, add_definition};
+use super::fields::FieldTypes;
 use super::schema::BorshSchema;
 use borsh_walks::{Declaration, Definition, DiscriminantValue, FieldName, VariantName};
 use std::alloc::Global;
 use std::collections::BTreeMap;
 use std::marker::PhantomData;
 
-/// Several types whose definitions are added to a map: `(A, (B, (C, ())))` are `A`, `B` and `C`.
+/// Several types whose definitions are added to a map: `(A, (B, (C, ())))` are `A`, `B` and `C`
+/// ([`FieldTypes`]), and [`Both`] joins two of them.
 pub trait SchemaParts {
     ghost all_parts: { DefinitionTree };
 
@@ -29,28 +31,15 @@ pub trait SchemaParts {
         ensures { AddsDefinitions definitions.old definitions.new all_parts result };
 }
 
-impl SchemaParts for () {
-    ghost all_parts = { none };
-
-    #[inline]
-    fn add_all(
-        _alloc: Global,
-        _definitions: &mut BTreeMap<Declaration, Definition>,
-    ) -> Result<(), SchemaBuildError> {
-        Ok(())
-    }
-}
-
-impl<T: BorshSchema, R: SchemaParts> SchemaParts for (T, R) {
-    ghost all_parts = { both T.parts R.all_parts };
+impl<P: FieldTypes> SchemaParts for P {
+    ghost all_parts = { P.described.parts };
 
     #[inline]
     fn add_all(
         alloc: Global,
         definitions: &mut BTreeMap<Declaration, Definition>,
     ) -> Result<(), SchemaBuildError> {
-        T::add_definitions_recursively(alloc, definitions)?;
-        R::add_all(alloc, definitions)
+        P::add_types(alloc, definitions)
     }
 }
 

@@ -17,7 +17,7 @@ use std::collections::BTreeMap;
 pub(crate) fn tuple_declaration<T: BorshSchema, R: FieldTypes>(
     alloc: Global,
 ) -> Result<Declaration, SchemaBuildError>
-    ensures ok { IfOk result (λ d. string_bytes d ≡ longer_tuple_name T.name R.names) }
+    ensures ok { IfOk result (λ d. string_bytes d ≡ longer_tuple_name T.name R.described.names) }
     ensures err { IfErr result (λ e. e ≡ OutOfMemory) }
 {
     let first = T::declaration(alloc)?;
@@ -34,7 +34,7 @@ pub(crate) fn add_tuple<P: FieldTypes>(
     definitions: &mut BTreeMap<Declaration, Definition>,
 ) -> Result<(), SchemaBuildError>
     ensures { AddsDefinitions definitions.old definitions.new
-        (tuple_described (string_bytes declaration) P.names P.all_parts) result }
+        (tuple_described (string_bytes declaration) P.described.names P.described.parts) result }
 {
     let mut elements = Vec::with_capacity(alloc, P::count())?;
     P::push_types(alloc, &mut elements)?;

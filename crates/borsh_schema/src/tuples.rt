@@ -15,7 +15,7 @@ use std::alloc::Global;
 use std::collections::BTreeMap;
 
 impl<A: BorshSchema> BorshSchema for (A,) {
-    ghost name = { tuple_name ⟦<(A, ()) as FieldTypes>⟧.names };
+    ghost name = { tuple_name ⟦<(A, ()) as FieldTypes>⟧.described.names };
 
     ghost parts = { tuple_of ⟦<(A, ()) as FieldTypes>⟧.described };
 
@@ -40,7 +40,7 @@ impl<A: BorshSchema> BorshSchema for (A,) {
 }
 
 impl<A: BorshSchema, B: BorshSchema> BorshSchema for (A, B) {
-    ghost name = { tuple_name ⟦<(A, (B, ())) as FieldTypes>⟧.names };
+    ghost name = { tuple_name ⟦<(A, (B, ())) as FieldTypes>⟧.described.names };
 
     ghost parts = { tuple_of ⟦<(A, (B, ())) as FieldTypes>⟧.described };
 
@@ -64,7 +64,7 @@ impl<A: BorshSchema, B: BorshSchema> BorshSchema for (A, B) {
 }
 
 impl<A: BorshSchema, B: BorshSchema, C: BorshSchema> BorshSchema for (A, B, C) {
-    ghost name = { tuple_name ⟦<(A, (B, (C, ()))) as FieldTypes>⟧.names };
+    ghost name = { tuple_name ⟦<(A, (B, (C, ()))) as FieldTypes>⟧.described.names };
 
     ghost parts = { tuple_of ⟦<(A, (B, (C, ()))) as FieldTypes>⟧.described };
 
@@ -89,7 +89,7 @@ impl<A: BorshSchema, B: BorshSchema, C: BorshSchema> BorshSchema for (A, B, C) {
 }
 
 impl<A: BorshSchema, B: BorshSchema, C: BorshSchema, D: BorshSchema> BorshSchema for (A, B, C, D) {
-    ghost name = { tuple_name ⟦<(A, (B, (C, (D, ())))) as FieldTypes>⟧.names };
+    ghost name = { tuple_name ⟦<(A, (B, (C, (D, ())))) as FieldTypes>⟧.described.names };
 
     ghost parts = { tuple_of ⟦<(A, (B, (C, (D, ())))) as FieldTypes>⟧.described };
 
@@ -115,7 +115,7 @@ impl<A: BorshSchema, B: BorshSchema, C: BorshSchema, D: BorshSchema> BorshSchema
 
 impl<A: BorshSchema, B: BorshSchema, C: BorshSchema, D: BorshSchema, E: BorshSchema> BorshSchema
     for (A, B, C, D, E) {
-    ghost name = { tuple_name ⟦<(A, (B, (C, (D, (E, ()))))) as FieldTypes>⟧.names };
+    ghost name = { tuple_name ⟦<(A, (B, (C, (D, (E, ()))))) as FieldTypes>⟧.described.names };
 
     ghost parts = { tuple_of ⟦<(A, (B, (C, (D, (E, ()))))) as FieldTypes>⟧.described };
 
@@ -148,7 +148,7 @@ impl<
     E: BorshSchema,
     F: BorshSchema,
 > BorshSchema for (A, B, C, D, E, F) {
-    ghost name = { tuple_name ⟦<(A, (B, (C, (D, (E, (F, ())))))) as FieldTypes>⟧.names };
+    ghost name = { tuple_name ⟦<(A, (B, (C, (D, (E, (F, ())))))) as FieldTypes>⟧.described.names };
 
     ghost parts = { tuple_of ⟦<(A, (B, (C, (D, (E, (F, ())))))) as FieldTypes>⟧.described };
 
@@ -183,7 +183,7 @@ impl<
     F: BorshSchema,
     G: BorshSchema,
 > BorshSchema for (A, B, C, D, E, F, G) {
-    ghost name = { tuple_name ⟦<(A, (B, (C, (D, (E, (F, (G, ()))))))) as FieldTypes>⟧.names };
+    ghost name = { tuple_name ⟦<(A, (B, (C, (D, (E, (F, (G, ()))))))) as FieldTypes>⟧.described.names };
 
     ghost parts = { tuple_of ⟦<(A, (B, (C, (D, (E, (F, (G, ()))))))) as FieldTypes>⟧.described };
 
@@ -224,7 +224,7 @@ impl<
     G: BorshSchema,
     H: BorshSchema,
 > BorshSchema for (A, B, C, D, E, F, G, H) {
-    ghost name = { tuple_name ⟦<(A, (B, (C, (D, (E, (F, (G, (H, ())))))))) as FieldTypes>⟧.names };
+    ghost name = { tuple_name ⟦<(A, (B, (C, (D, (E, (F, (G, (H, ())))))))) as FieldTypes>⟧.described.names };
 
     ghost parts = { tuple_of
         ⟦<(A, (B, (C, (D, (E, (F, (G, (H, ())))))))) as FieldTypes>⟧.described };
@@ -269,7 +269,7 @@ impl<
     I: BorshSchema,
 > BorshSchema for (A, B, C, D, E, F, G, H, I) {
     ghost name = { tuple_name
-        ⟦<(A, (B, (C, (D, (E, (F, (G, (H, (I, ()))))))))) as FieldTypes>⟧.names };
+        ⟦<(A, (B, (C, (D, (E, (F, (G, (H, (I, ()))))))))) as FieldTypes>⟧.described.names };
 
     ghost parts = { tuple_of
         ⟦<(A, (B, (C, (D, (E, (F, (G, (H, (I, ()))))))))) as FieldTypes>⟧.described };
@@ -316,7 +316,7 @@ impl<
     J: BorshSchema,
 > BorshSchema for (A, B, C, D, E, F, G, H, I, J) {
     ghost name = { tuple_name
-        ⟦<(A, (B, (C, (D, (E, (F, (G, (H, (I, (J, ())))))))))) as FieldTypes>⟧.names };
+        ⟦<(A, (B, (C, (D, (E, (F, (G, (H, (I, (J, ())))))))))) as FieldTypes>⟧.described.names };
 
     ghost parts = { tuple_of
         ⟦<(A, (B, (C, (D, (E, (F, (G, (H, (I, (J, ())))))))))) as FieldTypes>⟧.described };
@@ -365,7 +365,7 @@ impl<
     K: BorshSchema,
 > BorshSchema for (A, B, C, D, E, F, G, H, I, J, K) {
     ghost name = { tuple_name
-        ⟦<(A, (B, (C, (D, (E, (F, (G, (H, (I, (J, (K, ()))))))))))) as FieldTypes>⟧.names };
+        ⟦<(A, (B, (C, (D, (E, (F, (G, (H, (I, (J, (K, ()))))))))))) as FieldTypes>⟧.described.names };
 
     ghost parts = { tuple_of
         ⟦<(A, (B, (C, (D, (E, (F, (G, (H, (I, (J, (K, ()))))))))))) as FieldTypes>⟧.described };
@@ -416,7 +416,7 @@ impl<
     L: BorshSchema,
 > BorshSchema for (A, B, C, D, E, F, G, H, I, J, K, L) {
     ghost name = { tuple_name
-        ⟦<(A, (B, (C, (D, (E, (F, (G, (H, (I, (J, (K, (L, ())))))))))))) as FieldTypes>⟧.names };
+        ⟦<(A, (B, (C, (D, (E, (F, (G, (H, (I, (J, (K, (L, ())))))))))))) as FieldTypes>⟧.described.names };
 
     ghost parts = { tuple_of
         ⟦<(A, (B, (C, (D, (E, (F, (G, (H, (I, (J, (K, (L, ())))))))))))) as FieldTypes>⟧.described };

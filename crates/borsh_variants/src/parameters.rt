@@ -21,7 +21,7 @@ pub fn declared_with<T: BorshSchema, R: FieldTypes>(
     alloc: Global,
     name: &str,
 ) -> Result<Declaration, SchemaBuildError>
-    ensures ok { IfOk result (λ d. string_bytes d ≡ name_with name.now T.name R.names) }
+    ensures ok { IfOk result (λ d. string_bytes d ≡ name_with name.now T.name R.described.names) }
     ensures err { IfErr result (λ e. e ≡ OutOfMemory) }
 {
     let first = T::declaration(alloc)?;
@@ -46,7 +46,8 @@ pub fn add_named_with<T: BorshSchema, R: FieldTypes, P: FieldTypes>(
     definitions: &mut BTreeMap<Declaration, Definition>,
 ) -> Result<(), SchemaBuildError>
     ensures { AddsDefinitions definitions.old definitions.new
-        (named_struct (name_with name.now T.name R.names) (texts fields.now) P.names P.all_parts) result }
+        (named_struct (name_with name.now T.name R.described.names)
+        (texts fields.now) P.described.names P.described.parts) result }
 {
     let declaration = declared_with::<T, R>(alloc, name)?;
     add_named::<P>(alloc, declaration.as_str(), fields, definitions)
@@ -64,7 +65,8 @@ pub fn add_unnamed_with<T: BorshSchema, R: FieldTypes, P: FieldTypes>(
     definitions: &mut BTreeMap<Declaration, Definition>,
 ) -> Result<(), SchemaBuildError>
     ensures { AddsDefinitions definitions.old definitions.new
-        (unnamed_struct (name_with name.now T.name R.names) P.names P.all_parts) result }
+        (unnamed_struct (name_with name.now T.name R.described.names)
+        P.described.names P.described.parts) result }
 {
     let declaration = declared_with::<T, R>(alloc, name)?;
     add_unnamed::<P>(alloc, declaration.as_str(), definitions)

@@ -50,7 +50,7 @@ pub trait VariantTypes {
 }
 
 impl<const TAG: u8, P: FieldTypes> VariantTypes for Case<TAG, P> {
-    ghost read = { read_case TAG P.names P.all_parts };
+    ghost read = { read_case TAG P.described.names P.described.parts };
 
     fn push_variants(
         alloc: Global,
@@ -105,7 +105,7 @@ impl<A: VariantTypes, B: VariantTypes> VariantTypes for Fork<A, B> {
 
 // Fields of these names, or without names where there are none, and of the types `P`.
 fn fields_of<P: FieldTypes>(alloc: Global, names: &[&str]) -> Result<Fields, SchemaBuildError>
-    ensures ok { IfOk result (λ f. named_fields f ≡ variant_fields (texts names.now) P.names) }
+    ensures ok { IfOk result (λ f. named_fields f ≡ variant_fields (texts names.now) P.described.names) }
     ensures err { IfErr result (λ e. e ≡ OutOfMemory) }
 {
     if names.is_empty() {
@@ -139,7 +139,7 @@ fn add_variant<P: FieldTypes>(
 ) -> Result<(), SchemaBuildError>
     ensures { AddsDefinitions definitions.old definitions.new
         (defined (variant_type name.now variant.now)
-        (variant_fields (texts fields.now) P.names) P.all_parts) result }
+        (variant_fields (texts fields.now) P.described.names) P.described.parts) result }
 {
     let fields = fields_of::<P>(alloc, fields)?;
     let declaration = type_of(alloc, name, variant)?;
