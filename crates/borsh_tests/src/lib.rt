@@ -8,7 +8,8 @@
 mod addresses;
 #[cfg(test)]
 mod keys;
-pub mod kinds_of_keys;
+#[cfg(test)]
+mod kinds_of_keys;
 #[cfg(test)]
 mod refusals;
 #[cfg(test)]
