@@ -1,102 +1,118 @@
-"""Checks docs/TESTS.md: each test of the original has one row, and each test that a row names exists.
+#!/usr/bin/env python3
+"""Checks docs/TESTS.md, which says what each section of the rows and each test function shows.
 
-The original's tests are listed in docs/original-tests.txt: the path of a file, then its tests, indented.
-A row of the table is either a heading, `| **`path`** | |`, or `| `test`, `test` | places |`, where a place is
-`crate/file.rt: test_function`. A row without a place begins with "Left out".
+It has a heading `## PATH` for each file of rows or of test functions, and below it a table `| Section | Rows | The original's tests |`,
+or `| Test | The original's tests |`. Each section and each test function of the files has one line there, with the number of its
+rows, and each file its heading. docs/original-tests.txt lists the original's tests: the path of a file, then its tests,
+indented. Each of them stands in a line of these tables behind its file, or in the table under `## Left out`.
 """
 
 import pathlib
 import re
 import sys
 
-PLACE = re.compile(r"(\w+)/(\w+)\.rt: (\w+)")
+TOP = pathlib.Path(__file__).resolve().parent.parent
 TEST = re.compile(r"#\[test\]\s+fn (\w+)\(")
 
 
-def read_original_tests(path):
-    """The tests of each file."""
-    tests = {}
-    current = None
-    for line in path.read_text(encoding="utf-8").splitlines():
+def original_tests():
+    """The tests of the original, as `path: test`."""
+    tests, path = set(), None
+    for line in (TOP / "docs/original-tests.txt").read_text(encoding="utf-8").splitlines():
         if line.startswith("#") or not line.strip():
             continue
         if line.startswith(" "):
-            tests[current].append(line.strip())
+            tests.add(f"{path}: {line.strip()}")
         else:
-            current = line.strip().rstrip(":")
-            tests[current] = []
+            path = line.strip().rstrip(":")
     return tests
 
 
-def read_rows(path):
-    """The rows of the table, with the original's file that they are listed under."""
-    current = None
-    for number, line in enumerate(path.read_text(encoding="utf-8").splitlines(), 1):
-        cells = [cell.strip() for cell in line.strip().strip("|").split("|")]
-        if not line.startswith("|") or len(cells) != 2 or set(cells[0]) <= set("-: "):
+def sections(file):
+    """The sections of a file of rows, with the number of their rows."""
+    counts, current, in_heading = {}, None, False
+    for line in file.read_text(encoding="utf-8").splitlines():
+        if line.startswith("# "):
+            if not in_heading:
+                current = line[2:]
+                counts[current] = counts.get(current, 0)
+            in_heading = True
             continue
-        heading = re.fullmatch(r"\*\*`(.+)`\*\*", cells[0])
-        if heading:
-            current = heading.group(1)
-        elif current is not None:
-            yield number, current, cells[0], cells[1]
+        in_heading = False
+        if line:
+            counts[current] += 1
+    return counts
 
 
-def check_place(root, place):
-    """What is wrong with a place, or None."""
-    found = PLACE.fullmatch(place)
-    if not found:
-        return f"`{place}` isn't of the form `crate/file.rt: test_function`"
-    crate, module, test = found.groups()
-    source = root / "crates" / crate / "src" / f"{module}.rt"
-    if not source.is_file():
-        return f"there is no file {source.relative_to(root)}"
-    if test not in TEST.findall(source.read_text(encoding="utf-8")):
-        return f"{source.relative_to(root)} has no test `{test}`"
-    return None
+def actual():
+    """What the tables have to list: for each file its sections with their rows, or its test functions."""
+    files = {}
+    for file in sorted(TOP.glob("crates/test_*/data/*.tsv")):
+        files[str(file.relative_to(TOP))] = {name: str(rows) for name, rows in sections(file).items()}
+    for file in sorted(TOP.glob("crates/*/src/**/*.rt")):
+        tests = TEST.findall(file.read_text(encoding="utf-8"))
+        if tests:
+            files[str(file.relative_to(TOP))] = {name: None for name in tests}
+    return files
 
 
-def check(root):
-    """Everything that is wrong with the table, and how many tests have a place and how many are left out."""
-    original = read_original_tests(root / "docs" / "original-tests.txt")
-    wrong = []
-    seen = {}
-    carried = left_out = 0
-    for number, path, left, right in read_rows(root / "docs" / "TESTS.md"):
-        tests = re.findall(r"`([^`]+)`", left)
-        places = re.findall(r"`([^`]+)`", right)
-        if not tests:
-            wrong.append(f"line {number}: the row names no test of the original")
-        for test in tests:
-            if test not in original.get(path, []):
-                wrong.append(f"line {number}: {path} has no test `{test}`")
-            if (path, test) in seen:
-                wrong.append(f"line {number}: `{test}` of {path} has a row already")
-            seen[path, test] = number
-        if right.startswith("Left out"):
-            left_out += len(tests)
-        elif places:
-            carried += len(tests)
+def named_in(cell):
+    """The tests of the original in a cell: `path`: `test`, `test`; `path`: `test`."""
+    path = None
+    for word in re.findall(r"`([^`]+)`", cell):
+        if word.endswith(".rs"):
+            path = word
         else:
-            wrong.append(f"line {number}: the row names no test, and isn't left out")
-        for place in places:
-            problem = check_place(root, place)
-            if problem:
-                wrong.append(f"line {number}: {problem}")
-    for path, tests in original.items():
-        for test in tests:
-            if (path, test) not in seen:
-                wrong.append(f"`{test}` of {path} has no row")
-    return wrong, carried, left_out
+            yield f"{path}: {word}"
+
+
+def said():
+    """What the tables list, and the tests of the original that they name."""
+    files, named, left_out, current = {}, [], [], None
+    for line in (TOP / "docs/TESTS.md").read_text(encoding="utf-8").splitlines():
+        if line.startswith("## "):
+            current = line[3:].strip("` ")
+            continue
+        cells = [cell.strip() for cell in line.strip().strip("|").split("|")]
+        if current is None or not line.startswith("|") or set(line) <= set("|-: ") or cells[0] in ("Section", "Test", "The original's tests"):
+            continue
+        originals = list(named_in(cells[0] if current == "Left out" else cells[-1]))
+        if current == "Left out":
+            left_out += originals
+            continue
+        named += originals
+        rows = cells[1] if len(cells) == 3 else None
+        files.setdefault(current, {})[cells[0].strip("`")] = rows
+    return files, named, left_out
 
 
 def main():
-    wrong, carried, left_out = check(pathlib.Path(__file__).resolve().parent.parent)
+    wrong = []
+    there = actual()
+    files, named, left_out = said()
+    for path in sorted(there.keys() | files.keys()):
+        here, told = there.get(path, {}), files.get(path, {})
+        for name in sorted(here.keys() | told.keys()):
+            if name not in told:
+                wrong.append(f"{path}: `{name}` isn't listed")
+            elif name not in here:
+                wrong.append(f"{path}: there is no `{name}`")
+            elif here[name] != told[name]:
+                wrong.append(f"{path}: `{name}` has {here[name]} rows, and not {told[name]}")
+    original = original_tests()
+    for test in sorted(set(named + left_out) - original):
+        wrong.append(f"the original has no test `{test}`")
+    for test in sorted(original - set(named + left_out)):
+        wrong.append(f"`{test}` of the original is nowhere")
+    for test in sorted(set(named) & set(left_out)):
+        wrong.append(f"`{test}` is carried, and left out")
     for problem in wrong:
         print(f"docs/TESTS.md: {problem}")
     if wrong:
         sys.exit(1)
-    print(f"docs/TESTS.md: {carried} tests of the original are carried, {left_out} left out")
+    rows = sum(int(rows) for names in there.values() for rows in names.values() if rows)
+    tests = sum(1 for names in there.values() for rows in names.values() if rows is None)
+    print(f"docs/TESTS.md: {rows} rows and {tests} test functions; {len(set(named))} tests of the original, {len(set(left_out))} left out")
 
 
 main()

@@ -1,14 +1,31 @@
 #!/usr/bin/env python3
-"""Prints, for each crate, its lines of code, definitions and proofs, its must-fail edits, and how long its clauses are."""
+"""Prints what the repository weighs: for each crate its lines of code, definitions and proofs and its must-fail edits, and how
+long its clauses are; and fails where one of the bars is passed.
+"""
 import pathlib
 import re
+import subprocess
+import sys
 
 CLAUSE = re.compile(r"\s*(ensures|requires|ghost (?!use)\w+)\b[^{;]*\{")
-top = pathlib.Path(__file__).resolve().parent.parent
+TOP = pathlib.Path(__file__).resolve().parent.parent
+
+# What may not be passed.
+BARS = {
+    "crates": 26,
+    "lines of .rt": 32500,
+    "of these, tests and examples": 10800,
+    "must-fail edits": 75,
+    "crates with must-fail edits": 7,
+}
+
+
+def count(files):
+    return sum(len(file.read_text(encoding="utf8").splitlines()) for file in files)
 
 
 def lines(folder, ending):
-    return sum(len(file.read_text(encoding="utf8").splitlines()) for file in folder.rglob("*" + ending))
+    return count(folder.rglob("*" + ending))
 
 
 def clause_lines(file):
@@ -20,28 +37,66 @@ def clause_lines(file):
             depth = max(depth + line.count("{") - line.count("}"), 0)
 
 
-rows, clauses = [], []
-for crate in sorted(path for path in (top / "crates").iterdir() if path.is_dir()):
-    rows.append(
-        (
-            crate.name,
-            lines(crate / "src", ".rt"),
-            lines(crate / "specs", ".antt"),
-            lines(crate / "proofs", ".antt"),
-            len(list((crate / "must-fail").glob("*.edit"))),
-        )
-    )
-    for file in (crate / "src").rglob("*.rt"):
-        clauses += [(len(line), f"{file.relative_to(top)}:{number}") for number, line in clause_lines(file)]
-rows.append(("all",) + tuple(sum(row[i] for row in rows) for i in range(1, 5)))
+def weigh(crate):
+    edits = len(list((crate / "must-fail").glob("*.edit")))
+    return lines(crate / "src", ".rt"), lines(crate / "specs", ".antt"), lines(crate / "proofs", ".antt"), edits
 
-print("| Crate | Code | Definitions | Proofs | Must-fail edits |\n|---|---|---|---|---|")
-for row in rows:
-    print("| " + " | ".join(map(str, row)) + " |")
-long = [clause for clause in clauses if clause[0] > 100]
-longer = [clause for clause in clauses if clause[0] > 200]
-longest = max(clauses)
-print(
-    f"\n{len(clauses)} clause lines: {len(long)} are longer than 100 columns, {len(longer)} than 200; "
-    f"the longest has {longest[0]} ({longest[1]})"
-)
+
+def is_test(name):
+    return name.startswith(("test_", "example_"))
+
+
+def in_git():
+    """The files that are committed, or will be."""
+    command = ["git", "ls-files", "--cached", "--others", "--exclude-standard"]
+    listed = subprocess.run(command, cwd=TOP, capture_output=True, text=True, check=False)
+    names = listed.stdout.splitlines() or [str(path.relative_to(TOP)) for path in TOP.rglob("*") if "out" not in path.parts]
+    return [TOP / name for name in names if (TOP / name).is_file()]
+
+
+def beside():
+    """The lines of what is no Rattle: scripts, C, Python, Rust of other compilers, and rows of data."""
+    kinds = {"Python": 0, "shell": 0, "C": 0, "Rust": 0, "rows": 0, "documents": 0}
+    endings = {".py": "Python", ".sh": "shell", ".c": "C", ".h": "C", ".rs": "Rust", ".tsv": "rows", ".md": "documents"}
+    for file in in_git():
+        kind = endings.get(file.suffix)
+        if kind is None and not file.suffix:
+            head = file.read_bytes()[:40].split(b"\n")[0]
+            kind = "Python" if b"python" in head else "shell" if b"bash" in head or b"/sh" in head else None
+        if kind is not None:
+            kinds[kind] += count([file])
+    return kinds
+
+
+def main():
+    crates = {path.name: weigh(path) for path in sorted((TOP / "crates").iterdir()) if (path / "src").is_dir()}
+    print("| Crate | Code | Definitions | Proofs | Must-fail edits |\n|---|---|---|---|---|")
+    for name, weight in crates.items():
+        print(f"| {name} | " + " | ".join(map(str, weight)) + " |")
+    print("| all | " + " | ".join(str(sum(weight[i] for weight in crates.values())) for i in range(4)) + " |")
+
+    clauses = [
+        (len(line), f"{file.relative_to(TOP)}:{number}")
+        for file in (TOP / "crates").glob("*/src/**/*.rt")
+        for number, line in clause_lines(file)
+    ]
+    long = [clause for clause in clauses if clause[0] > 100]
+    longest = max(clauses)
+    print(f"\n{len(clauses)} clause lines: {len(long)} are longer than 100 columns; the longest has {longest[0]} ({longest[1]})")
+    print("Beside them, in lines: " + ", ".join(f"{kind} {number}" for kind, number in beside().items()))
+
+    figures = {
+        "crates": len(crates),
+        "lines of .rt": sum(weight[0] for weight in crates.values()),
+        "of these, tests and examples": sum(weight[0] for name, weight in crates.items() if is_test(name)),
+        "must-fail edits": sum(weight[3] for weight in crates.values()),
+        "crates with must-fail edits": sum(1 for weight in crates.values() if weight[3]),
+    }
+    passed = [name for name, figure in figures.items() if figure > BARS[name]]
+    for name, figure in figures.items():
+        print(f"{name}: {figure} (at most {BARS[name]})")
+    if passed:
+        sys.exit("passed: " + ", ".join(passed))
+
+
+main()

@@ -3,7 +3,7 @@
 
 use borsh::schema::BorshSchemaContainer;
 use borsh::{BorshDeserialize, BorshSerialize, from_slice, object_length, to_vec};
-use borsh_lines::run;
+use borsh_check_lines::run;
 use borsh_values::{Decoded, Membership, decode, is_member};
 use borsh_walks::Definition;
 use indexmap::IndexMap;

@@ -1,7 +1,7 @@
 """Makes a table and a bar chart of what the benchmark prints: one line a kind and action, with the microseconds of ours
 and of the original. The rows come slowest first.
 
-Usage: report.py CHART.svg < LINES > TABLE.md
+Usage: report.py CHART.svg < LINES > results.tsv
 """
 import sys
 
@@ -24,11 +24,10 @@ def microseconds(time):
 
 
 def table(found):
-    yield "| kind | action | ours, µs | the original, µs | ratio |"
-    yield "|---|---|---|---|---|"
+    yield "kind\taction\tours, µs\tthe original, µs\tratio"
     for ratio, kind, action, ours, original in found:
         shown = f"{ratio:.2f}" if ratio == ratio else "-"
-        yield f"| `{kind}` | {action} | {microseconds(ours)} | {microseconds(original)} | {shown} |"
+        yield "\t".join([kind, action, microseconds(ours), microseconds(original), shown])
 
 
 def chart(found):

@@ -1,5 +1,6 @@
 """The text that is written for a type: what its bytes are, and how it is encoded and decoded."""
 
+import copy
 import re
 
 from ghost import KNOWN, RESERVED, Term, ghost_cases, ghost_member, ghost_name, ghost_term, nested_pairs, within_width
@@ -7,13 +8,14 @@ from layout import (WIDTH, Group, arm, binding, block_arm, call, chain, chain_fi
                     function_head, impl_head, import_lines, pattern, statement, struct_of, tuple_of, tuple_type,
                     type_layout, type_text, within)
 from rust_types import Array, arrays_in, grows, heads, is_never_empty
+from source import Fields
 
 NUMBERS = ('zero', 'one', 'two', 'three', 'four', 'five', 'six', 'seven', 'eight', 'nine', 'ten', 'eleven',
-           'twelve', 'thirteen', 'fourteen', 'fifteen', 'sixteen', 'seventeen', 'eighteen', 'nineteen', 'twenty')
+           'twelve')
 
-# the most parts that a tuple has, and that are written in one call
+# the most parts that a tuple has, and that are written in one call; and how many are written where the last one is the rest
 TUPLE = 12
-WRITTEN = 20
+WRITTEN = 23
 
 # the module of the library that has what is written here, and what it has
 DERIVED = 'borsh::derived'
@@ -21,7 +23,7 @@ OFFERED = set('''BorshDeserialize BorshKey BorshSchema BorshSerialize BorshType 
     EnumExt FieldTypes Fork FromCases FromParts Global Read Result SchemaResult Tag TupleTypes VariantTypes Write add_enum
     add_named add_named_with add_unit add_unnamed add_unnamed_with declared declared_with read_enum read_parts
     read_variant put_bytes write_bytes'''.split())
-OFFERED |= {'write_' + number for number in NUMBERS[2:]} | {'put_' + number for number in NUMBERS[2:TUPLE + 1]}
+OFFERED |= {prefix + number for prefix in ('write_', 'put_') for number in NUMBERS[2:]}
 OFFERED |= {'Tuple%d' % count for count in range(2, TUPLE + 1)}
 
 
@@ -53,6 +55,10 @@ class Writer:
         self.source = free_name('R', self.taken)
 
     # ---- names
+
+    def rest_name(self, variant='', kind='Rest'):
+        """The name of a type for the last fields of a struct or a variant of many."""
+        return free_name((variant or 'Last') + kind, self.taken)
 
     def lib(self, name):
         """A name of the library, or its path where the type uses that name for something else."""
@@ -116,6 +122,10 @@ class Writer:
     def where(self):
         return split_bounds(self.marked.where)
 
+    def empty_head(self, _codec):
+        """The head of `encodes_empty`."""
+        return '    fn encodes_empty() -> bool {'
+
     def block(self, trait, bound, rows):
         """An `impl` block."""
         head = impl_head(self.bounded(self.lib(bound)), self.lib(trait), self.own(), self.where())
@@ -152,6 +162,36 @@ def is_offered(path):
 
 def last_name(path):
     return path.split(' as ')[-1].split('::')[-1]
+
+
+class Rest(Writer):
+    """Puts together the text for the last fields of a struct or a variant of many, which are written as one part: a type of
+    references to them."""
+
+    def __init__(self, writer, fields, variant=''):
+        self.__dict__.update(writer.__dict__)
+        named = set(name for field in fields for name in heads(field.type))
+        parameters = [parameter for parameter in writer.marked.parameters if parameter.name in named]
+        bounds = [bound for bound in split_bounds(writer.marked.where) if bound.split(':')[0].strip() in named]
+        self.marked = copy.copy(writer.marked)
+        self.marked.parameters, self.marked.where = parameters, ', '.join(bounds)
+        self.marked.fields, self.marked.variants = Fields('tuple', fields), None
+        self.owner = '%s::%s' % (writer.marked.name, variant) if variant else writer.marked.name
+        self.marked.name = writer.rest_name(variant)
+        self.alias = writer.rest_name(variant, 'Fields')
+
+    def own(self):
+        return "%s<%s>" % (self.marked.name, ', '.join(["'a"] + [parameter.name for parameter in self.marked.parameters]))
+
+    def declared(self):
+        return self.alias_head(self.marked.name + "<'a>").replace('><', ', ')
+
+    def bounded(self, bound):
+        return ["'a"] + super().bounded(bound)
+
+    def empty_head(self, codec):
+        """With its clause: a type with a lifetime doesn't get the trait's where no argument names it."""
+        return with_clause(super().empty_head(codec), 'result ≡ %s.is_zero_width' % codec.flat())
 
 
 def key_fact(name):
@@ -333,12 +373,19 @@ def struct_fields(writer):
     fields = writer.marked.fields.encoded()
     left_out = ' that are encoded' if len(fields) < len(writer.marked.fields.all) else ''
     doc = doc_line('The fields of [`%s`]%s, in order.' % (writer.marked.name, left_out))
-    start = 'type %s = ' % writer.alias_head()
-    line = statement(start, type_of_parts(fields), ';', 0)
-    if '\n' in line and len(fields) <= TUPLE:
-        types = [type_layout(field.type) for field in fields]
-        line = statement(start, generic_group(writer.lib('Tuple%d' % len(fields)), types), ';', 0)
-    return '%s\n%s' % (doc, line)
+    return '%s\n%s' % (doc, tuple_alias(writer, writer.alias_head(), fields))
+
+
+def tuple_alias(writer, head, fields):
+    """The declaration of a name for the tuple of fields; one that is too wide is named by its length."""
+    types = [type_layout(field.type) for field in fields]
+    if len(fields) > TUPLE:
+        types = types[:TUPLE - 1] + [Rest(writer, fields[TUPLE - 1:]).alias_use()]
+    start = 'type %s = ' % head
+    line = statement(start, parts(types, tuple_type) if types else '()', ';', 0)
+    if '\n' in line:
+        line = statement(start, generic_group(writer.lib('Tuple%d' % len(types)), types), ';', 0)
+    return line
 
 
 def struct_view(writer):
@@ -375,6 +422,11 @@ def element_size(writer):
         return ' ' * 8 + 'size_of::<%s>()' % writer.own()
     if writer.marked.variants is not None:
         return ' ' * 8 + '<%s>::element_size()' % writer.alias_use()
+    return chain_of_sizes(writer)
+
+
+def chain_of_sizes(writer):
+    """The sizes of the fields, one added to the other."""
     calls = of_fields(writer, 'element_size')
     added = [within('.saturating_add(', call, ')') for call in calls[1:]]
     if len(calls) == 2 and not chain_fits(calls[0], added, 8):
@@ -402,7 +454,7 @@ def meaning(writer, view, trait, laws, empty, size):
     """`impl BorshType`: the codec of the parts, seen through the view, and the laws that follow from theirs."""
     codec = quote(writer, writer.alias_use(), trait, '.codec')
     rows = [ghost_member('codec', 'contramap', [view, codec], 4), '', laws, '', writer.premises(), '',
-            '    fn encodes_empty() -> bool {', empty, '    }', '',
+            writer.empty_head(codec), empty, '    }', '',
             '    fn element_size() -> usize {', size, '    }']
     return writer.block('BorshType', 'BorshType', rows)
 
@@ -414,10 +466,36 @@ def struct_encoding(writer):
     elif len(names) == 1:
         body = chain('self', [names[0][len('self'):], '.serialize(alloc, writer)'], 8)
     else:
-        arguments = ['&' + name for name in names] + ['alloc', 'writer']
-        body = statement('', call(writer.lib('write_' + NUMBERS[len(names)]), arguments), '', 8)
+        body = statement('', written_parts(writer, ['&' + name for name in names]), '', 8)
     rows = [serialize_head(writer, used=bool(names)), body, '    }'] + struct_put(writer, names)
-    return writer.block('BorshSerialize', 'BorshSerialize', rows)
+    block = writer.block('BorshSerialize', 'BorshSerialize', rows)
+    return '\n\n'.join(rest_blocks(writer, writer.marked.fields.encoded()[TUPLE - 1:]) + [block])
+
+
+def written_parts(writer, parts, variant=''):
+    """The call that writes parts in order; past twelve, the last ones are one part."""
+    if len(parts) > TUPLE:
+        parts = parts[:TUPLE - 1] + [within('&', call(writer.rest_name(variant), parts[TUPLE - 1:]), '')]
+    return call(writer.lib('write_' + NUMBERS[len(parts)]), parts + ['alloc', 'writer'])
+
+
+def rest_blocks(writer, fields, variant=''):
+    """The type of references to the last fields of a struct or a variant of many, which are written as one part."""
+    if len(fields) < 2:
+        return []
+    rest = Rest(writer, fields, variant)
+    references = ["&'a " + type_text(field.type) for field in fields]
+    view = Term('(λ r. ', ['r.%d.now' % index for index in range(len(fields))], ')')
+    laws_of_fields = quote(rest, rest.alias_use(), 'BorshType', '.lawful_if')
+    laws = ghost_member('lawful_if', 'from', [view.within('(contramap-lawful ', ')'), laws_of_fields], 4)
+    places = ['self.%d' % index for index in range(len(fields))]
+    writes = [serialize_head(rest, used=True), statement('', written_parts(rest, places), '', 8), '    }']
+    doc = 'The last fields of [`%s`]' % rest.owner
+    return ['%s\n%s' % (doc_line(doc + ', in order.'), tuple_alias(rest, rest.alias_head(), fields)),
+            '%s\n#[derive(Drop)]\n%s' % (doc_line(doc + ', which are written as one part.'),
+                        statement('', call('struct ' + rest.declared(), references), ';', 0)),
+            meaning(rest, view, 'BorshType', laws, encodes_empty(rest), chain_of_sizes(rest)),
+            rest.block('BorshSerialize', 'BorshSerialize', writes)]
 
 
 # the head of the method by which a list writes many elements at a time
@@ -607,7 +685,9 @@ def enum_encoding(writer):
     rows = [serialize_head(writer, used), '        match self {']
     rows += [written_variant(writer, variant) for variant in writer.marked.variants]
     rows += ['        }', '    }'] + ([] if used else enum_put(writer))
-    return writer.block('BorshSerialize', 'BorshSerialize', rows)
+    wide = [variant for variant in writer.marked.variants if len(variant.fields.encoded()) >= TUPLE]
+    rests = [rest_blocks(writer, variant.fields.encoded()[TUPLE - 2:], variant.name) for variant in wide]
+    return '\n\n'.join(sum(rests, []) + [writer.block('BorshSerialize', 'BorshSerialize', rows)])
 
 
 def enum_put(writer):
@@ -628,8 +708,7 @@ def written_variant(writer, variant):
     if not names:
         return arm(node, call(writer.lib('write_bytes'), ['&[%d]' % variant.tag, 'writer']), 12)
     tag = '&%s(%d)' % (writer.lib('Tag'), variant.tag)
-    function = writer.lib('write_' + NUMBERS[len(names) + 1])
-    return arm(node, call(function, [tag] + names + ['alloc', 'writer']), 12)
+    return arm(node, written_parts(writer, [tag] + names, variant.name), 12)
 
 
 def matched(path, fields, names):

@@ -136,8 +136,27 @@ class Taken(Cases):
     def test_more_than_twelve_fields(self):
         fields = ''.join('    pub f%d: u8,\n' % index for index in range(20))
         text = self.written('// derive: borsh\npub struct Wide {\n%s}\n' % fields, 'types_wide')
-        self.assertIn('write_twenty(', text)
         self.assertIn('let (f11, f12, f13, f14, f15, f16, f17, f18, f19) = rest;', text)
+        self.assertIn('type Fields = (u8, u8, u8, u8, u8, u8, u8, u8, u8, u8, u8, LastFields);', text)
+        self.assertIn('type LastFields = (u8, u8, u8, u8, u8, u8, u8, u8, u8);', text)
+        self.assertIn('        write_nine(\n            self.0, self.1,', text)
+        self.assertIn('            &LastRest(\n', text)
+        self.assertIn('        ensures { result ≡ ⟦<LastFields as BorshType>⟧.codec.is_zero_width }\n', text)
+
+    def test_more_than_twelve_fields_with_parameters(self):
+        fields = ''.join('    pub f%d: u8,\n' % index for index in range(11))
+        text = self.written('// derive: borsh\npub struct Wide<A: Clone, B, const N: usize> {\n    pub z: B,\n%s    pub a: Vec<A>,\n    pub b: [u8; N],\n}\n' % fields, 'types_wide')
+        self.assertIn("type LastFields<A, const N: usize> = (u8, Vec<A>, [u8; N]);", text)
+        self.assertIn("struct LastRest<'a, A, const N: usize>(&'a u8, &'a Vec<A>, &'a [u8; N]);", text)
+        self.assertIn("impl<'a, A: Clone + BorshType, const N: usize> BorshType for LastRest<'a, A, N> {", text)
+        self.assertIn("impl<'a, A: Clone + BorshSerialize, const N: usize> BorshSerialize for LastRest<'a, A, N> {", text)
+        self.assertIn('Prim.search (key_facts, A.premises) };', text)
+
+    def test_variants_of_more_than_eleven_fields(self):
+        fields = ', '.join('f%d: u8' % index for index in range(13))
+        text = self.written('// derive: borsh\npub enum E {\n    A,\n    B { %s },\n}\n' % fields, 'types_e')
+        self.assertIn("struct BRest<'a>(&'a u8, &'a u8, &'a u8);", text)
+        self.assertIn('                &BRest(f10, f11, f12),\n', text)
 
     def test_enum(self):
         text = self.written('// derive: borsh\npub enum E {\n    A,\n    B(u8, String),\n    C { x: u64 },\n}\n', 'types_e')
@@ -147,6 +166,22 @@ class Taken(Cases):
         self.assertIn('    fn from_cases(cases: Variants) -> E\n        ensures { ⊤ → ⟦<E as FromCases>⟧.view result ≡ cases }\n    {\n', text)
         self.assertIn('E::A => write_bytes(&[0], writer),', text)
         self.assertIn('E::B(part0, part1) => write_three(&Tag(1), part0, part1, alloc, writer),', text)
+
+    def test_an_enum_of_many_variants(self):
+        kinds = ('    V%d,\n', '    V%d(u8, String),\n', '    V%d { a: u64, b: Vec<u8> },\n', '    V%d(u64),\n')
+        variants = ''.join(kinds[index % 4] % index for index in range(32))
+        text = self.written('// derive: borsh, schema\npub enum Opcode {\n%s}\n' % variants, 'types_opcode')
+        flat = ' '.join(text.split())
+        # the tree is as deep as the logarithm of the number of variants, and each variant has its place in it
+        self.assertIn('type Variants = Fork< Fork< Fork< Fork< Fork<Case<0, ()>, Case<1, (u8, String)>>, Fork<Case<2, (u64, Vec<u8>)>, Case<3, u64>>, >,', flat)
+        self.assertIn('Opcode.V0 ↦ left (left (left (left (left (fields tt)))))', flat)
+        self.assertIn('Opcode.V21 part0 part1 ↦ right (left (right (left (right (fields (part0, part1))))))', flat)
+        self.assertIn('Opcode.V31 part0 ↦ right (right (right (right (right (fields part0)))))', flat)
+        for index in range(32):
+            self.assertIn('Case<%d, ' % index, flat)
+            self.assertIn('("V%d", &[%s])' % (index, '"a", "b"' if index % 4 == 2 else ''), flat)
+        self.assertIn('Opcode::V30 { a, b } => write_three(&Tag(30), a, b, alloc, writer),', flat)
+        self.assertEqual(flat.count('Fork<'), 2 * 31)
 
     def test_empty_encodings_and_sizes(self):
         def shown(types, file='types_a'):
@@ -175,6 +210,25 @@ class Taken(Cases):
         text = self.written('// derive: borsh\npub struct Cached {\n    pub key: u8,\n    // skip\n    pub cache: Option<u64>,\n}\n', 'types_cached')
         self.assertIn('type Fields = u8;', text)
         self.assertIn('cache: Default::default(),', text)
+        self.assertNotIn('u64', text)
+
+    def test_skipped_fields_without_names(self):
+        text = self.written('// derive: borsh, schema\npub struct Cached(\n    pub u8,\n    // skip\n    pub Option<u64>,\n    pub u16,\n);\n', 'types_cached')
+        self.assertIn('type Fields = (u8, u16);', text)
+        self.assertIn('λ v. (v.0, v.2)', text)
+        self.assertIn('        write_two(&self.0, &self.2, alloc, writer)\n', text)
+        self.assertIn('        Cached(part0, Default::default(), part1)\n', text)
+        self.assertNotIn('u64', text)
+
+    def test_skipped_fields_of_variants(self):
+        variants = '    A(\n        u8,\n        // skip\n        u64,\n    ),\n    B {\n        // skip\n        x: u64,\n        y: u16,\n    },\n    C {\n        // skip\n        z: u64,\n    },\n'
+        text = self.written('// derive: borsh, schema\npub enum E {\n%s}\n' % variants, 'types_e')
+        self.assertIn('type Variants = Fork<Fork<Case<0, u8>, Case<1, u16>>, Case<2, ()>>;', text)
+        self.assertIn('E.A part0 _ ↦ left (left (fields part0))', text)
+        self.assertIn('            E::A(part0, _) => write_two(&Tag(0), part0, alloc, writer),\n', text)
+        self.assertIn('E::B { y, .. } => write_two(&Tag(1), y, alloc, writer),', text)
+        self.assertIn('E::C { .. } => write_bytes(&[2], writer),', text)
+        self.assertIn('("B", &["y"]), ("C", &[])', text)
         self.assertNotIn('u64', text)
 
     def test_imports_of_fields(self):
@@ -556,9 +610,9 @@ class Refused(Cases):
         self.refused('struct B;\n\n// derive: borsh\npub struct A(pub B);\n', 4, 'names `B`, which is private')
 
     def test_too_many_fields(self):
-        fields = ''.join('    pub f%d: u8,\n' % index for index in range(21))
-        self.one('pub struct A {\n%s}\n' % fields, 23, 'more than 20 fields')
-        self.one('pub enum A {\n    B(%s),\n}\n' % ', '.join(['u8'] * 20), 3, 'more than 19 fields')
+        fields = ''.join('    pub f%d: u8,\n' % index for index in range(24))
+        self.one('pub struct A {\n%s}\n' % fields, 26, 'more than 23 fields')
+        self.one('pub enum A {\n    B(%s),\n}\n' % ', '.join(['u8'] * 23), 3, 'more than 22 fields')
 
     def test_parameters(self):
         self.one('pub struct A<T = u8>(pub T);\n', 2, 'the parameter `T` has a default')

@@ -1,5 +1,6 @@
 # Sourced by `make` and `run`. Builds the program against the original in $room: $room/strict reads keys in ascending
-# order alone, $room/any-order in any order. The original is a folder with its sources, or `registry`.
+# order alone, $room/any-order in any order, and $room/original answers each question by one of them. The original is a
+# folder with its sources, or `registry`.
 build_replay() {
     local original cargo=(cargo)
     if [ "$1" = registry ]; then
@@ -35,34 +36,21 @@ TOML
         "${cargo[@]}" build --release --quiet --target-dir target --features strict
         cp target/release/replay "$room/strict"
     )
+    # Each of the two leaves the questions of the other unanswered.
+    cat >"$room/original" <<SH
+#!/usr/bin/env bash
+set -eu
+part=\$(mktemp -d)
+trap 'rm -rf "\$part"' EXIT
+tee "\$part/questions" | "$room/strict" answer >"\$part/strict"
+"$room/any-order" answer <"\$part/questions" >"\$part/any-order"
+paste -d '' "\$part/strict" "\$part/any-order"
+SH
+    chmod +x "$room/original"
 }
 
-# Answers $room/lines by the original into $room/strict.answers and $room/any-order.answers.
-ask_original() {
-    "$room/strict" answer <"$room/lines" >"$room/strict.answers"
-    "$room/any-order" answer <"$room/lines" >"$room/any-order.answers"
-}
-
-# Answers $room/lines by our program into $room/ours.
-ask_ours() {
-    local started
-    (cd crates/borsh_check && rt run </dev/null) >&2
-    started=$SECONDS
-    crates/borsh_check/out/borsh_check <"$room/lines" >"$room/ours"
-    echo "ours answered in $((SECONDS - started)) s"
-}
-
-# The same without a proof. `rt try` takes no program's output past 1 MiB, so the program is run on 10000 lines at a time;
-# --steps 1, since the compiled run is enough. It prints the answers to each part below a line `== PART`.
-ask_ours_unproved() {
-    local started=$SECONDS
-    mkdir "$room/parts"
-    split --lines 10000 --suffix-length 6 --numeric-suffixes "$room/lines" "$room/parts/"
-    (cd crates/borsh_check && rt try --steps 1 --cases "$room/parts") >"$room/answers" 2>"$room/tried" || {
-        grep -v 'run=ended status=0 ' "$room/tried" >&2
-        return 1
-    }
-    tail -n 1 "$room/tried"
-    grep -v '^== ' "$room/answers" >"$room/ours"
-    echo "ours was built without a proof, and answered, in $((SECONDS - started)) s"
+# Writes the rows of the questions in $room/questions to $1, and those that the original answers otherwise to $2.
+write_rows() {
+    "$room/any-order" answer all <"$room/questions" >"$room/answers"
+    "$room/strict" rows "$room/questions" "$room/answers" "$1" "$2"
 }

@@ -2,7 +2,7 @@
 //! order.
 
 use crate::random::Random;
-use crate::words::WORDS;
+use crate::types::WORDS;
 use borsh::schema::{Definition, Fields};
 
 type Definitions = Vec<(String, Definition)>;
@@ -36,7 +36,7 @@ fn encoded(root: &str, definitions: &Definitions) -> Vec<u8> {
 }
 
 fn container_of_a_type(random: &mut Random) -> Vec<u8> {
-    let schemas: Vec<_> = WORDS.iter().filter_map(|word| word.schema).collect();
+    let schemas: Vec<_> = WORDS.iter().filter_map(|word| word.of.schema).collect();
     let container = random.pick(&schemas)();
     borsh::to_vec(&container).expect("the container of a type has an encoding")
 }

@@ -1,9 +1,9 @@
-//! The answers that a line may have, and where they come from.
+//! The answers that a question may have, and where they come from.
 
-use crate::original::{NOT_ASKED, PANICS, written};
-use crate::requests::{Inquiry, Request};
+use crate::original::{NOT_ASKED, PANICS, schema_answer, written};
+use crate::requests::{Inquiry, Request, line_of};
 use crate::rules::{Faults, Rules};
-use crate::words::read_list_of_wide_ones;
+use crate::types::{Type, read_list_of_wide_ones};
 use borsh::schema::BorshSchemaContainer;
 
 /// The source of answers that the original gives. Every other source is a reason for which it isn't
@@ -14,7 +14,7 @@ const EMPTY_ELEMENTS: &str = "error Collections of zero-sized types are not allo
 
 pub struct Expected {
     /// `ORIGINAL`, or the reason for another source; `None` where the original answers otherwise
-    /// for no known reason.
+    /// for no known reason, or there is no such type.
     pub source: Option<&'static str>,
     /// Any of them will do. `A..B` is any number from A to B.
     pub answers: Vec<String>,
@@ -28,26 +28,55 @@ impl Expected {
         }
     }
 
-    /// What is expected for a line that the original answers so.
-    pub fn for_line(line: &str, original: &str) -> Expected {
-        match Request::from_line(line) {
-            Request::Unknown => Expected::by_rule("no-command", "error line"),
-            Request::Value { word, bytes, .. } => match word.name {
-                "list-boxunit" => Expected::by_rule("empty-elements", EMPTY_ELEMENTS),
-                "list-one" => {
+    /// What is expected for a question that the original answers so.
+    pub fn for_question(question: &str, original: &str) -> Expected {
+        match Request::from_question(question) {
+            Request::Unknown if line_of(question).is_some() => {
+                Expected::by_rule("no-command", "error line")
+            }
+            Request::Unknown => Expected {
+                source: None,
+                answers: vec![original.to_string()],
+            },
+            Request::Value { of, bytes } => match of.name().as_str() {
+                "Vec<Box<()>>" => Expected::by_rule("empty-elements", EMPTY_ELEMENTS),
+                "Vec<One>" => {
                     Expected::by_rule("empty-elements", &written(read_list_of_wide_ones(&bytes)))
                 }
                 _ => Expected::by_rule(ORIGINAL, original),
             },
-            Request::Schema { word } => match word.name {
-                _ if word.schema.is_none() => Expected::by_rule("no-schema", "error no schema"),
-                "ip" | "container" | "myenum" => Expected::by_rule("variant-names", original),
-                _ => Expected::by_rule(ORIGINAL, original),
-            },
+            Request::Schema { of, sized } => Expected::schema(of, sized, original),
             Request::About { inquiry, bytes } => match borsh::from_slice(&bytes) {
                 Ok(container) => Expected::about(inquiry, &container, original),
                 Err(error) => Expected::by_rule(ORIGINAL, &format!("error {error}")),
             },
+        }
+    }
+
+    fn schema(of: &Type, sized: bool, original: &str) -> Expected {
+        let Some(schema) = of.schema else {
+            return Expected::by_rule("no-schema", "error no schema");
+        };
+        let container = schema();
+        let answer_by = |faults| {
+            let size = Rules::new(&container, faults).size().remove(0);
+            schema_answer(&container, sized.then_some(size))
+        };
+        let answer = answer_by(Faults::default());
+        let single_enums = Faults {
+            single_enums: true,
+            ..Faults::default()
+        };
+        let source = match of.name().as_str() {
+            "IpAddr" | "BorshSchemaContainer" | "MyEnum" if answer == original => {
+                Some("variant-names")
+            }
+            _ if answer == original => Some(ORIGINAL),
+            _ => (answer_by(single_enums) == original).then_some("enum-count"),
+        };
+        Expected {
+            source,
+            answers: vec![answer],
         }
     }
 

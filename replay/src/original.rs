@@ -1,62 +1,65 @@
 //! What the original answers.
 
 use crate::requests::{Inquiry, Request, digits_of};
-use crate::words::Word;
+use crate::rules::{Faults, Rules};
+use crate::types::Type;
 use borsh::schema::{
     BorshSchemaContainer, SchemaContainerValidateError, SchemaMaxSerializedSizeError,
 };
 use std::panic::catch_unwind;
 
 /// The answer if the original can't be asked: no such call, no such type, or no such line.
-pub const NOT_ASKED: &str = "(not asked)";
+pub const NOT_ASKED: &str = "?";
 /// The answer if the original panics.
 pub const PANICS: &str = "(panics)";
 
 /// Longer lists of boxed units aren't asked for: the original would fill the memory.
 const MOST_BOXED_UNITS: u32 = 65536;
 
-/// Whether the original was built with `de_strict_order`: with it keys are read in ascending order
-/// alone, without it in any order.
-const IS_STRICT: bool = cfg!(feature = "strict");
+/// Containers with more mentions aren't asked about: the original looks at each of them.
+const MOST_MENTIONS: u64 = 1 << 20;
 
-/// The answer of the original: to `read` only if it is strict, and to `canon` only if it isn't.
-pub fn answer(line: &str) -> String {
-    match Request::from_line(line) {
-        Request::Value {
-            word,
-            strict: IS_STRICT,
-            bytes,
-        } => value(word, &bytes),
-        Request::Schema { word } => match word.schema {
-            Some(schema) => encoding(borsh::to_vec(&schema())),
+/// The answer of the original, which reads keys in ascending order alone if it was built with `de_strict_order`, and in any
+/// order otherwise.
+pub fn answer(question: &str) -> String {
+    match Request::from_question(question) {
+        Request::Value { of, bytes } => value(of, &bytes),
+        Request::Schema { of, sized } => match of.schema {
+            Some(schema) => schema_answer(&schema(), sized.then(|| size(&schema()))),
             None => NOT_ASKED.to_string(),
         },
         Request::About { inquiry, bytes } => about(inquiry, &bytes),
-        _ => NOT_ASKED.to_string(),
+        Request::Unknown => NOT_ASKED.to_string(),
     }
 }
 
-fn value(word: &Word, bytes: &[u8]) -> String {
+fn value(of: &Type, bytes: &[u8]) -> String {
     let announced = bytes
         .first_chunk()
         .map_or(0, |bytes| u32::from_le_bytes(*bytes));
-    if word.name == "list-boxunit" && announced > MOST_BOXED_UNITS {
+    if of.name() == "Vec<Box<()>>" && announced > MOST_BOXED_UNITS {
         return NOT_ASKED.to_string();
     }
-    written((word.read)(bytes))
+    written((of.read)(bytes))
 }
 
-/// The answer to a line that reads.
+/// The greatest size, if it is asked for and `-` if there is none, and the container.
+pub fn schema_answer(container: &BorshSchemaContainer, size: Option<String>) -> String {
+    let digits = match borsh::to_vec(container) {
+        Ok(bytes) => digits_of(&bytes),
+        Err(error) => return format!("error {error}"),
+    };
+    match size {
+        Some(size) if size.parse::<u64>().is_ok() => format!("{size} {digits}"),
+        Some(_) => format!("- {digits}"),
+        None => digits,
+    }
+}
+
+/// The answer to a question that reads.
 pub fn written(bytes: borsh::io::Result<Vec<u8>>) -> String {
     match bytes {
         Ok(bytes) => format!("ok {}", digits_of(&bytes)),
-        Err(error) => format!("error {error}"),
-    }
-}
-
-fn encoding(bytes: borsh::io::Result<Vec<u8>>) -> String {
-    match bytes {
-        Ok(bytes) => digits_of(&bytes),
         Err(error) => format!("error {error}"),
     }
 }
@@ -66,6 +69,9 @@ fn about(inquiry: Inquiry, bytes: &[u8]) -> String {
         Ok(container) => container,
         Err(error) => return format!("error {error}"),
     };
+    if Rules::new(&container, Faults::default()).count_mentions() > MOST_MENTIONS {
+        return NOT_ASKED.to_string();
+    }
     let answer = match inquiry {
         Inquiry::Check => catch_unwind(|| rules(&container)),
         Inquiry::Size => catch_unwind(|| size(&container)),

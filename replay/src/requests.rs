@@ -1,6 +1,6 @@
-//! What a line asks for.
+//! What a question asks for.
 
-use crate::words::{Word, word_named};
+use crate::types::{Type, type_named, word_named};
 
 /// What is asked about a container.
 #[derive(Clone, Copy, PartialEq, Eq)]
@@ -13,39 +13,60 @@ pub enum Inquiry {
 pub enum Request {
     /// `read`, or `canon` where keys may come in any order.
     Value {
-        word: &'static Word,
-        strict: bool,
+        of: &'static Type,
         bytes: Vec<u8>,
     },
     Schema {
-        word: &'static Word,
+        of: &'static Type,
+        /// Whether the greatest size is asked for too.
+        sized: bool,
     },
     About {
         inquiry: Inquiry,
         bytes: Vec<u8>,
     },
-    /// A line that is no command.
+    /// A type that isn't known, or a line that is no command.
     Unknown,
 }
 
+/// The line of the program borsh_check, if that is what is asked.
+pub fn line_of(question: &str) -> Option<&str> {
+    question.strip_prefix("line\t")
+}
+
+/// Whether the question asks for keys in any order.
+pub fn is_canon(question: &str) -> bool {
+    question.starts_with("canon\t") || question.starts_with("line\tcanon ")
+}
+
 impl Request {
-    pub fn from_line(line: &str) -> Request {
-        Request::command(line).unwrap_or(Request::Unknown)
+    /// What a question of the suite asks for: its columns have tabs between them, and types are written in Rust's notation.
+    pub fn from_question(question: &str) -> Request {
+        let request = match line_of(question) {
+            Some(line) => Request::command(line, ' ', true, |name| Some(&word_named(name)?.of)),
+            None => Request::command(question, '\t', false, type_named),
+        };
+        request.unwrap_or(Request::Unknown)
     }
 
-    fn command(line: &str) -> Option<Request> {
-        let (command, rest) = line.split_once(' ')?;
-        match command {
+    fn command(
+        text: &str,
+        between: char,
+        is_line: bool,
+        named: fn(&str) -> Option<&'static Type>,
+    ) -> Option<Request> {
+        let (kind, rest) = text.split_once(between)?;
+        match kind {
             "read" | "canon" => {
-                let (name, digits) = rest.split_once(' ')?;
+                let (name, digits) = rest.split_once(between)?;
                 Some(Request::Value {
-                    word: word_named(name)?,
-                    strict: command == "read",
+                    of: named(name)?,
                     bytes: bytes_from(digits)?,
                 })
             }
             "schema" => Some(Request::Schema {
-                word: word_named(rest)?,
+                of: named(rest)?,
+                sized: !is_line,
             }),
             "check" => Request::about(Inquiry::Check, rest),
             "size" => Request::about(Inquiry::Size, rest),

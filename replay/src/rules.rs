@@ -75,6 +75,24 @@ impl<'a> Rules<'a> {
         }
     }
 
+    /// How many mentions a walk meets that looks at each of them; one that leads back isn't followed.
+    pub fn count_mentions(&self) -> u64 {
+        self.mentions_below(self.root, &mut BTreeMap::new())
+    }
+
+    fn mentions_below(&self, name: &'a str, counted: &mut BTreeMap<&'a str, u64>) -> u64 {
+        if let Some(count) = counted.get(name) {
+            return *count;
+        }
+        counted.insert(name, 1);
+        let mut count = 1u64;
+        for mention in self.definition(name).map(mentions).unwrap_or_default() {
+            count = count.saturating_add(self.mentions_below(mention, counted));
+        }
+        counted.insert(name, count);
+        count
+    }
+
     fn definition(&self, name: &str) -> Option<&'a Definition> {
         self.definitions.get(name).copied()
     }

@@ -194,3 +194,39 @@ impl BorshDeserialize for WideOne {
         Ok(WideOne { tag: 0 })
     }
 }
+
+/// Types that are written as their one number, the first two of which are both named `A`.
+macro_rules! numbers {
+    ($($name:ident: $number:ty, $declared:literal, $width:literal);* $(;)?) => {$(
+        pub struct $name($number);
+
+        impl BorshSerialize for $name {
+            fn serialize<W: Write>(&self, writer: &mut W) -> Result<()> {
+                self.0.serialize(writer)
+            }
+        }
+
+        impl BorshDeserialize for $name {
+            fn deserialize_reader<R: Read>(reader: &mut R) -> Result<$name> {
+                <$number>::deserialize_reader(reader).map($name)
+            }
+        }
+
+        impl BorshSchema for $name {
+            fn declaration() -> Declaration {
+                $declared.to_string()
+            }
+
+            fn add_definitions_recursively(definitions: &mut BTreeMap<Declaration, Definition>) {
+                let definition = Definition::Primitive($width);
+                add_definition($name::declaration(), definition, definitions);
+            }
+        }
+    )*};
+}
+
+numbers! {
+    ShortA: u8, "A", 1;
+    LongA: u16, "A", 2;
+    Octet: u8, "Octet", 1;
+}

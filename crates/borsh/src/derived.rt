@@ -7,10 +7,9 @@ use borsh_schema::SchemaBuildError;
 pub use borsh_schema::{BorshSchema, FieldTypes, add_named, add_unit, add_unnamed, declared};
 pub use borsh_ser::{
     BorshSerialize, put_bytes, put_eight, put_eleven, put_five, put_four, put_nine, put_seven,
-    put_six, put_ten, put_three, put_twelve, put_two, write_bytes, write_eight, write_eighteen,
-    write_eleven, write_fifteen, write_five, write_four, write_fourteen, write_nine,
-    write_nineteen, write_seven, write_seventeen, write_six, write_sixteen, write_ten,
-    write_thirteen, write_three, write_twelve, write_twenty, write_two,
+    put_six, put_ten, put_three, put_twelve, put_two, write_bytes, write_eight, write_eleven,
+    write_five, write_four, write_nine, write_seven, write_six, write_ten, write_three,
+    write_twelve, write_two,
 };
 pub use borsh_types::{BorshKey, BorshType};
 pub use borsh_variants::{VariantTypes, add_enum, add_named_with, add_unnamed_with, declared_with};

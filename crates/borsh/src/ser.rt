@@ -8,9 +8,8 @@ use borsh_io::{Error, ErrorKind, Result, Write};
 pub use borsh_ser::{
     BorshSerialize, put_bytes, put_eight, put_eleven, put_five, put_four, put_nine, put_seven,
     put_six, put_tagged, put_ten, put_three, put_twelve, put_two, write_bytes, write_eight,
-    write_eighteen, write_eleven, write_fifteen, write_five, write_four, write_fourteen,
-    write_nine, write_nineteen, write_seven, write_seventeen, write_six, write_sixteen,
-    write_tagged, write_ten, write_thirteen, write_three, write_twelve, write_twenty, write_two,
+    write_eleven, write_five, write_four, write_nine, write_seven, write_six, write_tagged,
+    write_ten, write_three, write_twelve, write_two,
 };
 use std::alloc::Global;
 

@@ -1,4 +1,4 @@
-// The codes that the calls return. `use/borsh.h` has the same numbers.
+// The codes that the calls return. `bindings/c/borsh.h` has the same numbers.
 
 /// Yes; what was asked for was given.
 pub const YES: u32 = 0;
@@ -8,7 +8,7 @@ pub const NO: u32 = 1;
 pub const MALFORMED: u32 = 2;
 /// An allocation failed.
 pub const OUT_OF_MEMORY: u32 = 3;
-// 4 is for a null pointer: `use/borsh.c` returns it, and no call of this library.
+// 4 is for a null pointer: `bindings/c/borsh.c` returns it, and no call of this library.
 
 /// The definitions allow two values for the same bytes, or break a rule of widths.
 pub const UNDECIDED: u32 = 5;

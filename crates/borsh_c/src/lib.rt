@@ -2,7 +2,7 @@
 //!
 //! A container is given by its encoding, as `to_vec` of a `BorshSchemaContainer` makes it. Each call returns a code (the
 //! constants of [`codes`]) and gives a text or bytes in the caller's room: their length is written to `needed`, and they are
-//! the beginning of the room if they fit; otherwise the call is made again with a larger room. `use/borsh.c` does that, and is what
+//! the beginning of the room if they fit; otherwise the call is made again with a larger room. `bindings/c/borsh.c` does that, and is what
 //! a C program calls.
 #![tactic(auto)]
 

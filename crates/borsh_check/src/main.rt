@@ -2,7 +2,7 @@
 #![tactic(auto)]
 
 use borsh::io::{StdReader, StdWriter};
-use borsh_lines::{finish, run};
+use borsh_check_lines::{finish, run};
 use std::process::ExitCode;
 
 /// How often each standard stream may be interrupted.

@@ -2,7 +2,7 @@
 use Rattle.std.proofs.Common.{◌≡◌, ℕ, zero, suc, ◌+◌, ◌*◌, ◌<◌, ◌≤◌, true, List, [], ◌∷◌, ◌++◌, length, replicate, Option, Result, Ok, Err, IfOk, IfErr, refl, sym, ◌∙◌, ap, subst, append-nil, append_assoc, arith, length-append}
 use Rattle.std.proofs.lemmas.List.{length-replicate}
 use Rattle.std.proofs.Math.Nat.{mul-le-mul_right}
-use Rattle.places.specs.Made.{MadeInOrder, IsMade, IsGivenUp}
+use Rattle.borsh_arrays.specs.Made.{MadeInOrder, IsMade, IsGivenUp}
 use Rattle.borsh_codec.specs.Codec.{Codec}
 use Rattle.borsh_codec.specs.Shapes.{DecodesEach, array}
 use Rattle.borsh_codec.proofs.Laws.Lists.{nil_of_length}

@@ -6,7 +6,7 @@ use Rattle.borsh_codec.specs.Codec.{Codec, Lawful}
 use Rattle.borsh_codec.specs.Shapes.{array}
 use Rattle.borsh_codec.specs.Reading.{Decoded, NotDecoded}
 use Rattle.borsh_codec.proofs.ReadRows.{RowSoFar, row_none, row_more, row_all, denied_row}
-use Rattle.places.specs.Made.{MadeInOrder, IsMade, IsGivenUp}
+use Rattle.borsh_arrays.specs.Made.{MadeInOrder, IsMade, IsGivenUp}
 
 -- they were read behind those that were read before
 pub row_made : {S A : Type 0} (look : S → ReaderState) {c : Codec A} {makes : S → A → S → Type 0} → ((s t : S) (x : A) → makes s x t → Decoded A c (look s) (look t) x)

@@ -7,8 +7,8 @@ ghost use Rattle.borsh_de.specs.FixedWidth.{IsFixedWidth, GetsValue, TakesPiece}
 
 use super::deserialize::BorshDeserialize;
 use super::fixed::{ROOM, fits_rooms, read_over, width_of_parts};
+use borsh_arrays::{Held, Maker, TryMaker, array_from, release, try_array_from};
 use borsh_io::{Error, Read, Result};
-use places::{Held, Maker, TryMaker, array_from, release, try_array_from};
 use std::alloc::Global;
 
 // Makes the elements of an array by reading them.

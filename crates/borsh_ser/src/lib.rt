@@ -9,7 +9,6 @@ pub mod kit_types;
 pub mod linked;
 pub mod lists;
 pub mod maps;
-pub mod more_parts;
 pub mod non_zeros;
 pub mod numbers;
 pub mod parts;
@@ -23,10 +22,6 @@ pub mod texts;
 pub mod tuples;
 pub mod units;
 
-pub use more_parts::{
-    write_eighteen, write_fifteen, write_fourteen, write_nineteen, write_seventeen, write_sixteen,
-    write_thirteen, write_twenty,
-};
 pub use parts::{
     write_eight, write_eleven, write_five, write_four, write_nine, write_seven, write_six,
     write_tagged, write_ten, write_three, write_twelve, write_two,

@@ -1,7 +1,7 @@
 //! The command-line tool `borsh`: what a schema container says, and what bytes mean by it.
 #![tactic(auto)]
 
-use borsh_commands::run;
+use borsh_tool_commands::run;
 use std::io::IsTerminal;
 use std::process::ExitCode;
 use std::{env, io};

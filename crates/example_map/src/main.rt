@@ -1,6 +1,8 @@
-//! Reads a map of balances from standard input, prints it, adds an entry, and prints the new encoding.
+//! Reads a map of balances from standard input, prints it, adds an entry, and prints the new encoding. Then it does the same
+//! with a value of types of one's own.
 #![tactic(auto)]
 
+mod own;
 mod signing;
 
 use borsh::io::StdReader;
@@ -39,5 +41,6 @@ fn main(rt: HostRuntime) -> Result<(), anyhow::Error> {
     let container = schema_container_of::<BTreeMap<String, u64>>(alloc)?;
     container.validate(alloc)?;
     println!(rt; "schema of {}", container.declaration())?;
-    Ok(())
+
+    own::show(&rt)
 }

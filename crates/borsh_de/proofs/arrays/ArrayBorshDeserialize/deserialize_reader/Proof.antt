@@ -41,11 +41,11 @@ use Rattle.borsh_codec.specs.Codec.{Codec}
 use Rattle.borsh_codec.specs.Shapes.{array}
 use Rattle.borsh_codec.specs.Reading.{Decodes, DecodesAs}
 use Rattle.borsh_codec.proofs.DecodeOutcomes.{decodes_ok, decodes_err}
-use Rattle.places.specs.declared.tried.Held.{Held}
-use Rattle.places.specs.contracts.tried.Held as held
-use Rattle.places.proofs.tried.Held.TheLaws as held_laws
-use Rattle.places.specs.contracts.release as rel
-use Rattle.places.proofs.release.Met as release
+use Rattle.borsh_arrays.specs.declared.tried.Held.{Held}
+use Rattle.borsh_arrays.specs.contracts.tried.Held as held
+use Rattle.borsh_arrays.proofs.tried.Held.TheLaws as held_laws
+use Rattle.borsh_arrays.specs.contracts.release as rel
+use Rattle.borsh_arrays.proofs.release.Met as release
 use Rattle.borsh_de.specs.contracts.arrays.read_row as rr
 use Rattle.borsh_de.proofs.arrays.read_row.Met as read_row
 use Rattle.borsh_de.specs.contracts.arrays.ArrayBorshDeserialize.deserialize_reader as F
@@ -111,7 +111,7 @@ deserialize_reader_spec 𝓤 𝓛 𝓜 𝓡 wired T n R LT fits LR gD dD gB dB d
     let z' : G'.Ghost = (((κT, (κN, tt)), (qT, (qN, tt)), tt, (r, tt), (v ∷ [], tt)), tt) in
     nothing ! $ use0 𝓛 (raw (fact 𝓤 (κN ⊑ []))) (fact_i 𝓤 (κN ⊑ []) (emp 𝓤) lives_N) $ join ! $ use0 𝓛 (raw (fact 𝓤 (κT ⊑ T.lives))) (fact_i 𝓤 (κT ⊑ T.lives) (emp 𝓤) lives_T) $ join ! $
     nothing ! $ move ! (2 ∷ 0 ∷ []) $ fjoin ! $ nothing ! $ move ! (4 ∷ 0 ∷ []) $ join ! $ move ! (3 ∷ 0 ∷ []) $ join ! $ join ! $ join ! $ use1 𝓛 (raw (G'.pre z')) (id⊢ 𝓤 _) $
-    calls_at ! (framed 𝓤 𝓛.H 𝓜 𝓣) G' (release.met 𝓤 𝓛 𝓜 𝓡 (code.calls-places::release 𝓡.env wired) Arr Err_arg LA LE) z' (and_then ! (get ! refl) (no_more !)) (λ v'.
+    calls_at ! (framed 𝓤 𝓛.H 𝓜 𝓣) G' (release.met 𝓤 𝓛 𝓜 𝓡 (code.calls-borsh_arrays::release 𝓡.env wired) Arr Err_arg LA LE) z' (and_then ! (get ! refl) (no_more !)) (λ v'.
     use1 𝓛 (later (some (λ (r' : Out.Denot). ((‵ (flft κT qT) ⊛ ‵ (flft κN qN) ⊛ ‵ ftrue) ⊛ ‵ (Out.own_val r' (v' ∷ [])))
     ⊛ some (λ (ws' : Lasts release_ended z'.0.0 z'.0.3). ‵ (lasts release_ended z'.0.0 z'.0.3 ws') ⊛ raw (fact 𝓤 (MatchResult r (λ h. r' ≡ Ok h.0) (λ e. r' ≡ Err e))))))) (id⊢ 𝓤 _) $
     await ! tt $ pick ! (λ r'. split ! $ move ! (1 ∷ []) $ pick ! (λ ws'. split ! $ drop ! $ heard ! (MatchResult r (λ h. r' ≡ Ok h.0) (λ e. r' ≡ Err e)) (λ out. split ! $ move ! (1 ∷ []) $

@@ -1,3 +1,0 @@
-mod LineSteps
-mod Asked
-mod Agreed

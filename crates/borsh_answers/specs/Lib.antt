@@ -1,9 +1,0 @@
-pub mod Lines
-pub mod Words
-pub mod Digits
-pub mod Requests
-pub mod Meanings
-pub mod Schemas
-pub mod Containers
-pub mod ErrorTexts
-pub mod Answers

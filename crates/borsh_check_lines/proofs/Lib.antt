@@ -1,0 +1,5 @@
+mod OneLineSteps
+mod Asked
+mod Agreed
+mod LineSteps
+pub mod Turns

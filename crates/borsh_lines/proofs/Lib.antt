@@ -1,2 +1,0 @@
-mod LineSteps
-pub mod Turns

@@ -1,5 +1,0 @@
-use Rattle.borsh_schema_tests.proofs.Laws.{count_member, only_count}
-use Rattle.borsh_schema_tests.proofs.members.a_list_of_itself_without_elements.Goals as goal
-
-pub returns : goal.returns
-returns c = λ C x h. (count_member C x h, only_count C x h)

@@ -1,5 +1,0 @@
-use Rattle.borsh_schema_tests.proofs.Laws.{none_of_tuple}
-use Rattle.borsh_schema_tests.proofs.members.a_tuple_of_itself.Goals as goal
-
-pub returns : goal.returns
-returns c = λ C x h. none_of_tuple C x h

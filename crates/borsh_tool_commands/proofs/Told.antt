@@ -1,0 +1,41 @@
+-- What is printed of an error, and of a number.
+use Rattle.std.proofs.Common.{◌≡◌, ℕ, ◌+◌, ◌%◌, ◌^◌, ◌<◌, false, List, [], ◌∷◌, Option, refl, rules, arith, string_bytes, decimal, flat_map}
+use Rattle.std.proofs.lemmas.Fmt.{decimal_by_steps}
+use Rattle.std.proofs.lemmas.Grind.{flat_map-append}
+use Rattle.borsh_walks.specs.Container.{Shape, zst_sequence, tag_too_wide, tag_too_narrow, tag_not_power_of_two, missing_definition, empty_length_range}
+use Rattle.borsh_walks.specs.RulesAnswer.{RulesFault}
+use Rattle.borsh_walks.specs.SizeAnswer.{SizeFault}
+use Rattle.borsh_walks.specs.declared.error.SchemaContainerValidateError.{SchemaContainerValidateError}
+use Rattle.borsh_walks.specs.declared.error.SchemaContainerValidateError.TheVariants.{ZSTSequence, TagTooWide, TagTooNarrow, TagNotPowerOfTwo, MissingDefinition, EmptyLengthRange, OutOfMemory}
+use Rattle.borsh_walks.specs.declared.error.SchemaMaxSerializedSizeError.{SchemaMaxSerializedSizeError}
+use Rattle.borsh_walks.specs.declared.error.SchemaMaxSerializedSizeError.TheVariants.{Overflow, Recursive, MissingDefinition as Missing, OutOfMemory as NoMemory, Redefinition}
+use Rattle.borsh_tool_commands.specs.Answers.{AnswersCheck, AnswersSize, TellsRule, TellsSize}
+use Rattle.borsh_tool_commands.specs.Answers.AnswersCheck.{invalid}
+use Rattle.borsh_tool_commands.specs.Answers.AnswersSize.{overflows, recurs, misses}
+use Rattle.borsh_tool_commands.specs.Plain.{escaped}
+
+pub rules_told : {C : List ℕ → Option Shape} {root out : List ℕ} (e : SchemaContainerValidateError) → RulesFault C root e → TellsRule e out → AnswersCheck C root false out
+rules_told (ZSTSequence m) f t = invalid (string_bytes m) zst_sequence f.0 f.1 refl t
+rules_told (TagTooWide m) f t = invalid (string_bytes m) tag_too_wide f.0 f.1 refl t
+rules_told (TagTooNarrow m) f t = invalid (string_bytes m) tag_too_narrow f.0 f.1 refl t
+rules_told (TagNotPowerOfTwo m) f t = invalid (string_bytes m) tag_not_power_of_two f.0 f.1 refl t
+rules_told (MissingDefinition m) f t = invalid (string_bytes m) missing_definition f.0 f.1 refl t
+rules_told (EmptyLengthRange m) f t = invalid (string_bytes m) empty_length_range f.0 f.1 refl t
+rules_told OutOfMemory f t = absurd t
+
+pub size_told : {C : List ℕ → Option Shape} {root out : List ℕ} (e : SchemaMaxSerializedSizeError) → SizeFault C root e → TellsSize e out → AnswersSize C root false out
+size_told Overflow f t = overflows f.0 f.1 f.2 refl t
+size_told Recursive f t = recurs f refl t
+size_told (Missing m) f t = misses (string_bytes m) f.0 f.1 refl t
+size_told NoMemory f t = absurd t
+size_told (Redefinition m) f t = absurd t
+
+-- a decimal digit is printed as itself
+digit_escaped : (d : ℕ) → d < 10 → flat_map escaped ((48 + d) ∷ []) ≡ (48 + d) ∷ []
+digit_escaped d h = search rules
+
+-- and so is a number
+pub decimal_escaped : (n : ℕ) → n < 2 ^ 64 → flat_map escaped (decimal n) ≡ decimal n
+decimal_escaped n h =
+    decimal_by_steps (λ m ds. flat_map escaped ds ≡ ds) (λ m l. digit_escaped m l)
+    (λ m ds l p. let step = digit_escaped (m % 10) (omega arith) in rw (flat_map-append escaped ds ((48 + m % 10) ∷ []), p, step) refl) n h

@@ -1,0 +1,63 @@
+-- What the commands answer.
+use Rattle.std.specs.Prelude.{◌≡◌, ℕ, ◌^◌, ◌<◌, ◌≤◌, Bool, true, false, List, [], ◌∷◌, ◌++◌, Option, None, codes, decimal, string_bytes}
+use Rattle.borsh_walks.specs.Container.{Shape, Rule, zst_sequence, tag_too_wide, tag_too_narrow, tag_not_power_of_two, missing_definition, empty_length_range, Breaks, IsValid, Reached, SizeReaches, IsRecursive, MaxSize, PartialSize}
+use Rattle.borsh_walks.specs.declared.error.SchemaContainerValidateError.{SchemaContainerValidateError}
+use Rattle.borsh_walks.specs.declared.error.SchemaContainerValidateError.TheVariants.{ZSTSequence, TagTooWide, TagTooNarrow, TagNotPowerOfTwo, MissingDefinition, EmptyLengthRange, OutOfMemory}
+use Rattle.borsh_walks.specs.declared.error.SchemaMaxSerializedSizeError.{SchemaMaxSerializedSizeError}
+use Rattle.borsh_walks.specs.declared.error.SchemaMaxSerializedSizeError.TheVariants.{Overflow, Recursive, MissingDefinition as Missing, OutOfMemory as NoMemory, Redefinition}
+use Rattle.borsh_tool_commands.specs.Plain.{name_text}
+
+-- a text as a line
+abbrev pub line_of : List ℕ → List ℕ
+line_of text = text ++ (10 ∷ [])
+
+-- ---- `check`
+
+-- how a rule is printed
+abbrev pub rule_name : Rule → List ℕ
+rule_name zst_sequence = codes "ZSTSequence"
+rule_name tag_too_wide = codes "TagTooWide"
+rule_name tag_too_narrow = codes "TagTooNarrow"
+rule_name tag_not_power_of_two = codes "TagNotPowerOfTwo"
+rule_name missing_definition = codes "MissingDefinition"
+rule_name empty_length_range = codes "EmptyLengthRange"
+
+-- that a name breaks a rule
+abbrev pub broken_text : List ℕ → List ℕ → List ℕ
+broken_text rule name = line_of (codes "invalid " ++ (rule ++ (codes " " ++ name_text name)))
+
+-- `valid` exactly if each reached name keeps the rules; else a reached name breaks a rule
+pub data AnswersCheck (C : List ℕ → Option Shape) (root : List ℕ) (yes : Bool) (out : List ℕ) : Type 0 where
+  valid : IsValid C root → yes ≡ true → out ≡ line_of (codes "valid") → AnswersCheck C root yes out
+  invalid : (x : List ℕ) (r : Rule) → Reached C root x → Breaks C r x → yes ≡ false → out ≡ broken_text (rule_name r) x → AnswersCheck C root yes out
+
+-- what is printed of an error
+abbrev pub TellsRule : SchemaContainerValidateError → List ℕ → Type 0
+TellsRule (ZSTSequence m) out = out ≡ broken_text (codes "ZSTSequence") (string_bytes m)
+TellsRule (TagTooWide m) out = out ≡ broken_text (codes "TagTooWide") (string_bytes m)
+TellsRule (TagTooNarrow m) out = out ≡ broken_text (codes "TagTooNarrow") (string_bytes m)
+TellsRule (TagNotPowerOfTwo m) out = out ≡ broken_text (codes "TagNotPowerOfTwo") (string_bytes m)
+TellsRule (MissingDefinition m) out = out ≡ broken_text (codes "MissingDefinition") (string_bytes m)
+TellsRule (EmptyLengthRange m) out = out ≡ broken_text (codes "EmptyLengthRange") (string_bytes m)
+TellsRule OutOfMemory out = ⊥
+
+-- ---- `size`
+
+-- that a name has no definition
+abbrev pub missing_text : List ℕ → List ℕ
+missing_text name = line_of (codes "missing " ++ name_text name)
+
+-- the size in decimal exactly if there is one below 2^64; else why there is none
+pub data AnswersSize (C : List ℕ → Option Shape) (root : List ℕ) (yes : Bool) (out : List ℕ) : Type 0 where
+  sized : (n : ℕ) → MaxSize C root n → n < 2 ^ 64 → yes ≡ true → out ≡ line_of (decimal n) → AnswersSize C root yes out
+  overflows : (k : ℕ) → PartialSize C [] root k → 2 ^ 64 ≤ k → yes ≡ false → out ≡ line_of (codes "overflow") → AnswersSize C root yes out
+  recurs : IsRecursive C root → yes ≡ false → out ≡ line_of (codes "recursive") → AnswersSize C root yes out
+  misses : (x : List ℕ) → SizeReaches C root x → C x ≡ None → yes ≡ false → out ≡ missing_text x → AnswersSize C root yes out
+
+-- what is printed of an error
+abbrev pub TellsSize : SchemaMaxSerializedSizeError → List ℕ → Type 0
+TellsSize Overflow out = out ≡ line_of (codes "overflow")
+TellsSize Recursive out = out ≡ line_of (codes "recursive")
+TellsSize (Missing m) out = out ≡ missing_text (string_bytes m)
+TellsSize NoMemory out = ⊥
+TellsSize (Redefinition m) out = ⊥

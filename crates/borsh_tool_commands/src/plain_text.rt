@@ -1,0 +1,198 @@
+// Text that a terminal shows as it is.
+ghost use Rattle.std.specs.Prelude.{◌≡◌, ◌++◌, ◌∷◌, ◌<◌, ◌≤◌, [], All, OnOk, decimal, flat_map};
+ghost use Rattle.std.specs.Fmt.{signed_decimal};
+ghost use Rattle.borsh_tool_commands.specs.Plain.{IsPlain, digit as digit_of, escaped, quoted, name_text, is_word as is_word_byte, is_identifier as is_identifier_text};
+ghost use Rattle.std.specs.List.{list_all};
+
+use std::alloc::{AllocError, Global};
+use std::{fmt, str};
+
+/// Text of printable ASCII and line feeds. So nothing in it can move a terminal's cursor, change its
+/// colours or hide what follows, whatever names a container has.
+#[derive(Debug, Drop)]
+pub struct PlainText {
+    text: Vec<u8>,
+    ghost plain: { All IsPlain text.items },
+}
+
+impl PlainText {
+    /// No text.
+    pub fn new(alloc: Global) -> PlainText
+        ensures { result.text.items ≡ [] }
+    {
+        PlainText {
+            text: Vec::new(alloc),
+        }
+    }
+
+    /// The text.
+    pub fn as_bytes(&self) -> &[u8]
+        ensures is { result.now ≡ self.now.text.items }
+        ensures plain { All IsPlain result.now }
+    {
+        self.text.as_slice()
+    }
+
+    /// Adds a text, in which printable ASCII appears as it is, and any other byte as `\x` and two digits.
+    pub fn push(&mut self, text: &str) -> Result<(), AllocError>
+        ensures { OnOk result
+            (self.new.text.items ≡ self.old.text.items ++ flat_map escaped text.now) }
+    {
+        for byte in text.as_bytes() {
+            self.push_byte(*byte)?;
+        }
+        Ok(())
+    }
+
+    /// Adds a number in decimal.
+    pub fn push_number(&mut self, alloc: Global, number: u64) -> Result<(), AllocError>
+        ensures { OnOk result (self.new.text.items ≡ self.old.text.items ++ decimal number) }
+    {
+        let text = format!(in alloc; "{number}")?;
+        self.push(text.as_str())
+    }
+
+    /// The same of a number with a sign.
+    pub fn push_signed(&mut self, alloc: Global, number: &i64) -> Result<(), AllocError>
+        ensures { OnOk result (self.new.text.items
+            ≡ self.old.text.items ++ flat_map escaped (signed_decimal number.now)) }
+    {
+        let text = format!(in alloc; "{number}")?;
+        self.push(text.as_str())
+    }
+
+    /// Adds a name: an identifier as it is, and any other name in quotation marks, with a backslash
+    /// before each quotation mark and backslash in it.
+    pub fn push_name(&mut self, name: &str) -> Result<(), AllocError>
+        ensures { OnOk result (self.new.text.items ≡ self.old.text.items ++ name_text name.now) }
+    {
+        if is_identifier(name) {
+            return self.push(name);
+        }
+        self.put(b'"')?;
+        self.push_quoted(name.as_bytes())?;
+        self.put(b'"')
+    }
+
+    /// Adds JSON, in which a character that isn't printable ASCII, but for line feeds, appears as `\u` and four digits, or
+    /// as two of these. Only strings of JSON have such characters, and the texts say the same.
+    pub fn push_json(&mut self, json: &str) -> Result<(), AllocError> {
+        for character in json.chars() {
+            self.push_character(character)?;
+        }
+        Ok(())
+    }
+
+    fn push_character(&mut self, character: char) -> Result<(), AllocError> {
+        let number = u32::from(character);
+        if number == 10 {
+            return self.end_line();
+        }
+        if 32 <= number && number < 127 {
+            return self.put(number as u8);
+        }
+        if number < 65536 {
+            return self.push_unit(number);
+        }
+        self.push_unit(55296 + (number - 65536) / 1024)?;
+        self.push_unit(56320 + number % 1024)
+    }
+
+    /// `\u` and four digits.
+    fn push_unit(&mut self, unit: u32) -> Result<(), AllocError> {
+        self.put(b'\\')?;
+        self.put(b'u')?;
+        self.put(digit((unit / 4096 % 16) as u8))?;
+        self.put(digit((unit / 256 % 16) as u8))?;
+        self.put(digit((unit / 16 % 16) as u8))?;
+        self.put(digit((unit % 16) as u8))
+    }
+
+    /// Adds the bytes of a name that is in quotation marks.
+    fn push_quoted(&mut self, name: &[u8]) -> Result<(), AllocError>
+        ensures { OnOk result
+            (self.new.text.items ≡ self.old.text.items ++ flat_map quoted name.now) }
+    {
+        for byte in name {
+            if *byte == b'"' || *byte == b'\\' {
+                self.put(b'\\')?;
+            }
+            self.push_byte(*byte)?;
+        }
+        Ok(())
+    }
+
+    /// Ends the line.
+    pub fn end_line(&mut self) -> Result<(), AllocError>
+        ensures { OnOk result (self.new.text.items ≡ self.old.text.items ++ (10 ∷ [])) }
+    {
+        self.put(b'\n')
+    }
+
+    /// Adds a byte of a text.
+    fn push_byte(&mut self, byte: u8) -> Result<(), AllocError>
+        ensures { OnOk result (self.new.text.items ≡ self.old.text.items ++ escaped byte) }
+    {
+        if 32 <= byte && byte < 127 {
+            return self.put(byte);
+        }
+        self.put(b'\\')?;
+        self.put(b'x')?;
+        self.put(digit(byte / 16))?;
+        self.put(digit(byte % 16))
+    }
+
+    /// Adds a byte as it is.
+    fn put(&mut self, byte: u8) -> Result<(), AllocError>
+        requires { IsPlain byte }
+        ensures { OnOk result (self.new.text.items ≡ self.old.text.items ++ (byte ∷ [])) }
+    {
+        self.text.push(byte)?;
+        Ok(())
+    }
+}
+
+impl fmt::Display for PlainText {
+    fn fmt<W: fmt::Write>(&self, f: &mut fmt::Formatter<W>) -> fmt::Result {
+        match str::from_utf8(self.as_bytes()) {
+            Ok(text) => f.write_str(text),
+            Err(_) => Err(fmt::Error),
+        }
+    }
+}
+
+/// A hexadecimal digit.
+fn digit(number: u8) -> u8
+    requires { number < 16 }
+    ensures is { result ≡ digit_of number }
+    ensures plain { IsPlain result }
+{
+    if number < 10 {
+        b'0' + number
+    } else {
+        b'a' + (number - 10)
+    }
+}
+
+/// Whether a name is letters, digits and underscores of ASCII, with no digit in front.
+fn is_identifier(name: &str) -> bool
+    ensures { result ≡ is_identifier_text name.now }
+{
+    match name.as_bytes() {
+        [] => false,
+        [first, ..] => !first.is_ascii_digit() && are_words(name.as_bytes()),
+    }
+}
+
+/// Whether all bytes are letters, digits and underscores.
+fn are_words(bytes: &[u8]) -> bool
+    ensures { result ≡ list_all is_word_byte bytes.now }
+{
+    bytes.iter().all(|byte| is_word(*byte))
+}
+
+fn is_word(byte: u8) -> bool
+    ensures { result ≡ is_word_byte byte }
+{
+    byte.is_ascii_alphanumeric() || byte == b'_'
+}

@@ -1,0 +1,269 @@
+// A run of the tool.
+ghost use Rattle.std.specs.Prelude.{IfErr, IfOk};
+ghost use Rattle.borsh_tool_commands.specs.Failures.{IsNoContainer};
+ghost use Rattle.borsh_tool_commands.specs.Printed.{printed};
+ghost use Rattle.borsh_tool_commands.specs.Questions.{AnswersRequest};
+
+use super::answers::{Answer, answer_to, container_from};
+use super::command::{Action, Request, ValueRequest, command, request_from, value_request_from};
+use super::failure::{Failure, failure_line, usage_line};
+use super::values::{
+    Schema, bytes_said, hex_line, json_text, member, no_container, own_schema, schema_from,
+    schema_in_front, schema_json, shown, with_schema,
+};
+use borsh_json::Layout;
+use clap::ArgMatches;
+use hex::FromHexError;
+use std::alloc::{AllocError, Global};
+use std::env::VarError;
+use std::io::Read;
+use std::rt::{Env, Files};
+use std::{env, fs, io};
+
+/// Runs the command that the words name, the first of which is the program's own name, and returns the
+/// exit status: 0 for yes, 1 for no or for bytes that are no container, 2 for anything else that failed.
+/// The answer goes to standard output, and what is wrong to standard error, as one line.
+///
+/// `is_terminal` is whether standard output is a terminal: then `show` has colours, unless `--plain` is
+/// among the words or the variable `NO_COLOR` is set and isn't empty.
+///
+/// ```
+/// let words: Vec<String> = env::args(&rt)?.collect(rt.alloc())?;
+/// let status = run(&rt, words.as_slice(), rt.stdout().is_terminal());
+/// ```
+pub fn run<R: Files + Env + Input + Print + Eprint + AllocGlobal>(
+    rt: &R,
+    words: &[String],
+    is_terminal: bool,
+) -> u8 {
+    match matches_of(rt.alloc(), words) {
+        Ok(matches) => match perform(rt, &matches, is_terminal) {
+            Ok(true) => 0,
+            Ok(false) => 1,
+            Err(failure) => {
+                tell(rt, &failure);
+                failure.status()
+            }
+        },
+        Err(error) => refuse(rt, &error),
+    }
+}
+
+fn matches_of<'a>(alloc: Global, words: &'a [String]) -> Result<ArgMatches<'a>, clap::Error> {
+    command(alloc)?.try_get_matches_from(words)
+}
+
+/// Prints the help that was asked for, or what is wrong with the words. That it can't be printed is
+/// passed over.
+fn refuse<R: Print + Eprint + AllocGlobal>(rt: &R, error: &clap::Error) -> u8 {
+    if !error.use_stderr() {
+        return match rt.print(error) {
+            Ok(()) => 0,
+            Err(_) => 2,
+        };
+    }
+    let _told = tell_usage(rt, error);
+    2
+}
+
+fn tell_usage<R: Eprint + AllocGlobal>(rt: &R, error: &clap::Error) -> io::Result<()> {
+    let text = format!(in rt.alloc(); "{error}")?;
+    let line = usage_line(rt.alloc(), text.as_str())?;
+    rt.eprint(&line)
+}
+
+/// Prints why there is no answer. That it can't be printed is passed over.
+fn tell<R: Eprint + AllocGlobal>(rt: &R, failure: &Failure<'_>) {
+    let _told = tell_failure(rt, failure);
+}
+
+fn tell_failure<R: Eprint + AllocGlobal>(rt: &R, failure: &Failure<'_>) -> io::Result<()> {
+    let text = format!(in rt.alloc(); "{failure}")?;
+    let line = failure_line(rt.alloc(), text.as_str())?;
+    rt.eprint(&line)
+}
+
+/// Prints the answer, and returns whether it is yes.
+fn perform<'a, R: Files + Env + Input + Print + AllocGlobal>(
+    rt: &R,
+    matches: &ArgMatches<'a>,
+    is_terminal: bool,
+) -> Result<bool, Failure<'a>> {
+    if let Some(request) = value_request_from(matches) {
+        return perform_on_value(rt, &request, is_terminal);
+    }
+    let Some(request) = request_from(matches) else {
+        return Err(Failure::NoCommand);
+    };
+    let bytes = input(rt, request.path, request.is_hex)?;
+    if request.is_json {
+        let text = schema_json(rt.alloc(), request.path, bytes.as_slice())?;
+        print_bytes(rt, text.as_bytes())?;
+        return Ok(true);
+    }
+    let Answer { is_yes, text } = answer_about(rt.alloc(), &request, bytes.as_slice())?;
+    print_bytes(rt, text.as_bytes())?;
+    Ok(is_yes)
+}
+
+/// The same of a request about a value.
+fn perform_on_value<'a, R: Files + Env + Input + Print + AllocGlobal>(
+    rt: &R,
+    request: &ValueRequest<'a>,
+    is_terminal: bool,
+) -> Result<bool, Failure<'a>> {
+    let Some(path) = request.schema else {
+        let bytes = input(rt, request.value, request.is_hex)?;
+        let (schema, value) = schema_in_front(rt.alloc(), request.value, bytes.as_slice())?;
+        return answer_value(rt, request, &schema, value, is_terminal);
+    };
+    if path == "-" && request.value == "-" {
+        return Err(Failure::TwoInputs);
+    }
+    let schema = schema_at(rt, path, request.is_schema_hex)?;
+    let is_hex = request.is_hex && request.action != Action::Encode;
+    let value = input(rt, request.value, is_hex)?;
+    answer_value(rt, request, &schema, value.as_slice(), is_terminal)
+}
+
+/// The container in a file, or that of containers for `self`.
+fn schema_at<'a, R: Files + Input + AllocGlobal>(
+    rt: &R,
+    path: &'a str,
+    is_hex: bool,
+) -> Result<Schema, Failure<'a>> {
+    if path == "self" {
+        return own_schema(rt.alloc());
+    }
+    let bytes = input(rt, path, is_hex)?;
+    schema_from(rt.alloc(), path, bytes.as_slice())
+}
+
+/// Prints what is asked of a value, its bytes or its JSON, and returns whether the answer is yes.
+fn answer_value<'a, R: Env + Print + AllocGlobal>(
+    rt: &R,
+    request: &ValueRequest<'a>,
+    schema: &Schema,
+    value: &[u8],
+    is_terminal: bool,
+) -> Result<bool, Failure<'a>> {
+    let alloc = rt.alloc();
+    match request.action {
+        Action::Decode => {
+            let layout = if request.is_compact {
+                Layout::Compact
+            } else {
+                Layout::Pretty
+            };
+            let text = json_text(alloc, schema, request.value, value, layout)?;
+            print_bytes(rt, text.as_bytes())?;
+            Ok(true)
+        }
+        Action::Encode => {
+            let bytes = encoded(alloc, request, schema, value)?;
+            if request.is_hex {
+                let text = hex_line(alloc, bytes.as_slice())?;
+                print_bytes(rt, text.as_bytes())?;
+            } else {
+                print_bytes(rt, bytes.as_slice())?;
+            }
+            Ok(true)
+        }
+        Action::Member => {
+            let Answer { is_yes, text } = member(alloc, schema, request.value, value)?;
+            print_bytes(rt, text.as_bytes())?;
+            Ok(is_yes)
+        }
+        Action::Show => {
+            let is_colored = is_terminal && !request.is_plain && !refuses_color(rt);
+            let text = shown(alloc, schema, request.value, value, is_colored)?;
+            print_bytes(rt, text.as_bytes())?;
+            Ok(true)
+        }
+    }
+}
+
+/// The bytes of the value that JSON says, behind their container if that is asked for.
+fn encoded<'a>(
+    alloc: Global,
+    request: &ValueRequest<'a>,
+    schema: &Schema,
+    json: &[u8],
+) -> Result<Vec<u8>, Failure<'a>> {
+    let bytes = bytes_said(alloc, schema, request.value, json)?;
+    if request.with_schema {
+        Ok(with_schema(alloc, schema, bytes.as_slice())?)
+    } else {
+        Ok(bytes)
+    }
+}
+
+/// Whether the variable `NO_COLOR` is set and isn't empty.
+fn refuses_color<R: Env + AllocGlobal>(rt: &R) -> bool {
+    match env::var(rt, "NO_COLOR") {
+        Ok(value) => !value.is_empty(),
+        Err(VarError::NotPresent) => false,
+        Err(_) => true,
+    }
+}
+
+fn print_bytes<'a, R: Print + AllocGlobal>(rt: &R, bytes: &[u8]) -> Result<(), Failure<'a>> {
+    match rt.write_all(bytes) {
+        Ok(()) => Ok(()),
+        Err(error) => Err(Failure::Unwritable(error)),
+    }
+}
+
+/// The answer to a request about the container whose encoding the bytes are.
+///
+/// Returns `NotContainer` with the request's path if they are none, and `OutOfMemory` if an allocation fails.
+///
+/// ```
+/// let answer = answer_about(alloc, &request, bytes.as_slice())?;
+/// assert!(rt; answer.is_yes);
+/// ```
+pub fn answer_about<'a>(
+    alloc: Global,
+    request: &Request<'a>,
+    bytes: &[u8],
+) -> Result<Answer, Failure<'a>>
+    ensures ok { IfOk result (λ a. AnswersRequest request.now.question bytes.now
+        a.is_yes (printed a.text)) }
+    ensures err { IfErr result (IsNoContainer request.now.path.now bytes.now) }
+{
+    match container_from(alloc, bytes) {
+        Ok(container) => Ok(answer_to(alloc, request.question, &container)?),
+        Err(error) => Err(no_container(request.path, error)),
+    }
+}
+
+/// The bytes of a file, or those that its digits say.
+fn input<'a, R: Files + Input + AllocGlobal>(
+    rt: &R,
+    path: &'a str,
+    is_hex: bool,
+) -> Result<Vec<u8>, Failure<'a>> {
+    let mut bytes = match file(rt, path) {
+        Ok(bytes) => bytes,
+        Err(error) => return Err(Failure::Unreadable(path, error)),
+    };
+    if !is_hex {
+        return Ok(bytes);
+    }
+    bytes.retain(|byte| !byte.is_ascii_whitespace());
+    match hex::decode(rt.alloc(), bytes.as_slice()) {
+        Ok(decoded) => Ok(decoded),
+        Err(FromHexError::OutOfMemory) => Err(Failure::OutOfMemory),
+        Err(error) => Err(Failure::NotHexadecimal(path, error)),
+    }
+}
+
+/// All bytes of a file, or of standard input for `-`.
+fn file<R: Files + Input + AllocGlobal>(rt: &R, path: &str) -> io::Result<Vec<u8>> {
+    if path != "-" {
+        return fs::read(rt, path);
+    }
+    let mut bytes = Vec::new(rt.alloc());
+    rt.reader().read_to_end(&mut bytes)?;
+    Ok(bytes)
+}

@@ -1,0 +1,340 @@
+// What is asked of a value by its container.
+ghost use Rattle.std.specs.Prelude.{◌≡◌, IfErr, IfOk, OnOk, Decides, Some, string_bytes};
+ghost use Rattle.borsh.specs.Errors.{error_kind};
+ghost use Rattle.borsh_tool_commands.specs.Colors.{IsPainted};
+ghost use Rattle.borsh_tool_commands.specs.Colored.{has_colors, printed_colors};
+ghost use Rattle.borsh_tool_commands.specs.Failures.{IsFailure, IsNoAnswer, IsNoContainer, IsNoContainerInFront, IsNoContainerJson, IsNoJson, IsNoMemory, IsNotShown, IsNoValue};
+ghost use Rattle.borsh_tool_commands.specs.Sent.{IsContainer, IsSent, schema_encoding};
+ghost use Rattle.borsh_io.specs.declared.error.ErrorKind.TheVariants.{OutOfMemory as NoRoom};
+ghost use Rattle.borsh_json.specs.declared.error.JsonError.TheVariants.{OutOfMemory as NoMemory};
+ghost use Rattle.borsh_walks.specs.Container.{Member};
+ghost use Rattle.borsh_walks.specs.Definitions.{definitions_in};
+
+use super::answers::Answer;
+use super::colors::{Color, ColoredText};
+use super::failure::Failure;
+use super::plain_text::PlainText;
+use borsh::io::{Error, ErrorKind};
+use borsh::schema::{BorshSchemaContainer, Definition};
+use borsh::ser::write_two;
+use borsh::{BorshDeserialize, from_slice, schema_container_of, to_vec};
+use borsh_json::{JsonError, Layout, Row, from_json, rows_of, to_json};
+use borsh_values::{Membership, is_member};
+use std::alloc::{AllocError, Global};
+use std::collections::BTreeMap;
+use std::str;
+
+/// A container as the name of its root and its definitions.
+#[derive(Drop)]
+pub struct Schema {
+    pub root: String,
+    pub definitions: BTreeMap<String, Definition>,
+}
+
+/// The container whose encoding the bytes are.
+///
+/// Returns `NotContainer` with the path if they are none, and `OutOfMemory` if an allocation fails.
+///
+/// ```
+/// let schema = schema_from(alloc, "readme.borsh", bytes.as_slice())?;
+/// println!(rt; "{}", schema.root)?;
+/// ```
+pub fn schema_from<'a>(alloc: Global, path: &'a str, bytes: &[u8]) -> Result<Schema, Failure<'a>>
+    ensures ok { IfOk result (λ s. schema_encoding s ≡ Some bytes.now) }
+    ensures err { IfErr result (IsNoContainer path.now bytes.now) }
+{
+    let decoded: Result<(String, BTreeMap<String, Definition>), Error> = from_slice(alloc, bytes);
+    match decoded {
+        Ok((root, definitions)) => Ok(Schema { root, definitions }),
+        Err(error) => Err(no_container(path, error)),
+    }
+}
+
+/// The container whose encoding is in front of other bytes, and these.
+///
+/// The errors are those of [`schema_from`].
+///
+/// ```
+/// let (schema, value) = schema_in_front(alloc, "sent.borsh", bytes.as_slice())?;
+/// ```
+pub fn schema_in_front<'a, 'b>(
+    alloc: Global,
+    path: &'a str,
+    bytes: &'b [u8],
+) -> Result<(Schema, &'b [u8]), Failure<'a>>
+    ensures ok { IfOk result (λ r. IsSent r.0 r.1.now bytes.now) }
+    ensures err { IfErr result (IsNoContainerInFront path.now bytes.now) }
+{
+    let mut rest = bytes;
+    let decoded: Result<(String, BTreeMap<String, Definition>), Error> =
+        BorshDeserialize::deserialize(alloc, &mut rest);
+    match decoded {
+        Ok((root, definitions)) => Ok((Schema { root, definitions }, rest)),
+        Err(error) => Err(no_container(path, error)),
+    }
+}
+
+/// The encoding of a container, and behind it the bytes of a value. Returns `OutOfMemory` if an allocation fails.
+///
+/// ```
+/// let sent = with_schema(alloc, &schema, value)?;
+/// let (again, rest) = schema_in_front(alloc, "sent.borsh", sent.as_slice())?;
+/// assert_eq!(rt; rest, value);
+/// ```
+pub fn with_schema(alloc: Global, schema: &Schema, value: &[u8]) -> Result<Vec<u8>, AllocError>
+    ensures { IfOk result (λ sent. IsSent schema.now value.now sent.items) }
+{
+    let mut sent = Vec::new(alloc);
+    let Ok(()) = write_two(&schema.root, &schema.definitions, alloc, &mut sent) else {
+        return Err(AllocError);
+    };
+    sent.extend_from_slice(value)?;
+    Ok(sent)
+}
+
+/// The container of containers.
+pub fn own_schema<'a>(alloc: Global) -> Result<Schema, Failure<'a>>
+    ensures { IfErr result IsNoMemory }
+{
+    let Ok(container) = schema_container_of::<BorshSchemaContainer>(alloc) else {
+        return Err(Failure::OutOfMemory);
+    };
+    match to_vec(alloc, &container) {
+        Ok(bytes) => schema_from(alloc, "self", bytes.as_slice()),
+        Err(_) => Err(Failure::OutOfMemory),
+    }
+}
+
+/// The container whose encoding the bytes are as JSON, and a line feed: what [`json_text`] says of them by the
+/// container of containers, and what [`bytes_said`] makes a container of.
+///
+/// The errors are those of [`schema_from`].
+///
+/// ```
+/// let text = schema_json(alloc, "readme.borsh", bytes.as_slice())?;
+/// let again = bytes_said(alloc, &own_schema(alloc)?, "readme.json", text.as_bytes())?;
+/// assert_eq!(rt; again.as_slice(), bytes.as_slice());
+/// ```
+pub fn schema_json<'a>(alloc: Global, path: &'a str, bytes: &[u8]) -> Result<PlainText, Failure<'a>>
+    ensures ok { OnOk result (IsContainer bytes.now) }
+    ensures err { IfErr result (IsNoContainerJson path.now bytes.now) }
+{
+    let _schema = schema_from(alloc, path, bytes)?;
+    let own = own_schema(alloc)?;
+    json_text(alloc, &own, path, bytes, Layout::Pretty)
+}
+
+/// The failure that an error of decoding a container is.
+pub(crate) fn no_container<'a>(path: &'a str, error: Error) -> Failure<'a>
+    ensures { IsFailure path.now (error_kind error ≡ NoRoom → ⊥) ⊥ ⊥ result }
+{
+    if error.kind() == ErrorKind::OutOfMemory {
+        return Failure::OutOfMemory;
+    }
+    Failure::NotContainer(path, error)
+}
+
+/// The value that the bytes are as JSON, and a line feed.
+///
+/// Returns `NotValue` with the path and the reason if the bytes are no value of the root or one without JSON, and
+/// `OutOfMemory` if an allocation fails.
+///
+/// ```
+/// let text = json_text(alloc, &schema, "value.borsh", bytes.as_slice(), Layout::Compact)?;
+/// ```
+pub fn json_text<'a>(
+    alloc: Global,
+    schema: &Schema,
+    path: &'a str,
+    bytes: &[u8],
+    layout: Layout,
+) -> Result<PlainText, Failure<'a>>
+    ensures ok { OnOk result (Member (definitions_in schema.now.definitions)
+        (string_bytes schema.now.root) bytes.now) }
+    ensures err { IfErr result (IsNoJson (definitions_in schema.now.definitions)
+        (string_bytes schema.now.root) path.now bytes.now) }
+{
+    match to_json(
+        alloc,
+        schema.root.as_str(),
+        &schema.definitions,
+        bytes,
+        layout,
+    ) {
+        Ok(json) => {
+            let mut out = PlainText::new(alloc);
+            out.push_json(json.as_str())?;
+            out.end_line()?;
+            Ok(out)
+        }
+        Err(error) => Err(no_value(alloc, path, error)),
+    }
+}
+
+/// The bytes of the value that JSON says.
+///
+/// Returns `NotText` if the JSON isn't UTF-8, `NotValue` with the path and the reason if it says no value of the root,
+/// and `OutOfMemory` if an allocation fails.
+///
+/// ```
+/// let bytes = bytes_said(alloc, &schema, "value.json", b"{\"x\": 12}".as_slice())?;
+/// ```
+pub fn bytes_said<'a>(
+    alloc: Global,
+    schema: &Schema,
+    path: &'a str,
+    json: &[u8],
+) -> Result<Vec<u8>, Failure<'a>>
+    ensures ok { IfOk result (λ bytes. Member (definitions_in schema.now.definitions)
+        (string_bytes schema.now.root) bytes.items) }
+    ensures err { IfErr result (IsNoValue (definitions_in schema.now.definitions)
+        (string_bytes schema.now.root) path.now json.now) }
+{
+    let Ok(text) = str::from_utf8(json) else {
+        return Err(Failure::NotText(path));
+    };
+    match from_json(alloc, schema.root.as_str(), &schema.definitions, text) {
+        Ok(bytes) => Ok(bytes),
+        Err(error) => Err(no_value(alloc, path, error)),
+    }
+}
+
+/// `member`, or `no member`, where the bytes stop being one, and why.
+///
+/// Returns `NotValue` if the container is ambiguous, and `OutOfMemory` if an allocation fails.
+///
+/// ```
+/// assert!(rt; member(alloc, &schema, "value.borsh", bytes.as_slice())?.is_yes);
+/// ```
+pub fn member<'a>(
+    alloc: Global,
+    schema: &Schema,
+    path: &'a str,
+    bytes: &[u8],
+) -> Result<Answer, Failure<'a>>
+    ensures ok { IfOk result (λ a. Decides a.is_yes (Member (definitions_in schema.now.definitions)
+        (string_bytes schema.now.root) bytes.now)) }
+    ensures err { IfErr result (IsNoAnswer (definitions_in schema.now.definitions)
+        (string_bytes schema.now.root) path.now) }
+{
+    let mut text = PlainText::new(alloc);
+    match is_member(alloc, schema.root.as_str(), &schema.definitions, bytes)? {
+        Membership::Member => {
+            text.push("member")?;
+            text.end_line()?;
+            Ok(Answer { is_yes: true, text })
+        }
+        Membership::NoMember(fault) => {
+            let why = format!(in alloc; "{fault}")?;
+            text.push("no member: ")?;
+            text.push(why.as_str())?;
+            text.end_line()?;
+            Ok(Answer {
+                is_yes: false,
+                text,
+            })
+        }
+        Membership::Ambiguous(name) => Err(no_value(alloc, path, JsonError::Ambiguous(name))),
+    }
+}
+
+/// What each byte of the value is, one line for each number, text, count and tag; in colours if `is_colored` is true.
+///
+/// Returns `NotValue` with the path and the reason if the bytes are no value of the root, and `OutOfMemory` if an
+/// allocation fails.
+///
+/// ```
+/// let text = shown(alloc, &schema, "value.borsh", bytes.as_slice(), false)?;
+/// ```
+pub fn shown<'a>(
+    alloc: Global,
+    schema: &Schema,
+    path: &'a str,
+    bytes: &[u8],
+    is_colored: bool,
+) -> Result<ColoredText, Failure<'a>>
+    ensures member { OnOk result (Member (definitions_in schema.now.definitions)
+        (string_bytes schema.now.root) bytes.now) }
+    ensures colors { IfOk result (λ t. IsPainted is_colored (printed_colors t)) }
+    ensures err { IfErr result (IsNotShown (definitions_in schema.now.definitions)
+        (string_bytes schema.now.root) path.now bytes.now) }
+{
+    match rows_of(alloc, schema.root.as_str(), &schema.definitions, bytes) {
+        Ok(rows) => Ok(text_of_rows(alloc, rows.as_slice(), is_colored)?),
+        Err(error) => Err(no_value(alloc, path, error)),
+    }
+}
+
+fn text_of_rows(
+    alloc: Global,
+    rows: &[Row<'_>],
+    is_colored: bool,
+) -> Result<ColoredText, AllocError>
+    ensures { IfOk result (λ t. has_colors t ≡ is_colored) }
+{
+    let mut out = ColoredText::new(alloc, is_colored);
+    for row in rows {
+        push_row(alloc, row, &mut out)?;
+    }
+    Ok(out)
+}
+
+/// The offset, the first bytes, the path, the type and the value, as a line.
+fn push_row(alloc: Global, row: &Row<'_>, out: &mut ColoredText) -> Result<(), AllocError>
+    ensures { has_colors out.new ≡ has_colors out.old }
+{
+    let offset = row.offset;
+    let offset = format!(in alloc; "{offset:>8}  ")?;
+    out.push(&plain(alloc, offset.as_str())?)?;
+    let bytes = first_bytes(alloc, row.bytes)?;
+    out.push_in(Color::Yellow, &plain(alloc, bytes.as_str())?)?;
+    let path = &row.path;
+    let path = format!(in alloc; "  {path}  ")?;
+    out.push(&plain(alloc, path.as_str())?)?;
+    let mut name = PlainText::new(alloc);
+    name.push_name(row.name)?;
+    out.push_in(Color::Cyan, &name)?;
+    if !row.value.is_empty() {
+        out.push(&plain(alloc, "  ")?)?;
+        out.push_in(Color::Green, &plain(alloc, row.value.as_str())?)?;
+    }
+    let mut end = PlainText::new(alloc);
+    end.end_line()?;
+    out.push(&end)
+}
+
+/// The first 16 bytes as digits, and two dots where there are more.
+fn first_bytes(alloc: Global, bytes: &[u8]) -> Result<String, AllocError> {
+    let mut digits = hex::encode(alloc, &bytes[..bytes.len().min(16)])?;
+    if bytes.len() > 16 {
+        digits.push_str("..")?;
+    }
+    Ok(digits)
+}
+
+fn plain(alloc: Global, text: &str) -> Result<PlainText, AllocError> {
+    let mut out = PlainText::new(alloc);
+    out.push(text)?;
+    Ok(out)
+}
+
+/// Bytes as hexadecimal digits, and a line feed.
+pub fn hex_line(alloc: Global, bytes: &[u8]) -> Result<PlainText, AllocError> {
+    let digits = hex::encode(alloc, bytes)?;
+    let mut out = PlainText::new(alloc);
+    out.push(digits.as_str())?;
+    out.end_line()?;
+    Ok(out)
+}
+
+fn no_value<'a>(alloc: Global, path: &'a str, error: JsonError<'_>) -> Failure<'a>
+    ensures { IsFailure path.now ⊥ (error.entry ≡ NoMemory → ⊥) ⊥ result }
+{
+    if matches!(error, JsonError::OutOfMemory) {
+        return Failure::OutOfMemory;
+    }
+    match format!(in alloc; "{error}") {
+        Ok(text) => Failure::NotValue(path, text),
+        Err(_) => Failure::OutOfMemory,
+    }
+}

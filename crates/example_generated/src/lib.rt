@@ -1,0 +1,39 @@
+//! Types as a program has them: one for each thing that `borsh_derive.py` can do. One comment above each, and the program
+//! writes how they are encoded and decoded.
+#![tactic(auto)]
+
+pub mod enums;
+mod enums_job;
+mod enums_level;
+mod enums_markers;
+mod enums_message;
+mod enums_version;
+mod enums_xy;
+pub mod generics;
+mod generics_b;
+mod generics_generic;
+mod generics_grid;
+mod generics_hashed;
+mod generics_held;
+mod generics_parametrized;
+pub mod keys;
+mod keys_lodger;
+mod keys_place;
+mod keys_visits;
+pub mod library;
+mod library_lists;
+mod library_numbers;
+mod library_others;
+mod library_ranges;
+pub mod readme;
+mod readme_pair;
+mod readme_request;
+mod readme_stock;
+pub mod records;
+mod records_block;
+mod records_code;
+mod records_marker;
+mod records_name;
+mod records_panel;
+mod records_point;
+mod records_session;

@@ -1,0 +1,302 @@
+// Values that a program makes: which of them the bytes mean, and values that no bytes make.
+use super::support::{check, check_value, check_written, is_written, owned_text};
+use super::tagged::Tagged;
+use borsh::from_slice;
+use borsh::schema::{Definition, Fields, LengthRange};
+use borsh_samples::{A, MyEnum, MyStruct, ShortA};
+use std::alloc::Global;
+use std::borrow::{CowSlice, CowStr};
+use std::collections::{BTreeMap, VecDeque};
+use std::net::{IpAddr, Ipv4Addr, Ipv6Addr, SocketAddrV4, SocketAddrV6};
+use std::num::{NonZeroI16, NonZeroI64, NonZeroU8, NonZeroU32, NonZeroUsize};
+use std::ops::{Range, RangeInclusive};
+use std::rc::{Rc, RcSlice};
+use std::test::Fail;
+use uuid::Uuid;
+
+#[test]
+fn numbers_of_the_machine_s_width_have_eight_bytes(rt: HostRuntime) -> Result<(), Fail> {
+    let alloc = rt.alloc();
+    for &(n, bytes) in &[
+        (-100isize, b"\x9c\xff\xff\xff\xff\xff\xff\xff"),
+        (100, b"\x64\0\0\0\0\0\0\0"),
+        (isize::MIN, b"\0\0\0\0\0\0\0\x80"),
+        (isize::MAX, b"\xff\xff\xff\xff\xff\xff\xff\x7f"),
+    ] {
+        check_value(alloc, "isize", n, bytes)?;
+    }
+    for &(n, bytes) in &[
+        (100usize, b"\x64\0\0\0\0\0\0\0"),
+        (usize::MIN, b"\0\0\0\0\0\0\0\0"),
+        (usize::MAX, b"\xff\xff\xff\xff\xff\xff\xff\xff"),
+    ] {
+        check_value(alloc, "usize", n, bytes)?;
+    }
+    Ok(())
+}
+
+fn are_non_zero(alloc: Global) -> Result<bool, Fail> {
+    Ok(
+        from_slice::<NonZeroU8>(alloc, b"\x01")?.get() == 1
+            && from_slice::<NonZeroU32>(alloc, b"\xff\0\0\0")?.get() == 255
+            && from_slice::<NonZeroUsize>(alloc, b"\x01\x01\0\0\0\0\0\0")?.get() == 257
+            && from_slice::<NonZeroI64>(alloc, &[255u8; 8])?.get() == -1
+            && from_slice::<NonZeroI16>(alloc, b"\0\x80")?.get() == i16::MIN,
+    )
+}
+
+#[test]
+fn non_zero_numbers_are_their_number(rt: HostRuntime) -> Result<(), Fail> {
+    check(are_non_zero(rt.alloc())?, "numbers", 0)
+}
+
+fn are_structs(alloc: Global) -> Result<bool, Fail> {
+    let bytes = b"\xe5\x0c\0\0\0\0\0\0\x0c\0\0\0liber primus";
+    let read: A = from_slice(alloc, bytes)?;
+    let y = owned_text(alloc, "liber primus")?;
+    let is_a = read.x == 3301 && read.y.as_str() == "liber primus";
+    let bytes_of_lists = b"\x0a\0\0\0\0\0\0\0\x03\0\0\0\x01\x02\x03";
+    let read: MyStruct = from_slice(alloc, bytes_of_lists)?;
+    let b = Vec::from_slice(alloc, &[1u8, 2, 3])?;
+    let is_my_struct = read.a == 10 && read.b == b;
+    Ok(
+        is_a && is_my_struct
+            && is_written(alloc, &A { x: 3301, y }, bytes)?
+            && is_written(alloc, &MyStruct { a: 10, b }, bytes_of_lists)?,
+    )
+}
+
+fn is_enum(alloc: Global) -> Result<bool, Fail> {
+    let bytes = b"\x02\x02\0\0\0\x08\x09";
+    let is_read = match from_slice(alloc, bytes)? {
+        MyEnum::Many(part) => part.as_slice() == [8u8, 9].as_slice(),
+        _ => false,
+    };
+    let many = MyEnum::Many(Vec::from_slice(alloc, &[8u8, 9])?);
+    let is_one = match from_slice(alloc, b"\x01\x07")? {
+        MyEnum::One(n) => n == 7,
+        _ => false,
+    };
+    Ok(is_read && is_one && is_written(alloc, &many, bytes)?)
+}
+
+fn are_ranges(alloc: Global) -> Result<bool, Fail> {
+    let Range { start, end } = from_slice::<Range<u8>>(alloc, b"\x03\x04")?;
+    let closed: RangeInclusive<u8> = from_slice(alloc, b"\x03\x04")?;
+    Ok(
+        start == 3
+            && end == 4
+            && *closed.start() == 3
+            && *closed.end() == 4
+            && is_written(alloc, &(3u8..4), b"\x03\x04")?
+            && is_written(alloc, &(3u8..=4), b"\x03\x04")?,
+    )
+}
+
+/// A map of one entry, whose key and value differ.
+fn map(alloc: Global) -> Result<BTreeMap<u8, u8>, Fail> {
+    let mut map = BTreeMap::new(alloc);
+    map.insert(1, 10)?;
+    Ok(map)
+}
+
+fn struct_of_two(alloc: Global) -> Result<Definition, Fail> {
+    let mut fields = Vec::new(alloc);
+    fields.push((owned_text(alloc, "a")?, owned_text(alloc, "u8")?))?;
+    fields.push((owned_text(alloc, "b")?, owned_text(alloc, "u16")?))?;
+    Ok(Definition::Struct {
+        fields: Fields::NamedFields(fields),
+    })
+}
+
+// Fields of one type that hold different values: were two of them exchanged both ways, no row would show it.
+#[test]
+fn each_field_is_where_its_bytes_are(rt: HostRuntime) -> Result<(), Fail> {
+    let alloc = rt.alloc();
+    check(are_structs(alloc)?, "structs", 0)?;
+    check(is_enum(alloc)?, "enum", 0)?;
+    check(are_ranges(alloc)?, "ranges", 0)?;
+    check_value(alloc, "map", map(alloc)?, b"\x01\0\0\0\x01\x0a")?;
+    check_value(alloc, "tuple", (1u8, 2u8, 3u8, 4u8), b"\x01\x02\x03\x04")?;
+    check_value(alloc, "Ok", Ok::<u8, u8>(7), b"\x01\x07")?;
+    check_value(alloc, "Err", Err::<u8, u8>(7), b"\0\x07")?;
+    let bytes = b"\x01\0\0\0\0\0\0\0\x02\0\0\0\0\0\0\0";
+    check_value(
+        alloc,
+        "range of lengths",
+        LengthRange { start: 1, end: 2 },
+        bytes,
+    )?;
+    let bytes = b"\x04\0\x02\0\0\0\x01\0\0\0a\x02\0\0\0u8\x01\0\0\0b\x03\0\0\0u16";
+    check_value(alloc, "definition", struct_of_two(alloc)?, bytes)
+}
+
+#[test]
+fn arrays_are_their_elements(rt: HostRuntime) -> Result<(), Fail> {
+    let alloc = rt.alloc();
+    let bytes = b"\x01\0\0\x000\x01\0\0\x001\x01\0\0\x002";
+    let [zero, one, two]: [String; 3] = from_slice(alloc, bytes)?;
+    let are_texts = zero.as_str() == "0" && one.as_str() == "1" && two.as_str() == "2";
+    let is_array = are_texts && is_written(alloc, &[zero, one, two], bytes)?;
+    let [first, second]: [ShortA; 2] = from_slice(alloc, b"\x07\x08")?;
+    let are_structs = first.0 == 7 && second.0 == 8;
+    check(is_array && are_structs, "arrays", 0)?;
+    check_written(alloc, "array", &[ShortA(7), ShortA(8)], b"\x07\x08")
+}
+
+fn example() -> Ipv6Addr {
+    Ipv6Addr::new(0x2001, 0xdb8, 0, 0, 0, 0, 0, 1)
+}
+
+fn addresses(alloc: Global) -> Result<Vec<IpAddr>, Fail> {
+    let mut addresses = Vec::new(alloc);
+    addresses.push(IpAddr::V4(Ipv4Addr::new(192, 168, 0, 1)))?;
+    addresses.push(IpAddr::V6(example()))?;
+    Ok(addresses)
+}
+
+#[test]
+fn addresses_and_identifiers_are_written_in_order(rt: HostRuntime) -> Result<(), Fail> {
+    let alloc = rt.alloc();
+    let home = Ipv4Addr::new(192, 168, 0, 1);
+    check_value(alloc, "version 4", home, b"\xc0\xa8\0\x01")?;
+    check_value(
+        alloc,
+        "port",
+        SocketAddrV4::new(home, 80),
+        b"\xc0\xa8\0\x01\x50\0",
+    )?;
+    let bytes = b"\x02\0\0\0\0\xc0\xa8\0\x01\x01\x20\x01\x0d\xb8\0\0\0\0\0\0\0\0\0\0\0\x01";
+    check_value(alloc, "addresses", addresses(alloc)?, bytes)?;
+    check_value(alloc, "version 6", example(), &bytes[10..])?;
+    let bytes = b"\xa1\xa2\xa3\xa4\xb1\xb2\xc1\xc2\xd1\xd2\xd3\xd4\xd5\xd6\xd7\xd8";
+    check_value(alloc, "identifier", Uuid::from_bytes(*bytes), bytes)?;
+    // A flow label and a scope aren't written, and are 0 when they are read.
+    let bytes = b"\x20\x01\x0d\xb8\0\0\0\0\0\0\0\0\0\0\0\x01\x50\0";
+    check_value(
+        alloc,
+        "address and port",
+        SocketAddrV6::new(example(), 80, 0, 0),
+        bytes,
+    )?;
+    check_written(
+        alloc,
+        "flow and scope",
+        &SocketAddrV6::new(example(), 80, 7, 9),
+        bytes,
+    )
+}
+
+/// The parts of texts, and how often they are repeated.
+const TEXTS: [(&str, usize); 9] = [
+    ("", 1),
+    ("a", 1),
+    ("hello world", 1),
+    ("x", 1024),
+    ("x", 4096),
+    ("x", 65535),
+    ("hello world!", 30),
+    ("hello world!", 1000),
+    ("\u{1F4A9}", 1),
+];
+
+/// Whether a borrowed text, and a borrowed list of its bytes, are written like the text.
+fn are_borrowed_written(alloc: Global, borrowed: &str) -> Result<bool, Fail> {
+    let mut bytes = Vec::from_slice(alloc, &u32::try_from(borrowed.len())?.to_le_bytes())?;
+    bytes.extend_from_slice(borrowed.as_bytes())?;
+    let bytes = bytes.as_slice();
+    Ok(is_written(alloc, &borrowed, bytes)? && is_written(alloc, &borrowed.as_bytes(), bytes)?)
+}
+
+#[test]
+fn borrowed_values_are_written(rt: HostRuntime) -> Result<(), Fail> {
+    let alloc = rt.alloc();
+    check_written(alloc, "number", &&7u16, b"\x07\0")?;
+    // A plain slice of elements without bytes isn't refused.
+    check_written(alloc, "units", &[(), (), ()].as_slice(), b"\x03\0\0\0")?;
+    for &(part, times) in &TEXTS {
+        let mut repeated = String::new(alloc);
+        for _ in 0..times {
+            repeated.push_str(part)?;
+        }
+        check(are_borrowed_written(alloc, repeated.as_str())?, part, times)?;
+    }
+    let tagged = Tagged {
+        tag: owned_text(alloc, "hello")?,
+        value: 42,
+    };
+    check_written(
+        alloc,
+        "struct",
+        &tagged,
+        b"\x05\0\0\0hello\x2a\0\0\0\0\0\0\0",
+    )
+}
+
+fn are_shared(alloc: Global) -> Result<bool, Fail> {
+    let bytes = b"\x07\0\0\0\x01\0\0\0\x02\0\0\0\x03\0\0\0\x04\0\0\0\x06\0\0\0\x09\0\0\0\x0a\0\0\0";
+    let numbers = [1i32, 2, 3, 4, 6, 9, 10];
+    let read: RcSlice<i32> = from_slice(alloc, bytes)?;
+    let one: Rc<u8> = from_slice(alloc, b"\x08")?;
+    Ok(
+        read.as_slice() == numbers.as_slice()
+            && *one == 8
+            && is_written(alloc, &numbers.as_slice(), bytes)?
+            && is_written(alloc, &Rc::new(alloc, 8u8)?, b"\x08")?,
+    )
+}
+
+#[test]
+fn shared_values_are_what_they_hold(rt: HostRuntime) -> Result<(), Fail> {
+    check(are_shared(rt.alloc())?, "numbers", 0)
+}
+
+fn is_owned_text(alloc: Global, bytes: &[u8], text: &str) -> Result<bool, Fail> {
+    match from_slice(alloc, bytes)? {
+        CowStr::Owned(read) => Ok(read.as_str() == text),
+        CowStr::Borrowed(_) => Ok(false),
+    }
+}
+
+fn is_owned_slice(alloc: Global, bytes: &[u8], slice: &[u8]) -> Result<bool, Fail> {
+    match from_slice(alloc, bytes)? {
+        CowSlice::Owned(read) => Ok(read.as_slice() == slice),
+        CowSlice::Borrowed(_) => Ok(false),
+    }
+}
+
+#[test]
+fn a_cow_is_read_as_owned(rt: HostRuntime) -> Result<(), Fail> {
+    let alloc = rt.alloc();
+    let text = "static input";
+    let bytes = b"\x0c\0\0\0static input";
+    check_written(alloc, "text", &CowStr::Borrowed(text), bytes)?;
+    check(is_owned_text(alloc, bytes, text)?, "owned text", 0)?;
+    let slice = [1u8, 2, 3].as_slice();
+    let bytes = b"\x03\0\0\0\x01\x02\x03";
+    check_written(alloc, "slice", &CowSlice::Borrowed(slice), bytes)?;
+    check(is_owned_slice(alloc, bytes, slice)?, "owned slice", 0)
+}
+
+/// A queue whose last two numbers lie before its first two in memory.
+pub(crate) fn wrapped(alloc: Global) -> Result<VecDeque<u8>, Fail> {
+    let mut ring = VecDeque::with_capacity(alloc, 4)?;
+    for n in 1u8..7 {
+        if n > 4 {
+            ring.pop_front();
+        }
+        ring.push_back(n)?;
+    }
+    Ok(ring)
+}
+
+#[test]
+fn a_queue_that_wraps_is_written_as_its_list(rt: HostRuntime) -> Result<(), Fail> {
+    let alloc = rt.alloc();
+    check_written(
+        alloc,
+        "queue",
+        &wrapped(alloc)?,
+        b"\x04\0\0\0\x03\x04\x05\x06",
+    )
+}

@@ -1,0 +1,32 @@
+// Which bytes are members of a name: names that lead back to themselves, and enums without variants.
+ghost use Rattle.std.specs.Prelude.{◌≡◌, List, ℕ, [], ◌∷◌, Option, Some, None};
+ghost use Rattle.borsh.specs.Schema.Container.{Shape, sequence, product, choice};
+ghost use Rattle.test_calls.specs.Members.{HasOneMember, HasNoMember};
+
+/// A list of itself that is always empty has one member: the count, in four bytes.
+fn a_list_of_itself_without_elements()
+    ensures { (C : List ℕ → Option Shape) (x : List ℕ) → C x ≡ Some (sequence 4 0 0 x) → HasOneMember C x (0 ∷ 0 ∷ 0 ∷ 0 ∷ []) }
+{}
+
+/// A tuple of itself has no member.
+fn a_tuple_of_itself()
+    ensures { (C : List ℕ → Option Shape) (x : List ℕ) → C x ≡ Some (product (x ∷ [])) → HasNoMember C x }
+{}
+
+/// An enum without variants has no member.
+fn an_enum_without_variants()
+    ensures { (C : List ℕ → Option Shape) (x : List ℕ) (width : ℕ) → C x ≡ Some (choice width []) → HasNoMember C x }
+{}
+
+/// A name without a definition has no member.
+fn a_name_without_a_definition()
+    ensures { (C : List ℕ → Option Shape) (x : List ℕ) → C x ≡ None → HasNoMember C x }
+{}
+
+#[test]
+fn members_of_names_are_known() {
+    a_list_of_itself_without_elements();
+    a_tuple_of_itself();
+    an_enum_without_variants();
+    a_name_without_a_definition();
+}

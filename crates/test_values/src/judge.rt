@@ -1,0 +1,232 @@
+// What is checked of a value by its definitions.
+use super::definitions::{Definitions, text};
+use super::wrong::{Wrong, check, expect};
+use borsh_json::{JsonError, Layout, from_json, rows_of, to_json};
+use borsh_values::{
+    Decoded, Membership, Node, Paths, count_of, decode, elements_of, encode, encode_value,
+    is_member, variant_of,
+};
+use std::alloc::Global;
+
+/// How many beginnings of a value are tried.
+const BEGINNINGS: usize = 300;
+
+/// Definitions, and the name of the type whose values are judged.
+#[derive(Clone, Copy)]
+pub struct Root<'a> {
+    pub alloc: Global,
+    pub map: &'a Definitions,
+    pub name: &'a str,
+}
+
+impl<'a> Root<'a> {
+    /// That the bytes are a value with this JSON, or after `! ` why they are none.
+    pub fn judge(&self, bytes: &[u8], json: &str) -> Result<(), Wrong> {
+        if json.starts_with("! ") {
+            return self.judge_refused(bytes, json);
+        }
+        self.judge_member(bytes)?;
+        self.judge_lengths(bytes)?;
+        let written = self.json(bytes, Layout::Compact)?;
+        expect(self.alloc, "JSON", written.as_str(), json)?;
+        self.judge_read(json, bytes)?;
+        let lines = self.json(bytes, Layout::Pretty)?;
+        self.judge_read(lines.as_str(), bytes)?;
+        self.judge_rows(bytes)
+    }
+
+    /// That no call takes the bytes for a value, and each says this.
+    fn judge_refused(&self, bytes: &[u8], wanted: &str) -> Result<(), Wrong> {
+        let alloc = self.alloc;
+        expect(alloc, "is_member", self.member(bytes)?.as_str(), wanted)?;
+        expect(alloc, "decode", self.nodes(bytes)?.as_str(), wanted)?;
+        let written = self.json(bytes, Layout::Compact)?;
+        expect(alloc, "to_json", written.as_str(), wanted)?;
+        match rows_of(alloc, self.name, self.map, bytes) {
+            Ok(_) => check(alloc, false, "rows_of", "rows"),
+            Err(error) => expect(alloc, "rows_of", told(alloc, &error)?.as_str(), wanted),
+        }
+    }
+
+    /// That the bytes are a value, which has no JSON for this reason.
+    pub fn judge_without_json(&self, bytes: &[u8], wanted: &str) -> Result<(), Wrong> {
+        self.judge_member(bytes)?;
+        let written = self.json(bytes, Layout::Compact)?;
+        expect(self.alloc, "JSON", written.as_str(), wanted)
+    }
+
+    /// That a JSON text is read as these digits, or refused with the text after `! `.
+    pub fn judge_text(&self, json: &str, wanted: &str) -> Result<(), Wrong> {
+        let read = match from_json(self.alloc, self.name, self.map, json) {
+            Ok(bytes) => hex::encode(self.alloc, bytes.as_slice())?,
+            Err(error) => told(self.alloc, &error)?,
+        };
+        expect(self.alloc, "from_json", read.as_str(), wanted)
+    }
+
+    /// That the bytes are a value, with nodes that have these bytes, and none by another name or without the last node.
+    pub fn judge_member(&self, bytes: &[u8]) -> Result<(), Wrong> {
+        let alloc = self.alloc;
+        expect(alloc, "is_member", self.member(bytes)?.as_str(), "member")?;
+        let Decoded::Nodes(nodes) = decode(alloc, self.name, self.map, bytes)? else {
+            return check(alloc, false, "decode", "no nodes");
+        };
+        let joined = encode(alloc, nodes.as_slice())?;
+        check(alloc, joined.as_slice() == bytes, "encode", "other bytes")?;
+        let again = self.encoded(self.name, nodes.as_slice())?;
+        let is_same = again.is_some_and(|again| again.as_slice() == bytes);
+        check(alloc, is_same, "encode_value", "other bytes")?;
+        let Some((_, fewer)) = nodes.split_last() else {
+            return Ok(());
+        };
+        let none = self.encoded(self.name, fewer)?.is_none();
+        check(alloc, none, "encode_value", "bytes without the last node")?;
+        for name in self.map.keys().take(2) {
+            if name.as_str() != self.name {
+                let none = self.encoded(name.as_str(), nodes.as_slice())?.is_none();
+                check(alloc, none, "encode_value", name.as_str())?;
+            }
+        }
+        Ok(())
+    }
+
+    fn encoded(&self, name: &str, nodes: &[Node<'_>]) -> Result<Option<Vec<u8>>, Wrong> {
+        Ok(encode_value(self.alloc, name, self.map, nodes)?)
+    }
+
+    /// That neither a beginning of the bytes is a value nor they with one byte more.
+    fn judge_lengths(&self, bytes: &[u8]) -> Result<(), Wrong> {
+        for end in 0..bytes.len().min(BEGINNINGS) {
+            let is_value = self.has(&bytes[..end])?;
+            check(self.alloc, !is_value, "is_member", "a beginning is a value")?;
+        }
+        let mut longer = Vec::from_slice(self.alloc, bytes)?;
+        longer.push(0)?;
+        let is_value = self.has(longer.as_slice())?;
+        check(
+            self.alloc,
+            !is_value,
+            "is_member",
+            "a longer one is a value",
+        )
+    }
+
+    /// Whether the bytes are a value.
+    pub fn has(&self, bytes: &[u8]) -> Result<bool, Wrong> {
+        let answer = is_member(self.alloc, self.name, self.map, bytes)?;
+        Ok(matches!(answer, Membership::Member))
+    }
+
+    /// That the JSON is read as these bytes.
+    pub fn judge_read(&self, json: &str, bytes: &[u8]) -> Result<(), Wrong> {
+        match from_json(self.alloc, self.name, self.map, json) {
+            Ok(read) => check(
+                self.alloc,
+                read.as_slice() == bytes,
+                "from_json",
+                "other bytes",
+            ),
+            Err(error) => check(
+                self.alloc,
+                false,
+                "from_json",
+                told(self.alloc, &error)?.as_str(),
+            ),
+        }
+    }
+
+    /// That each of the bytes is in one row of what `rows_of` says.
+    pub fn judge_rows(&self, bytes: &[u8]) -> Result<(), Wrong> {
+        let alloc = self.alloc;
+        let mut joined = Vec::new(alloc);
+        match rows_of(alloc, self.name, self.map, bytes) {
+            Ok(rows) => {
+                for row in rows.as_slice() {
+                    joined.extend_from_slice(row.bytes)?;
+                }
+                check(alloc, joined.as_slice() == bytes, "rows_of", "other bytes")
+            }
+            Err(error) => check(alloc, false, "rows_of", told(alloc, &error)?.as_str()),
+        }
+    }
+
+    /// The JSON of the bytes, or why there is none.
+    pub fn json(&self, bytes: &[u8], layout: Layout) -> Result<String, Wrong> {
+        match to_json(self.alloc, self.name, self.map, bytes, layout) {
+            Ok(json) => Ok(json),
+            Err(error) => told(self.alloc, &error),
+        }
+    }
+
+    /// `member`, or why the bytes are none.
+    fn member(&self, bytes: &[u8]) -> Result<String, Wrong> {
+        match is_member(self.alloc, self.name, self.map, bytes)? {
+            Membership::Member => text(self.alloc, "member"),
+            Membership::NoMember(fault) => told(self.alloc, &JsonError::NoMember(fault)),
+            Membership::Ambiguous(name) => told(self.alloc, &JsonError::Ambiguous(name)),
+        }
+    }
+
+    /// Why the bytes have no nodes.
+    fn nodes(&self, bytes: &[u8]) -> Result<String, Wrong> {
+        match decode(self.alloc, self.name, self.map, bytes)? {
+            Decoded::Nodes(_) => text(self.alloc, "nodes"),
+            Decoded::NoMember(fault) => told(self.alloc, &JsonError::NoMember(fault)),
+            Decoded::Ambiguous(name) => told(self.alloc, &JsonError::Ambiguous(name)),
+        }
+    }
+
+    /// That the bytes have these nodes. One is its depth, its offset, its path, and after a colon its type and its own bytes;
+    /// then the number of elements and those of its bytes that are elements, or the variant.
+    pub fn judge_nodes(&self, bytes: &[u8], wanted: &[&str]) -> Result<(), Wrong> {
+        let alloc = self.alloc;
+        self.judge_member(bytes)?;
+        let Decoded::Nodes(nodes) = decode(alloc, self.name, self.map, bytes)? else {
+            return check(alloc, false, "decode", "no nodes");
+        };
+        check(
+            alloc,
+            nodes.len() == wanted.len(),
+            "nodes",
+            "another number",
+        )?;
+        let mut paths = Paths::new(alloc, self.name);
+        for (node, wanted) in nodes.iter().zip(wanted) {
+            paths.enter(node)?;
+            let path = paths.path(alloc)?;
+            let (depth, offset, name) = (node.depth, node.offset, node.name);
+            let own = digits_of(alloc, node.bytes)?;
+            let detail = detail(alloc, node)?;
+            let line = format!(in alloc; "{depth} {offset} {path}: {name} {own}{detail}")?;
+            expect(alloc, "a node", line.as_str(), wanted)?;
+        }
+        Ok(())
+    }
+}
+
+/// How many elements a node has, and which of its bytes these are; or its variant. It is known by its index.
+fn detail(alloc: Global, node: &Node<'_>) -> Result<String, Wrong> {
+    let elements = elements_of(node);
+    if let Some(count) = count_of(node) {
+        let elements = digits_of(alloc, elements)?;
+        return Ok(format!(in alloc; " #{count} {elements}")?);
+    }
+    check(alloc, elements == node.bytes, "elements_of", "other bytes")?;
+    match variant_of(node) {
+        Some(variant) => Ok(format!(in alloc; " ={variant}")?),
+        None => Ok(String::new(alloc)),
+    }
+}
+
+/// Bytes as digits, `-` for none.
+pub fn digits_of(alloc: Global, bytes: &[u8]) -> Result<String, Wrong> {
+    if bytes.is_empty() {
+        return text(alloc, "-");
+    }
+    Ok(hex::encode(alloc, bytes)?)
+}
+
+/// An error as rows tell it.
+fn told(alloc: Global, error: &JsonError<'_>) -> Result<String, Wrong> {
+    Ok(format!(in alloc; "! {error}")?)
+}

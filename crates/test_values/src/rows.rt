@@ -1,0 +1,63 @@
+// The kinds of rows.
+use super::definitions::{Definitions, column, define};
+use super::judge::Root;
+use super::pieces::{bytes_of, text_of};
+use super::types::{judge_random, judge_type};
+use super::wrong::{Wrong, expect};
+use borsh_values::find_ambiguous;
+use std::alloc::Global;
+
+/// Adds the definition of a row, or checks what it says. The columns are, beside those of [`define`]:
+///
+/// - `value` ROOT HEX JSON..: a value and its JSON, both ways; or after `! ` why the bytes are none, by each call
+/// - `nojson` ROOT HEX REFUSAL..: a value without JSON
+/// - `member` ROOT HEX: a value, whose JSON isn't looked at
+/// - `text` ROOT HEX JSON..: another JSON text of a value; or after `! ` why the text is none
+/// - `nodes` ROOT HEX NODE..: the nodes of a value
+/// - `ambiguous` ROOT NAME: which definition is ambiguous, `-` for none
+/// - `random` COUNT ROOT..: random values come back from their JSON
+/// - `type` WORD: the definitions of the type of a word of `borsh_check`, in place of those before, and random values
+pub fn judge_row(alloc: Global, map: &mut Definitions, row: &str) -> Result<(), Wrong> {
+    let columns: Vec<&str> = row.split('\t').collect(alloc)?;
+    let kind = column(columns.as_slice(), 0)?;
+    let name = column(columns.as_slice(), 1)?;
+    let columns = columns.as_slice().get(2..).unwrap_or(&[]);
+    if define(alloc, map, kind, name, columns)? {
+        return Ok(());
+    }
+    match kind {
+        "type" => *map = judge_type(alloc, name)?,
+        "random" => {
+            let count = name.parse::<u64>()?;
+            for &name in columns {
+                judge_random(&Root { alloc, map, name }, count)?;
+            }
+        }
+        _ => judge_root(&Root { alloc, map, name }, kind, columns)?,
+    }
+    Ok(())
+}
+
+fn judge_root(root: &Root<'_>, kind: &str, columns: &[&str]) -> Result<(), Wrong> {
+    let alloc = root.alloc;
+    let first = column(columns, 0)?;
+    let others = columns.get(1..).unwrap_or(&[]);
+    match kind {
+        "value" => root.judge(
+            bytes_of(alloc, first)?.as_slice(),
+            text_of(alloc, others)?.as_str(),
+        ),
+        "nojson" => root.judge_without_json(
+            bytes_of(alloc, first)?.as_slice(),
+            text_of(alloc, others)?.as_str(),
+        ),
+        "text" => root.judge_text(text_of(alloc, others)?.as_str(), first),
+        "member" => root.judge_member(bytes_of(alloc, first)?.as_slice()),
+        "nodes" => root.judge_nodes(bytes_of(alloc, first)?.as_slice(), others),
+        "ambiguous" => {
+            let found = find_ambiguous(alloc, root.name, root.map)?.unwrap_or("-");
+            expect(alloc, "find_ambiguous", found, first)
+        }
+        _ => Err(Wrong::NoRow),
+    }
+}
