@@ -23,12 +23,12 @@ WORDS = {
     "docs/DECISIONS.md": 3000,
     "docs/DIFFERENCES.md": 1500,
     "docs/MAINTAINING.md": 1200,
-    "docs/TESTS.md": 3100,
+    "docs/TESTS.md": 3200,
     "bench/README.md": 1200,
     "replay/README.md": 800,
     "suite/README.md": 700,
 }
-ALL_WORDS = 23500
+ALL_WORDS = 24000
 README_LINES = 150
 TABLE_COLUMNS = 200
 

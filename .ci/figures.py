@@ -13,8 +13,8 @@ TOP = pathlib.Path(__file__).resolve().parent.parent
 # What may not be passed.
 BARS = {
     "crates": 26,
-    "lines of .rt": 32500,
-    "of these, tests and examples": 10800,
+    "lines of .rt": 33800,
+    "of these, tests and examples": 10900,
     "must-fail edits": 75,
     "crates with must-fail edits": 7,
 }

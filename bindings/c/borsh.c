@@ -14,7 +14,7 @@ uint32_t borsh_c_size(const uint8_t *schema, size_t schema_length, size_t *size,
 uint32_t borsh_c_member(const uint8_t *schema, size_t schema_length, const uint8_t *value, size_t value_length,
                         uint8_t *room, size_t room_length, size_t *needed);
 uint32_t borsh_c_to_json(const uint8_t *schema, size_t schema_length, const uint8_t *value, size_t value_length,
-                         bool is_compact, uint8_t *room, size_t room_length, size_t *needed);
+                         bool is_compact, bool has_quoted_numbers, uint8_t *room, size_t room_length, size_t *needed);
 uint32_t borsh_c_from_json(const uint8_t *schema, size_t schema_length, const uint8_t *json, size_t json_length,
                            uint8_t *room, size_t room_length, size_t *needed);
 
@@ -27,6 +27,7 @@ struct question {
     const uint8_t *value;
     size_t value_length;
     bool is_compact;
+    bool has_quoted_numbers;
     size_t *size;
 };
 
@@ -63,7 +64,7 @@ static uint32_t call(const struct question *q, uint8_t *room, size_t room_length
     case MEMBER:
         return borsh_c_member(schema, q->schema_length, value, q->value_length, room, room_length, needed);
     case TO_JSON:
-        return borsh_c_to_json(schema, q->schema_length, value, q->value_length, q->is_compact, room, room_length,
+        return borsh_c_to_json(schema, q->schema_length, value, q->value_length, q->is_compact, q->has_quoted_numbers, room, room_length,
                                needed);
     default:
         return borsh_c_from_json(schema, q->schema_length, value, q->value_length, room, room_length, needed);
@@ -102,12 +103,12 @@ static uint32_t ask(const struct question *q, struct borsh_buffer *out) {
 
 uint32_t borsh_valid(const uint8_t *schema, size_t schema_length, struct borsh_buffer *text) {
     size_t unused = 0;
-    return ask(&(struct question){VALID, schema, schema_length, NULL, 0, false, &unused}, text);
+    return ask(&(struct question){VALID, schema, schema_length, NULL, 0, false, false, &unused}, text);
 }
 
 uint32_t borsh_size(const uint8_t *schema, size_t schema_length, size_t *size, struct borsh_buffer *text) {
     size_t most = 0;
-    uint32_t code = ask(&(struct question){SIZE, schema, schema_length, NULL, 0, false, size == NULL ? NULL : &most}, text);
+    uint32_t code = ask(&(struct question){SIZE, schema, schema_length, NULL, 0, false, false, size == NULL ? NULL : &most}, text);
     if (code == BORSH_YES)
         *size = most;
     return code;
@@ -116,17 +117,19 @@ uint32_t borsh_size(const uint8_t *schema, size_t schema_length, size_t *size, s
 uint32_t borsh_member(const uint8_t *schema, size_t schema_length, const uint8_t *value, size_t value_length,
                       struct borsh_buffer *text) {
     size_t unused = 0;
-    return ask(&(struct question){MEMBER, schema, schema_length, value, value_length, false, &unused}, text);
+    return ask(&(struct question){MEMBER, schema, schema_length, value, value_length, false, false, &unused}, text);
 }
 
 uint32_t borsh_to_json(const uint8_t *schema, size_t schema_length, const uint8_t *value, size_t value_length,
-                       bool is_compact, struct borsh_buffer *json) {
+                       bool is_compact, bool has_quoted_numbers, struct borsh_buffer *json) {
     size_t unused = 0;
-    return ask(&(struct question){TO_JSON, schema, schema_length, value, value_length, is_compact, &unused}, json);
+    return ask(&(struct question){TO_JSON, schema, schema_length, value, value_length, is_compact, has_quoted_numbers,
+                                  &unused},
+               json);
 }
 
 uint32_t borsh_from_json(const uint8_t *schema, size_t schema_length, const uint8_t *json, size_t json_length,
                          struct borsh_buffer *value) {
     size_t unused = 0;
-    return ask(&(struct question){FROM_JSON, schema, schema_length, json, json_length, false, &unused}, value);
+    return ask(&(struct question){FROM_JSON, schema, schema_length, json, json_length, false, false, &unused}, value);
 }

@@ -61,9 +61,10 @@ uint32_t borsh_size(const uint8_t *schema, size_t schema_length, size_t *size, s
 uint32_t borsh_member(const uint8_t *schema, size_t schema_length, const uint8_t *value, size_t value_length,
                       struct borsh_buffer *text);
 
-/* The value that all of the bytes are as JSON, in UTF-8: on one line if `is_compact`. */
+/* The value that all of the bytes are as JSON, in UTF-8: on one line if `is_compact`, and with numbers of 64 bits as strings if
+ * `has_quoted_numbers`. */
 uint32_t borsh_to_json(const uint8_t *schema, size_t schema_length, const uint8_t *value, size_t value_length,
-                       bool is_compact, struct borsh_buffer *json);
+                       bool is_compact, bool has_quoted_numbers, struct borsh_buffer *json);
 
 /* The bytes of the value that JSON says, which is UTF-8. */
 uint32_t borsh_from_json(const uint8_t *schema, size_t schema_length, const uint8_t *json, size_t json_length,

@@ -46,7 +46,7 @@ static void print_bytes(const char *call, uint32_t code, const struct borsh_buff
 /* The value as JSON, and the bytes of that JSON. */
 static void print_json(const struct file *schema, const struct file *value) {
     struct borsh_buffer json, again;
-    uint32_t code = borsh_to_json(schema->bytes, schema->length, value->bytes, value->length, true, &json);
+    uint32_t code = borsh_to_json(schema->bytes, schema->length, value->bytes, value->length, true, false, &json);
     print_text("to_json", code, &json);
     if (code == BORSH_YES) {
         code = borsh_from_json(schema->bytes, schema->length, json.data, json.length, &again);

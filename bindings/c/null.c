@@ -23,7 +23,7 @@ int main(void) {
     if (!is(borsh_valid(NULL, 0, &text), BORSH_MALFORMED, &text, ends)) return 1;
     if (!is(borsh_size(NULL, 0, &size, &text), BORSH_MALFORMED, &text, ends)) return 2;
     if (!is(borsh_member(byte, sizeof byte, NULL, 0, &text), BORSH_NO, &text, few)) return 3;
-    if (!is(borsh_to_json(byte, sizeof byte, NULL, 0, true, &text), BORSH_NO, &text, few + strlen("no member: "))) return 4;
+    if (!is(borsh_to_json(byte, sizeof byte, NULL, 0, true, false, &text), BORSH_NO, &text, few + strlen("no member: "))) return 4;
     if (borsh_from_json(byte, sizeof byte, NULL, 0, &text) != BORSH_NO) return 5;
     borsh_free(&text);
 
@@ -31,7 +31,7 @@ int main(void) {
     if (!is(borsh_valid(NULL, 1, &text), BORSH_NULL, &text, "null pointer")) return 6;
     if (!is(borsh_member(NULL, 1, NULL, 0, &text), BORSH_NULL, &text, "null pointer")) return 7;
     if (!is(borsh_member(byte, sizeof byte, NULL, 1, &text), BORSH_NULL, &text, "null pointer")) return 8;
-    if (!is(borsh_to_json(byte, sizeof byte, NULL, 1, true, &text), BORSH_NULL, &text, "null pointer")) return 9;
+    if (!is(borsh_to_json(byte, sizeof byte, NULL, 1, true, false, &text), BORSH_NULL, &text, "null pointer")) return 9;
     if (!is(borsh_from_json(byte, sizeof byte, NULL, 1, &text), BORSH_NULL, &text, "null pointer")) return 10;
     if (!is(borsh_size(byte, sizeof byte, NULL, &text), BORSH_NULL, &text, "null pointer")) return 11;
     if (borsh_valid(byte, sizeof byte, NULL) != BORSH_NULL) return 12;
@@ -48,7 +48,7 @@ int main(void) {
     static const uint8_t bools[] = {6,   0,   0, 0, 'V', 'e', 'c', '<', 'b', '>', 2, 0, 0, 0, 6, 0, 0, 0, 'V', 'e', 'c', '<', 'b', '>', 1,
                                     4,   0,   0, 0, 0,   0,   0,   0,   0,   255, 255, 255, 255, 0, 0, 0, 0, 4, 0, 0, 0, 'b', 'o', 'o', 'l',
                                     4,   0,   0, 0, 'b', 'o', 'o', 'l', 0,   1};
-    if (borsh_to_json(bools, sizeof bools, list, sizeof list, true, &text) != BORSH_YES) return 15;
+    if (borsh_to_json(bools, sizeof bools, list, sizeof list, true, false, &text) != BORSH_YES) return 15;
     if (text.length != 4096 * 6 + 1 || text.data[0] != '[' || text.data[text.length - 1] != ']') return 16;
     struct borsh_buffer again;
     if (borsh_from_json(bools, sizeof bools, text.data, text.length, &again) != BORSH_YES) return 17;

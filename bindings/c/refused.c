@@ -64,7 +64,7 @@ static uint32_t ask(int call, struct borsh_buffer *out) {
     case 3:
         return borsh_member(schema, LENGTH(schema), value, 3, out);
     case 4:
-        return borsh_to_json(schema, LENGTH(schema), value, LENGTH(value), false, out);
+        return borsh_to_json(schema, LENGTH(schema), value, LENGTH(value), false, false, out);
     case 5:
         return borsh_from_json(schema, LENGTH(schema), json, LENGTH(json), out);
     default:

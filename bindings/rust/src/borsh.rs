@@ -27,6 +27,7 @@ extern "C" {
         value: *const u8,
         value_length: usize,
         is_compact: bool,
+        has_quoted_numbers: bool,
         json: *mut Buffer,
     ) -> u32;
     fn borsh_from_json(
@@ -148,8 +149,14 @@ pub fn check_member(schema: &[u8], value: &[u8]) -> Result<(), Error> {
     outcome(code, &buffer).map(drop)
 }
 
-/// The value that all of the bytes are, as JSON.
-pub fn to_json(schema: &[u8], value: &[u8], is_compact: bool) -> Result<String, Error> {
+/// The value that all of the bytes are, as JSON: on one line if `is_compact`, and with numbers of 64 bits as strings if
+/// `has_quoted_numbers`.
+pub fn to_json(
+    schema: &[u8],
+    value: &[u8],
+    is_compact: bool,
+    has_quoted_numbers: bool,
+) -> Result<String, Error> {
     let mut buffer = Buffer::new();
     let code = unsafe {
         borsh_to_json(
@@ -158,6 +165,7 @@ pub fn to_json(schema: &[u8], value: &[u8], is_compact: bool) -> Result<String, 
             value.as_ptr(),
             value.len(),
             is_compact,
+            has_quoted_numbers,
             &mut buffer,
         )
     };

@@ -28,7 +28,7 @@ fn answer(schema: &[u8], value: &[u8]) -> bool {
         println!("{most} bytes at most");
     }
     let is_member = print("member", borsh::check_member(schema, value).map(|()| String::new()));
-    let json = borsh::to_json(schema, value, true);
+    let json = borsh::to_json(schema, value, true, false);
     let again = json.as_ref().ok().map(|json| borsh::from_json(schema, json));
     print("to_json", json);
     if let Some(again) = again {

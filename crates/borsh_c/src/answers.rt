@@ -13,7 +13,7 @@ ghost use Rattle.json.specs.Json.{document};
 use super::refusal::Refusal;
 use borsh_de::BorshDeserialize;
 use borsh_io::{Error, ErrorKind};
-use borsh_json::{JsonError, Layout, from_json, to_json};
+use borsh_json::{JsonError, Style, from_json, to_json};
 use borsh_values::{Membership, is_member};
 use borsh_walks::{
     Counted, Definition, Expansions, SchemaContainerValidateError, SchemaMaxSerializedSizeError,
@@ -186,18 +186,13 @@ fn unclear(alloc: Global, name: &str) -> Refusal
 }
 
 /// The JSON of the value that the bytes are.
-pub fn json_of(
-    alloc: Global,
-    schema: &[u8],
-    value: &[u8],
-    layout: Layout,
-) -> Result<String, Refusal>
+pub fn json_of(alloc: Global, schema: &[u8], value: &[u8], style: Style) -> Result<String, Refusal>
     ensures member { OnOk result (About schema.now (λ C root. Member C root value.now)) }
     ensures json { IfOk result (λ text. IsSome (document (string_bytes text))) }
     ensures err { IfErr result (λ e. IsRefused schema.now Anything IsUnclear e) }
 {
     let (root, definitions) = container_from(alloc, schema)?;
-    match to_json(alloc, root.as_str(), &definitions, value, layout) {
+    match to_json(alloc, root.as_str(), &definitions, value, style) {
         Ok(json) => Ok(json),
         Err(error) => Err(no_value(alloc, &error)),
     }

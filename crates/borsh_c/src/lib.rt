@@ -17,7 +17,7 @@ ghost use Rattle.std.specs.Prelude.{◌≡◌, ◌≢◌};
 ghost use Rattle.borsh_c.specs.Answers.{AnswersMember, AnswersSize, AnswersValid, GivesBytes, GivesJson};
 
 use answers::{greatest_size, json_of, membership, rules, value_of};
-use borsh_json::Layout;
+use borsh_json::{Layout, LongNumbers, Style};
 use codes::YES;
 use room::give;
 use std::alloc::Global;
@@ -96,10 +96,11 @@ pub extern "C" fn borsh_c_member(
     }
 }
 
-/// Gives the JSON of the value that all of `value` is; on one line if `is_compact`.
+/// Gives the JSON of the value that all of `value` is; on one line if `is_compact`, and with numbers of 64 bits as strings if
+/// `has_quoted_numbers`.
 ///
 /// ```c
-/// uint32_t code = borsh_c_to_json(schema, schema_length, value, value_length, true, room, room_length, &needed);
+/// uint32_t code = borsh_c_to_json(schema, schema_length, value, value_length, true, false, room, room_length, &needed);
 /// ```
 #[unsafe(no_mangle)]
 pub extern "C" fn borsh_c_to_json(
@@ -107,6 +108,7 @@ pub extern "C" fn borsh_c_to_json(
     schema: &[u8],
     value: &[u8],
     is_compact: bool,
+    has_quoted_numbers: bool,
     room: &mut [u8],
     needed: &mut usize,
 ) -> u32
@@ -117,7 +119,16 @@ pub extern "C" fn borsh_c_to_json(
     } else {
         Layout::Pretty
     };
-    match json_of(alloc, schema, value, layout) {
+    let long_numbers = if has_quoted_numbers {
+        LongNumbers::Quoted
+    } else {
+        LongNumbers::Plain
+    };
+    let style = Style {
+        layout,
+        long_numbers,
+    };
+    match json_of(alloc, schema, value, style) {
         Ok(json) => {
             give(json.as_bytes(), room, needed);
             YES

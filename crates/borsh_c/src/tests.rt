@@ -97,11 +97,13 @@ fn answers_whether_bytes_are_a_value(rt: HostRuntime) -> Result<(), Fail> {
 fn json_of_bytes(alloc: Global) -> bool {
     let mut room = [0u8; 64];
     let mut needed = 1;
-    borsh_c_to_json(alloc, SCHEMA, VALUE, true, &mut room, &mut needed) == YES
+    borsh_c_to_json(alloc, SCHEMA, VALUE, true, false, &mut room, &mut needed) == YES
         && given(&room, needed) == "{\"x\":12,\"y\":\"hé\"}"
-        && borsh_c_to_json(alloc, SCHEMA, VALUE, false, &mut room, &mut needed) == YES
+        && borsh_c_to_json(alloc, SCHEMA, VALUE, false, false, &mut room, &mut needed) == YES
         && given(&room, needed) == "{\n  \"x\": 12,\n  \"y\": \"hé\"\n}"
-        && borsh_c_to_json(alloc, BYTE, VALUE, false, &mut room, &mut needed) == NO
+        && borsh_c_to_json(alloc, SCHEMA, VALUE, true, true, &mut room, &mut needed) == YES
+        && given(&room, needed) == "{\"x\":\"12\",\"y\":\"hé\"}"
+        && borsh_c_to_json(alloc, BYTE, VALUE, false, false, &mut room, &mut needed) == NO
 }
 
 #[test]
@@ -130,9 +132,9 @@ fn gives_the_bytes_of_json(rt: HostRuntime) -> Result<(), Fail> {
 fn only_what_fits_is_written(alloc: Global) -> bool {
     let mut room = [9u8; 2];
     let mut needed = 0;
-    borsh_c_to_json(alloc, BYTE, b"\xff", true, &mut room, &mut needed) == YES
+    borsh_c_to_json(alloc, BYTE, b"\xff", true, false, &mut room, &mut needed) == YES
         && (room, needed) == ([9, 9], 3)
-        && borsh_c_to_json(alloc, BYTE, b"\x0c", true, &mut room, &mut needed) == YES
+        && borsh_c_to_json(alloc, BYTE, b"\x0c", true, false, &mut room, &mut needed) == YES
         && (room, needed) == (*b"12", 2)
 }
 

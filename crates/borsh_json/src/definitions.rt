@@ -3,17 +3,20 @@ ghost use Rattle.borsh_walks.specs.Definitions.{definitions_in};
 ghost use Rattle.borsh_walks.specs.ZeroAnswer.{ZeroTable};
 ghost use Rattle.std.specs.Prelude.{OnOk};
 
+use crate::kinds::{Kind, kind_of};
+use crate::order::{Ordered, ordered_as};
 use borsh_walks::zero::is_zero;
-use borsh_walks::{Counted, Definition, Expansions, Fields};
+use borsh_walks::{Counted, Definition, Expansions};
 use std::alloc::{AllocError, Global};
-use std::collections::{BTreeMap, BTreeSet};
+use std::collections::BTreeMap;
 
 /// Definitions by name, and what was found out about them.
 #[derive(Drop)]
 pub struct Definitions<'a> {
     map: &'a BTreeMap<String, Definition>,
     zeros: BTreeMap<&'a str, bool>,
-    distinct: BTreeSet<&'a str>,
+    kinds: BTreeMap<&'a str, Kind<'a>>,
+    orders: BTreeMap<&'a str, Option<Ordered<'a>>>,
 }
 
 impl<'a> Definitions<'a> {
@@ -24,7 +27,8 @@ impl<'a> Definitions<'a> {
         Ok(Definitions {
             map,
             zeros: zero_sizes(alloc, map)?,
-            distinct: BTreeSet::new(alloc),
+            kinds: BTreeMap::new(alloc),
+            orders: BTreeMap::new(alloc),
         })
     }
 
@@ -37,21 +41,89 @@ impl<'a> Definitions<'a> {
         matches!(self.zeros.get(name), Some(true))
     }
 
-    /// A name that two fields or two variants of the definition have; none if they have names of their own.
-    pub fn repeated(
+    /// How the values of the name, which has this definition, are written.
+    pub fn kind(
         &mut self,
         alloc: Global,
         name: &'a str,
         definition: &'a Definition,
+    ) -> Result<Kind<'a>, AllocError> {
+        if let Some(kind) = self.kinds.get(name) {
+            return Ok(*kind);
+        }
+        let kind = kind_of(alloc, self, name, definition)?;
+        self.kinds.insert(name, kind)?;
+        Ok(kind)
+    }
+
+    /// How the values of the name are ordered; none where that isn't known.
+    pub fn order_of(
+        &mut self,
+        alloc: Global,
+        name: &'a str,
+    ) -> Result<Option<Ordered<'a>>, AllocError> {
+        if !self.orders.contains_key(name) {
+            self.find_order(alloc, name)?;
+        }
+        Ok(self.known_order(name))
+    }
+
+    /// How the values of the name are ordered, where [`Definitions::order_of`] found that for it or for a name that needs it.
+    pub fn known_order(&self, name: &str) -> Option<Ordered<'a>> {
+        match self.orders.get(name) {
+            Some(order) => *order,
+            None => None,
+        }
+    }
+
+    /// Finds the order of a name and of those that it needs. It isn't known if that of one of them isn't, as in a circle of names.
+    fn find_order(&mut self, alloc: Global, name: &'a str) -> Result<(), AllocError> {
+        let mut open: Vec<(&'a str, Ordered<'a>, usize)> = Vec::new(alloc);
+        let mut name = name;
+        for _ in 0..u64::MAX {
+            match self.orders.get(name) {
+                Some(Some(_)) => (),
+                Some(None) => break,
+                None => {
+                    self.orders.insert(name, None)?;
+                    match self.order_by_parts(name) {
+                        Some(order) => open.push((name, order, 0))?,
+                        None => break,
+                    }
+                }
+            }
+            match self.next_needed(&mut open)? {
+                Some(needed) => name = needed,
+                None => break,
+            }
+        }
+        Ok(())
+    }
+
+    /// The next name that the last open name needs. An open name that needs no further one has its order.
+    fn next_needed(
+        &mut self,
+        open: &mut Vec<(&'a str, Ordered<'a>, usize)>,
     ) -> Result<Option<&'a str>, AllocError> {
-        if self.distinct.contains(name) {
-            return Ok(None);
+        for _ in 0..u64::MAX {
+            let Some((name, order, index)) = open.pop() else {
+                break;
+            };
+            if let Some(part) = order.part(index) {
+                open.push((name, order, index.saturating_add(1)))?;
+                return Ok(Some(part));
+            }
+            self.orders.insert(name, Some(order))?;
         }
-        let found = repeated_name(alloc, definition)?;
-        if found.is_none() {
-            self.distinct.insert(name)?;
+        Ok(None)
+    }
+
+    /// How the values of the name are ordered, if its parts are.
+    fn order_by_parts(&self, name: &'a str) -> Option<Ordered<'a>> {
+        if self.is_zero_size(name) {
+            return Some(Ordered::Single);
         }
-        Ok(found)
+        ordered_as(self, name, self.get(name)?)
     }
 }
 
@@ -84,31 +156,4 @@ fn mark<'a>(
     let mut counted = Counted::new(map, &mut counts);
     let _is_zero = is_zero(alloc, name, zeros, &mut counted)?;
     Ok(())
-}
-
-fn repeated_name<'a>(
-    alloc: Global,
-    definition: &'a Definition,
-) -> Result<Option<&'a str>, AllocError> {
-    let mut names: BTreeSet<&'a str> = BTreeSet::new(alloc);
-    match definition {
-        Definition::Struct {
-            fields: Fields::NamedFields(fields),
-        } => {
-            for (field, _) in fields {
-                if !names.insert(field.as_str())? {
-                    return Ok(Some(field.as_str()));
-                }
-            }
-        }
-        Definition::Enum { variants, .. } => {
-            for (_, variant, _) in variants {
-                if !names.insert(variant.as_str())? {
-                    return Ok(Some(variant.as_str()));
-                }
-            }
-        }
-        _ => (),
-    }
-    Ok(None)
 }

@@ -41,7 +41,7 @@ pub enum Refusal {
     TooDeep,
     /// Two fields, or two variants, have this name.
     RepeatedName(String),
-    /// The elements of a list with a length have no bytes: as JSON it could have any size.
+    /// The elements of a list with a length, or the keys of a map, have no bytes.
     EmptyElements,
     /// A `bool` is neither 0 nor 1.
     NotBool,
@@ -49,6 +49,8 @@ pub enum Refusal {
     NotUtf8,
     /// A non-zero number is 0.
     Zero,
+    /// The elements of a set, or the keys of a map, don't ascend up to this one.
+    Descends,
     /// The nodes aren't those of the definitions.
     OtherNodes,
     /// The JSON isn't this.
@@ -136,6 +138,7 @@ impl fmt::Display for Refusal {
             Refusal::NotBool => write!(f, "neither 0 nor 1"),
             Refusal::NotUtf8 => write!(f, "not UTF-8"),
             Refusal::Zero => write!(f, "zero"),
+            Refusal::Descends => write!(f, "not above the one before it"),
             Refusal::OtherNodes => write!(f, "other nodes than the schema's"),
             Refusal::Expected(wanted) => write!(f, "expected {wanted}"),
             Refusal::MissingField => write!(f, "missing"),

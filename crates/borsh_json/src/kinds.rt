@@ -1,7 +1,40 @@
 // How the values of a name are written in JSON.
 use crate::definitions::Definitions;
+use crate::formats::{Collection, collection_of, only_part, option_part};
 use crate::numbers::Number;
+use crate::order::Ordered;
 use borsh_walks::{Declaration, Definition, DiscriminantValue, FieldName, Fields, VariantName};
+use std::alloc::{AllocError, Global};
+use std::collections::BTreeSet;
+
+/// The elements of a list.
+#[derive(Clone, Copy)]
+pub struct Elements<'a> {
+    pub name: &'a str,
+    /// How many bytes each has, if they are primitives; otherwise 0.
+    pub size: u8,
+    /// How they have to ascend, or their keys, if the list is a set or a map whose order is known.
+    pub order: Option<Ordered<'a>>,
+    /// Whether the list is refused, since its elements or keys have no bytes.
+    pub is_refused: bool,
+}
+
+/// How the keys of an object are read.
+#[derive(Clone, Copy)]
+pub enum KeyKind {
+    Text,
+    Number(Number),
+}
+
+/// The entries of a map that is an object.
+#[derive(Clone, Copy)]
+pub struct Entries<'a> {
+    /// The name of the keys, and their definition.
+    pub key: &'a str,
+    pub key_definition: &'a Definition,
+    pub key_kind: KeyKind,
+    pub value: &'a str,
+}
 
 /// How the values of a name are written in JSON.
 #[derive(Clone, Copy)]
@@ -15,40 +48,51 @@ pub enum Kind<'a> {
     /// `"0x0a1f"`, of so many bytes.
     Bytes(u8),
     /// `"0x0a1f"`, of any number of bytes; also taken from `[10, 31]`.
-    ByteList(&'a str),
-    /// `[..]`, of elements of one name, which are primitives of so many bytes.
-    Numbers(&'a str, u8),
-    /// `[..]`, of other elements of one name.
-    List(&'a str),
+    ByteList(Elements<'a>),
+    /// `[..]`, of elements that are primitives.
+    Numbers(Elements<'a>),
+    /// `[..]`, of other elements.
+    List(Elements<'a>),
+    /// `{..}`, of keys that are texts or numbers, and ascend so.
+    Map(Entries<'a>, Ordered<'a>),
     /// `[..]`, of as many elements as the definition has parts.
     Row(usize),
+    /// What its only part is, which has this name.
+    Newtype(&'a str),
     /// `{..}`
     Object(&'a Vec<(FieldName, Declaration)>),
+    /// `null`, or what the part of this name is, which is never `null`.
+    Optional(&'a str),
     /// `"Name"`, or `{"Name": ..}` where the variant's value has bytes, with a tag of so many bytes.
     Choice(u8, &'a Vec<(DiscriminantValue, VariantName, Declaration)>),
+    /// Not at all: two of its fields or variants have this name.
+    Repeated(&'a str),
 }
 
-/// How the values of a name with this definition are written.
+/// How the values of a name with this definition are written. Their bytes are at least one.
 pub fn kind_of<'a>(
-    definitions: &Definitions<'a>,
-    name: &str,
+    alloc: Global,
+    definitions: &mut Definitions<'a>,
+    name: &'a str,
     definition: &'a Definition,
-) -> Kind<'a> {
+) -> Result<Kind<'a>, AllocError> {
     match definition {
-        Definition::Primitive(size) => kind_of_primitive(name, *size),
+        Definition::Primitive(size) => Ok(kind_of_primitive(name, *size)),
         Definition::Sequence { elements, .. } => {
-            kind_of_sequence(definitions, name, elements.as_str())
+            kind_of_sequence(alloc, definitions, name, definition, elements.as_str())
         }
-        Definition::Tuple { elements } => Kind::Row(elements.len()),
-        Definition::Struct { fields } => match fields {
-            Fields::NamedFields(fields) => Kind::Object(fields),
-            Fields::UnnamedFields(parts) => Kind::Row(parts.len()),
-            Fields::Empty => Kind::Row(0),
-        },
+        Definition::Tuple { elements } => Ok(Kind::Row(elements.len())),
+        Definition::Struct { fields } => kind_of_struct(alloc, fields),
         Definition::Enum {
             tag_width,
             variants,
-        } => Kind::Choice(*tag_width, variants),
+        } => match option_part(definitions, name, definition) {
+            Some(part) if !may_be_null(definitions, part) => Ok(Kind::Optional(part)),
+            _ => match repeated_variant(alloc, variants)? {
+                Some(name) => Ok(Kind::Repeated(name)),
+                None => Ok(Kind::Choice(*tag_width, variants)),
+            },
+        },
     }
 }
 
@@ -63,16 +107,138 @@ pub fn kind_of_primitive<'a>(name: &str, size: u8) -> Kind<'a> {
     }
 }
 
-fn kind_of_sequence<'a>(definitions: &Definitions<'a>, name: &str, element: &'a str) -> Kind<'a> {
-    match definitions.get(element) {
-        Some(Definition::Primitive(1)) if element == "u8" => {
-            if name == "String" {
-                Kind::Text
-            } else {
-                Kind::ByteList(element)
+fn kind_of_struct<'a>(alloc: Global, fields: &'a Fields) -> Result<Kind<'a>, AllocError> {
+    match fields {
+        Fields::NamedFields(fields) => match repeated_field(alloc, fields)? {
+            Some(name) => Ok(Kind::Repeated(name)),
+            None => Ok(Kind::Object(fields)),
+        },
+        Fields::UnnamedFields(parts) => match parts.as_slice() {
+            [part] => Ok(Kind::Newtype(part.as_str())),
+            _ => Ok(Kind::Row(parts.len())),
+        },
+        Fields::Empty => Ok(Kind::Row(0)),
+    }
+}
+
+/// A name that two fields have.
+fn repeated_field<'a>(
+    alloc: Global,
+    fields: &'a Vec<(FieldName, Declaration)>,
+) -> Result<Option<&'a str>, AllocError> {
+    let mut names: BTreeSet<&'a str> = BTreeSet::new(alloc);
+    for (field, _) in fields {
+        if !names.insert(field.as_str())? {
+            return Ok(Some(field.as_str()));
+        }
+    }
+    Ok(None)
+}
+
+/// A name that two variants have.
+fn repeated_variant<'a>(
+    alloc: Global,
+    variants: &'a Vec<(DiscriminantValue, VariantName, Declaration)>,
+) -> Result<Option<&'a str>, AllocError> {
+    let mut names: BTreeSet<&'a str> = BTreeSet::new(alloc);
+    for (_, variant, _) in variants {
+        if !names.insert(variant.as_str())? {
+            return Ok(Some(variant.as_str()));
+        }
+    }
+    Ok(None)
+}
+
+fn kind_of_sequence<'a>(
+    alloc: Global,
+    definitions: &mut Definitions<'a>,
+    name: &'a str,
+    definition: &'a Definition,
+    element: &'a str,
+) -> Result<Kind<'a>, AllocError> {
+    let element_definition = definitions.get(element);
+    let is_byte = element == "u8" && matches!(element_definition, Some(Definition::Primitive(1)));
+    if is_byte && name == "String" {
+        return Ok(Kind::Text);
+    }
+    let mut elements = Elements {
+        name: element,
+        size: 0,
+        order: None,
+        is_refused: definitions.is_zero_size(element),
+    };
+    match collection_of(definitions, name, definition) {
+        Collection::List => {}
+        Collection::Set => elements.order = definitions.order_of(alloc, element)?,
+        Collection::Map(key, value) => {
+            if definitions.is_zero_size(key) {
+                elements.is_refused = true;
+            }
+            elements.order = definitions.order_of(alloc, key)?;
+            if let Some(order) = elements.order
+                && let Some(entries) = entries_of(definitions, key, value, order)
+            {
+                return Ok(Kind::Map(entries, order));
             }
         }
-        Some(Definition::Primitive(size)) if *size != 0 => Kind::Numbers(element, *size),
-        _ => Kind::List(element),
     }
+    match element_definition {
+        Some(Definition::Primitive(size)) if *size != 0 => {
+            elements.size = *size;
+            if is_byte {
+                Ok(Kind::ByteList(elements))
+            } else {
+                Ok(Kind::Numbers(elements))
+            }
+        }
+        _ => Ok(Kind::List(elements)),
+    }
+}
+
+/// The entries of a map whose keys are texts or numbers.
+fn entries_of<'a>(
+    definitions: &Definitions<'a>,
+    key: &'a str,
+    value: &'a str,
+    order: Ordered<'a>,
+) -> Option<Entries<'a>> {
+    let key_definition = definitions.get(key)?;
+    let key_kind = match order {
+        Ordered::Text => KeyKind::Text,
+        Ordered::Unsigned(size) | Ordered::Signed(size) => {
+            KeyKind::Number(Number::named(key, size)?)
+        }
+        _ => return None,
+    };
+    Some(Entries {
+        key,
+        key_definition,
+        key_kind,
+        value,
+    })
+}
+
+/// How many parts without names of their own are gone through to see whether a value may be `null`.
+const MOST_NEWTYPES: usize = 128;
+
+/// Whether the JSON of a value of this name may be `null`. It says so too of an `Option` that is never written as `null`, and of
+/// structs whose only parts lead further than [`MOST_NEWTYPES`]: an `Option` of these is written as a variant.
+fn may_be_null<'a>(definitions: &Definitions<'a>, name: &'a str) -> bool {
+    let mut name = name;
+    for _ in 0..MOST_NEWTYPES {
+        if definitions.is_zero_size(name) {
+            return true;
+        }
+        let Some(definition) = definitions.get(name) else {
+            return false;
+        };
+        if option_part(definitions, name, definition).is_some() {
+            return true;
+        }
+        match only_part(definition) {
+            Some(part) => name = part,
+            None => return false,
+        }
+    }
+    true
 }

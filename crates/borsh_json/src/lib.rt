@@ -6,16 +6,20 @@
 
 mod definitions;
 mod error;
+mod formats;
 mod kinds;
 mod numbers;
+mod order;
 mod output;
 mod position;
 mod reading;
 mod rows;
+mod strict;
 mod writing;
 
 pub use error::{JsonError, Refusal};
-pub use output::Layout;
+pub use output::{Layout, LongNumbers, Style};
 pub use reading::from_json;
 pub use rows::{Row, rows_of};
+pub use strict::check_strict;
 pub use writing::to_json;

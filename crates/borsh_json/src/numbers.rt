@@ -51,6 +51,11 @@ impl Number {
         self.size > 8
     }
 
+    /// Whether its numbers may be JSON strings, since programs that read numbers as floats round them.
+    pub fn is_long(&self) -> bool {
+        self.size == 8
+    }
+
     /// The number that the bytes encode, in decimal.
     pub fn decimal(&self, alloc: Global, bytes: &[u8]) -> Result<String, AllocError> {
         if self.is_signed {
@@ -85,20 +90,41 @@ impl Number {
         }
     }
 
-    /// `a number from 0 to 255`
+    /// A number that is greater for a greater number of the type, of its bytes.
+    pub fn rank(&self, bytes: [u8; 16]) -> u128 {
+        u128::from_le_bytes(bytes) ^ self.sign_bit()
+    }
+
+    /// The bytes of the number of this rank.
+    pub fn of_rank(&self, rank: u128) -> [u8; 16] {
+        (rank ^ self.sign_bit()).to_le_bytes()
+    }
+
+    fn sign_bit(&self) -> u128 {
+        if self.is_signed { 1 << 127 } else { 0 }
+    }
+
+    /// `keys that are whole numbers of 8 bits, unsigned`
+    pub fn wanted_key(&self, alloc: Global) -> Result<String, AllocError> {
+        let sign = if self.is_signed { "signed" } else { "unsigned" };
+        let bits = u32::from(self.size) * 8;
+        let zero = if self.is_non_zero { ", not zero" } else { "" };
+        format!(in alloc; "keys that are whole numbers of {bits} bits, {sign}{zero}")
+    }
+
+    /// `a whole number of 8 bits, unsigned`
     pub fn wanted(&self, alloc: Global) -> Result<String, AllocError> {
         let what = if self.is_quoted() {
             "a decimal string"
+        } else if self.is_long() {
+            "a whole number, or a decimal string,"
         } else {
             "a whole number"
         };
         let sign = if self.is_signed { "signed" } else { "unsigned" };
         let bits = u32::from(self.size) * 8;
-        if self.is_non_zero {
-            format!(in alloc; "{what} of {bits} bits, {sign}, not zero")
-        } else {
-            format!(in alloc; "{what} of {bits} bits, {sign}")
-        }
+        let zero = if self.is_non_zero { ", not zero" } else { "" };
+        format!(in alloc; "{what} of {bits} bits, {sign}{zero}")
     }
 }
 

@@ -14,6 +14,36 @@ pub enum Layout {
     Pretty,
 }
 
+/// How numbers of 64 bits are written. They are read both ways.
+#[derive(Clone, Copy, Debug, PartialEq, Eq)]
+pub enum LongNumbers {
+    /// As numbers, `9007199254740993`.
+    Plain,
+    /// As strings, `"9007199254740993"`, since JavaScript rounds numbers above 2^53.
+    Quoted,
+}
+
+/// How JSON is written.
+#[derive(Clone, Copy, Debug, PartialEq, Eq)]
+pub struct Style {
+    pub layout: Layout,
+    pub long_numbers: LongNumbers,
+}
+
+impl Style {
+    /// With plain numbers, without white space.
+    pub const COMPACT: Style = Style {
+        layout: Layout::Compact,
+        long_numbers: LongNumbers::Plain,
+    };
+
+    /// With plain numbers, in lines.
+    pub const PRETTY: Style = Style {
+        layout: Layout::Pretty,
+        long_numbers: LongNumbers::Plain,
+    };
+}
+
 /// The JSON text that is being written.
 #[derive(Drop)]
 pub enum Output {

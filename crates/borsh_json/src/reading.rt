@@ -7,10 +7,11 @@ ghost use Rattle.std.specs.Prelude.{◌≡◌, IfErr, IfOk, IfSome, IsSome, OnOk
 
 use crate::definitions::Definitions;
 use crate::error::{JsonError, PartError, Refusal};
-use crate::kinds::{Kind, kind_of};
+use crate::kinds::{Elements, Entries, KeyKind, Kind};
 use crate::numbers::Number;
-use crate::position::{Part, Parts, Place, path_of};
-use borsh_values::{Membership, Path, is_member};
+use crate::order::first_descent;
+use crate::position::{Key, Part, Parts, Place, path_of, path_of_element};
+use borsh_values::{Membership, Path, PathStep, is_member};
 use borsh_walks::{Declaration, Definition, DiscriminantValue, FieldName, VariantName};
 use hex::FromHexError;
 use json::{Element, Items, MAX_DEPTH, Reader, Scratch, Tape, Token};
@@ -20,9 +21,10 @@ use std::mem;
 
 /// The bytes of the value of `root` that a JSON text says, by the definitions of `map` alone.
 ///
-/// The text is as [`crate::to_json`] writes it, in any layout; the fields of a struct may come in any order, and a list of
-/// `u8` may be an array of numbers. What doesn't fit the definitions is refused with its path and what was
-/// expected. The bytes are a member of the root.
+/// The text is as [`crate::to_json`] writes it, in any layout; the fields of a struct and the entries of an object may come in
+/// any order, a list of `u8` may be an array of numbers, and numbers of 64 bits may be strings. What doesn't fit the
+/// definitions is refused with its path and what was expected; so are keys that come twice, and arrays whose elements or
+/// keys don't ascend where they have to. The bytes are a member of the root.
 ///
 /// ```
 /// let bytes = from_json(alloc, "(u8, bool)", &definitions, "[7, true]")?;
@@ -150,16 +152,46 @@ enum Source<'t, 's> {
     One(Option<Element<'t, 's>>),
     Items(Items<'t, 's>),
     Members(BTreeMap<&'s str, Element<'t, 's>>),
+    /// The values of entries, by their keys.
+    Texts(BTreeMap<&'s str, Element<'t, 's>>),
+    /// The values of entries, by numbers that order their keys: see [`Number::rank`].
+    Ranks(BTreeMap<u128, Element<'t, 's>>),
+}
+
+/// The JSON of a part, and in front of it the key of its entry.
+#[derive(Drop)]
+struct Taken<'t, 's> {
+    key: TakenKey<'s>,
+    element: Element<'t, 's>,
+}
+
+#[derive(Clone, Copy)]
+enum TakenKey<'s> {
+    None,
+    Text(&'s str),
+    Rank(u128),
 }
 
 impl<'t, 's> Source<'t, 's> {
-    /// The JSON of the next part, or of the part with this key.
-    fn take(&mut self, key: Option<&str>) -> Option<Element<'t, 's>> {
-        match self {
-            Source::One(element) => element.take(),
-            Source::Items(items) => items.next(),
-            Source::Members(members) => members.remove(key?),
-        }
+    /// The JSON of the next part, or of the field of this name.
+    fn take(&mut self, key: Key<'_>) -> Option<Taken<'t, 's>> {
+        let (key, element) = match self {
+            Source::One(element) => (TakenKey::None, element.take()?),
+            Source::Items(items) => (TakenKey::None, items.next()?),
+            Source::Members(members) => match key {
+                Key::Name(name) => (TakenKey::None, members.remove(name)?),
+                _ => return None,
+            },
+            Source::Texts(members) => {
+                let (text, element) = members.pop_first()?;
+                (TakenKey::Text(text), element)
+            }
+            Source::Ranks(members) => {
+                let (rank, element) = members.pop_first()?;
+                (TakenKey::Rank(rank), element)
+            }
+        };
+        Some(Taken { key, element })
     }
 }
 
@@ -180,12 +212,14 @@ impl<'a, 't, 's> Reading<'a, 't, 's> {
         ensures { IfErr result (IsPartError IsUnreadable) }
     {
         for _ in 0..u64::MAX {
+            self.check_order(alloc)?;
             match self.place.next_part() {
                 Some(part) => {
-                    let Some(element) = self.source.take(part.key) else {
+                    let Some(taken) = self.source.take(part.key) else {
                         return Err(self.refused(alloc, Refusal::MissingField));
                     };
-                    self.read_part(alloc, part, element)?;
+                    self.put_key(alloc, part.key, taken.key)?;
+                    self.read_part(alloc, part, taken.element)?;
                 }
                 None => match (self.outer.pop(), self.outer_sources.pop()) {
                     (Some(place), Some(source)) => {
@@ -218,8 +252,7 @@ impl<'a, 't, 's> Reading<'a, 't, 's> {
             let name = String::from_str(alloc, part.name)?;
             return Err(self.refused(alloc, Refusal::Undefined(name)));
         };
-        self.check_names(alloc, part.name, definition)?;
-        match kind_of(&self.definitions, part.name, definition) {
+        match self.definitions.kind(alloc, part.name, definition)? {
             Kind::Number(number) => self.read_number(alloc, number, &element),
             Kind::Bool => match element.as_bool() {
                 Some(value) => Ok(self.out.push(u8::from(value))?),
@@ -230,22 +263,114 @@ impl<'a, 't, 's> Reading<'a, 't, 's> {
                 Some(text) => self.put_list(alloc, definition, text.as_bytes()),
                 None => Err(self.expected(alloc, "a string")),
             },
-            Kind::ByteList(name) => match element.as_str() {
+            Kind::ByteList(elements) => match element.as_str() {
                 Some(text) => {
                     let bytes = self.hexadecimal(alloc, text)?;
+                    self.check_ascent(alloc, elements, bytes.as_slice())?;
                     self.put_list(alloc, definition, bytes.as_slice())
                 }
-                None => self.open_list(alloc, definition, name, &element),
+                None => self.open_list(alloc, definition, elements, &element),
             },
-            Kind::Numbers(name, _) | Kind::List(name) => self.open_list(
-                alloc, definition, name, &element,
-            ),
+            Kind::Numbers(elements) | Kind::List(elements) => {
+                self.open_list(alloc, definition, elements, &element)
+            }
+            Kind::Map(entries, _) => self.open_map(alloc, definition, entries, &element),
             Kind::Row(count) => self.open_row(alloc, definition, count, &element),
+            Kind::Newtype(part) => self.open(
+                alloc,
+                Place::new(Parts::Newtype(part)),
+                Source::One(Some(element)),
+            ),
             Kind::Object(fields) => self.open_object(alloc, fields, &element),
+            Kind::Optional(part) => {
+                if element.is_null() {
+                    return Ok(self.out.push(0)?);
+                }
+                self.out.push(1)?;
+                self.open(
+                    alloc,
+                    Place::new(Parts::Some(part)),
+                    Source::One(Some(element)),
+                )
+            }
             Kind::Choice(tag_width, variants) => {
                 self.read_variant(alloc, tag_width, variants, &element)
             }
+            Kind::Repeated(name) => {
+                let name = String::from_str(alloc, name)?;
+                Err(self.refused(alloc, Refusal::RepeatedName(name)))
+            }
         }
+    }
+
+    /// Refuses an element that isn't above the one before it, where elements have to ascend.
+    fn check_order(&mut self, alloc: Global) -> Result<(), PartError<'a>>
+        ensures { IfErr result (IsPartError IsUnreadable) }
+    {
+        let Some(ascent) = &mut self.place.ascent else {
+            return Ok(());
+        };
+        let ascends = ascent.ascends(alloc, &self.definitions, self.out.as_slice())?;
+        ascent.begin(self.out.len());
+        if ascends {
+            Ok(())
+        } else {
+            let path = path_of_element(alloc, self.root, self.outer.as_slice(), &self.place)?;
+            Err(PartError::Refused(path, Refusal::Descends))
+        }
+    }
+
+    /// Refuses a primitive that isn't above the one before it, where these have to ascend.
+    fn check_ascent(
+        &self,
+        alloc: Global,
+        elements: Elements<'a>,
+        bytes: &[u8],
+    ) -> Result<(), PartError<'a>>
+        ensures { IfErr result (IsPartError IsUnreadable) }
+    {
+        let Some(order) = elements.order else {
+            return Ok(());
+        };
+        match first_descent(order, usize::from(elements.size), bytes) {
+            Some(index) => {
+                let mut path = path_of(alloc, self.root, self.outer.as_slice(), &self.place)?;
+                path.steps.push(PathStep::Element(index as u64))?;
+                Err(PartError::Refused(path, Refusal::Descends))
+            }
+            None => Ok(()),
+        }
+    }
+
+    /// Adds the key of an entry.
+    fn put_key(
+        &mut self,
+        alloc: Global,
+        key: Key<'a>,
+        taken: TakenKey<'s>,
+    ) -> Result<(), PartError<'a>>
+        ensures { IfErr result (IsPartError IsUnreadable) }
+    {
+        let Key::Entry(entries) = key else {
+            return Ok(());
+        };
+        match taken {
+            TakenKey::None => Ok(()),
+            TakenKey::Text(text) => {
+                self.put_list(alloc, entries.key_definition, text.as_bytes())
+            }
+            TakenKey::Rank(rank) => match entries.key_kind {
+                KeyKind::Number(number) => self.put_number(number, number.of_rank(rank)),
+                KeyKind::Text => Ok(()),
+            },
+        }
+    }
+
+    fn put_number(&mut self, number: Number, bytes: [u8; 16]) -> Result<(), PartError<'a>>
+        ensures { IfErr result (IsPartError IsUnreadable) }
+    {
+        let own = &bytes[..usize::from(number.size).min(16)];
+        Ok(self.out.extend_from_slice(own)?)
     }
 
     fn read_number(
@@ -258,16 +383,13 @@ impl<'a, 't, 's> Reading<'a, 't, 's> {
     {
         let text = if number.is_quoted() {
             element.as_str()
+        } else if number.is_long() {
+            element.as_number().or(element.as_str())
         } else {
             element.as_number()
         };
         match text.and_then(|text| number.bytes(text)) {
-            Some(bytes) => {
-                Ok(
-                    self.out
-                        .extend_from_slice(&bytes[..usize::from(number.size).min(16)])?,
-                )
-            }
+            Some(bytes) => self.put_number(number, bytes),
             None => {
                 let wanted = number.wanted(alloc)?;
                 Err(self.refused(alloc, Refusal::Expected(wanted)))
@@ -358,7 +480,7 @@ impl<'a, 't, 's> Reading<'a, 't, 's> {
     fn open(
         &mut self,
         alloc: Global,
-        parts: Parts<'a>,
+        place: Place<'a>,
         source: Source<'t, 's>,
     ) -> Result<(), PartError<'a>>
         ensures { IfErr result (IsPartError IsUnreadable) }
@@ -369,7 +491,7 @@ impl<'a, 't, 's> Reading<'a, 't, 's> {
         self.outer.push(self.place)?;
         self.outer_sources
             .push(mem::replace(&mut self.source, source))?;
-        self.place = Place::new(parts);
+        self.place = place;
         Ok(())
     }
 
@@ -377,19 +499,101 @@ impl<'a, 't, 's> Reading<'a, 't, 's> {
         &mut self,
         alloc: Global,
         definition: &'a Definition,
-        name: &'a str,
+        elements: Elements<'a>,
         element: &Element<'t, 's>,
     ) -> Result<(), PartError<'a>>
         ensures { IfErr result (IsPartError IsUnreadable) }
     {
-        if self.definitions.is_zero_size(name) {
+        if elements.is_refused {
             return Err(self.refused(alloc, Refusal::EmptyElements));
         }
         let (Some(items), Some(count)) = (element.items(), count_items(element)) else {
             return Err(self.expected(alloc, "an array"));
         };
         self.put_count(alloc, definition, count)?;
-        self.open(alloc, Parts::List(name, count as u64), Source::Items(items))
+        let parts = Parts::List(elements.name, count as u64);
+        self.open(
+            alloc,
+            Place::in_order(parts, elements.order),
+            Source::Items(items),
+        )
+    }
+
+    fn open_map(
+        &mut self,
+        alloc: Global,
+        definition: &'a Definition,
+        entries: Entries<'a>,
+        element: &Element<'t, 's>,
+    ) -> Result<(), PartError<'a>>
+        ensures { IfErr result (IsPartError IsUnreadable) }
+    {
+        let (count, source) = match entries.key_kind {
+            KeyKind::Text => {
+                let members = self.members_of(alloc, element)?;
+                (members.len(), Source::Texts(members))
+            }
+            KeyKind::Number(number) => {
+                let members = self.ranks_of(alloc, number, element)?;
+                (members.len(), Source::Ranks(members))
+            }
+        };
+        self.put_count(alloc, definition, count)?;
+        let parts = Parts::Entries(entries, count as u64);
+        self.open(alloc, Place::new(parts), source)
+    }
+
+    /// The members of an object by their keys, each of which comes once.
+    fn members_of(
+        &self,
+        alloc: Global,
+        element: &Element<'t, 's>,
+    ) -> Result<BTreeMap<&'s str, Element<'t, 's>>, PartError<'a>>
+        ensures { IfErr result (IsPartError IsUnreadable) }
+    {
+        let Some(mut members) = element.members() else {
+            return Err(self.expected(alloc, "an object"));
+        };
+        let mut found = BTreeMap::new(alloc);
+        for _ in 0..u64::MAX {
+            let Some((key, member)) = members.next() else {
+                break;
+            };
+            if found.insert(key, member)?.is_some() {
+                let name = String::from_str(alloc, key)?;
+                return Err(self.refused(alloc, Refusal::RepeatedKey(name)));
+            }
+        }
+        Ok(found)
+    }
+
+    /// The members of an object whose keys are numbers, each of which comes once.
+    fn ranks_of(
+        &self,
+        alloc: Global,
+        number: Number,
+        element: &Element<'t, 's>,
+    ) -> Result<BTreeMap<u128, Element<'t, 's>>, PartError<'a>>
+        ensures { IfErr result (IsPartError IsUnreadable) }
+    {
+        let Some(mut members) = element.members() else {
+            return Err(self.expected(alloc, "an object"));
+        };
+        let mut found = BTreeMap::new(alloc);
+        for _ in 0..u64::MAX {
+            let Some((key, member)) = members.next() else {
+                break;
+            };
+            let Some(bytes) = number.bytes(key) else {
+                let wanted = number.wanted_key(alloc)?;
+                return Err(self.refused(alloc, Refusal::Expected(wanted)));
+            };
+            if found.insert(number.rank(bytes), member)?.is_some() {
+                let name = String::from_str(alloc, key)?;
+                return Err(self.refused(alloc, Refusal::RepeatedKey(name)));
+            }
+        }
+        Ok(found)
     }
 
     fn open_row(
@@ -403,7 +607,11 @@ impl<'a, 't, 's> Reading<'a, 't, 's> {
     {
         match element.items() {
             Some(items) if count_items(element) == Some(count) => {
-                self.open(alloc, Parts::Row(definition), Source::Items(items))
+                self.open(
+                    alloc,
+                    Place::new(Parts::Row(definition)),
+                    Source::Items(items),
+                )
             }
             _ => {
                 let wanted = format!(in alloc; "an array of {count}")?;
@@ -420,20 +628,12 @@ impl<'a, 't, 's> Reading<'a, 't, 's> {
     ) -> Result<(), PartError<'a>>
         ensures { IfErr result (IsPartError IsUnreadable) }
     {
-        let Some(mut members) = element.members() else {
-            return Err(self.expected(alloc, "an object"));
-        };
-        let mut found = BTreeMap::new(alloc);
-        for _ in 0..u64::MAX {
-            let Some((key, member)) = members.next() else {
-                break;
-            };
-            if found.insert(key, member)?.is_some() {
-                let name = String::from_str(alloc, key)?;
-                return Err(self.refused(alloc, Refusal::RepeatedKey(name)));
-            }
-        }
-        self.open(alloc, Parts::Object(fields), Source::Members(found))
+        let members = self.members_of(alloc, element)?;
+        self.open(
+            alloc,
+            Place::new(Parts::Object(fields)),
+            Source::Members(members),
+        )
     }
 
     fn read_variant(
@@ -458,7 +658,7 @@ impl<'a, 't, 's> Reading<'a, 't, 's> {
             None if is_empty => Ok(()),
             Some(value) if !is_empty => self.open(
                 alloc,
-                Parts::Variant(variant.as_str(), part.as_str()),
+                Place::new(Parts::Variant(variant.as_str(), part.as_str())),
                 Source::One(Some(value)),
             ),
             None => Err(self.expected(alloc, "{\"Name\": value}, since the variant has a value")),
@@ -483,24 +683,6 @@ impl<'a, 't, 's> Reading<'a, 't, 's> {
             Some((key, _)) => {
                 let name = String::from_str(alloc, key)?;
                 Err(self.refused(alloc, Refusal::UnknownName(name)))
-            }
-            None => Ok(()),
-        }
-    }
-
-    /// Refuses two fields, or two variants, of one name.
-    fn check_names(
-        &mut self,
-        alloc: Global,
-        name: &'a str,
-        definition: &'a Definition,
-    ) -> Result<(), PartError<'a>>
-        ensures { IfErr result (IsPartError IsUnreadable) }
-    {
-        match self.definitions.repeated(alloc, name, definition)? {
-            Some(name) => {
-                let name = String::from_str(alloc, name)?;
-                Err(self.refused(alloc, Refusal::RepeatedName(name)))
             }
             None => Ok(()),
         }

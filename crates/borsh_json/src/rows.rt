@@ -6,7 +6,7 @@ ghost use Rattle.std.specs.Prelude.{IfErr, OnOk};
 
 use crate::definitions::Definitions;
 use crate::error::{JsonError, PartError, Refusal};
-use crate::kinds::{Kind, kind_of};
+use crate::kinds::Kind;
 use borsh_values::{Decoded, Node, Path, Paths, count_of, decode, elements_of, variant_of};
 use borsh_walks::Definition;
 use json::MAX_DEPTH;
@@ -63,7 +63,7 @@ fn list_rows<'a>(
 ) -> Result<Vec<Row<'a>>, PartError<'a>>
     ensures { IfErr result (IsPartError IsTooDeep) }
 {
-    let definitions = Definitions::new(alloc, map)?;
+    let mut definitions = Definitions::new(alloc, map)?;
     let mut rows = Vec::new(alloc);
     let mut paths = Paths::new(alloc, root);
     for node in nodes {
@@ -78,7 +78,7 @@ fn list_rows<'a>(
                 bytes: node.bytes,
                 path: paths.path(alloc)?,
                 name: node.name,
-                value: value_of(alloc, &definitions, node)?,
+                value: value_of(alloc, &mut definitions, node)?,
             })?;
         }
     }
@@ -88,10 +88,10 @@ fn list_rows<'a>(
 /// What the own bytes of a node say.
 fn value_of<'a>(
     alloc: Global,
-    definitions: &Definitions<'a>,
+    definitions: &mut Definitions<'a>,
     node: &Node<'a>,
 ) -> Result<String, AllocError> {
-    match kind_of(definitions, node.name, node.definition) {
+    match definitions.kind(alloc, node.name, node.definition)? {
         Kind::Number(number) => number.decimal(alloc, node.bytes),
         Kind::Bool => match node.bytes {
             [0] => String::from_str(alloc, "false"),
@@ -102,17 +102,25 @@ fn value_of<'a>(
             Ok(text) => format!(in alloc; "\"{text}\""),
             Err(_) => String::from_str(alloc, "not UTF-8"),
         },
-        Kind::Choice(_, variants) => {
-            match variant_of(node).and_then(|index| variants.get(index)) {
-                Some((_, variant, _)) => String::from_str(alloc, variant.as_str()),
-                None => Ok(String::new(alloc)),
-            }
-        }
-        Kind::ByteList(_) | Kind::Numbers(_, _) | Kind::List(_) => match count_of(node) {
+        Kind::Choice(_, _) | Kind::Optional(_) | Kind::Repeated(_) => variant_name(alloc, node),
+        Kind::ByteList(_) | Kind::Numbers(_) | Kind::List(_) | Kind::Map(_, _) => match count_of(
+            node,
+        ) {
             Some(1) => String::from_str(alloc, "1 element"),
             Some(count) => format!(in alloc; "{count} elements"),
             None => Ok(String::new(alloc)),
         },
         _ => Ok(String::new(alloc)),
+    }
+}
+
+/// The name of the variant of an enum; of other nodes nothing.
+fn variant_name(alloc: Global, node: &Node<'_>) -> Result<String, AllocError> {
+    let Definition::Enum { variants, .. } = node.definition else {
+        return Ok(String::new(alloc));
+    };
+    match variant_of(node).and_then(|index| variants.get(index)) {
+        Some((_, variant, _)) => String::from_str(alloc, variant.as_str()),
+        None => Ok(String::new(alloc)),
     }
 }

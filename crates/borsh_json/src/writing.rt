@@ -7,11 +7,12 @@ ghost use Rattle.std.specs.Prelude.{IfErr, IfOk, IsSome, OnOk, string_bytes};
 
 use crate::definitions::Definitions;
 use crate::error::{JsonError, PartError, Refusal};
-use crate::kinds::{Kind, kind_of, kind_of_primitive};
+use crate::kinds::{Elements, Entries, KeyKind, Kind, kind_of_primitive};
 use crate::numbers::Number;
-use crate::output::{Layout, Output};
-use crate::position::{Part, Parts, Place, path_of};
-use borsh_values::{Decoded, Node, Path, count_of, decode, elements_of, variant_of};
+use crate::order::{Ordered, first_descent};
+use crate::output::{LongNumbers, Output, Style};
+use crate::position::{Key, Part, Parts, Place, path_of, path_of_element};
+use borsh_values::{Decoded, Node, Path, PathStep, count_of, decode, elements_of, variant_of};
 use borsh_walks::{Declaration, Definition, DiscriminantValue, VariantName};
 use json::{MAX_DEPTH, Scratch, is_valid};
 use std::alloc::{AllocError, Global};
@@ -20,17 +21,24 @@ use std::str;
 
 /// The JSON text of the value of `root` that all of `bytes` is, by the definitions of `map` alone.
 ///
-/// Whole numbers of at most 64 bits are numbers, longer ones decimal strings; `bool` and `String` are themselves; structs are
-/// objects with their fields in order; tuples, structs without names for their fields, and lists are arrays; a variant
-/// without bytes is its name, another one `{"Name": value}`. Other primitives and lists of `u8` are hexadecimal
-/// strings, `"0x0a1f"`. A value of a type that has no bytes is `null`, unless it is a variant's.
+/// It is what `serde_json` prints for the same type, where that and the container determine the bytes:
+///
+/// - whole numbers are numbers, of 128 bits decimal strings, of 64 bits either, as `style` says; `bool` and `String` are themselves
+/// - structs are objects with their fields in order; a struct with one field without a name is that field
+/// - tuples, other structs without names for their fields, and lists are arrays
+/// - an `Option` is `null` or its value, and where its value may itself be `null` it is written as an enum
+/// - a variant without bytes is its name, another one `{"Name": value}`
+/// - a `BTreeMap` or `HashMap` whose keys are texts or numbers is an object, another one an array of pairs
+/// - lists of `u8` and other primitives are hexadecimal strings, `"0x0a1f"`; a value without bytes is `null`
 ///
 /// The text is JSON, and [`crate::from_json`] gives the bytes again. Refused with their path are bytes that the type
-/// itself would refuse (a `bool` of 2, a `String` that isn't UTF-8, a non-zero number of 0), definitions with two fields
-/// or two variants of one name, lists with a length whose elements have no bytes, and values that nest more than 128 deep.
+/// itself would refuse (a `bool` of 2, a `String` that isn't UTF-8, a non-zero number of 0, a set or map whose keys don't
+/// ascend), definitions with two fields or two variants of one name, lists with a length whose elements have no bytes, maps
+/// whose keys have none, and values that nest more than 128 deep. The order of keys is known of numbers, `bool`, texts, and of
+/// tuples, arrays, lists, ordered sets and maps, and options of these, and not of structs and enums.
 ///
 /// ```
-/// let text = to_json(alloc, "(u8, bool)", &definitions, &[7, 1], Layout::Compact)?;
+/// let text = to_json(alloc, "(u8, bool)", &definitions, &[7, 1], Style::COMPACT)?;
 /// assert_eq!(rt; text, "[7,true]");
 /// ```
 pub fn to_json<'a>(
@@ -38,7 +46,7 @@ pub fn to_json<'a>(
     root: &'a str,
     map: &'a BTreeMap<String, Definition>,
     bytes: &'a [u8],
-    layout: Layout,
+    style: Style,
 ) -> Result<String, JsonError<'a>>
     ensures member { OnOk result (Member (definitions_in map.now) root.now bytes.now) }
     ensures json { IfOk result (λ text. IsSome (document (string_bytes text))) }
@@ -46,7 +54,7 @@ pub fn to_json<'a>(
         (λ e. IsNoJsonReason (definitions_in map.now) root.now bytes.now e) }
 {
     match decode(alloc, root, map, bytes)? {
-        Decoded::Nodes(nodes) => Ok(write_nodes(alloc, root, map, nodes.as_slice(), layout)?),
+        Decoded::Nodes(nodes) => Ok(write_nodes(alloc, root, map, bytes, nodes.as_slice(), style)?),
         Decoded::NoMember(fault) => Err(JsonError::NoMember(fault)),
         Decoded::Ambiguous(name) => Err(JsonError::Ambiguous(name)),
     }
@@ -56,8 +64,9 @@ fn write_nodes<'a>(
     alloc: Global,
     root: &'a str,
     map: &'a BTreeMap<String, Definition>,
+    bytes: &'a [u8],
     nodes: &[Node<'a>],
-    layout: Layout,
+    style: Style,
 ) -> Result<String, PartError<'a>>
     ensures json { IfOk result (λ text. IsSome (document (string_bytes text))) }
     ensures refusal { IfErr result (IsPartError IsUnwritable) }
@@ -65,7 +74,9 @@ fn write_nodes<'a>(
     let mut writing = Writing {
         root,
         definitions: Definitions::new(alloc, map)?,
-        out: Output::new(alloc, layout),
+        long_numbers: style.long_numbers,
+        out: Output::new(alloc, style.layout),
+        bytes,
         nodes,
         outer: Vec::new(alloc),
         place: Place::new(Parts::Root(root)),
@@ -103,7 +114,9 @@ fn no_json<'a>(alloc: Global, root: &'a str) -> PartError<'a>
 struct Writing<'a, 'n> {
     root: &'a str,
     definitions: Definitions<'a>,
+    long_numbers: LongNumbers,
     out: Output,
+    bytes: &'a [u8],
     nodes: &'n [Node<'a>],
     outer: Vec<Place<'a>>,
     place: Place<'a>,
@@ -115,7 +128,10 @@ impl<'a, 'n> Writing<'a, 'n> {
     {
         for _ in 0..u64::MAX {
             match self.place.next_part() {
-                Some(part) => self.write_part(alloc, part)?,
+                Some(part) => {
+                    self.check_order(alloc)?;
+                    self.write_part(alloc, part)?;
+                }
                 None => {
                     self.close()?;
                     match self.outer.pop() {
@@ -131,55 +147,81 @@ impl<'a, 'n> Writing<'a, 'n> {
     /// Ends the brackets of the place.
     fn close(&mut self) -> Result<(), AllocError> {
         match self.place.parts {
-            Parts::Root(_) => Ok(()),
+            Parts::Root(_) | Parts::Newtype(_) | Parts::Some(_) => Ok(()),
             Parts::List(_, _) | Parts::Row(_) => self.out.end_array(),
-            Parts::Object(_) | Parts::Variant(_, _) => self.out.end_object(),
+            Parts::Object(_) | Parts::Entries(_, _) | Parts::Variant(_, _) => self.out.end_object(),
         }
     }
 
     fn write_part(&mut self, alloc: Global, part: Part<'a>) -> Result<(), PartError<'a>>
         ensures { IfErr result (IsPartError IsUnwritable) }
     {
-        if let Some(key) = part.key {
-            self.out.key(key)?;
+        match part.key {
+            Key::None => (),
+            Key::Name(name) => self.out.key(name)?,
+            Key::Entry(entries) => self.write_key(alloc, entries)?,
         }
         if part.may_be_empty && self.definitions.is_zero_size(part.name) {
             return Ok(self.out.null()?);
         }
-        let node = self.take_node(alloc)?;
-        if node.name != part.name {
-            return Err(self.refused(alloc, Refusal::OtherNodes));
-        }
-        self.check_names(alloc, &node)?;
-        match kind_of(&self.definitions, node.name, node.definition) {
+        let node = self.take_node(alloc, part.name)?;
+        match self.definitions.kind(alloc, node.name, node.definition)? {
             Kind::Number(_) | Kind::Bool | Kind::Bytes(_) => {
                 self.write_primitive(alloc, node.name, node.bytes)
             }
             Kind::Text => self.write_text(alloc, elements_of(&node)),
-            Kind::ByteList(_) => self.write_bytes(alloc, elements_of(&node)),
-            Kind::Numbers(name, size) => self.write_numbers(alloc, name, size, elements_of(&node)),
-            Kind::List(element) => self.open_list(alloc, &node, element),
+            Kind::ByteList(elements) => self.write_byte_list(alloc, elements, elements_of(&node)),
+            Kind::Numbers(elements) => self.write_numbers(alloc, elements, elements_of(&node)),
+            Kind::List(elements) => self.open_list(alloc, &node, elements),
+            Kind::Map(entries, order) => self.open_map(alloc, &node, entries, order),
             Kind::Row(_) => {
                 self.out.begin_array()?;
-                self.open(alloc, Parts::Row(node.definition))
+                self.open(alloc, Place::new(Parts::Row(node.definition)))
             }
+            Kind::Newtype(part) => self.open(alloc, Place::new(Parts::Newtype(part))),
             Kind::Object(fields) => {
                 self.out.begin_object()?;
-                self.open(alloc, Parts::Object(fields))
+                self.open(alloc, Place::new(Parts::Object(fields)))
             }
+            Kind::Optional(part) => match variant_of(&node) {
+                Some(0) => Ok(self.out.null()?),
+                _ => self.open(alloc, Place::new(Parts::Some(part))),
+            },
             Kind::Choice(_, variants) => self.open_variant(alloc, &node, variants),
+            Kind::Repeated(name) => {
+                let name = String::from_str(alloc, name)?;
+                Err(self.refused(alloc, Refusal::RepeatedName(name)))
+            }
         }
     }
 
-    fn take_node(&mut self, alloc: Global) -> Result<Node<'a>, PartError<'a>>
+    /// Refuses an element that isn't above the one before it, where elements have to ascend.
+    fn check_order(&mut self, alloc: Global) -> Result<(), PartError<'a>>
+        ensures { IfErr result (IsPartError IsUnwritable) }
+    {
+        let Some(ascent) = &mut self.place.ascent else {
+            return Ok(());
+        };
+        if let [node, ..] = self.nodes {
+            ascent.begin(node.offset);
+        }
+        if ascent.ascends(alloc, &self.definitions, self.bytes)? {
+            return Ok(());
+        }
+        let path = path_of_element(alloc, self.root, self.outer.as_slice(), &self.place)?;
+        Err(PartError::Refused(path, Refusal::Descends))
+    }
+
+    /// The next node, which has to be of this name.
+    fn take_node(&mut self, alloc: Global, name: &str) -> Result<Node<'a>, PartError<'a>>
         ensures { IfErr result (IsPartError IsUnwritable) }
     {
         match self.nodes {
-            [node, others @ ..] => {
+            [node, others @ ..] if node.name == name => {
                 self.nodes = others;
                 Ok(*node)
             }
-            [] => Err(self.refused(alloc, Refusal::OtherNodes)),
+            _ => Err(self.refused(alloc, Refusal::OtherNodes)),
         }
     }
 
@@ -194,14 +236,14 @@ impl<'a, 'n> Writing<'a, 'n> {
     }
 
     /// Begins the parts of a value, whose bracket was written.
-    fn open(&mut self, alloc: Global, parts: Parts<'a>) -> Result<(), PartError<'a>>
+    fn open(&mut self, alloc: Global, place: Place<'a>) -> Result<(), PartError<'a>>
         ensures { IfErr result (IsPartError IsUnwritable) }
     {
         if self.outer.len() >= MAX_DEPTH {
             return Err(self.refused(alloc, Refusal::TooDeep));
         }
         self.outer.push(self.place)?;
-        self.place = Place::new(parts);
+        self.place = place;
         Ok(())
     }
 
@@ -209,16 +251,66 @@ impl<'a, 'n> Writing<'a, 'n> {
         &mut self,
         alloc: Global,
         node: &Node<'a>,
-        element: &'a str,
+        elements: Elements<'a>,
     ) -> Result<(), PartError<'a>>
         ensures { IfErr result (IsPartError IsUnwritable) }
     {
         let count = self.count_of(alloc, node)?;
-        if self.definitions.is_zero_size(element) {
+        if elements.is_refused {
             return Err(self.refused(alloc, Refusal::EmptyElements));
         }
         self.out.begin_array()?;
-        self.open(alloc, Parts::List(element, count))
+        let parts = Parts::List(elements.name, count);
+        self.open(alloc, Place::in_order(parts, elements.order))
+    }
+
+    fn open_map(
+        &mut self,
+        alloc: Global,
+        node: &Node<'a>,
+        entries: Entries<'a>,
+        order: Ordered<'a>,
+    ) -> Result<(), PartError<'a>>
+        ensures { IfErr result (IsPartError IsUnwritable) }
+    {
+        let count = self.count_of(alloc, node)?;
+        self.out.begin_object()?;
+        let parts = Parts::Entries(entries, count);
+        self.open(alloc, Place::in_order(parts, Some(order)))
+    }
+
+    /// Writes the key of an entry, after whose node the value's follow.
+    fn write_key(&mut self, alloc: Global, entries: Entries<'a>) -> Result<(), PartError<'a>>
+        ensures { IfErr result (IsPartError IsUnwritable) }
+    {
+        // The node of the pair, which has no bytes of its own.
+        if let [_, others @ ..] = self.nodes {
+            self.nodes = others;
+        }
+        let node = self.take_node(alloc, entries.key)?;
+        match entries.key_kind {
+            KeyKind::Text => match str::from_utf8(elements_of(&node)) {
+                Ok(text) => Ok(self.out.key(text)?),
+                Err(_) => Err(self.refused_key(alloc, Refusal::NotUtf8)),
+            },
+            KeyKind::Number(number) => {
+                let text = number.decimal(alloc, node.bytes)?;
+                if number.is_non_zero && text.as_str() == "0" {
+                    return Err(self.refused_key(alloc, Refusal::Zero));
+                }
+                Ok(self.out.key(text.as_str())?)
+            }
+        }
+    }
+
+    /// The error of the key of the entry that was begun last.
+    fn refused_key(&self, alloc: Global, refusal: Refusal) -> PartError<'a>
+        ensures { IsUnwritable refusal → IsPartError IsUnwritable result }
+    {
+        match key_path(alloc, self.root, self.outer.as_slice(), &self.place) {
+            Ok(path) => PartError::Refused(path, refusal),
+            Err(_) => PartError::OutOfMemory,
+        }
     }
 
     fn open_variant(
@@ -236,30 +328,68 @@ impl<'a, 'n> Writing<'a, 'n> {
             return Ok(self.out.string(variant.as_str())?);
         }
         self.out.begin_object()?;
-        self.open(alloc, Parts::Variant(variant.as_str(), name.as_str()))
+        self.open(
+            alloc,
+            Place::new(Parts::Variant(variant.as_str(), name.as_str())),
+        )
     }
 
-    /// Writes a list of primitives of so many bytes.
+    /// Writes a list of primitives.
     fn write_numbers(
         &mut self,
         alloc: Global,
-        name: &'a str,
-        size: u8,
+        elements: Elements<'a>,
         bytes: &[u8],
     ) -> Result<(), PartError<'a>>
         ensures { IfErr result (IsPartError IsUnwritable) }
     {
-        let size = usize::from(size);
+        let size = usize::from(elements.size);
         if size == 0 {
             return Err(self.refused(alloc, Refusal::EmptyElements));
         }
+        self.check_ascent(alloc, elements, bytes)?;
         self.out.begin_array()?;
-        self.open(alloc, Parts::List(name, (bytes.len() / size) as u64))?;
+        let parts = Parts::List(elements.name, (bytes.len() / size) as u64);
+        self.open(alloc, Place::new(parts))?;
         for element in bytes.chunks_exact(size) {
             let _part = self.place.next_part();
-            self.write_primitive(alloc, name, element)?;
+            self.write_primitive(alloc, elements.name, element)?;
         }
         Ok(())
+    }
+
+    fn write_byte_list(
+        &mut self,
+        alloc: Global,
+        elements: Elements<'a>,
+        bytes: &[u8],
+    ) -> Result<(), PartError<'a>>
+        ensures { IfErr result (IsPartError IsUnwritable) }
+    {
+        self.check_ascent(alloc, elements, bytes)?;
+        self.write_bytes(alloc, bytes)
+    }
+
+    /// Refuses a primitive that isn't above the one before it, where these have to ascend.
+    fn check_ascent(
+        &self,
+        alloc: Global,
+        elements: Elements<'a>,
+        bytes: &[u8],
+    ) -> Result<(), PartError<'a>>
+        ensures { IfErr result (IsPartError IsUnwritable) }
+    {
+        let Some(order) = elements.order else {
+            return Ok(());
+        };
+        match first_descent(order, usize::from(elements.size), bytes) {
+            Some(index) => {
+                let mut path = path_of(alloc, self.root, self.outer.as_slice(), &self.place)?;
+                path.steps.push(PathStep::Element(index as u64))?;
+                Err(PartError::Refused(path, Refusal::Descends))
+            }
+            None => Ok(()),
+        }
     }
 
     fn write_primitive(
@@ -290,7 +420,7 @@ impl<'a, 'n> Writing<'a, 'n> {
         if number.is_non_zero && text.as_str() == "0" {
             return Err(self.refused(alloc, Refusal::Zero));
         }
-        if number.is_quoted() {
+        if number.is_quoted() || number.is_long() && self.long_numbers == LongNumbers::Quoted {
             Ok(self.out.string(text.as_str())?)
         } else {
             Ok(self.out.number(text.as_str())?)
@@ -324,22 +454,6 @@ impl<'a, 'n> Writing<'a, 'n> {
         Ok(self.out.string(text.as_str())?)
     }
 
-    /// Refuses two fields, or two variants, of one name.
-    fn check_names(&mut self, alloc: Global, node: &Node<'a>) -> Result<(), PartError<'a>>
-        ensures { IfErr result (IsPartError IsUnwritable) }
-    {
-        match self
-            .definitions
-            .repeated(alloc, node.name, node.definition)?
-        {
-            Some(name) => {
-                let name = String::from_str(alloc, name)?;
-                Err(self.refused(alloc, Refusal::RepeatedName(name)))
-            }
-            None => Ok(()),
-        }
-    }
-
     /// The error of the part that was begun last.
     fn refused(&self, alloc: Global, refusal: Refusal) -> PartError<'a>
         ensures { IsUnwritable refusal → IsPartError IsUnwritable result }
@@ -349,4 +463,16 @@ impl<'a, 'n> Writing<'a, 'n> {
             Err(_) => PartError::OutOfMemory,
         }
     }
+}
+
+/// The path of the key of the entry that was begun last.
+fn key_path<'a>(
+    alloc: Global,
+    root: &'a str,
+    outer: &[Place<'a>],
+    last: &Place<'a>,
+) -> Result<Path<'a>, AllocError> {
+    let mut path = path_of_element(alloc, root, outer, last)?;
+    path.steps.push(PathStep::Place(0))?;
+    Ok(path)
 }

@@ -16,13 +16,13 @@ const AFTER_SCHEMA: &str =
     "One definition a line: the root's first, the others by name. Names that aren't identifiers are quoted; bytes of\nnames that aren't printable ASCII are `\\x` and two digits. With --json the container as JSON, which `encode self` takes.";
 
 const AFTER_DECODE: &str =
-    "Whole numbers of up to 64 bits are JSON numbers, longer ones decimal strings; lists of u8 and other primitives are\nhexadecimal strings, \"0x..\"; a variant is \"Name\" or {\"Name\": value}; a value without bytes is null.";
+    "The JSON is what serde_json prints for the same type, where that and the container determine the bytes: a struct with one\nunnamed field is that field; an Option is null or its value, or an enum where the value may itself be null; a variant is\n\"Name\" or {\"Name\": value}; a map with texts or numbers as keys is an object. Lists of u8 and other primitives are\nhexadecimal strings, \"0x..\"; numbers of 128 bits are decimal strings; a value without bytes is null. Sets and maps whose\nkeys don't ascend are refused where the order is known: of numbers, bool, texts, and tuples, arrays, lists and options of\nthese, and not of structs and enums.";
 
 const AFTER_ENCODE: &str =
-    "Takes what `decode` prints, in any layout; fields may come in any order. With --hex the bytes are printed as\nhexadecimal digits and a line feed. With --with-schema the bytes of the container come first.";
+    "Takes what `decode` prints, in any layout; fields and entries may come in any order, and numbers of 64 bits may be\nstrings. With --hex the bytes are printed as hexadecimal digits and a line feed. With --with-schema the bytes of the\ncontainer come first.";
 
 const AFTER_MEMBER: &str =
-    "Prints `member`, or `no member`, the path where the bytes stop being a value of the container's root, and why.";
+    "Prints `member`, or `no member`, the path where the bytes stop being a value of the container's root, and why. The\ndefinitions alone decide; a type may refuse a member, as a `bool` of 2 or keys that don't ascend. With --strict such\nbytes are `not canonical`, as far as the names tell.";
 
 const AFTER_SHOW: &str =
     "A line for each number, text, count and tag: its offset, its bytes (the first 16), the path to it, its type, and what\nit says; on a terminal in colours, unless NO_COLOR is set.";
@@ -69,6 +69,10 @@ pub struct ValueRequest<'a> {
     pub with_schema: bool,
     /// Whether JSON is printed without white space.
     pub is_compact: bool,
+    /// Whether numbers of 64 bits are printed as JSON strings.
+    pub has_quoted_numbers: bool,
+    /// Whether a member that the type refuses is none.
+    pub is_strict: bool,
     /// Whether no colours are wanted.
     pub is_plain: bool,
 }
@@ -113,12 +117,22 @@ fn size_command<'a>(alloc: Global) -> Result<Command<'a>, AllocError> {
 fn decode_command<'a>(alloc: Global) -> Result<Command<'a>, AllocError> {
     on_bytes(alloc, "decode", "Prints a value as JSON")?
         .after_help(AFTER_DECODE)
-        .arg(flag(alloc, "compact", "Prints one line, without white space"))
+        .arg(flag(alloc, "compact", "Prints one line, without white space"))?
+        .arg(flag(
+            alloc,
+            "quoted",
+            "Prints numbers of 64 bits as strings, since JavaScript rounds them",
+        ))
 }
 
 fn member_command<'a>(alloc: Global) -> Result<Command<'a>, AllocError> {
-    let member = on_bytes(alloc, "member", "Checks that bytes are a value")?;
-    Ok(member.after_help(AFTER_MEMBER))
+    on_bytes(alloc, "member", "Checks that bytes are a value")?
+        .after_help(AFTER_MEMBER)
+        .arg(flag(
+            alloc,
+            "strict",
+            "Says no to bytes that the type refuses, as far as names tell",
+        ))
 }
 
 fn show_command<'a>(alloc: Global) -> Result<Command<'a>, AllocError> {
@@ -240,6 +254,8 @@ pub fn value_request_from<'a>(matches: &ArgMatches<'a>) -> Option<ValueRequest<'
         is_hex: inner.get_flag("hex"),
         with_schema: inner.get_flag("with-schema"),
         is_compact: inner.get_flag("compact"),
+        has_quoted_numbers: inner.get_flag("quoted"),
+        is_strict: inner.get_flag("strict"),
         is_plain: inner.get_flag("plain"),
     })
 }

@@ -9,9 +9,9 @@ use super::command::{Action, Request, ValueRequest, command, request_from, value
 use super::failure::{Failure, failure_line, usage_line};
 use super::values::{
     Schema, bytes_said, hex_line, json_text, member, no_container, own_schema, schema_from,
-    schema_in_front, schema_json, shown, with_schema,
+    schema_in_front, schema_json, shown, strict_member, with_schema,
 };
-use borsh_json::Layout;
+use borsh_json::{Layout, LongNumbers, Style};
 use clap::ArgMatches;
 use hex::FromHexError;
 use std::alloc::{AllocError, Global};
@@ -150,12 +150,7 @@ fn answer_value<'a, R: Env + Print + AllocGlobal>(
     let alloc = rt.alloc();
     match request.action {
         Action::Decode => {
-            let layout = if request.is_compact {
-                Layout::Compact
-            } else {
-                Layout::Pretty
-            };
-            let text = json_text(alloc, schema, request.value, value, layout)?;
+            let text = json_text(alloc, schema, request.value, value, style_of(request))?;
             print_bytes(rt, text.as_bytes())?;
             Ok(true)
         }
@@ -170,7 +165,11 @@ fn answer_value<'a, R: Env + Print + AllocGlobal>(
             Ok(true)
         }
         Action::Member => {
-            let Answer { is_yes, text } = member(alloc, schema, request.value, value)?;
+            let Answer { is_yes, text } = if request.is_strict {
+                strict_member(alloc, schema, request.value, value)?
+            } else {
+                member(alloc, schema, request.value, value)?
+            };
             print_bytes(rt, text.as_bytes())?;
             Ok(is_yes)
         }
@@ -180,6 +179,22 @@ fn answer_value<'a, R: Env + Print + AllocGlobal>(
             print_bytes(rt, text.as_bytes())?;
             Ok(true)
         }
+    }
+}
+
+/// How JSON is written.
+fn style_of(request: &ValueRequest<'_>) -> Style {
+    Style {
+        layout: if request.is_compact {
+            Layout::Compact
+        } else {
+            Layout::Pretty
+        },
+        long_numbers: if request.has_quoted_numbers {
+            LongNumbers::Quoted
+        } else {
+            LongNumbers::Plain
+        },
     }
 }
 

@@ -1,5 +1,5 @@
 // What is asked of a value by its container.
-ghost use Rattle.std.specs.Prelude.{◌≡◌, IfErr, IfOk, OnOk, Decides, Some, string_bytes};
+ghost use Rattle.std.specs.Prelude.{◌≡◌, IfErr, IfOk, OnOk, Decides, Some, false, string_bytes, true};
 ghost use Rattle.borsh.specs.Errors.{error_kind};
 ghost use Rattle.borsh_tool_commands.specs.Colors.{IsPainted};
 ghost use Rattle.borsh_tool_commands.specs.Colored.{has_colors, printed_colors};
@@ -18,7 +18,7 @@ use borsh::io::{Error, ErrorKind};
 use borsh::schema::{BorshSchemaContainer, Definition};
 use borsh::ser::write_two;
 use borsh::{BorshDeserialize, from_slice, schema_container_of, to_vec};
-use borsh_json::{JsonError, Layout, Row, from_json, rows_of, to_json};
+use borsh_json::{JsonError, Row, Style, check_strict, from_json, rows_of, to_json};
 use borsh_values::{Membership, is_member};
 use std::alloc::{AllocError, Global};
 use std::collections::BTreeMap;
@@ -121,7 +121,7 @@ pub fn schema_json<'a>(alloc: Global, path: &'a str, bytes: &[u8]) -> Result<Pla
 {
     let _schema = schema_from(alloc, path, bytes)?;
     let own = own_schema(alloc)?;
-    json_text(alloc, &own, path, bytes, Layout::Pretty)
+    json_text(alloc, &own, path, bytes, Style::PRETTY)
 }
 
 /// The failure that an error of decoding a container is.
@@ -140,14 +140,14 @@ pub(crate) fn no_container<'a>(path: &'a str, error: Error) -> Failure<'a>
 /// `OutOfMemory` if an allocation fails.
 ///
 /// ```
-/// let text = json_text(alloc, &schema, "value.borsh", bytes.as_slice(), Layout::Compact)?;
+/// let text = json_text(alloc, &schema, "value.borsh", bytes.as_slice(), Style::COMPACT)?;
 /// ```
 pub fn json_text<'a>(
     alloc: Global,
     schema: &Schema,
     path: &'a str,
     bytes: &[u8],
-    layout: Layout,
+    style: Style,
 ) -> Result<PlainText, Failure<'a>>
     ensures ok { OnOk result (Member (definitions_in schema.now.definitions)
         (string_bytes schema.now.root) bytes.now) }
@@ -159,7 +159,7 @@ pub fn json_text<'a>(
         schema.root.as_str(),
         &schema.definitions,
         bytes,
-        layout,
+        style,
     ) {
         Ok(json) => {
             let mut out = PlainText::new(alloc);
@@ -217,25 +217,68 @@ pub fn member<'a>(
     ensures err { IfErr result (IsNoAnswer (definitions_in schema.now.definitions)
         (string_bytes schema.now.root) path.now) }
 {
-    let mut text = PlainText::new(alloc);
     match is_member(alloc, schema.root.as_str(), &schema.definitions, bytes)? {
-        Membership::Member => {
-            text.push("member")?;
-            text.end_line()?;
-            Ok(Answer { is_yes: true, text })
-        }
+        Membership::Member => Ok(yes(alloc)?),
         Membership::NoMember(fault) => {
             let why = format!(in alloc; "{fault}")?;
-            text.push("no member: ")?;
-            text.push(why.as_str())?;
-            text.end_line()?;
-            Ok(Answer {
-                is_yes: false,
-                text,
-            })
+            Ok(no(alloc, "no member: ", why.as_str())?)
         }
         Membership::Ambiguous(name) => Err(no_value(alloc, path, JsonError::Ambiguous(name))),
     }
+}
+
+/// `member`, or `no member`, or `not canonical` if the type refuses the bytes as far as names tell, and why.
+///
+/// Returns `NotValue` if the container is ambiguous, and `OutOfMemory` if an allocation fails.
+///
+/// ```
+/// assert!(rt; !strict_member(alloc, &schema, "value.borsh", b"\x02")?.is_yes);
+/// ```
+pub fn strict_member<'a>(
+    alloc: Global,
+    schema: &Schema,
+    path: &'a str,
+    bytes: &[u8],
+) -> Result<Answer, Failure<'a>>
+    ensures ok { IfOk result (λ a. a.is_yes ≡ true → Member (definitions_in schema.now.definitions)
+        (string_bytes schema.now.root) bytes.now) }
+    ensures err { IfErr result (IsNoAnswer (definitions_in schema.now.definitions)
+        (string_bytes schema.now.root) path.now) }
+{
+    match check_strict(alloc, schema.root.as_str(), &schema.definitions, bytes) {
+        Ok(()) => Ok(yes(alloc)?),
+        Err(JsonError::NoMember(fault)) => {
+            let why = format!(in alloc; "{fault}")?;
+            Ok(no(alloc, "no member: ", why.as_str())?)
+        }
+        Err(JsonError::Refused(part, refusal)) => {
+            let why = format!(in alloc; "{part}: {refusal}")?;
+            Ok(no(alloc, "not canonical: ", why.as_str())?)
+        }
+        Err(error) => Err(no_value(alloc, path, error)),
+    }
+}
+
+fn yes(alloc: Global) -> Result<Answer, AllocError>
+    ensures { IfOk result (λ a. a.is_yes ≡ true) }
+{
+    let mut text = PlainText::new(alloc);
+    text.push("member")?;
+    text.end_line()?;
+    Ok(Answer { is_yes: true, text })
+}
+
+fn no(alloc: Global, what: &str, why: &str) -> Result<Answer, AllocError>
+    ensures { IfOk result (λ a. a.is_yes ≡ false) }
+{
+    let mut text = PlainText::new(alloc);
+    text.push(what)?;
+    text.push(why)?;
+    text.end_line()?;
+    Ok(Answer {
+        is_yes: false,
+        text,
+    })
 }
 
 /// What each byte of the value is, one line for each number, text, count and tag; in colours if `is_colored` is true.

@@ -1,7 +1,7 @@
 // What is checked of a value by its definitions.
 use super::definitions::{Definitions, text};
 use super::wrong::{Wrong, check, expect};
-use borsh_json::{JsonError, Layout, from_json, rows_of, to_json};
+use borsh_json::{JsonError, LongNumbers, Style, check_strict, from_json, rows_of, to_json};
 use borsh_values::{
     Decoded, Membership, Node, Paths, count_of, decode, elements_of, encode, encode_value,
     is_member, variant_of,
@@ -20,17 +20,23 @@ pub struct Root<'a> {
 }
 
 impl<'a> Root<'a> {
-    /// That the bytes are a value with this JSON, or after `! ` why they are none.
+    /// That the bytes are a value with this JSON, and the type takes them; or after `! ` why they are none.
     pub fn judge(&self, bytes: &[u8], json: &str) -> Result<(), Wrong> {
         if json.starts_with("! ") {
             return self.judge_refused(bytes, json);
         }
         self.judge_member(bytes)?;
+        expect(
+            self.alloc,
+            "check_strict",
+            self.strict(bytes)?.as_str(),
+            "taken",
+        )?;
         self.judge_lengths(bytes)?;
-        let written = self.json(bytes, Layout::Compact)?;
+        let written = self.json(bytes, Style::COMPACT)?;
         expect(self.alloc, "JSON", written.as_str(), json)?;
         self.judge_read(json, bytes)?;
-        let lines = self.json(bytes, Layout::Pretty)?;
+        let lines = self.json(bytes, Style::PRETTY)?;
         self.judge_read(lines.as_str(), bytes)?;
         self.judge_rows(bytes)
     }
@@ -40,19 +46,68 @@ impl<'a> Root<'a> {
         let alloc = self.alloc;
         expect(alloc, "is_member", self.member(bytes)?.as_str(), wanted)?;
         expect(alloc, "decode", self.nodes(bytes)?.as_str(), wanted)?;
-        let written = self.json(bytes, Layout::Compact)?;
+        let written = self.json(bytes, Style::COMPACT)?;
         expect(alloc, "to_json", written.as_str(), wanted)?;
+        expect(alloc, "check_strict", self.strict(bytes)?.as_str(), wanted)?;
         match rows_of(alloc, self.name, self.map, bytes) {
             Ok(_) => check(alloc, false, "rows_of", "rows"),
             Err(error) => expect(alloc, "rows_of", told(alloc, &error)?.as_str(), wanted),
         }
     }
 
-    /// That the bytes are a value, which has no JSON for this reason.
+    /// That the bytes are a value, which has no JSON for this reason, but is taken by the type.
     pub fn judge_without_json(&self, bytes: &[u8], wanted: &str) -> Result<(), Wrong> {
         self.judge_member(bytes)?;
-        let written = self.json(bytes, Layout::Compact)?;
+        expect(
+            self.alloc,
+            "check_strict",
+            self.strict(bytes)?.as_str(),
+            "taken",
+        )?;
+        let written = self.json(bytes, Style::COMPACT)?;
         expect(self.alloc, "JSON", written.as_str(), wanted)
+    }
+
+    /// That the bytes are a value by the definitions, which the type refuses for this reason.
+    pub fn judge_untaken(&self, bytes: &[u8], wanted: &str) -> Result<(), Wrong> {
+        self.judge_member(bytes)?;
+        expect(
+            self.alloc,
+            "check_strict",
+            self.strict(bytes)?.as_str(),
+            wanted,
+        )?;
+        let written = self.json(bytes, Style::COMPACT)?;
+        expect(self.alloc, "JSON", written.as_str(), wanted)
+    }
+
+    /// That the bytes are a value with this JSON where numbers of 64 bits are texts.
+    pub fn judge_quoted(&self, bytes: &[u8], json: &str) -> Result<(), Wrong> {
+        let style = Style {
+            long_numbers: LongNumbers::Quoted,
+            ..Style::COMPACT
+        };
+        expect(self.alloc, "JSON", self.json(bytes, style)?.as_str(), json)?;
+        self.judge_read(json, bytes)
+    }
+
+    /// That the bytes have a JSON, which is read as them, exactly if the type takes them as far as names tell.
+    pub fn judge_json(&self, bytes: &[u8]) -> Result<(), Wrong> {
+        let written = self.json(bytes, Style::COMPACT)?;
+        let strict = self.strict(bytes)?;
+        if strict.as_str() == "taken" {
+            self.judge_read(written.as_str(), bytes)
+        } else {
+            expect(self.alloc, "JSON", written.as_str(), strict.as_str())
+        }
+    }
+
+    /// `taken`, or why the type doesn't take the bytes.
+    pub fn strict(&self, bytes: &[u8]) -> Result<String, Wrong> {
+        match check_strict(self.alloc, self.name, self.map, bytes) {
+            Ok(()) => text(self.alloc, "taken"),
+            Err(error) => told(self.alloc, &error),
+        }
     }
 
     /// That a JSON text is read as these digits, or refused with the text after `! `.
@@ -151,8 +206,8 @@ impl<'a> Root<'a> {
     }
 
     /// The JSON of the bytes, or why there is none.
-    pub fn json(&self, bytes: &[u8], layout: Layout) -> Result<String, Wrong> {
-        match to_json(self.alloc, self.name, self.map, bytes, layout) {
+    pub fn json(&self, bytes: &[u8], style: Style) -> Result<String, Wrong> {
+        match to_json(self.alloc, self.name, self.map, bytes, style) {
             Ok(json) => Ok(json),
             Err(error) => told(self.alloc, &error),
         }

@@ -19,7 +19,13 @@ use std::collections::BTreeMap;
 use std::{fs, io};
 
 /// The files of `data/`.
-const FILES: [&str; 4] = ["json.tsv", "members.tsv", "nodes.tsv", "types.tsv"];
+const FILES: [&str; 5] = [
+    "json.tsv",
+    "formats.tsv",
+    "members.tsv",
+    "nodes.tsv",
+    "types.tsv",
+];
 
 /// A section whose rows are being judged.
 #[derive(Clone, Copy)]

@@ -11,6 +11,8 @@ use std::alloc::Global;
 ///
 /// - `value` ROOT HEX JSON..: a value and its JSON, both ways; or after `! ` why the bytes are none, by each call
 /// - `nojson` ROOT HEX REFUSAL..: a value without JSON
+/// - `refused` ROOT HEX REFUSAL..: a value by the definitions, which the type refuses
+/// - `quoted` ROOT HEX JSON..: a value and its JSON with numbers of 64 bits as texts
 /// - `member` ROOT HEX: a value, whose JSON isn't looked at
 /// - `text` ROOT HEX JSON..: another JSON text of a value; or after `! ` why the text is none
 /// - `nodes` ROOT HEX NODE..: the nodes of a value
@@ -48,6 +50,14 @@ fn judge_root(root: &Root<'_>, kind: &str, columns: &[&str]) -> Result<(), Wrong
             text_of(alloc, others)?.as_str(),
         ),
         "nojson" => root.judge_without_json(
+            bytes_of(alloc, first)?.as_slice(),
+            text_of(alloc, others)?.as_str(),
+        ),
+        "refused" => root.judge_untaken(
+            bytes_of(alloc, first)?.as_slice(),
+            text_of(alloc, others)?.as_str(),
+        ),
+        "quoted" => root.judge_quoted(
             bytes_of(alloc, first)?.as_slice(),
             text_of(alloc, others)?.as_str(),
         ),

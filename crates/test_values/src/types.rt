@@ -5,7 +5,6 @@ use super::random::member_of;
 use super::wrong::{Wrong, check};
 use borsh::from_slice;
 use borsh_check_lines::answer;
-use borsh_json::{JsonError, Layout, Refusal, to_json};
 use borsh_values::find_ambiguous;
 use std::alloc::Global;
 
@@ -15,13 +14,12 @@ const SEED: u64 = 88172645463325252;
 /// How many random values the type of a word has.
 const ROUNDS: u64 = 100;
 
-/// That so many random values of the root come back from their JSON.
+/// That so many random values of the root come back from their JSON, those that the type takes.
 pub fn judge_random(root: &Root<'_>, count: u64) -> Result<(), Wrong> {
     let mut state = SEED;
     for _ in 0..count {
         let bytes = member_of(root, &mut state)?;
-        let json = root.json(bytes.as_slice(), Layout::Compact)?;
-        root.judge_read(json.as_str(), bytes.as_slice())?;
+        root.judge_json(bytes.as_slice())?;
     }
     Ok(())
 }
@@ -60,8 +58,15 @@ fn judge_values(word: &str, root: &Root<'_>) -> Result<(), Wrong> {
 /// type, nor does it decode what isn't one where a byte is one greater.
 fn judge_typed(word: &str, root: &Root<'_>, bytes: &[u8]) -> Result<(), Wrong> {
     root.judge_member(bytes)?;
-    judge_json(root, bytes)?;
+    root.judge_json(bytes)?;
     root.judge_rows(bytes)?;
+    let is_taken = root.strict(bytes)?.as_str() == "taken";
+    check(
+        root.alloc,
+        is_read(word, root.alloc, bytes)? == is_taken,
+        "check_strict",
+        "the type says otherwise",
+    )?;
     for end in 0..bytes.len() {
         check_refused(word, root, &bytes[..end])?;
     }
@@ -80,21 +85,17 @@ fn judge_typed(word: &str, root: &Root<'_>, bytes: &[u8]) -> Result<(), Wrong> {
     Ok(())
 }
 
-/// That the JSON of the bytes is read as them. A list whose elements have no bytes has none.
-fn judge_json(root: &Root<'_>, bytes: &[u8]) -> Result<(), Wrong> {
-    match to_json(root.alloc, root.name, root.map, bytes, Layout::Compact) {
-        Ok(json) => root.judge_read(json.as_str(), bytes),
-        Err(JsonError::Refused(_, Refusal::EmptyElements)) => Ok(()),
-        Err(_) => check(root.alloc, false, "to_json", "an error"),
-    }
-}
-
 /// That neither the definitions nor the type has this value.
 fn check_refused(word: &str, root: &Root<'_>, bytes: &[u8]) -> Result<(), Wrong> {
     let alloc = root.alloc;
     check(alloc, !root.has(bytes)?, "is_member", "it is a value")?;
+    let is_read = is_read(word, alloc, bytes)?;
+    check(alloc, !is_read, "the type", "it is decoded")
+}
+
+/// Whether the type of a word decodes the bytes.
+fn is_read(word: &str, alloc: Global, bytes: &[u8]) -> Result<bool, Wrong> {
     let digits = digits_of(alloc, bytes)?;
     let line = format!(in alloc; "read {word} {digits}")?;
-    let is_read = answer(alloc, line.as_bytes())?.starts_with(b"ok");
-    check(alloc, !is_read, "the type", "it is decoded")
+    Ok(answer(alloc, line.as_bytes())?.starts_with(b"ok"))
 }

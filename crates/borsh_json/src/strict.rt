@@ -1,0 +1,164 @@
+// Whether a type takes a member, as far as names tell.
+ghost use Rattle.borsh_walks.specs.Container.{Member};
+ghost use Rattle.borsh_walks.specs.Definitions.{definitions_in};
+ghost use Rattle.borsh_json.specs.Errors.{IsNoJsonReason, IsPartError, IsUnwritable};
+ghost use Rattle.std.specs.Prelude.{IfErr, IfSome, OnOk};
+
+use crate::definitions::Definitions;
+use crate::error::{JsonError, PartError, Refusal};
+use crate::kinds::{Elements, Kind, kind_of_primitive};
+use crate::order::{Ascent, first_descent};
+use borsh_values::{Decoded, Node, PathStep, Paths, decode, elements_of};
+use borsh_walks::Definition;
+use std::alloc::{AllocError, Global};
+use std::collections::BTreeMap;
+use std::str;
+
+/// Refuses bytes that are no member of `root`, or that its type would refuse as far as names tell: a `bool` that is neither 0
+/// nor 1, a `String` that isn't UTF-8, a non-zero number of 0, a set or map whose keys don't ascend or have no bytes, and a list
+/// with a length whose elements have no bytes.
+///
+/// The order of keys is known of numbers, `bool`, texts, and of tuples, arrays, lists, ordered sets and maps, and options of
+/// these. Keys of other types, as structs and enums, are taken in any order.
+///
+/// ```
+/// assert!(rt; check_strict(alloc, "bool", &definitions, &[1]).is_ok());
+/// assert!(rt; check_strict(alloc, "bool", &definitions, &[2]).is_err());
+/// ```
+pub fn check_strict<'a>(
+    alloc: Global,
+    root: &'a str,
+    map: &'a BTreeMap<String, Definition>,
+    bytes: &'a [u8],
+) -> Result<(), JsonError<'a>>
+    ensures member { OnOk result (Member (definitions_in map.now) root.now bytes.now) }
+    ensures reason { IfErr result
+        (λ e. IsNoJsonReason (definitions_in map.now) root.now bytes.now e) }
+{
+    match decode(alloc, root, map, bytes)? {
+        Decoded::Nodes(nodes) => Ok(check_nodes(alloc, root, map, bytes, nodes.as_slice())?),
+        Decoded::NoMember(fault) => Err(JsonError::NoMember(fault)),
+        Decoded::Ambiguous(name) => Err(JsonError::Ambiguous(name)),
+    }
+}
+
+fn check_nodes<'a>(
+    alloc: Global,
+    root: &'a str,
+    map: &'a BTreeMap<String, Definition>,
+    bytes: &'a [u8],
+    nodes: &[Node<'a>],
+) -> Result<(), PartError<'a>>
+    ensures { IfErr result (IsPartError IsUnwritable) }
+{
+    let mut definitions = Definitions::new(alloc, map)?;
+    let mut paths = Paths::new(alloc, root);
+    // Of each node that the next one is in, where its elements have to ascend.
+    let mut open: Vec<Option<Ascent<'a>>> = Vec::new(alloc);
+    for node in nodes {
+        paths.enter(node)?;
+        open.truncate(node.depth);
+        if let Some(Some(ascent)) = open.last_mut() {
+            ascent.begin(node.offset);
+            if !ascent.ascends(alloc, &definitions, bytes)? {
+                return Err(PartError::Refused(paths.path(alloc)?, Refusal::Descends));
+            }
+        }
+        let kind = definitions.kind(alloc, node.name, node.definition)?;
+        if let Some(Wrong { index, refusal }) = wrong_in(node, kind) {
+            let mut path = paths.path(alloc)?;
+            if let Some(index) = index {
+                path.steps.push(PathStep::Element(index as u64))?;
+            }
+            return Err(PartError::Refused(path, refusal));
+        }
+        open.push(ascent_of(kind))?;
+    }
+    Ok(())
+}
+
+/// Where the parts of a value of this kind have to ascend.
+fn ascent_of<'a>(kind: Kind<'a>) -> Option<Ascent<'a>> {
+    match kind {
+        Kind::List(elements) => elements.order.map(Ascent::new),
+        Kind::Map(_, order) => Some(Ascent::new(order)),
+        _ => None,
+    }
+}
+
+/// What is wrong with the own bytes of a node, and of a list with which element.
+#[derive(Drop)]
+struct Wrong {
+    index: Option<usize>,
+    refusal: Refusal,
+}
+
+/// What a type refuses of the own bytes of a node.
+fn wrong_in(node: &Node<'_>, kind: Kind<'_>) -> Option<Wrong>
+    ensures { IfSome result (λ w. IsUnwritable w.refusal) }
+{
+    match kind {
+        Kind::Number(_) | Kind::Bool => wrong_number(node.name, node.bytes, None),
+        Kind::Text => match str::from_utf8(elements_of(node)) {
+            Ok(_) => None,
+            Err(_) => Some(Wrong {
+                index: None,
+                refusal: Refusal::NotUtf8,
+            }),
+        },
+        Kind::ByteList(elements) | Kind::Numbers(elements) => {
+            wrong_element(elements, elements_of(node))
+        }
+        Kind::List(elements) if elements.is_refused => Some(Wrong {
+            index: None,
+            refusal: Refusal::EmptyElements,
+        }),
+        _ => None,
+    }
+}
+
+/// What is wrong with a number or `bool` of this name.
+fn wrong_number(name: &str, bytes: &[u8], index: Option<usize>) -> Option<Wrong>
+    ensures { IfSome result (λ w. IsUnwritable w.refusal) }
+{
+    match kind_of_primitive(name, bytes.len().min(255) as u8) {
+        Kind::Bool if bytes != [0u8].as_slice() && bytes != [1u8].as_slice() => Some(Wrong {
+            index,
+            refusal: Refusal::NotBool,
+        }),
+        Kind::Number(number) if number.is_non_zero && bytes.iter().all(|byte| *byte == 0) => {
+            Some(Wrong {
+                index,
+                refusal: Refusal::Zero,
+            })
+        }
+        _ => None,
+    }
+}
+
+/// What is wrong with the elements of a list, which are primitives.
+fn wrong_element(elements: Elements<'_>, bytes: &[u8]) -> Option<Wrong>
+    ensures { IfSome result (λ w. IsUnwritable w.refusal) }
+{
+    let size = usize::from(elements.size);
+    if size == 0 {
+        return None;
+    }
+    if let Some(order) = elements.order
+        && let Some(index) = first_descent(order, size, bytes)
+    {
+        return Some(Wrong {
+            index: Some(index),
+            refusal: Refusal::Descends,
+        });
+    }
+    let mut index: usize = 0;
+    for element in bytes.chunks_exact(size) {
+        let wrong = wrong_number(elements.name, element, Some(index));
+        if wrong.is_some() {
+            return wrong;
+        }
+        index = index.saturating_add(1);
+    }
+    None
+}
