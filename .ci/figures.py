@@ -10,7 +10,7 @@ import sys
 CLAUSE = re.compile(r"\s*(ensures|requires|ghost (?!use)\w+)\b[^{;]*\{")
 TOP = pathlib.Path(__file__).resolve().parent.parent
 
-# What may not be passed.
+# What may not be passed. The lines are to come down to 31,000, and those of tests and examples to 9,000.
 BARS = {
     "crates": 26,
     "lines of .rt": 33800,
