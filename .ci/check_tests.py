@@ -1,10 +1,12 @@
 #!/usr/bin/env python3
-"""Checks docs/TESTS.md, which says what each section of the rows and each test function shows.
+"""Checks docs/TESTS.md and docs/original-tests.txt against the tests.
 
-It has a heading `## PATH` for each file of rows or of test functions, and below it a table `| Section | Rows | The original's tests |`,
-or `| Test | The original's tests |`. Each section and each test function of the files has one line there, with the number of its
-rows, and each file its heading. docs/original-tests.txt lists the original's tests: the path of a file, then its tests,
-indented. Each of them stands in a line of these tables behind its file, or in the table under `## Left out`.
+The tables of docs/TESTS.md have each file of rows, `| `CRATE/FILE` | NUMBER | ..`, and each crate with test functions,
+`| `CRATE` | NUMBER | ..`, once with the number of its rows or functions, and each reason for which tests of the original are left
+out, `| REASON | NUMBER |`.
+
+docs/original-tests.txt has the paths of the original's files of tests; below each, indented by two, names of tests; below these,
+indented by four, where they are tested here: `PATH: SECTION` of a file of rows, `PATH: FUNCTION`, or `left out: REASON`.
 """
 
 import pathlib
@@ -15,19 +17,6 @@ TOP = pathlib.Path(__file__).resolve().parent.parent
 TEST = re.compile(r"#\[test\]\s+fn (\w+)\(")
 
 
-def original_tests():
-    """The tests of the original, as `path: test`."""
-    tests, path = set(), None
-    for line in (TOP / "docs/original-tests.txt").read_text(encoding="utf-8").splitlines():
-        if line.startswith("#") or not line.strip():
-            continue
-        if line.startswith(" "):
-            tests.add(f"{path}: {line.strip()}")
-        else:
-            path = line.strip().rstrip(":")
-    return tests
-
-
 def sections(file):
     """The sections of a file of rows, with the number of their rows."""
     counts, current, in_heading = {}, None, False
@@ -36,83 +25,82 @@ def sections(file):
             if not in_heading:
                 current = line[2:]
                 counts[current] = counts.get(current, 0)
-            in_heading = True
-            continue
-        in_heading = False
-        if line:
+        elif line:
             counts[current] += 1
+        in_heading = line.startswith("# ")
     return counts
 
 
-def actual():
-    """What the tables have to list: for each file its sections with their rows, or its test functions."""
-    files = {}
-    for file in sorted(TOP.glob("crates/test_*/data/*.tsv")):
-        files[str(file.relative_to(TOP))] = {name: str(rows) for name, rows in sections(file).items()}
-    for file in sorted(TOP.glob("crates/*/src/**/*.rt")):
-        tests = TEST.findall(file.read_text(encoding="utf-8"))
-        if tests:
-            files[str(file.relative_to(TOP))] = {name: None for name in tests}
-    return files
+def tests():
+    """Of each file its sections with the number of their rows, or its test functions, each counting as one."""
+    files = {file: sections(file) for file in TOP.glob("crates/test_*/data/*.tsv")}
+    for file in TOP.glob("crates/*/src/**/*.rt"):
+        found = TEST.findall(file.read_text(encoding="utf-8"))
+        if found:
+            files[file] = dict.fromkeys(found, 1)
+    return {str(file.relative_to(TOP)): counts for file, counts in files.items()}
 
 
-def named_in(cell):
-    """The tests of the original in a cell: `path`: `test`, `test`; `path`: `test`."""
-    path = None
-    for word in re.findall(r"`([^`]+)`", cell):
-        if word.endswith(".rs"):
-            path = word
-        else:
-            yield f"{path}: {word}"
+def short(path):
+    """`crates/CRATE/data/FILE.tsv` as `CRATE/FILE`, and `crates/CRATE/src/FILE.rt` as `CRATE`."""
+    _, crate, _, name = path.split("/", 3)
+    return f"{crate}/{name[:-4]}" if name.endswith(".tsv") else crate
 
 
-def said():
-    """What the tables list, and the tests of the original that they name."""
-    files, named, left_out, current = {}, [], [], None
-    for line in (TOP / "docs/TESTS.md").read_text(encoding="utf-8").splitlines():
-        if line.startswith("## "):
-            current = line[3:].strip("` ")
-            continue
-        cells = [cell.strip() for cell in line.strip().strip("|").split("|")]
-        if current is None or not line.startswith("|") or set(line) <= set("|-: ") or cells[0] in ("Section", "Test", "The original's tests"):
-            continue
-        originals = list(named_in(cells[0] if current == "Left out" else cells[-1]))
-        if current == "Left out":
-            left_out += originals
-            continue
-        named += originals
-        rows = cells[1] if len(cells) == 3 else None
-        files.setdefault(current, {})[cells[0].strip("`")] = rows
-    return files, named, left_out
+def original_tests():
+    """The tests of the original, `path: test`, each with where it is tested here."""
+    places, path, names, in_names = {}, None, [], False
+    for line in (TOP / "docs/original-tests.txt").read_text(encoding="utf-8").splitlines():
+        if line.startswith("    "):
+            for name in names:
+                places[f"{path}: {name}"].append(line.strip())
+        elif line.startswith("  "):
+            names = (names if in_names else []) + line.split()
+            for name in line.split():
+                places[f"{path}: {name}"] = []
+        elif line and not line.startswith("#"):
+            path = line
+        in_names = line.startswith("  ") and not line.startswith("    ")
+    return places
+
+
+def told():
+    """The first two columns of the rows of the tables in docs/TESTS.md that have a number in the second."""
+    text = (TOP / "docs/TESTS.md").read_text(encoding="utf-8")
+    return re.findall(r"^\| `?([^`|]+?)`? \| ([\d,]+) \|", text, re.M)
 
 
 def main():
+    files, originals = tests(), original_tests()
+    there = {f"{path}: {name}" for path, names in files.items() for name in names}
+    numbers = {}
+    for path, counts in files.items():
+        numbers[short(path)] = numbers.get(short(path), 0) + sum(counts.values())
+    left_out = 0
     wrong = []
-    there = actual()
-    files, named, left_out = said()
-    for path in sorted(there.keys() | files.keys()):
-        here, told = there.get(path, {}), files.get(path, {})
-        for name in sorted(here.keys() | told.keys()):
-            if name not in told:
-                wrong.append(f"{path}: `{name}` isn't listed")
-            elif name not in here:
-                wrong.append(f"{path}: there is no `{name}`")
-            elif here[name] != told[name]:
-                wrong.append(f"{path}: `{name}` has {here[name]} rows, and not {told[name]}")
-    original = original_tests()
-    for test in sorted(set(named + left_out) - original):
-        wrong.append(f"the original has no test `{test}`")
-    for test in sorted(original - set(named + left_out)):
-        wrong.append(f"`{test}` of the original is nowhere")
-    for test in sorted(set(named) & set(left_out)):
-        wrong.append(f"`{test}` is carried, and left out")
-    for problem in wrong:
-        print(f"docs/TESTS.md: {problem}")
+    for test, places in originals.items():
+        if not places:
+            wrong.append(f"docs/original-tests.txt: `{test}` is nowhere")
+        for place in places:
+            reason = re.match(r"left out: (.+)", place)
+            if reason:
+                numbers[reason[1]] = numbers.get(reason[1], 0) + 1
+                left_out += 1
+            elif place not in there:
+                wrong.append(f"docs/original-tests.txt: there is no `{place}`")
+    rows = [(name, int(number.replace(",", ""))) for name, number in told()]
+    if len(rows) != len(dict(rows)):
+        wrong.append("docs/TESTS.md: a name stands there twice")
+    for name, number in sorted(set(rows) ^ set(numbers.items())):
+        wrong.append(f"docs/TESTS.md: {name} has {numbers.get(name, 'nothing')}, and not {number}" if (name, number) in rows
+                     else f"docs/TESTS.md: {name} isn't listed with {number}")
+    for problem in dict.fromkeys(wrong):
+        print(problem)
     if wrong:
         sys.exit(1)
-    rows = sum(int(rows) for names in there.values() for rows in names.values() if rows)
-    tests = sum(1 for names in there.values() for rows in names.values() if rows is None)
-    print(f"docs/TESTS.md: {rows} rows and {tests} test functions; {len(set(named))} tests of the original, {len(set(left_out))} left out")
+    data = sum(sum(counts.values()) for path, counts in files.items() if path.endswith(".tsv"))
+    functions = sum(len(counts) for path, counts in files.items() if path.endswith(".rt"))
+    print(f"docs/TESTS.md: {data} rows and {functions} functions; {len(originals) - left_out} tests of the original, {left_out} left out")
 
 
 main()

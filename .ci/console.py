@@ -1,5 +1,6 @@
 #!/usr/bin/env python3
-"""console.py PROGRAM: runs the commands of the console blocks in crates/borsh_tool/tests/ with PROGRAM as `borsh`.
+"""console.py TOOL [CHECK]: runs the commands of the console blocks in crates/borsh_tool/tests/ with TOOL as `borsh`; with CHECK as
+`borsh_check`, those of docs/TOOL.md too.
 
 A command is a line `$ COMMAND`, and lines `> TEXT` that go on with it; bash runs it in a folder that the blocks of a file share.
 Below stands what it prints: each line of standard output as it is, each line of standard error behind `! `, and the exit status,
@@ -55,14 +56,18 @@ def printed_by(command, room, path):
 
 
 def main():
-    if len(sys.argv) != 2:
+    if len(sys.argv) not in (2, 3):
         sys.exit(__doc__.splitlines()[0])
+    files = sorted((TOP / "crates/borsh_tool/tests").glob("*.md"))
     failed = 0
     with tempfile.TemporaryDirectory() as tools:
         os.symlink(pathlib.Path(sys.argv[1]).resolve(), f"{tools}/borsh")
+        if len(sys.argv) == 3:
+            os.symlink(pathlib.Path(sys.argv[2]).resolve(), f"{tools}/borsh_check")
+            files.append(TOP / "docs/TOOL.md")
         pathlib.Path(f"{tools}/terminal").write_text(TERMINAL, encoding="utf-8")
         os.chmod(f"{tools}/terminal", 0o755)
-        for file in sorted((TOP / "crates/borsh_tool/tests").glob("*.md")):
+        for file in files:
             commands = list(commands_in(file.read_text(encoding="utf-8")))
             wrong = 0
             with tempfile.TemporaryDirectory() as room:

@@ -10,11 +10,12 @@ import sys
 CLAUSE = re.compile(r"\s*(ensures|requires|ghost (?!use)\w+)\b[^{;]*\{")
 TOP = pathlib.Path(__file__).resolve().parent.parent
 
-# What may not be passed. The lines are to come down to 31,000, and those of tests and examples to 9,000.
+# What may not be passed: of the lines, 31,000 and 900 for floats, `Arc`, `Cow` and what came with them; of those of tests and
+# examples, 9,000 and 200.
 BARS = {
     "crates": 26,
-    "lines of .rt": 33800,
-    "of these, tests and examples": 10900,
+    "lines of .rt": 31900,
+    "of these, tests and examples": 9200,
     "must-fail edits": 75,
     "crates with must-fail edits": 7,
 }

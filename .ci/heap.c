@@ -12,6 +12,8 @@
  *   WAS_REFUSED  granted if a request was refused since the last order to refuse
  *   ONE_ABOVE    granted if a single request since then was for more than n bytes
  *   SUM_ABOVE    granted if the requests since then were for more than n bytes together
+ *   NOTE_BLOCKS  from here on blocks are compared with those that there are now
+ *   ARE_OTHER    granted if there are more blocks or fewer than at the last such order
  *
  * A granted order has no memory behind it. An ordinary heap refuses every order, so a test that gives them makes its
  * calls there with ample memory.
@@ -30,7 +32,7 @@ int dprintf(int, const char *, ...);
 
 enum { ORDER_SHIFT = 60 };
 
-enum order { REFUSE_ONE = 1, REFUSE_REST, WAS_REFUSED, ONE_ABOVE, SUM_ABOVE };
+enum order { REFUSE_ONE = 1, REFUSE_REST, WAS_REFUSED, ONE_ABOVE, SUM_ABOVE, NOTE_BLOCKS, ARE_OTHER };
 
 /* How many requests are granted until one is refused, counting that one; 0 where none is. */
 static size_t countdown;
@@ -41,6 +43,9 @@ static size_t refused, largest, sum;
 
 /* Since the program began. */
 static size_t requests, all_refused, blocks;
+
+/* How many blocks there were when they were noted. */
+static size_t noted;
 
 static char granted_order;
 
@@ -65,6 +70,12 @@ static void *obey(size_t order, size_t n) {
         break;
     case SUM_ABOVE:
         granted = sum > n;
+        break;
+    case NOTE_BLOCKS:
+        noted = blocks;
+        break;
+    case ARE_OTHER:
+        granted = blocks != noted;
         break;
     }
     return granted ? &granted_order : 0;

@@ -17,6 +17,22 @@ def rows(lines):
     return sorted(found, key=lambda row: (row[0] != row[0], -row[0] if row[0] == row[0] else 0))
 
 
+# The colours of the chart, on light pages and on dark ones.
+STYLE = """<style>
+.page { fill: #ffffff; }
+text { font: 12px sans-serif; fill: #1f2328; }
+.longer { fill: #c0504d; }
+.shorter { fill: #4f81bd; }
+.one { stroke: #1f2328; }
+@media (prefers-color-scheme: dark) {
+.page { fill: #0d1117; }
+text { fill: #e6edf3; }
+.one { stroke: #e6edf3; }
+}
+</style>
+<rect class="page" width="100%" height="100%"/>"""
+
+
 def microseconds(time):
     if time != time:
         return "-"
@@ -33,22 +49,22 @@ def table(found):
 def chart(found):
     """Bars as long as the ratio, up to 2, with a line at 1."""
     found = [row for row in found if row[0] == row[0]]
-    height, left, scale = 18, 330, 220
+    height, left, scale = 18, 350, 220
     yield (
-        f'<svg xmlns="http://www.w3.org/2000/svg" width="{left + 2 * scale + 60}" '
-        f'height="{height * len(found) + 40}" font-family="sans-serif" font-size="12">'
+        f'<svg xmlns="http://www.w3.org/2000/svg" width="{left + 2 * scale + 60}" height="{height * len(found) + 40}">'
     )
-    yield '<text x="4" y="14">time of ours / time of the original; shorter is faster</text>'
+    yield STYLE
+    yield '<text x="4" y="14">time of ours / time of the original; shorter is faster, and bars end at 2</text>'
     for n, (ratio, kind, action, _, _) in enumerate(found):
         top = 24 + n * height
-        color = "#c0504d" if ratio > 1.05 else "#4f81bd"
+        kind_of_bar = "longer" if ratio > 1.05 else "shorter"
         text = f"{kind}, {action}".replace("&", "&amp;").replace("<", "&lt;")
         length = max(1, round(min(ratio, 2) * scale))
         yield f'<text x="{left - 6}" y="{top + 12}" text-anchor="end">{text}</text>'
-        yield f'<rect x="{left}" y="{top + 2}" width="{length}" height="{height - 5}" fill="{color}"/>'
+        yield f'<rect x="{left}" y="{top + 2}" width="{length}" height="{height - 5}" class="{kind_of_bar}"/>'
         yield f'<text x="{left + length + 4}" y="{top + 12}">{ratio:.2f}</text>'
     bottom = 24 + height * len(found)
-    yield f'<line x1="{left + scale}" y1="22" x2="{left + scale}" y2="{bottom}" stroke="black"/>'
+    yield f'<line x1="{left + scale}" y1="22" x2="{left + scale}" y2="{bottom}" class="one"/>'
     yield "</svg>"
 
 

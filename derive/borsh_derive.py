@@ -17,13 +17,15 @@ import os
 import re
 import sys
 
-from emit import GHOST_NAMES, WRITTEN, Place, Writer, blocks_of
+from emit import TUPLE, WRITTEN, Place, Writer, blocks_of
 from ghost import MODULES, NO_NAME, RESERVED
+from ghost_imports import GHOST_NAMES
+from marks import mark_of
 from refusal import Refusal
 from root import modules_of, refuse_taken, with_modules
-from rust_types import NO_ENCODING, arrays_in, bare_names, names_on_the_heap, without_encoding
+from rust_types import NO_ENCODING, arrays_in, bare_names, heads, names_on_the_heap, tuples_in, without_encoding
 from schema import with_schema
-from source import mark_of, read_module
+from source import read_module
 from tokens import tokens_of
 
 HEAD = '// Written by borsh_derive.py from '
@@ -44,6 +46,7 @@ def main(arguments):
         files = texts_of(folders[0])
         return checked(folders[0], files) if check else written(folders[0], files)
     except Refusal as refusal:
+        refusal.file = os.path.join(folders[0], refusal.file)
         print('borsh_derive: %s' % refusal, file=sys.stderr)
         return 1
 
@@ -53,7 +56,7 @@ def checked(folder, files):
     status = 0
     for name, text in sorted(files.items()):
         path = os.path.join(folder, 'src', name)
-        if not is_same(path, text):
+        if not with_file(name, is_same, path, text):
             print('borsh_derive: %s is not what would be written: run borsh_derive.py %s' % (path, folder))
             status = 1
     return status
@@ -63,8 +66,8 @@ def written(folder, files):
     """Writes the files that differ."""
     for name, text in sorted(files.items()):
         path = os.path.join(folder, 'src', name)
-        if not is_same(path, text):
-            write(path, text)
+        if not with_file(name, is_same, path, text):
+            with_file(name, write, path, text)
             print('borsh_derive: wrote %s' % path)
     return 0
 
@@ -77,11 +80,11 @@ def read(path):
         with open(path, 'rb') as file:
             content = file.read()
     except OSError as error:
-        raise Refusal(None, "can't be read: %s" % error.strerror, path)
+        raise Refusal(None, "can't be read: %s" % error.strerror)
     try:
         return content.decode('utf-8').replace('\r\n', '\n')
     except UnicodeDecodeError as error:
-        raise Refusal(content[:error.start].count(b'\n') + 1, 'the file is not UTF-8', path)
+        raise Refusal(content[:error.start].count(b'\n') + 1, 'the file is not UTF-8')
 
 
 def is_same(path, text):
@@ -97,7 +100,7 @@ def write(path, text):
         with open(path, 'w', encoding='utf-8', newline='') as file:
             file.write(text)
     except OSError as error:
-        raise Refusal(None, "can't be written: %s" % error.strerror, path)
+        raise Refusal(None, "can't be written: %s" % error.strerror)
 
 
 # ---- a crate
@@ -107,18 +110,21 @@ def texts_of(folder):
     sources = sources_of(folder)
     root = 'lib.rt' if 'lib.rt' in sources else 'main.rt'
     with_file(root, modules_of, sources[root])
-    places = [(place, marked) for place in places_of(folder, sources, root) for marked in place.module.marked]
+    modules = places_of(folder, sources, root)
+    places = [(place, marked) for place in modules for marked in place.module.marked]
     refuse_clashes(places, root)
+    refuse_unmarked(modules)
     refuse_cycles(places, root)
     files = {}
     for place, marked in places:
         files[file_name(place, marked)] = with_file(source_name(place, root), text_of, marked, place)
-    refuse_files(folder, sources, files)
+    refuse_files(sources, files)
+    if not files:
+        raise Refusal(None, 'no type is marked: write `// derive: borsh` above a `pub struct` or a `pub enum`', 'src')
     modules = sorted(name[:-3] for name in files)
     for module in modules:
         refuse_taken(sources[root], module, 'src/' + root)
-    if files:
-        files[root] = with_modules(sources[root], modules)
+    files[root] = with_modules(sources[root], modules)
     return files
 
 
@@ -138,13 +144,13 @@ def sources_of(folder):
     src = os.path.join(folder, 'src')
     if not os.path.isdir(src):
         reason = 'there is no such folder: give the folder of a crate, as crates/NAME'
-        raise Refusal(None, reason, src)
+        raise Refusal(None, reason, 'src')
     try:
         names = sorted(name for name in os.listdir(src) if name.endswith('.rt'))
     except OSError as error:
-        raise Refusal(None, "can't be read: %s" % error.strerror, src)
+        raise Refusal(None, "can't be read: %s" % error.strerror, 'src')
     if not {'lib.rt', 'main.rt'} & set(names):
-        raise Refusal(None, 'there is neither lib.rt nor main.rt', src)
+        raise Refusal(None, 'there is neither lib.rt nor main.rt', 'src')
     refuse_folders(src)
     return {name: with_file(name, read, os.path.join(src, name)) for name in names}
 
@@ -178,11 +184,11 @@ def places_of(folder, sources, root):
 
 
 def with_file(name, function, *arguments):
-    """Calls a function; a refusal gets the name of the file."""
+    """Calls a function; a refusal gets the name of the file, in the crate's folder."""
     try:
         return function(*arguments)
     except Refusal as refusal:
-        refusal.file = refusal.file if refusal.file and refusal.line is None else 'src/' + name
+        refusal.file = 'src/' + name
         raise
 
 
@@ -215,6 +221,32 @@ def refuse_clashes(places, root):
             raise Refusal(marked.line, reason, 'src/' + file)
         names[marked.name] = file
         files[own] = marked.name
+
+
+def refuse_unmarked(places):
+    """A field of a type of the crate that is neither marked nor implements the library's traits by hand."""
+    modules = {place.module_name: place.module for place in places}
+    by_hand = {name for module in modules.values() for name, traits in module.implemented.items()
+               if {'BorshType', 'BorshSerialize'} & traits}
+    for place in places:
+        for marked in place.module.marked:
+            own = {parameter.name for parameter in marked.parameters}
+            for field in [field for group in marked.groups() for field in group.encoded()]:
+                for name in heads(field.type, phantom=False):
+                    module, bare = declared_at(name, place)
+                    if name not in own and module in modules and bare in modules[module].unmarked and bare not in by_hand:
+                        reason = ('`%s`: the type `%s` of the field `%s` is not marked: mark `%s`, by `// derive: borsh` '
+                                  'above it, or implement the traits by hand')
+                        raise Refusal(field.line, reason % (marked.name, name, field.name, bare), 'src/' + place.file)
+
+
+def declared_at(name, place):
+    """The module of the crate that a name may be declared in, and its name there."""
+    if name in place.module.items or name not in place.module.imports:
+        return place.module_name, name
+    path = place.module.imports[name].split(' as ')[0].split('::')
+    inner = [part for part in path if part not in ('crate', 'super')] if path[0] in ('crate', 'super') else path[:0]
+    return inner[0] if len(inner) == 2 else None if inner else '', path[-1]
 
 
 def refuse_cycles(places, root):
@@ -255,9 +287,14 @@ def refuse_fields(marked, place):
     for group in marked.groups():
         encoded = group.encoded()
         most = WRITTEN if marked.variants is None else WRITTEN - 1
+        most = TUPLE if marked.is_only_encoded() else most
         if len(encoded) > most:
             reason = 'more than %d fields: put some of them into a struct of their own, whose bytes are the same'
             raise Refusal(encoded[most].line, reason % most)
+        for field in encoded:
+            if any(len(node.items) > TUPLE for node in tuples_in(field.type)):
+                reason = 'a tuple of more than %d: write some of them as a tuple within, whose bytes are the same'
+                raise Refusal(field.line, reason % TUPLE)
         for field in group.all:
             refuse_array_of_parameter(marked, field)
             refuse_length_on_the_heap(marked, field)
@@ -301,7 +338,7 @@ def refuse_array_of_parameter(marked, field):
     for array in arrays_in(field.type):
         names = bare_names(array.element)
         for parameter in marked.parameters:
-            if not parameter.constant and parameter.name in names:
+            if parameter.is_type and parameter.name in names:
                 reason = ('the parameter `%s` is by itself in an array, and the proofs need an array of a known size: '
                           'write `Vec<..>`, or a tuple')
                 raise Refusal(field.line, reason % parameter.name)
@@ -328,7 +365,7 @@ def refuse_bare_parameter(marked, field):
             raise Refusal(field.line, reason % (parameter.name, instead))
 
 
-def refuse_files(folder, sources, files):
+def refuse_files(sources, files):
     """Files that would be written over, and those whose type is gone."""
     for name in files:
         if name in sources and not sources[name].startswith(HEAD):

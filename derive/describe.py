@@ -8,7 +8,7 @@ from rust_types import Array, Path, Tuple, heads
 # lists of elements: the function from a list to its elements, if it isn't one of the prover's itself
 LISTS = {'Vec': '(λ list. list.items)', 'VecDeque': '(λ list. list.items)', 'LinkedList': None}
 
-HELD = ('Box', 'Rc')
+HELD = ('Box', 'Rc', 'Arc')
 
 
 def describes_fields(writer, fields):
@@ -19,7 +19,7 @@ def describes_fields(writer, fields):
     view = Term('(λ v. ', nested_pairs(['v.' + ghost_name(field.name) for field in fields]), ')')
     parts = terms.parts([field.type for field in fields], 'held.1', fields[0].line)
     function = 'λ defs held. describes_contramap'
-    return ghost_member('describes', function, [view, Applied('describes_parts', 'held.0', parts)], 4)
+    return ghost_member('describes', function, [view, Applied('describes_parts', 'held.0', parts)])
 
 
 class Terms:

@@ -4,10 +4,11 @@ import copy
 import re
 
 from ghost import KNOWN, RESERVED, Term, ghost_cases, ghost_member, ghost_name, ghost_term, nested_pairs, within_width
-from layout import (WIDTH, Group, arm, binding, block_arm, call, chain, chain_fits, conjunction, doc_line, flat,
+from ghost_imports import ghost_imports
+from layout import (Group, arm, binding, block_arm, call, chain, chain_fits, conjunction, doc_line, flat,
                     function_head, impl_head, import_lines, pattern, statement, struct_of, tuple_of, tuple_type,
                     type_layout, type_text, within)
-from rust_types import Array, arrays_in, grows, heads, is_never_empty
+from rust_types import Array, Path, arrays_in, grows, heads, is_never_empty
 from source import Fields
 
 NUMBERS = ('zero', 'one', 'two', 'three', 'four', 'five', 'six', 'seven', 'eight', 'nine', 'ten', 'eleven',
@@ -51,6 +52,9 @@ class Writer:
         self.taken = self.taken - self.used | {last_name(path) for path in self.imports}
         self.alias = free_name('Fields' if marked.variants is None else 'Variants', self.taken)
         self.list = free_name('FieldList' if marked.variants is None else 'VariantList', self.taken)
+        if not any(group.encoded() for group in marked.groups()):
+            self.list = self.alias
+        self.is_paired = is_paired(marked, place)
         self.sink = free_name('W', self.taken)
         self.source = free_name('R', self.taken)
 
@@ -122,9 +126,13 @@ class Writer:
     def where(self):
         return split_bounds(self.marked.where)
 
-    def empty_head(self, _codec):
-        """The head of `encodes_empty`."""
-        return '    fn encodes_empty() -> bool {'
+    def empty_head(self, codec):
+        """The head of `encodes_empty`. A type with a lifetime doesn't get the trait's clause where no argument names it."""
+        head = '    fn encodes_empty() -> bool {'
+        return with_clause(head, 'result ≡ %s.is_zero_width' % codec.flat()) if self.has_lifetime() else head
+
+    def has_lifetime(self):
+        return any(parameter.name.startswith("'") for parameter in self.marked.parameters)
 
     def block(self, trait, bound, rows):
         """An `impl` block."""
@@ -189,15 +197,24 @@ class Rest(Writer):
     def bounded(self, bound):
         return ["'a"] + super().bounded(bound)
 
-    def empty_head(self, codec):
-        """With its clause: a type with a lifetime doesn't get the trait's where no argument names it."""
-        return with_clause(super().empty_head(codec), 'result ≡ %s.is_zero_width' % codec.flat())
+    def has_lifetime(self):
+        return True
 
 
 def key_fact(name):
     """What a map asks of a parameter that is its key, as a variable of a ghost term."""
     return ['        let %s_key : IsKey %s.ordered %s.cmp %s.eq %s.codec =' % (name.lower(), name, name, name, name),
             '        record { key = %s.key; total = %s.total; matches = %s.matches_eq } in' % (name, name, name)]
+
+
+def is_paired(marked, place):
+    """Whether the only field of a struct is a list, a box or an option of a type of one's own. Its parts are the field
+    and `()`, since the prover stops with a fault of its own at such a type as the parts."""
+    fields = marked.fields.encoded() if marked.variants is None else []
+    if len(fields) != 1 or not isinstance(fields[0].type, Path):
+        return False
+    inner = [name for argument in fields[0].type.segments[-1][1] for name in heads(argument)]
+    return any(name in place.module.items or name in place.module.imports for name in inner)
 
 
 def free_name(name, taken):
@@ -244,54 +261,6 @@ def split_bounds(where):
         else:
             part += c
     return found + ([part.strip()] if part.strip() else [])
-
-
-# what specs have for ghost terms: the library's under one path, and std's, of which the gate wants operators from std
-# itself
-GHOST_OFFERED = {
-    'Rattle.borsh.specs.Derived': '''IsKey all_more all_one case_described choice_more choice_none contramap
-        contramap-lawful contramap_ordered describes_choice describes_contramap describes_elements describes_ordered
-        describes_parts describes_refused_if describes_row describes_sorted describes_stored describes_unit
-        enum_definitions enum_described enum_lawful_if fields first_variant fork_described from key_facts
-        later_variant left name_with named_described no_fields_described option_view result_view right
-        struct_described struct_parts unit_entries unit_struct unnamed_described unnamed_struct'''.split(),
-    'Rattle.std.specs.Prelude': ['codes', 'refl', '⊤', '◌∷◌', '[]', '◌≡◌'],
-}
-
-
-GHOST_NAMES = {name for names in GHOST_OFFERED.values() for name in names}
-
-
-def ghost_imports(writer, body):
-    """The imports of ghost terms."""
-    ghost = ' '.join(member + clause for member, clause in
-                     re.findall(r'ghost \w+ = \{(.*?)\};|ensures \{(.*?)\}\n', body, re.S))
-    rows = []
-    for path, offered in GHOST_OFFERED.items():
-        rows += ghost_lines(path, [name for name in offered if is_used(name, ghost)])
-    if writer.marked.variants is not None:
-        module = [writer.place.module_name] if writer.place.module_name else []
-        path = ['Rattle', writer.place.crate, 'specs', 'declared'] + module + [writer.marked.name]
-        rows += ghost_lines('.'.join(ghost_name(name) for name in path), [ghost_name(writer.marked.name)])
-    return rows
-
-
-def ghost_lines(path, names):
-    """The imports of these names, as many in a line as fit."""
-    rows = []
-    for name in names:
-        if rows and len(rows[-1] + ', ' + name) <= WIDTH:
-            rows[-1] = '%s, %s};' % (rows[-1][:-2], name)
-        else:
-            rows.append('ghost use %s.{%s};' % (path, name))
-    return rows
-
-
-def is_used(name, ghost):
-    """Whether ghost terms have a name; an operator `◌∷◌` is named without its circles."""
-    if not re.search(r'\w', name):
-        return name.strip('◌') in ghost
-    return re.search(r'(?<![\w.-])%s(?![\w-])' % re.escape(name), ghost)
 
 
 # ---- fields
@@ -363,7 +332,9 @@ def blocks_of(writer):
 # ---- structs
 
 def struct_blocks(writer):
-    blocks = [struct_fields, struct_meaning, struct_encoding, struct_parts, struct_decoding]
+    blocks = [struct_fields, struct_meaning, struct_encoding]
+    if not writer.marked.is_only_encoded():
+        blocks += [struct_parts, struct_decoding]
     if 'key' in writer.marked.options:
         blocks.append(struct_key)
     return [block(writer) for block in blocks]
@@ -378,7 +349,7 @@ def struct_fields(writer):
 
 def tuple_alias(writer, head, fields):
     """The declaration of a name for the tuple of fields; one that is too wide is named by its length."""
-    types = [type_layout(field.type) for field in fields]
+    types = [type_layout(field.type) for field in fields] + (['()'] if writer.is_paired else [])
     if len(fields) > TUPLE:
         types = types[:TUPLE - 1] + [Rest(writer, fields[TUPLE - 1:]).alias_use()]
     start = 'type %s = ' % head
@@ -391,17 +362,18 @@ def tuple_alias(writer, head, fields):
 def struct_view(writer):
     """The function from a value to the tuple of its fields."""
     fields = writer.marked.fields.encoded()
-    return Term('λ v. ' if fields else 'λ _. ', ghost_parts(['v.' + ghost_name(field.name) for field in fields]))
+    unit = ['tt'] if writer.is_paired else []
+    return Term('λ v. ' if fields else 'λ _. ', ghost_parts(['v.' + ghost_name(field.name) for field in fields] + unit))
 
 
 def struct_meaning(writer):
     """The view is that of `FromParts`; with parameters it is written out, since that impl asks for more of them."""
-    if writer.marked.parameters:
+    if writer.marked.parameters or writer.marked.is_only_encoded():
         view = struct_view(writer).within('(', ')')
     else:
         view = quote(writer, writer.own(), 'FromParts', '.view')
     laws_of_fields = quote(writer, writer.alias_use(), 'BorshType', '.lawful_if')
-    laws = ghost_member('lawful_if', 'from', [view.within('(contramap-lawful ', ')'), laws_of_fields], 4)
+    laws = ghost_member('lawful_if', 'from', [view.within('(contramap-lawful ', ')'), laws_of_fields])
     return meaning(writer, view, 'BorshType', laws, encodes_empty(writer), element_size(writer))
 
 
@@ -410,7 +382,7 @@ def encodes_empty(writer):
     the laws of all fields with it, and takes it longer."""
     marked, module = writer.marked, writer.place.module
     own = set(module.items) | set(module.imports)
-    if not marked.parameters and any(is_never_empty(field.type, own) for field in marked.fields.encoded()):
+    if all(parameter.name.startswith("'") for parameter in marked.parameters) and any(is_never_empty(field.type, own) for field in marked.fields.encoded()):
         return ' ' * 8 + 'false'
     calls = of_fields(writer, 'encodes_empty')
     return ' ' * 8 + conjunction(calls, 8, 8, 0)
@@ -453,7 +425,7 @@ def quote(writer, name, trait, member):
 def meaning(writer, view, trait, laws, empty, size):
     """`impl BorshType`: the codec of the parts, seen through the view, and the laws that follow from theirs."""
     codec = quote(writer, writer.alias_use(), trait, '.codec')
-    rows = [ghost_member('codec', 'contramap', [view, codec], 4), '', laws, '', writer.premises(), '',
+    rows = [ghost_member('codec', 'contramap', [view, codec]), '', laws, '', writer.premises(), '',
             writer.empty_head(codec), empty, '    }', '',
             '    fn element_size() -> usize {', size, '    }']
     return writer.block('BorshType', 'BorshType', rows)
@@ -467,6 +439,8 @@ def struct_encoding(writer):
         body = chain('self', [names[0][len('self'):], '.serialize(alloc, writer)'], 8)
     else:
         body = statement('', written_parts(writer, ['&' + name for name in names]), '', 8)
+        if len(names) > TUPLE and holds_whole(writer):
+            body = '        let last = %s(self);\n%s' % (writer.rest_name(), body)
     rows = [serialize_head(writer, used=bool(names)), body, '    }'] + struct_put(writer, names)
     block = writer.block('BorshSerialize', 'BorshSerialize', rows)
     return '\n\n'.join(rest_blocks(writer, writer.marked.fields.encoded()[TUPLE - 1:]) + [block])
@@ -475,8 +449,14 @@ def struct_encoding(writer):
 def written_parts(writer, parts, variant=''):
     """The call that writes parts in order; past twelve, the last ones are one part."""
     if len(parts) > TUPLE:
-        parts = parts[:TUPLE - 1] + [within('&', call(writer.rest_name(variant), parts[TUPLE - 1:]), '')]
+        last = '&last' if holds_whole(writer) else within('&', call(writer.rest_name(variant), parts[TUPLE - 1:]), '')
+        parts = parts[:TUPLE - 1] + [last]
     return call(writer.lib('write_' + NUMBERS[len(parts)]), parts + ['alloc', 'writer'])
+
+
+def holds_whole(writer):
+    """Whether the type for the last fields refers to the whole value. One with parameters can't quote the view of it."""
+    return writer.marked.variants is None and not writer.marked.parameters
 
 
 def rest_blocks(writer, fields, variant=''):
@@ -484,16 +464,22 @@ def rest_blocks(writer, fields, variant=''):
     if len(fields) < 2:
         return []
     rest = Rest(writer, fields, variant)
-    references = ["&'a " + type_text(field.type) for field in fields]
-    view = Term('(λ r. ', ['r.%d.now' % index for index in range(len(fields))], ')')
+    if holds_whole(writer):
+        held = ["&'a " + writer.own()]
+        parts_of = quote(writer, writer.own(), 'FromParts', '.view').flat()
+        view = Term('(λ r. ', ['(%s r.0.now).%d' % (parts_of, TUPLE - 1)], ')')
+        places = ['&self.0.%s' % field.name for field in fields]
+    else:
+        held = ["&'a " + type_text(field.type) for field in fields]
+        view = Term('(λ r. ', ['r.%d.now' % index for index in range(len(fields))], ')')
+        places = ['self.%d' % index for index in range(len(fields))]
     laws_of_fields = quote(rest, rest.alias_use(), 'BorshType', '.lawful_if')
-    laws = ghost_member('lawful_if', 'from', [view.within('(contramap-lawful ', ')'), laws_of_fields], 4)
-    places = ['self.%d' % index for index in range(len(fields))]
+    laws = ghost_member('lawful_if', 'from', [view.within('(contramap-lawful ', ')'), laws_of_fields])
     writes = [serialize_head(rest, used=True), statement('', written_parts(rest, places), '', 8), '    }']
     doc = 'The last fields of [`%s`]' % rest.owner
     return ['%s\n%s' % (doc_line(doc + ', in order.'), tuple_alias(rest, rest.alias_head(), fields)),
             '%s\n#[derive(Drop)]\n%s' % (doc_line(doc + ', which are written as one part.'),
-                        statement('', call('struct ' + rest.declared(), references), ';', 0)),
+                        statement('', call('struct ' + rest.declared(), held), ';', 0)),
             meaning(rest, view, 'BorshType', laws, encodes_empty(rest), chain_of_sizes(rest)),
             rest.block('BorshSerialize', 'BorshSerialize', writes)]
 
@@ -504,7 +490,7 @@ PUT = '    fn put(&self, room: &mut [u8]) -> Option<usize> {'
 
 def struct_put(writer, names):
     """The method `put`, which a struct with a text, a list or a map gains nothing from."""
-    if not 0 < len(names) <= TUPLE or any(grows(field.type) for field in writer.marked.fields.encoded()):
+    if writer.is_paired or not 0 < len(names) <= TUPLE or any(grows(field.type) for field in writer.marked.fields.encoded()):
         return []
     if len(names) == 1:
         body = chain('self', [names[0][len('self'):], '.put(room)'], 8)
@@ -531,13 +517,14 @@ def struct_parts(writer):
         return function_head('from_parts', ['%s: %s' % (name, writer.alias_use())], writer.own_layout(), 4)
 
     # the fields are taken apart in the parameter where they fit into its line
-    head = head_with(flat(tuple_of(names))) if 1 < len(names) <= TUPLE else ''
+    bound = names + (['_'] if writer.is_paired else [])
+    head = head_with(flat(tuple_of(bound))) if 1 < len(bound) <= TUPLE else ''
     is_whole = not head or '\n' in head
     if is_whole:
         head = head_with(parameter)
     rows = ['    type Parts = %s;' % writer.alias_use(), '', view, '', head]
-    if is_whole and len(names) > 1:
-        rows += taking_apart('fields', names, 8)
+    if is_whole and len(bound) > 1:
+        rows += taking_apart('fields', bound, 8)
     rows += [statement('', made(writer.marked.name, fields, names), '', 8), '    }']
     return writer.block('FromParts', 'BorshDeserialize', rows)
 
@@ -553,7 +540,7 @@ def struct_key(writer):
     fields = writer.marked.fields.encoded()
     view = Term('(λ v. ', nested_pairs(['v.' + ghost_name(field.name) for field in fields]), ')')
     ordered = quote(writer, pairs([type_text(field.type) for field in fields]), 'BorshKey', '.ordered')
-    member = ghost_member('ordered', 'contramap_ordered', [view, ordered], 4)
+    member = ghost_member('ordered', 'contramap_ordered', [view, ordered])
     rows = [member, '', '    ghost key = { Self.ordered.key };']
     return writer.block('BorshKey', 'BorshKey', rows)
 
@@ -572,6 +559,8 @@ def deserialize_head(writer, name, more):
 
 def enum_blocks(writer):
     blocks = [enum_variants, enum_cases, enum_meaning, enum_encoding, enum_decoding, enum_after_tag]
+    if 'key' in writer.marked.options:
+        blocks.append(enum_key)
     return [block(writer) for block in blocks]
 
 
@@ -676,7 +665,7 @@ def from_case(writer, variant, turns):
 def enum_meaning(writer):
     view = quote(writer, writer.own(), 'FromCases', '.view')
     variants = quote(writer, writer.alias_use(), 'Cases', '.variants')
-    laws = ghost_member('lawful_if', 'enum_lawful_if', [view, variants, Term('', ['refl'])], 4)
+    laws = ghost_member('lawful_if', 'enum_lawful_if', [view, variants, Term('', ['refl'])])
     return meaning(writer, view, 'Cases', laws, '        false', element_size(writer))
 
 
@@ -721,6 +710,24 @@ def matched(path, fields, names):
     for field in fields.encoded():
         rows.append(field.name if names[field] == field.name else '%s: %s' % (field.name, names[field]))
     return struct_of(path, rows + (['..'] if len(rows) < len(fields.all) else []))
+
+
+def enum_key(writer):
+    """`impl BorshKey` of an enum without fields: its derived equality and order with their laws, and for each variant that
+    it is equal to itself alone."""
+    rows = ['    ghost ordered = { record {']
+    for member, trait in (('codec', 'BorshType'), ('eq', 'PartialEq'), ('cmp', 'Ord')):
+        rows.append('      %s = ⟦<%s as %s>⟧.%s;' % (member, writer.own(), writer.lib(trait) if member == 'codec' else trait, member))
+    rows += ['      total = total-law;', '      matches = matches_eq-law;', '      key = elim [']
+    for variant in writer.marked.variants:
+        name = '%s.%s' % (ghost_name(writer.marked.name), ghost_name(variant.name))
+        others = [OTHER] if len(writer.marked.variants) > 1 else []
+        rows += ['        | %s ↦ elim [' % name, '          | %s ↦ (λ _. refl, λ _. refl)' % name] + others + ['        ]']
+    rows += ['      ];', '    } };', '', '    ghost key = { Self.ordered.key };']
+    return writer.block('BorshKey', 'BorshKey', rows)
+
+
+OTHER = '          | _ ↦ (λ e. absurd (true≢false (sym e)), λ h. absurd h)'
 
 
 def enum_decoding(writer):

@@ -78,26 +78,28 @@ class Applied:
     def flat(self):
         return '(%s)' % ' '.join([self.function] + [argument.flat() for argument in self.arguments])
 
-    def rows(self, indent, behind=''):
-        """The lines from column `indent` on. `rt fmt` gives all of them one indentation."""
-        line = ' ' * indent + self.flat() + behind
-        if len(line) <= WIDTH:
-            return [line]
-        return applied_rows(' ' * indent + '(' + self.function, self.arguments, ')' + behind, indent, False)
+    def words(self):
+        """The terms that a line may be broken between, with what stands around them."""
+        found = [Term('', ['(' + self.function])] + words_of(self.arguments)
+        return found[:-1] + [found[-1].within('', ')')]
 
 
-def applied_rows(start, arguments, behind, indent, is_filled):
-    """A function and its arguments. Behind the first line the arguments that fit into it; the others have lines of their
-    own, or, to fill lines, stand behind one another as well."""
+def words_of(arguments):
+    return [word for argument in arguments for word in (argument.words() if isinstance(argument, Applied) else [argument])]
+
+
+def filled_rows(start, arguments, behind):
+    """A function and its arguments, as many in a line as fit. Where a tuple doesn't fit into a line of its own, each of its
+    places has one."""
     rows = [start]
-    for index, argument in enumerate(arguments):
-        after = behind if index + 1 == len(arguments) else ''
-        text = argument.flat() + after
-        shares = is_filled or isinstance(argument, Term) and (len(rows) == 1 or ' ' not in text)
-        if shares and len(rows[-1]) + 1 + len(text) <= WIDTH:
+    words = words_of(arguments)
+    for index, word in enumerate(words):
+        after = behind if index + 1 == len(words) else ''
+        text = word.flat() + after
+        if len(rows[-1]) + 1 + len(text) <= WIDTH:
             rows[-1] += ' ' + text
         else:
-            rows += argument.rows(indent, after)
+            rows += word.rows(8, after)
     return rows
 
 
@@ -105,10 +107,9 @@ def ghost_term(node, indent):
     return '\n'.join(node.rows(indent))
 
 
-def ghost_member(name, function, arguments, indent):
+def ghost_member(name, function, arguments):
     """`ghost name = { function arguments };`, over as many lines as the arguments need."""
-    start = '%sghost %s = { %s' % (' ' * indent, name, function)
-    return '\n'.join(applied_rows(start, arguments, ' };', indent + 4, True))
+    return '\n'.join(filled_rows('    ghost %s = { %s' % (name, function), arguments, ' };'))
 
 
 def ghost_cases(name, arms, indent):

@@ -2,7 +2,7 @@
 
 import re
 
-from rust_types import Array, Constant, Tuple
+from rust_types import Array, Constant, Reference, Slice, Tuple
 
 WIDTH = 100
 
@@ -61,6 +61,10 @@ def type_layout(tree):
     """A type as a text or a group."""
     if isinstance(tree, Constant):
         return tree.text
+    if isinstance(tree, Reference):
+        return within('&%s ' % tree.lifetime, type_layout(tree.type), '')
+    if isinstance(tree, Slice):
+        return within('[', type_layout(tree.element), ']')
     if isinstance(tree, Array):
         return within('[', type_layout(tree.element), '; %s]' % tree.length)
     if isinstance(tree, Tuple):

@@ -28,18 +28,32 @@ class Array:
         self.names = names
 
 
+class Reference:
+    """`&'a T`, where `T` may be `str` or a slice: its element is within a `Slice`."""
+
+    def __init__(self, lifetime, type):
+        self.lifetime = lifetime
+        self.type = type
+
+
+class Slice:
+    """`[T]`, behind a reference."""
+
+    def __init__(self, element):
+        self.element = element
+
+
 class Constant:
-    """An argument that is a number or a block, as in `Case<3, u8>`."""
+    """An argument that is a number, a block or a lifetime, as in `Case<3, u8>`."""
 
     def __init__(self, text):
         self.text = text
 
 
 # what can't be the type of a field, by its first token
-BORROWS = 'the lifetime `%s`: a value that borrows is never decoded, so hold the values themselves'
+BORROWS = 'the lifetime `%s` of an enum: a value that borrows is never decoded, so hold the values themselves'
 FUNCTION = 'a function pointer has no encoding: hold an enum of the functions that it may be, or write `// skip` above'
 NOT_DECODED = {
-    '&': 'a reference is never decoded: hold the value itself, a `String` or `Vec<..>`, or a `Box` or an `Rc` of it',
     '*': 'a raw pointer has no encoding: hold the value itself, or a `Box` or an `Rc` of it',
     '!': 'the type `!` has no values: leave the field out',
     'dyn': 'a trait object has no encoding: hold an enum of the types that it may be, or a type parameter',
@@ -51,14 +65,11 @@ NOT_DECODED = {
 }
 
 # types of Rust that the library has no encoding of, and what to hold in their place
-SHARED = 'threads share no values here: write `Rc<..>`, or hold the value itself'
+SHARED = 'hold the value itself, or an `Arc` of it'
 INSIDE = "the contents can change behind the proof's back: hold the value itself"
 NO_ENCODING = {
-    'f32': 'there are no floats here: hold its bits, as a `u32`',
-    'f64': 'there are no floats here: hold its bits, as a `u64`',
     'char': 'hold its number, as a `u32`, or a `String`',
-    'str': 'write `String`, or `BoxedStr` for `Box<str>` and `RcStr` for `Rc<str>`',
-    'Arc': SHARED,
+    'str': 'write `String`, or `BoxedStr` for `Box<str>`, `RcStr` for `Rc<str>` and `ArcStr` for `Arc<str>`',
     'Mutex': SHARED,
     'RwLock': SHARED,
     'Cell': INSIDE,
@@ -87,7 +98,9 @@ def parse_any(reader):
     if token.text in NOT_DECODED:
         raise Refusal(token.line, NOT_DECODED[token.text])
     if token.kind == 'lifetime':
-        raise Refusal(token.line, BORROWS % token.text)
+        raise Refusal(token.line, 'the lifetime `%s` where a type is expected' % token.text)
+    if token.text == '&':
+        return parse_reference(reader)
     if token.text == '(':
         return parse_tuple(reader)
     if token.text == '[':
@@ -95,6 +108,26 @@ def parse_any(reader):
     if token.kind == 'word':
         return parse_path(reader)
     raise Refusal(token.line, '`%s` begins no type' % token.shown())
+
+
+def parse_reference(reader):
+    """`&'a T`: a type with a field of such a type is only encoded."""
+    line = reader.take('&').line
+    if reader.peek().kind != 'lifetime':
+        reason = ('a reference without a lifetime: write `&\'a ..` and give the type the parameter `\'a`; it is encoded then, '
+                  'and not decoded')
+        raise Refusal(line, reason)
+    lifetime = reader.next().text
+    if reader.is_next('mut'):
+        raise Refusal(line, 'a `&mut` in a field is not taken: hold a `&` of it, or the value itself')
+    if reader.is_next('['):
+        start = reader.place
+        reader.take('[')
+        element = parse_type(reader)
+        if reader.skip(']'):
+            return Reference(lifetime, Slice(element))
+        reader.place = start
+    return Reference(lifetime, parse_type(reader))
 
 
 def parse_tuple(reader):
@@ -115,7 +148,7 @@ def parse_array(reader):
     element = parse_type(reader)
     if not reader.skip(';'):
         reason = ('a slice without a length has no place in a field: write `Vec<..>` or `[..; N]`, or `BoxedSlice<..>` '
-                  'for `Box<[..]>` and `RcSlice<..>` for `Rc<[..]>`')
+                  'for `Box<[..]>`, `RcSlice<..>` for `Rc<[..]>` and `ArcSlice<..>` for `Arc<[..]>`')
         raise Refusal(line, reason)
     length = reader.until(']')
     reader.take(']')
@@ -148,7 +181,7 @@ def parse_segment(reader):
 
 def parse_argument(reader):
     token = reader.peek()
-    if token.kind == 'number':
+    if token.kind in ('number', 'lifetime'):
         return Constant(reader.next().text)
     if token.text == '{':
         return Constant('{ %s }' % joined(reader.group()[1:-1]))
@@ -156,17 +189,19 @@ def parse_argument(reader):
 
 
 # types of the library whose values lie in memory of their own
-HELD = ('Box', 'Rc', 'Vec', 'VecDeque', 'LinkedList', 'BTreeMap', 'BTreeSet', 'HashMap', 'HashSet', 'IndexMap',
-        'IndexSet', 'BoxedSlice', 'RcSlice', 'PhantomData')
+HELD = ('Box', 'Rc', 'Arc', 'Vec', 'VecDeque', 'LinkedList', 'BTreeMap', 'BTreeSet', 'HashMap', 'HashSet', 'IndexMap',
+        'IndexSet', 'BoxedSlice', 'RcSlice', 'ArcSlice', 'PhantomData')
 
 
 # types whose encodings are never empty, whatever their arguments are
 NEVER_EMPTY = {'bool', 'String', 'Vec', 'Option', 'Result', 'u8', 'u16', 'u32', 'u64', 'u128', 'usize', 'i8', 'i16',
-               'i32', 'i64', 'i128', 'isize'}
+               'i32', 'i64', 'i128', 'isize', 'f32', 'f64'}
 
 
 def is_never_empty(tree, own):
     """Whether no encoding of a type is empty, by its text alone; `own` has the names that mean something else here."""
+    if isinstance(tree, Reference):
+        return is_counted(tree.type) or is_never_empty(tree.type, own)
     if isinstance(tree, Path):
         name = tree.segments[0][0]
         return len(tree.segments) == 1 and name in NEVER_EMPTY and name not in own
@@ -203,14 +238,16 @@ def names_on_the_heap(tree):
         name, arguments = tree.segments[-1]
         inner = heads if name in HELD else names_on_the_heap
         return [found for argument in arguments for found in inner(argument)] if name != 'PhantomData' else []
+    if isinstance(tree, Reference):
+        return heads(tree.type)
     if isinstance(tree, Tuple):
         return [found for item in tree.items for found in names_on_the_heap(item)]
     return names_on_the_heap(tree.element) if isinstance(tree, Array) else []
 
 
 # types whose encodings may have any length
-GROWING = {'String', 'BoxedStr', 'RcStr', 'Vec', 'VecDeque', 'LinkedList', 'BTreeMap', 'BTreeSet', 'HashMap', 'HashSet',
-           'IndexMap', 'IndexSet', 'BoxedSlice', 'RcSlice', 'Bytes', 'BytesMut'}
+GROWING = {'String', 'BoxedStr', 'RcStr', 'ArcStr', 'Vec', 'VecDeque', 'LinkedList', 'BTreeMap', 'BTreeSet', 'HashMap',
+           'HashSet', 'IndexMap', 'IndexSet', 'BoxedSlice', 'RcSlice', 'ArcSlice', 'Bytes', 'BytesMut'}
 
 
 def grows(tree):
@@ -220,7 +257,26 @@ def grows(tree):
         return name in GROWING or name != 'PhantomData' and any(grows(argument) for argument in arguments)
     if isinstance(tree, Tuple):
         return any(grows(item) for item in tree.items)
+    if isinstance(tree, Reference):
+        return is_counted(tree.type) or grows(tree.type)
     return isinstance(tree, Array) and grows(tree.element)
+
+
+def is_counted(tree):
+    """Whether a type is `str` or a slice, whose encoding begins with a length."""
+    return isinstance(tree, Slice) or isinstance(tree, Path) and tree.segments[-1][0] == 'str'
+
+
+def tuples_in(tree):
+    """The tuples in a type, but those in a `PhantomData`."""
+    if isinstance(tree, Path):
+        name, arguments = tree.segments[-1]
+        return [found for argument in arguments for found in tuples_in(argument)] if name != 'PhantomData' else []
+    if isinstance(tree, Tuple):
+        return [tree] + [found for item in tree.items for found in tuples_in(item)]
+    if isinstance(tree, Reference):
+        return tuples_in(tree.type)
+    return tuples_in(tree.element) if isinstance(tree, (Array, Slice)) else []
 
 
 # marks with no space before them, and those with none behind them
@@ -249,7 +305,14 @@ def without_encoding(tree):
         return found + [one for argument in arguments for one in without_encoding(argument)]
     if isinstance(tree, Tuple):
         return [one for item in tree.items for one in without_encoding(item)]
-    return without_encoding(tree.element) if isinstance(tree, Array) else []
+    if isinstance(tree, Reference):
+        return [] if is_counted(tree.type) and isinstance(tree.type, Path) else without_encoding(tree.type)
+    return without_encoding(tree.element) if isinstance(tree, (Array, Slice)) else []
+
+
+def borrows(tree):
+    """Whether a type has a reference, or a lifetime other than `'static`, but in a `PhantomData`."""
+    return any(name.startswith("'") for name in heads(tree, phantom=False))
 
 
 def heads(tree, phantom=True):
@@ -272,6 +335,13 @@ def heads(tree, phantom=True):
             visit(node.element)
             for name in node.names:
                 add(name)
+        elif isinstance(node, Reference):
+            add(node.lifetime)
+            visit(node.type)
+        elif isinstance(node, Slice):
+            visit(node.element)
+        elif isinstance(node, Constant) and node.text.startswith("'") and node.text != "'static":
+            add(node.text)
 
     def add(name):
         if name not in found:

@@ -1,7 +1,7 @@
 """What is written for a type's schema: its name, its definitions, and why they describe its encodings."""
 
 from describe import describes_fields
-from emit import TUPLE, generic_group, quote, tree
+from emit import TUPLE, Rest, generic_group, quote, tree
 from ghost import Applied, Term, ghost_list, ghost_member, ghost_name, nested_pairs
 from layout import (ARRAY_WIDTH, TUPLE_WIDTH, Group, call, doc_line, flat, function_head, statement, tuple_type,
                     type_layout)
@@ -53,9 +53,9 @@ def chain(items, end):
     return '(%s, %s)' % (items[0], chain(items[1:], end)) if items else end
 
 
-def chain_type(fields):
+def chain_type(fields, end='()'):
     """The types of fields one after another."""
-    node = '()'
+    node = end
     for field in reversed(fields):
         node = tuple_type([type_layout(field.type), node])
     return node
@@ -89,7 +89,9 @@ def struct_schema(writer):
     if len(fields) <= TUPLE:
         return [block]
     doc = doc_line('The fields of [`%s`] as its schema goes through them.' % writer.marked.name)
-    return ['%s\n%s' % (doc, statement('type %s = ' % writer.list_head(), chain_type(fields), ';', 0)), block]
+    last = '%s<%s>' % (writer.lib('Chain'), Rest(writer, fields[TUPLE - 1:]).alias_use())
+    types = chain_type(fields[:TUPLE - 1], last)
+    return ['%s\n%s' % (doc, statement('type %s = ' % writer.list_head(), types, ';', 0)), block]
 
 
 def types_in_chain(writer, fields):
@@ -97,7 +99,7 @@ def types_in_chain(writer, fields):
     if not fields:
         return '()'
     if len(fields) == 1:
-        return '(%s, ())' % writer.alias_use()
+        return writer.alias_use() if writer.is_paired else '(%s, ())' % writer.alias_use()
     if len(fields) > TUPLE:
         return writer.list_use()
     return '%s<%s>' % (writer.lib('Chain'), writer.alias_use())
@@ -106,10 +108,10 @@ def types_in_chain(writer, fields):
 def struct_described(writer, kind, view, described):
     """The codec, and that the definitions describe it."""
     if kind == 'named':
-        return ghost_member('described', 'named_described', [view, labels(writer), described, Term('', ['refl'])], 4)
+        return ghost_member('described', 'named_described', [view, labels(writer), described, Term('', ['refl'])])
     if kind == 'tuple':
-        return ghost_member('described', 'unnamed_described', [view, described], 4)
-    return ghost_member('described', 'struct_described', [view, described, Term('', ['refl'])], 4)
+        return ghost_member('described', 'unnamed_described', [view, described])
+    return ghost_member('described', 'struct_described', [view, described, Term('', ['refl'])])
 
 
 def labels(writer):
@@ -121,11 +123,11 @@ def struct_parts(writer, kind, described):
     """The definitions that the name leads to."""
     name = Term('', ['(%s)' % ghost_own_name(writer)])
     if kind == 'unit':
-        return ghost_member('parts', 'unit_struct', [name], 4)
+        return ghost_member('parts', 'unit_struct', [name])
     if kind == 'tuple':
         members = [described.within('', one) for one in ('.names', '.parts')]
-        return ghost_member('parts', 'unnamed_struct', [name] + members, 4)
-    return ghost_member('parts', 'struct_parts', [name, labels(writer), described], 4)
+        return ghost_member('parts', 'unnamed_struct', [name] + members)
+    return ghost_member('parts', 'struct_parts', [name, labels(writer), described])
 
 
 def struct_call(writer, kind, chained):
@@ -160,17 +162,24 @@ def enum_schema(writer):
     alias = '%s\n%s' % (doc, statement('type %s = ' % writer.list_head(), types, ';', 0))
     data = enum_parts(writer) + [''] + enum_described(writer)
     describes = '    ghost describes = { Self.described.describes };'
-    return [alias, schema(writer, data, enum_call(writer), describes)]
+    block = schema(writer, data, enum_call(writer), describes)
+    return [alias, block] if has_list(writer) else [block]
+
+
+def has_list(writer):
+    """Whether the schema goes through other types than the encoding: without fields they are the same."""
+    return any(variant.fields.encoded() for variant in writer.marked.variants)
 
 
 def enum_parts(writer):
     """The definitions that the name leads to: the enum's, and one of the fields of each variant."""
     read = quote(writer, writer.list_use(), 'VariantTypes', '.read')
-    rows = ['    ghost parts = { enum_definitions', '        (codes "%s")' % writer.marked.name]
+    rows = []
     for index, variant in enumerate(writer.marked.variants):
         names = ['codes "%s"' % variant.name, ghost_list(field_texts(variant))]
-        rows += Term('∷ ' if index else '(', names).rows(8)
-    return rows + ['        ∷ [])', '        %s };' % read.flat()]
+        rows.append(Term('∷ ' if index else '(', names))
+    arguments = [Term('', ['(codes "%s")' % writer.marked.name])] + rows + [Term('', ['∷ [])']), read]
+    return [ghost_member('parts', 'enum_definitions', arguments)]
 
 
 def field_texts(variant):
@@ -185,7 +194,7 @@ def enum_described(writer):
     cases = tree(writer.marked.variants,
                  lambda v: described_case(writer, v),
                  lambda a, b: Applied('fork_described', a, b))
-    return ['    ghost described = { enum_described'] + view.rows(8) + cases.rows(8, ' };')
+    return [ghost_member('described', 'enum_described', [view, cases])]
 
 
 def described_case(writer, variant):

@@ -2,12 +2,10 @@
 
 import re
 
+from marks import mark_above, mark_of, options_of, refuse_almost_marks, refuse_macros, refuse_stray_marks
 from refusal import Refusal
-from rust_types import BORROWS, heads, joined, parse_type
+from rust_types import BORROWS, borrows, heads, joined, parse_type
 from tokens import tokens_of
-
-# what a comment `// derive: ..` may ask for
-OPTIONS = ('borsh', 'schema', 'key')
 
 # what a key is compared by
 COMPARED = ('PartialEq', 'Eq', 'PartialOrd', 'Ord')
@@ -49,21 +47,23 @@ class Variant:
 
 
 class Parameter:
-    """A parameter of a type: a type with its bounds, or a constant with its type."""
+    """A parameter of a type: a type or a lifetime with its bounds, or a constant with its type."""
 
     def __init__(self, name, bounds, constant):
         self.name = name
         self.bounds = bounds
         self.constant = constant
+        self.is_type = not constant and not name.startswith("'")
 
 
 class Marked:
     """A type that is marked: a struct with its fields, or an enum with its variants.
 
-    `options` is what the mark asks for."""
+    `options` is what the mark asks for, and `derived` what the attributes derive."""
 
     def __init__(self, name, line, parameters, where, fields=None, variants=None):
         self.options = ()
+        self.derived = ''
         self.name = name
         self.line = line
         self.parameters = parameters
@@ -82,7 +82,11 @@ class Marked:
     def encoded_parameters(self):
         """The type parameters whose values are encoded: those of a `PhantomData` or of a skipped field aren't."""
         names = self.names(phantom=False)
-        return [parameter for parameter in self.parameters if not parameter.constant and parameter.name in names]
+        return [parameter for parameter in self.parameters if parameter.is_type and parameter.name in names]
+
+    def is_only_encoded(self):
+        """Whether it has a reference, or a type with a lifetime: such a value is never decoded."""
+        return any(borrows(field.type) for group in self.groups() for field in group.encoded())
 
     def heads(self):
         """The names from elsewhere that its encoded fields and its bounds are made of."""
@@ -95,13 +99,16 @@ class Marked:
 
 
 class Module:
-    """What a file says: its imports by the name that each brings in, its items and whether each is public, and its
-    marked types."""
+    """What a file says: its imports by the name that each brings in, its items and whether each is public, its marked
+    types, its types that aren't marked, and the types that it implements a trait of the library for, each with the
+    traits."""
 
     def __init__(self, imports, items, marked):
         self.imports = imports
         self.items = items
         self.marked = marked
+        self.unmarked = set()
+        self.implemented = {}
 
 
 CLOSING = {'(': ')', '[': ']', '{': '}'}
@@ -221,6 +228,10 @@ def read_module(text):
     module = Module({}, {}, [])
     seen = set()
     while not reader.at_end():
+        if reader.is_next('#', '!'):
+            reader.place += 2
+            reader.group()
+            continue
         start = reader.place
         mark = mark_above(reader, seen)
         attributes = attributes_of(reader)
@@ -232,66 +243,26 @@ def read_module(text):
             marked = read_marked(reader, mark)
             refuse_unused(reader, start)
             marked.options = options_of(mark_of(mark))
-            check_options_of(marked, attributes)
+            marked.derived = ' '.join(text for name, text, _ in attributes if name.startswith('derive'))
+            check_options_of(marked)
             module.marked.append(marked)
             module.items[module.marked[-1].name] = True
         else:
+            refuse_macros(attributes)
             read_item(reader, module)
     mark_above(reader, seen)
     refuse_stray_marks(reader, seen)
+    refuse_almost_marks(reader)
+    for marked in module.marked:
+        refuse_undroppable(marked, module)
     return module
 
 
-# ---- marks
-
-def mark_of(comment):
-    """What a comment `// derive: ..` says, or None."""
-    match = re.match(r'//(?![/!])\s*derive\s*:(.*)$', comment.text)
-    return match and match[1]
-
-
-def mark_above(reader, seen):
-    """The comment `// derive: borsh` above the next item, or None. Other options are refused."""
-    found = None
-    for comment in reader.comments():
-        options = mark_of(comment)
-        if options is None or comment in seen:
-            continue
-        seen.add(comment)
-        if reader.at_end():
-            raise Refusal(comment.line, 'no type is below the comment: remove it')
-        if comment.line == reader.last_line():
-            raise Refusal(comment.line, 'the comment is behind code: write it above the type')
-        if found is not None:
-            raise Refusal(comment.line, 'a second comment of this kind above one type')
-        check_options(options, comment.line)
-        found = comment
-    return found
-
-
-def options_of(text):
-    return [option.strip() for option in text.split(',')]
-
-
-def check_options(text, line):
-    options = options_of(text)
-    for index, option in enumerate(options):
-        if option not in OPTIONS:
-            reason = '`%s` is no option: write `// derive: borsh`, and `, schema` or `, key` behind it if wanted'
-            raise Refusal(line, reason % option)
-        if option in options[:index]:
-            raise Refusal(line, 'the option `%s` comes twice' % option)
-    if 'borsh' not in options:
-        raise Refusal(line, 'the option `borsh` is missing: write `// derive: borsh, %s`' % ', '.join(options))
-
-
-def refuse_stray_marks(reader, seen):
-    """A mark within an item marks nothing."""
-    for comments in reader.before.values():
-        for comment in comments:
-            if mark_of(comment) is not None and comment not in seen:
-                reason = 'the comment is within an item: only types at the top of a file are taken'
-                raise Refusal(comment.line, reason)
+def refuse_undroppable(marked, module):
+    """A type whose values can't be let go."""
+    if not re.search(r'\b(Drop|Copy)\b', marked.derived) and not {'Drop', 'Copy'} & module.implemented.get(marked.name, set()):
+        reason = '`%s` has values that can\'t be let go, which encoding and decoding do: write `#[derive(Drop)]` above it'
+        raise Refusal(marked.line, reason % marked.name)
 
 
 # ---- items
@@ -318,8 +289,24 @@ def read_item(reader, module):
         reader.next()
     if reader.peek().text in NAMED and reader.peek(1).kind == 'word':
         module.items[reader.peek(1).text] = public
+        if reader.peek().text in ('struct', 'enum', 'union'):
+            module.unmarked.add(reader.peek(1).text)
+    is_impl = reader.is_next('impl')
     reader.place = start
     skip_item(reader)
+    if is_impl:
+        note_impl(reader.tokens[start:reader.place], module)
+
+
+def note_impl(tokens, module):
+    """An `impl Trait for Name`: the names before `for` could all be the trait's."""
+    texts = [token.text for token in tokens]
+    if 'for' in texts and texts.index('for') < texts.index('{'):
+        place = texts.index('for')
+        names = [text for text in texts[place + 1:texts.index('{')] if text[0].isalpha()]
+        traits = {text for text in texts[:place] if text[0].isalpha()}
+        for name in names[:1]:
+            module.implemented.setdefault(name, set()).update(traits)
 
 
 def skip_item(reader):
@@ -389,7 +376,7 @@ def use_group(reader, path):
 # ---- attributes and comments
 
 def attributes_of(reader):
-    """The attributes before an item, each with its name; those of the whole file are passed over."""
+    """The attributes before an item, each with its name."""
     return above(reader)[0]
 
 
@@ -399,12 +386,10 @@ def above(reader):
     attributes, comments = [], list(reader.comments())
     while reader.is_next('#'):
         line = reader.take('#').line
-        inner = reader.skip('!')
         if not reader.is_next('['):
             raise Refusal(line, '`#` begins no attribute')
         tokens = reader.group()
-        if not inner:
-            attributes.append((tokens[1].text, joined(tokens), line))
+        attributes.append((tokens[1].text, joined(tokens), line))
         comments += reader.comments()
     return attributes, comments
 
@@ -439,28 +424,42 @@ def instead_of(name, text, what):
     return 'what it means for the encoding is not known, so remove it, or implement the traits by hand'
 
 
-def check_options_of(marked, attributes):
+def check_options_of(marked):
     try:
-        check_key(marked, attributes)
+        check_only_encoded(marked)
+        check_key(marked)
         check_schema(marked)
     except Refusal as refusal:
         raise refusal.of(marked.name)
 
 
-def check_key(marked, attributes):
-    """A key is a struct without parameters that is compared field by field."""
+def check_only_encoded(marked):
+    """A type with references is a struct without a schema, and no key."""
+    if not marked.is_only_encoded():
+        return
+    if marked.variants is not None:
+        raise Refusal(marked.line, 'an enum with references is not taken: hold the values themselves, or write a struct')
+    if len(marked.options) > 1:
+        reason = 'a struct with references is only encoded, so it has no schema and is no key: write `// derive: borsh`'
+        raise Refusal(marked.line, reason)
+
+
+def check_key(marked):
+    """A key is a struct that is compared field by field, or an enum without fields."""
     if 'key' not in marked.options:
         return
-    derived = ' '.join(text for name, text, _ in attributes if name == 'derive')
-    missing = [name for name in COMPARED if not re.search(r'\b%s\b' % name, derived)]
+    missing = [name for name in COMPARED if not re.search(r'\b%s\b' % name, marked.derived)]
     if missing:
         reason = 'a key is compared as its fields are: `#[derive(..)]` lacks `%s`'
         raise Refusal(marked.line, reason % '`, `'.join(missing))
-    if marked.variants is not None or not marked.fields.all:
-        raise Refusal(marked.line, 'a key is a struct with fields here: implement `BorshKey` of another type by hand')
+    if any(variant.fields.all for variant in marked.variants or []):
+        reason = 'a key is a struct, or an enum without fields: implement `BorshKey` of another type by hand'
+        raise Refusal(marked.line, reason)
+    if marked.variants is None and not marked.fields.all:
+        raise Refusal(marked.line, 'a key without fields is not taken: implement `BorshKey` by hand')
     if marked.parameters:
         raise Refusal(marked.line, 'a key with parameters is not taken: implement `BorshKey` by hand')
-    if len(marked.fields.encoded()) < len(marked.fields.all):
+    if any(field.skipped for group in marked.groups() for field in group.all):
         reason = ('a key has no field that is left out, since two keys with one encoding would not be equal: remove '
                   '`// skip`')
         raise Refusal(marked.line, reason)
@@ -472,6 +471,13 @@ def check_schema(marked):
         reason = ('a schema is written for enums without parameters alone: implement `BorshSchema` of this type '
                   'by hand')
         raise Refusal(marked.line, reason)
+    names = marked.names(phantom=False)
+    lengths = [parameter.name for parameter in marked.parameters if parameter.constant and parameter.name in names]
+    if 'schema' in marked.options and lengths:
+        reason = ('a schema of a type with the length `%s` as a parameter is not written: types of two lengths would have '
+                  'one name, and nothing says that the array fits in memory; write a type for each length, or implement '
+                  '`BorshSchema` by hand')
+        raise Refusal(marked.line, reason % lengths[0])
 
 
 # ---- marked types
@@ -479,6 +485,9 @@ def check_schema(marked):
 def read_marked(reader, mark):
     """The struct or the enum below a mark."""
     line = reader.peek().line
+    if reader.is_next('union') or reader.is_next('pub', 'union'):
+        reason = 'a union has no encoding, since its bytes don\'t say which field they are: write an enum'
+        raise Refusal(line, reason)
     if not reader.skip('pub') or reader.peek().text not in ('struct', 'enum'):
         reason = 'no `pub struct` or `pub enum` is below the comment: make the type `pub`, or remove the comment'
         raise Refusal(mark.line, reason)
@@ -492,7 +501,7 @@ def read_marked(reader, mark):
 
 def read_type(reader, what, name, line):
     """What is behind the name of a struct or an enum."""
-    parameters = read_parameters(reader) if reader.is_next('<') else []
+    parameters = read_parameters(reader, what) if reader.is_next('<') else []
     if what == 'enum':
         where = read_where(reader)
         variants = read_variants(reader)
@@ -510,15 +519,15 @@ def read_type(reader, what, name, line):
     return Marked(name, line, parameters, where, fields=fields)
 
 
-def read_parameters(reader):
+def read_parameters(reader, what):
     reader.take('<')
     found = []
     while not reader.is_next('>'):
         token = reader.peek()
-        if token.kind == 'lifetime':
+        if token.kind == 'lifetime' and what == 'enum':
             raise Refusal(token.line, BORROWS % token.text)
         constant = reader.skip('const')
-        name = reader.word()
+        name = reader.next().text if token.kind == 'lifetime' else reader.word()
         bounds = joined(angle_until(reader, ',', '>', '=')) if reader.skip(':') else ''
         if reader.is_next('='):
             raise Refusal(reader.peek().line, 'the parameter `%s` has a default: remove it' % name)
@@ -555,6 +564,7 @@ def read_named_fields(reader, what):
     found = []
     while not reader.is_next('}'):
         last_line = reader.last_line()
+        skip_behind(reader, found, last_line)
         attributes, comments = above(reader)
         skipped = is_skipped(reader, comments, last_line)
         check_attributes(attributes, FIELD_ATTRIBUTES, 'field')
@@ -569,6 +579,7 @@ def read_named_fields(reader, what):
         found.append(Field(name, parse_type(reader), line, public, skipped))
         if not reader.skip(','):
             break
+    skip_behind(reader, found, reader.last_line())
     reader.take('}')
     return Fields('named', found)
 
@@ -578,6 +589,7 @@ def read_tuple_fields(reader, public=False):
     found = []
     while not reader.is_next(')'):
         last_line = reader.last_line()
+        skip_behind(reader, found, last_line)
         attributes, comments = above(reader)
         skipped = is_skipped(reader, comments, last_line)
         check_attributes(attributes, FIELD_ATTRIBUTES, 'field')
@@ -586,15 +598,29 @@ def read_tuple_fields(reader, public=False):
         found.append(Field(str(len(found)), parse_type(reader), line, is_public, skipped))
         if not reader.skip(','):
             break
+    skip_behind(reader, found, reader.last_line())
     reader.take(')')
     return Fields('tuple', found)
+
+
+def skip_behind(reader, fields, last_line):
+    """`// skip` in the line where the last of some fields ends, which is left out then."""
+    for comment in reader.comments():
+        if comment_of(comment) == 'skip' and comment.line == last_line and fields:
+            if len(fields) > 1 and fields[-2].line == fields[-1].line:
+                reason = '`%s` is behind two fields: write it in a line of its own above the one that it is for'
+                raise Refusal(comment.line, reason % comment.shown())
+            if fields[-1].skipped:
+                raise Refusal(comment.line, 'a second comment `// skip` of one field')
+            fields[-1].skipped = True
+            reader.used.add(comment)
 
 
 def is_skipped(reader, comments, last_line):
     """Whether `// skip` is among the comments above a field."""
     found = False
     for comment in comments:
-        if comment_of(comment) == 'skip':
+        if comment_of(comment) == 'skip' and comment not in reader.used:
             refuse_behind(reader, comment, last_line, 'field')
             if found:
                 raise Refusal(comment.line, 'a second comment `// skip` above one field')

@@ -1,4 +1,5 @@
 mod Lengths
+mod Signing
 mod WithSchema
 -- re-exports: the steps of readers and writers
 pub use Rattle.borsh_io.proofs.ReadLaws

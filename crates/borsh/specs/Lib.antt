@@ -2,6 +2,7 @@ pub mod Counting
 pub mod Derived
 pub mod Length
 pub mod Schema
+pub mod Signing
 pub mod WithSchema
 -- re-exports from the crates that this one uses
 pub use Rattle.borsh_io.specs.Errors

@@ -13,7 +13,8 @@ use std::alloc::Global;
 /// Decodes a value from all of the bytes.
 ///
 /// Returns `InvalidData` if they decode to no value of the type, also if bytes are left over, and
-/// `OutOfMemory` if an allocation fails. Keys of maps and sets have to ascend.
+/// `OutOfMemory` if an allocation fails. Keys of maps and sets have to ascend. The bytes are the value's
+/// encoding, if the type is canonical. Left open: memory; what isn't encoded.
 ///
 /// ```
 /// let value: (u8, u16) = from_slice(alloc, b"\x05\x07\x00")?;
@@ -29,7 +30,7 @@ pub fn from_slice<T: BorshDeserialize>(alloc: Global, v: &[u8]) -> Result<T>
 ///
 /// Returns `InvalidData` if the bytes decode to no value of the type, also if bytes are left over,
 /// `OutOfMemory` if an allocation fails, and the reader's error if it fails before the value is read.
-/// After an error some of the bytes may have been read. See [`BorshDeserialize::try_from_reader`].
+/// Left open: as of [`BorshDeserialize::try_from_reader`].
 ///
 /// ```
 /// let mut input = StdReader::new(rt.stdin(), 1000);
@@ -45,7 +46,7 @@ pub fn from_reader<R: Read, T: BorshDeserialize>(alloc: Global, reader: &mut R) 
 /// and more than once: the last value of a key counts. So data that was written before keys had to be
 /// sorted can be decoded; encoding the value again makes it canonical.
 ///
-/// The errors are those of [`from_slice`].
+/// The errors are those of [`from_slice`]. Left open: as there.
 ///
 /// ```
 /// let old = b"\x02\x00\x00\x00\x09\x01";

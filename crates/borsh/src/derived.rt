@@ -3,8 +3,10 @@
 pub use borsh_de::{BorshDeserialize, EnumExt, FromParts, read_parts};
 pub use borsh_enums::{Case, Cases, Fork, FromCases, Tag, read_enum, read_variant};
 pub use borsh_io::{Read, Result, Write};
-use borsh_schema::SchemaBuildError;
-pub use borsh_schema::{BorshSchema, FieldTypes, add_named, add_unit, add_unnamed, declared};
+pub use borsh_schema::{
+    BorshSchema, DefinitionMap, FieldTypes, SchemaResult, add_named, add_unit, add_unnamed,
+    declared,
+};
 pub use borsh_ser::{
     BorshSerialize, put_bytes, put_eight, put_eleven, put_five, put_four, put_nine, put_seven,
     put_six, put_ten, put_three, put_twelve, put_two, write_bytes, write_eight, write_eleven,
@@ -14,15 +16,7 @@ pub use borsh_ser::{
 pub use borsh_types::{BorshKey, BorshType};
 pub use borsh_variants::{VariantTypes, add_enum, add_named_with, add_unnamed_with, declared_with};
 pub use borsh_walks::Declaration;
-use borsh_walks::Definition;
 pub use std::alloc::Global;
-use std::collections::BTreeMap;
-
-/// The definitions that a schema adds to.
-pub type DefinitionMap = BTreeMap<Declaration, Definition>;
-
-/// What a step of building a schema returns.
-pub type SchemaResult<T> = std::result::Result<T, SchemaBuildError>;
 
 /// A tuple of types, and the same types one after another: of `(A, B)` they are `(A, (B, ()))`.
 pub trait TupleTypes {

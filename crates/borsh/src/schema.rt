@@ -1,8 +1,8 @@
 // Schemas: which bytes a type has, as a map from names to definitions.
 pub use borsh_schema::{
-    BorshSchema, BorshSchemaContainer, Both, Definitions, FieldTypes, SchemaBuildError,
-    SchemaParts, add_definition, add_named, add_tagged_enum, add_unit, add_unnamed, add_with_parts,
-    declared, field, named_variant, variant,
+    BorshSchema, BorshSchemaContainer, Both, DefinitionMap, Definitions, FieldTypes,
+    SchemaBuildError, SchemaParts, SchemaResult, add_definition, add_named, add_tagged_enum,
+    add_unit, add_unnamed, add_with_parts, declared, field, named_variant, variant,
 };
 pub use borsh_variants::{VariantTypes, add_enum, add_named_with, add_unnamed_with, declared_with};
 pub use borsh_walks::{

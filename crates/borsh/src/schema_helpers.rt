@@ -13,23 +13,22 @@ use super::de::from_slice;
 use super::ser::to_vec;
 use borsh_de::{BorshDeserialize, invalid_data};
 use borsh_io::{Error, ErrorKind};
-use borsh_schema::{BorshSchema, BorshSchemaContainer, SchemaBuildError};
+use borsh_schema::{BorshSchema, BorshSchemaContainer, SchemaBuildError, SchemaResult};
 use borsh_ser::BorshSerialize;
 use borsh_walks::SchemaMaxSerializedSizeError;
 use std::alloc::Global;
 
-/// The schema container of a type: its name, and the definition of every type that it refers to.
+/// The schema container of a type: its name, and the definition of every type that it refers to. Each
+/// encoding is a member of its root.
 ///
 /// Returns `Redefinition` of a name that has two different definitions, and `OutOfMemory` if an
-/// allocation fails.
+/// allocation fails. Left open: memory; which of several such names is reported.
 ///
 /// ```
 /// let container = schema_container_of::<Vec<u8>>(alloc)?;
 /// assert_eq!(rt; container.declaration().as_str(), "Vec<u8>");
 /// ```
-pub fn schema_container_of<T: BorshSchema>(
-    alloc: Global,
-) -> Result<BorshSchemaContainer, SchemaBuildError>
+pub fn schema_container_of<T: BorshSchema>(alloc: Global) -> SchemaResult<BorshSchemaContainer>
     ensures ok { IfOk result (λ c. IsContainerOf T.name T.parts c) }
     ensures err { IfErr result (λ e. BuildFault nothing_defined T.parts e) }
     ensures language { IfOk result (λ c. DescribesRoot T.codec c) }
@@ -42,7 +41,7 @@ pub fn schema_container_of<T: BorshSchema>(
 /// longer.
 ///
 /// The errors are those of [`BorshSchemaContainer::max_serialized_size`], and `Redefinition` of a name
-/// that has two different definitions.
+/// that has two different definitions. Left open: memory; which of several causes is reported.
 ///
 /// ```
 /// assert_eq!(rt; max_serialized_size::<Option<u64>>(alloc)?, 9);
@@ -59,7 +58,8 @@ pub fn max_serialized_size<T: BorshSchema>(
 /// Encodes the type's schema container and then the value.
 ///
 /// Returns `InvalidData` if the value or the container has no encoding, or if a name of the type has two
-/// different definitions, and `OutOfMemory` if an allocation fails.
+/// different definitions, and `OutOfMemory` if an allocation fails. Left open: memory; which of several
+/// causes is reported.
 ///
 /// ```
 /// let bytes = try_to_vec_with_schema(alloc, &7u16)?;
@@ -81,7 +81,8 @@ pub fn try_to_vec_with_schema<T: BorshSerialize + BorshSchema>(
 ///
 /// Container and value are decoded first, with the errors of [`from_slice`]. Then a container that isn't
 /// the type's is refused with `InvalidData`, "Borsh schema does not match", and so is a type that has a
-/// name with two different definitions. `OutOfMemory` is returned if an allocation fails.
+/// name with two different definitions. `OutOfMemory` is returned if an allocation fails. Left open: memory;
+/// what isn't encoded; which is found first, malformed bytes or another container: tested by the texts.
 ///
 /// ```
 /// let bytes = try_to_vec_with_schema(alloc, &7u16)?;

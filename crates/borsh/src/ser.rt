@@ -1,6 +1,7 @@
 // Encoding.
-ghost use Rattle.borsh_codec.specs.Writing.{Encodes, Writes};
+ghost use Rattle.borsh_codec.specs.Writing.{Writes};
 ghost use Rattle.borsh.specs.Length.{AnswersLength};
+ghost use Rattle.borsh.specs.Signing.{EncodesValue};
 
 use super::length::LengthWriter;
 pub use borsh_enums::Tag;
@@ -16,17 +17,18 @@ use std::alloc::Global;
 /// How many bytes [`to_vec`] makes room for at first.
 const DEFAULT_SERIALIZER_CAPACITY: usize = 1024;
 
-/// Encodes a value as a vector.
+/// Encodes a value as a vector. The bytes identify the value: they decode to it, and any value that has the
+/// same encoding is equivalent, and equal if the type is a [`BorshKey`](super::BorshKey). So they can be signed.
 ///
 /// Returns `InvalidData` if the value has no encoding (a list of more than 4294967295 elements, or of
-/// elements without bytes), and `OutOfMemory` if an allocation fails.
+/// elements without bytes), and `OutOfMemory` if an allocation fails. Left open: memory.
 ///
 /// ```
 /// let bytes = to_vec(alloc, &(5u8, 7u16))?;
 /// assert_eq!(rt; bytes.as_slice(), b"\x05\x07\x00".as_slice());
 /// ```
 pub fn to_vec<T: BorshSerialize>(alloc: Global, value: &T) -> Result<Vec<u8>>
-    ensures { Encodes (T.codec.encoding value.now) result }
+    ensures { EncodesValue T T.codec value.now result }
 {
     let mut out = Vec::with_capacity(alloc, DEFAULT_SERIALIZER_CAPACITY)?;
     value.serialize(alloc, &mut out)?;
@@ -34,7 +36,7 @@ pub fn to_vec<T: BorshSerialize>(alloc: Global, value: &T) -> Result<Vec<u8>>
 }
 
 /// Writes a value's encoding. The errors are those of [`BorshSerialize::serialize`]; after one, a
-/// beginning of the encoding was written. It doesn't flush the writer.
+/// beginning of the encoding was written. It doesn't flush the writer. Left open: as there.
 ///
 /// ```
 /// let mut output = StdWriter::new(rt.stdout(), 1000);
@@ -53,7 +55,7 @@ pub fn to_writer<T: BorshSerialize, W: Write>(
 /// How many bytes a value's encoding has.
 ///
 /// Returns `InvalidData` if the value has no encoding, and `OutOfMemory` if the number doesn't fit in a
-/// `usize`, or if an allocation fails (only hashed maps and sets allocate here).
+/// `usize`, or if an allocation fails (only hashed maps and sets allocate here). Left open: memory.
 ///
 /// ```
 /// assert_eq!(rt; object_length(alloc, &(5u8, 7u16))?, 3);

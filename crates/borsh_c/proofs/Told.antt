@@ -1,10 +1,11 @@
 -- A refusal says what is right.
-use Rattle.std.proofs.Common.{◌≡◌, ◌^◌, ◌<◌, ℕ, List, Option, Some, IsSome, String, string_bytes, refl, subst, sym}
+use Rattle.std.proofs.Common.{◌≡◌, ◌^◌, ◌<◌, ℕ, List, Option, Some, IsSome, String, string_bytes, refl, subst, sym, true≢false}
 use Rattle.std.specs.Global.{Global}
 use Rattle.std.specs.BTreeMap.{BTreeMap}
 use Rattle.borsh_definitions.specs.Codecs.{root_and_map}
 use Rattle.borsh_walks.specs.Container.{Shape, IsValid, MaxSize, Member}
 use Rattle.borsh_walks.specs.Definitions.{definitions_in}
+use Rattle.borsh_walks.specs.Errors.{broken_rule}
 use Rattle.borsh_walks.specs.declared.definition.Definition.{Definition}
 use Rattle.borsh_walks.specs.declared.error.SchemaContainerValidateError.{SchemaContainerValidateError}
 use Rattle.borsh_walks.specs.declared.error.SchemaContainerValidateError.TheVariants.{OutOfMemory as NoRules}
@@ -31,7 +32,7 @@ module _ {schema : List ℕ} (c : String Global × BTreeMap (String Global) Defi
   about_told P p = (c, encoded, subst (λ (r : List ℕ). P C r) named p)
 
   pub broken_told : {e : SchemaContainerValidateError} → (IsValid C root → e ≡ NoRules) → (r : Refusal) → TellsBroken e r → IsRefused schema IsInvalid Never r
-  broken_told accepts (No t) told = about_told IsInvalid (λ v. told (accepts v))
+  broken_told accepts (No t) told = about_told IsInvalid (λ v. true≢false (sym (subst (λ e. IsSome (broken_rule e)) (accepts v) told)))
   broken_told accepts (Malformed t) told = absurd told
   broken_told accepts OutOfMemory told = tt
   broken_told accepts (Undecided t) told = absurd told
@@ -65,6 +66,14 @@ module _ {schema : List ℕ} (c : String Global × BTreeMap (String Global) Defi
   text_refused text e reason (Malformed t) told = absurd told
   text_refused text e reason OutOfMemory told = tt
   text_refused text e reason (Undecided t) told = about_told IsUnclear (λ v u. none_ambiguous C told.0.now v u (subst (IsTextReason C root text) told.1 reason).1)
+
+-- ---- what the error says
+
+pub no_broken : (e : SchemaContainerValidateError) {p : List ℕ × List ℕ} → Some p ≡ broken_rule e → (r : Refusal) → IsNo r → TellsBroken e r
+no_broken e says (No t) told = subst (λ o. IsSome o) says refl
+no_broken e says (Malformed t) told = absurd told
+no_broken e says OutOfMemory told = tt
+no_broken e says (Undecided t) told = absurd told
 
 -- ---- what was given
 

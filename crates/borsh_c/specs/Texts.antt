@@ -1,10 +1,10 @@
 -- How the errors of other crates become refusals.
-use Rattle.std.specs.Prelude.{◌≡◌, ⊤, ℕ, List}
+use Rattle.std.specs.Prelude.{◌≡◌, ⊤, ℕ, List, IsSome}
 use Rattle.std.specs.Borrow.{Bor}
 use Rattle.borsh_io.specs.declared.error.ErrorKind.{ErrorKind}
 use Rattle.borsh_io.specs.declared.error.ErrorKind.TheVariants.{OutOfMemory as NoRoom}
+use Rattle.borsh_walks.specs.Errors.{broken_rule}
 use Rattle.borsh_walks.specs.declared.error.SchemaContainerValidateError.{SchemaContainerValidateError}
-use Rattle.borsh_walks.specs.declared.error.SchemaContainerValidateError.TheVariants.{OutOfMemory as NoRules}
 use Rattle.borsh_walks.specs.declared.error.SchemaMaxSerializedSizeError.{SchemaMaxSerializedSizeError}
 use Rattle.borsh_walks.specs.declared.error.SchemaMaxSerializedSizeError.TheVariants.{OutOfMemory as NoMemory}
 use Rattle.borsh_json.specs.declared.error.JsonError.{JsonError}
@@ -21,7 +21,7 @@ TellsUnread kind (Undecided t) = ⊥
 
 -- no, unless an allocation failed
 abbrev pub TellsBroken : SchemaContainerValidateError → Refusal → Type 0
-TellsBroken e (No t) = e ≡ NoRules → ⊥
+TellsBroken e (No t) = IsSome (broken_rule e)
 TellsBroken e (Malformed t) = ⊥
 TellsBroken e OutOfMemory = ⊤
 TellsBroken e (Undecided t) = ⊥

@@ -71,45 +71,19 @@ fn rules_of(
     ensures answer { JudgesRules (definitions_in map.now) root.now result }
     ensures complete { AcceptsIfValid (definitions_in map.now) root.now result }
 {
-    let mut counts = no_counts();
+    let mut counts = Expansions::NONE;
     let mut counted = Counted::new(map, &mut counts);
     check_rules(alloc, root, &mut counted)
-}
-
-fn no_counts() -> Expansions {
-    Expansions {
-        size: 0,
-        zero: 0,
-        rules: 0,
-    }
 }
 
 /// The rule that is broken, and the name that breaks it.
 fn broken(alloc: Global, error: &SchemaContainerValidateError) -> Refusal
     ensures { TellsBroken error.now result }
 {
-    match error {
-        SchemaContainerValidateError::ZSTSequence(name) => rule(alloc, "ZSTSequence", name),
-        SchemaContainerValidateError::TagTooWide(name) => rule(alloc, "TagTooWide", name),
-        SchemaContainerValidateError::TagTooNarrow(name) => rule(alloc, "TagTooNarrow", name),
-        SchemaContainerValidateError::TagNotPowerOfTwo(name) => {
-            rule(alloc, "TagNotPowerOfTwo", name)
-        }
-        SchemaContainerValidateError::MissingDefinition(name) => {
-            rule(alloc, "MissingDefinition", name)
-        }
-        SchemaContainerValidateError::EmptyLengthRange(name) => {
-            rule(alloc, "EmptyLengthRange", name)
-        }
-        SchemaContainerValidateError::OutOfMemory => Refusal::OutOfMemory,
+    match error.broken_rule() {
+        Some((rule, name)) => no(format!(in alloc; "invalid {rule} {name}")),
+        None => Refusal::OutOfMemory,
     }
-}
-
-/// `invalid`, the rule and the name.
-fn rule(alloc: Global, rule: &str, name: &str) -> Refusal
-    ensures { IsNo result }
-{
-    no(format!(in alloc; "invalid {rule} {name}"))
 }
 
 /// No, with a text, if there was memory for it.
@@ -141,7 +115,7 @@ fn size_of_root(
 ) -> Result<usize, SchemaMaxSerializedSizeError>
     ensures { AnswersSize (definitions_in map.now) root.now result }
 {
-    let mut counts = no_counts();
+    let mut counts = Expansions::NONE;
     let mut counted = Counted::new(map, &mut counts);
     root_size(alloc, root, &mut counted)
 }
@@ -200,8 +174,7 @@ pub fn json_of(alloc: Global, schema: &[u8], value: &[u8], style: Style) -> Resu
 
 /// The bytes of the value that JSON says.
 pub fn value_of(alloc: Global, schema: &[u8], json: &[u8]) -> Result<Vec<u8>, Refusal>
-    ensures ok { IfOk result
-        (λ bytes. About schema.now (λ C root. Member C root bytes.items)) }
+    ensures ok { IfOk result (λ bytes. About schema.now (λ C root. Member C root bytes.items)) }
     ensures json { OnOk result (IsSome (document json.now)) }
     ensures err { IfErr result (λ e. IsRefused schema.now Anything IsUnclear e) }
 {

@@ -22,7 +22,7 @@ use codes::YES;
 use room::give;
 use std::alloc::Global;
 
-/// Whether the container keeps the rules of schemas.
+/// Whether the container keeps the rules of schemas. Left open: code 3; the text.
 ///
 /// ```c
 /// uint32_t code = borsh_c_valid(schema, schema_length, room, room_length, &needed);
@@ -46,7 +46,7 @@ pub extern "C" fn borsh_c_valid(
 }
 
 /// The greatest size of the container's root in bytes, which is written to `size`: no encoding is longer. After any other
-/// code than [`YES`] `size` is unchanged.
+/// code than [`YES`] `size` is unchanged. Left open: code 3; the text.
 ///
 /// ```c
 /// uint32_t code = borsh_c_size(schema, schema_length, &size, room, room_length, &needed);
@@ -72,7 +72,8 @@ pub extern "C" fn borsh_c_size(
     }
 }
 
-/// Whether all of `value` is a value of the container's root.
+/// Whether all of `value` is a value of the container's root. Left open: code 3; code 5 for a container that breaks a rule or
+/// is ambiguous; the text.
 ///
 /// ```c
 /// uint32_t code = borsh_c_member(schema, schema_length, value, value_length, room, room_length, &needed);
@@ -97,7 +98,9 @@ pub extern "C" fn borsh_c_member(
 }
 
 /// Gives the JSON of the value that all of `value` is; on one line if `is_compact`, and with numbers of 64 bits as strings if
-/// `has_quoted_numbers`.
+/// `has_quoted_numbers`. Determined: after code 0 `value` is a member of the root, and JSON is given; after 2 `schema` is no
+/// container, and after 0, 1 and 5 it is one; after 5 it breaks a rule or is ambiguous. Left open: code 3; code 1 for any
+/// `value`; code 5 for such a container; the JSON of another value.
 ///
 /// ```c
 /// uint32_t code = borsh_c_to_json(schema, schema_length, value, value_length, true, false, room, room_length, &needed);
@@ -137,7 +140,8 @@ pub extern "C" fn borsh_c_to_json(
     }
 }
 
-/// Gives the bytes of the value that `json` says, which is UTF-8.
+/// Gives the bytes of the value that `json` says, which is UTF-8. Determined: after code 0 `json` is JSON, and bytes of a
+/// member of the root are given; the other codes as of [`borsh_c_to_json`]. Left open: as there; the bytes of another member.
 ///
 /// ```c
 /// uint32_t code = borsh_c_from_json(schema, schema_length, json, json_length, room, room_length, &needed);

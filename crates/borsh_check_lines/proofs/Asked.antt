@@ -1,9 +1,10 @@
 -- The answers about a container.
-use Rattle.std.proofs.Common.{◌≡◌, ◌≢◌, ℕ, zero, suc, ◌+◌, ◌%◌, ◌^◌, ◌<◌, ◌≤◌, List, [], ◌++◌, Option, codes, refl, sym, subst, arith, string_bytes, decimal}
+use Rattle.std.proofs.Common.{◌≡◌, ◌≢◌, ℕ, zero, suc, ◌+◌, ◌%◌, ◌^◌, ◌<◌, ◌≤◌, List, [], ◌++◌, Option, Some, MatchOption, codes, refl, sym, subst, arith, string_bytes, decimal}
 use Rattle.std.proofs.lemmas.Fmt.{decimal_by_steps}
 use Rattle.std.proofs.lemmas.List.Elements.{All-nil, All-push, All-append}
 use Rattle.borsh_walks.specs.Container.{Shape, zst_sequence, tag_too_wide, tag_too_narrow, tag_not_power_of_two, missing_definition, empty_length_range}
 use Rattle.borsh_walks.specs.Counts.{add_saturating}
+use Rattle.borsh_walks.specs.Errors.{broken_rule}
 use Rattle.borsh_walks.specs.RulesAnswer.{RulesFault}
 use Rattle.borsh_walks.specs.SizeAnswer.{SizeFault}
 use Rattle.borsh_walks.specs.declared.counted.Expansions.{Expansions}
@@ -52,6 +53,19 @@ line_of_broken rule name l e =
     let named = joined (codes " ") (digits_of name) (line_of_text (codes " ") refl) (line_of_digits name) in
     let behind = joined rule (codes " " ++ digits_of name) l named in
     subst IsLine (sym e) (joined (codes "invalid ") (rule ++ (codes " " ++ digits_of name)) (line_of_text (codes "invalid ") refl) behind)
+
+-- what is said of an error, by the table of the rules
+pub told : (e : SchemaContainerValidateError) {out rule name : List ℕ} → Some (rule, name) ≡ broken_rule e → out ≡ broken_text rule name → IsBrokenRuleText e out
+told e {out = out} says t = subst (λ o. MatchOption o ⊥ (λ p. out ≡ broken_text p.0 p.1)) says t
+
+pub line_of_rule : (out : List ℕ) (e : SchemaContainerValidateError) → IsBrokenRuleText e out → IsLine out
+line_of_rule out (ZSTSequence m) t = line_of_broken (codes "ZSTSequence") (string_bytes m) (line_of_text (codes "ZSTSequence") refl) t
+line_of_rule out (TagTooWide m) t = line_of_broken (codes "TagTooWide") (string_bytes m) (line_of_text (codes "TagTooWide") refl) t
+line_of_rule out (TagTooNarrow m) t = line_of_broken (codes "TagTooNarrow") (string_bytes m) (line_of_text (codes "TagTooNarrow") refl) t
+line_of_rule out (TagNotPowerOfTwo m) t = line_of_broken (codes "TagNotPowerOfTwo") (string_bytes m) (line_of_text (codes "TagNotPowerOfTwo") refl) t
+line_of_rule out (MissingDefinition m) t = line_of_broken (codes "MissingDefinition") (string_bytes m) (line_of_text (codes "MissingDefinition") refl) t
+line_of_rule out (EmptyLengthRange m) t = line_of_broken (codes "EmptyLengthRange") (string_bytes m) (line_of_text (codes "EmptyLengthRange") refl) t
+line_of_rule out OutOfMemory t = absurd t
 
 pub line_of_missing : {out : List ℕ} (name : List ℕ) → out ≡ missing_text name → IsLine out
 line_of_missing name e = subst IsLine (sym e) (joined (codes "missing ") (digits_of name) (line_of_text (codes "missing ") refl) (line_of_digits name))

@@ -2,7 +2,8 @@
 use Rattle.std.specs.Prelude.{◌≡◌, ℕ, ◌^◌, ◌<◌, ◌≤◌, true, List, [], ◌++◌, Option, Some, None, codes, decimal}
 use Rattle.std.specs.BTreeMap.{btree_map_len}
 use Rattle.borsh.specs.Codec.{IsDecodable}
-use Rattle.borsh_walks.specs.Container.{Shape, Rule, zst_sequence, tag_too_wide, tag_too_narrow, tag_not_power_of_two, missing_definition, empty_length_range, Breaks, IsValid, Reached, SizeReaches, IsRecursive, MaxSize, PartialSize}
+use Rattle.borsh_walks.specs.Container.{Shape, Rule, Breaks, IsValid, Reached, SizeReaches, IsRecursive, MaxSize, PartialSize}
+use Rattle.borsh_walks.specs.Errors.{rule_name}
 use Rattle.borsh_walks.specs.declared.counted.Expansions.{Expansions}
 use Rattle.borsh_walks.specs.RulesState.{RulesWork}
 use Rattle.borsh_walks.specs.SizeAnswer.{VisitsNeeded}
@@ -16,15 +17,6 @@ use Rattle.borsh_check_lines.specs.Digits.{digits_of}
 use Rattle.borsh_check_lines.specs.OneLine.{IsErrorLine}
 
 -- ---- `check`
-
--- the text of a rule
-abbrev pub rule_name : Rule → List ℕ
-rule_name zst_sequence = codes "ZSTSequence"
-rule_name tag_too_wide = codes "TagTooWide"
-rule_name tag_too_narrow = codes "TagTooNarrow"
-rule_name tag_not_power_of_two = codes "TagNotPowerOfTwo"
-rule_name missing_definition = codes "MissingDefinition"
-rule_name empty_length_range = codes "EmptyLengthRange"
 
 -- that a name breaks a rule
 abbrev pub broken_text : List ℕ → List ℕ → List ℕ

@@ -1,4 +1,4 @@
-// Lines are answered and counted.
+// Lines are answered and counted. Left open of each call: none.
 ghost use Rattle.std.specs.Prelude.{◌≡◌, OnOk, IfErr};
 ghost use Rattle.borsh_check_lines.specs.Answers.{Answers};
 ghost use Rattle.borsh_check_lines.specs.Counts.{line_count, add_saturating};
@@ -36,7 +36,8 @@ impl Answerer {
 
     /// Appends the answer to `line` and a line feed to `out`, and counts the line.
     ///
-    /// If an allocation fails, nothing was appended and the line isn't counted.
+    /// If an allocation fails, nothing was appended and the line isn't counted. Left open: as of the function
+    /// [`answer`].
     pub fn answer(
         &mut self,
         alloc: Global,

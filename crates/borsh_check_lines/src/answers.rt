@@ -11,7 +11,8 @@ use super::schemas::schema_answer;
 use super::values::ValueQuestion;
 use std::alloc::{AllocError, Global};
 
-/// The answer to a line. It has no line feed.
+/// The answer to a line. It has no line feed. Left open: memory; the text behind `error`; which of several broken
+/// rules or causes is answered; of `counts`, as of [`borsh::schema::check_rules`] and [`borsh::schema::root_size`].
 ///
 /// ```
 /// let reply = answer(alloc, b"read u8 07")?;

@@ -68,30 +68,19 @@ fn broken_rule(alloc: Global, error: &SchemaContainerValidateError) -> Result<Ve
     ensures text { IfOk result (λ out. IsBrokenRuleText error.now out.items) }
     ensures line { IfOk result (λ out. IsLine out.items) }
 {
-    match error {
-        SchemaContainerValidateError::ZSTSequence(name) => broken(alloc, b"ZSTSequence", name),
-        SchemaContainerValidateError::TagTooWide(name) => broken(alloc, b"TagTooWide", name),
-        SchemaContainerValidateError::TagTooNarrow(name) => broken(alloc, b"TagTooNarrow", name),
-        SchemaContainerValidateError::TagNotPowerOfTwo(name) => {
-            broken(alloc, b"TagNotPowerOfTwo", name)
-        }
-        SchemaContainerValidateError::MissingDefinition(name) => {
-            broken(alloc, b"MissingDefinition", name)
-        }
-        SchemaContainerValidateError::EmptyLengthRange(name) => {
-            broken(alloc, b"EmptyLengthRange", name)
-        }
-        SchemaContainerValidateError::OutOfMemory => Err(AllocError),
+    match error.broken_rule() {
+        Some((rule, name)) => broken(alloc, rule, name),
+        None => Err(AllocError),
     }
 }
 
 /// `invalid`, the rule and the name as digits.
-fn broken(alloc: Global, rule: &[u8], name: &str) -> Result<Vec<u8>, AllocError>
+fn broken(alloc: Global, rule: &str, name: &str) -> Result<Vec<u8>, AllocError>
     ensures { IfOk result (λ out. out.items ≡ broken_text rule.now name.now) }
 {
     let mut out = Vec::new(alloc);
     out.extend_from_slice(b"invalid ")?;
-    out.extend_from_slice(rule)?;
+    out.extend_from_slice(rule.as_bytes())?;
     out.push(b' ')?;
     push_digits(alloc, name.as_bytes(), &mut out)?;
     Ok(out)
@@ -152,11 +141,7 @@ fn counts_answer(alloc: Global, container: &BorshSchemaContainer) -> Result<Vec<
     ensures answers { IfOk result (λ out. IsCountsText container.now out.items) }
     ensures line { IfOk result (λ out. IsLine out.items) }
 {
-    let mut counts = Expansions {
-        size: 0,
-        zero: 0,
-        rules: 0,
-    };
+    let mut counts = Expansions::NONE;
     judge(alloc, container, &mut counts)?;
     measure(alloc, container, &mut counts)?;
     counts_line(alloc, counts)
@@ -187,8 +172,7 @@ fn measure(
     counts: &mut Expansions,
 ) -> Result<(), AllocError>
     ensures bounded_work { SizeWork (btree_map_len (map_of container.now)) counts.old counts.new }
-    ensures needed { OnlyNeeded (language_of container.now) (root_of container.now)
-        counts.old counts.new }
+    ensures needed { OnlyNeeded (language_of container.now) (root_of container.now) counts.old counts.new }
     ensures size { OnOk result
         (CountsIfSized (language_of container.now) (root_of container.now) counts.old counts.new) }
 {

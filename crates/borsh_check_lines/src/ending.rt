@@ -7,7 +7,7 @@ ghost use Rattle.borsh_check_lines.specs.Runs.{error_line, spaced, Told};
 use borsh::io::{Error, Result, Write};
 
 /// The exit status after a run: 0, or 1 after an error, which is written as one line. An error of that
-/// write is ignored.
+/// write is ignored. Left open: how much of the line is written if the writer fails.
 ///
 /// ```
 /// let outcome = run(rt.alloc(), &mut reader, &mut writer);
@@ -29,8 +29,7 @@ pub fn finish<W: Write>(outcome: &Result<()>, errors: &mut W) -> u8
 
 /// Writes what an error displays, as one line.
 fn write_error<W: Write>(error: &Error, errors: &mut W) -> Result<()>
-    ensures writes { OnOk result
-        (WroteBytes W.writing errors.old errors.new (error_line error.now)) }
+    ensures writes { OnOk result (WroteBytes W.writing errors.old errors.new (error_line error.now)) }
     ensures refused { IfErr result
         (λ e. NotWrittenWhole W.writing errors.old errors.new (error_line error.now) (error_kind e)) }
 {

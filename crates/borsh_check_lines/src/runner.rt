@@ -15,8 +15,9 @@ const CHUNK: usize = 8192;
 ///
 /// Lines end by a line feed; a last line without one counts if it isn't empty. An error means that an
 /// allocation failed, that the reader or the writer failed, or that the writer was full. The lines that
-/// were answered by then are the first ones of the input. Their answers were all written if an
-/// allocation or the reader failed; if the writer was full or failed, a beginning of them was.
+/// were answered by then are the first ones of the input. Their answers were all written, or, if the writer
+/// or one of its allocations failed or it was full, a beginning of them. Left open: as of [`run_counted`];
+/// answers that were made and are dropped when memory runs out.
 ///
 /// ```
 /// let mut out = Vec::new(alloc);
@@ -31,7 +32,9 @@ pub fn run<R: Read, W: Write>(alloc: Global, reader: &mut R, writer: &mut W) -> 
 }
 
 /// As [`run`], with an answerer of the caller's. Its count rises by the number of lines that were
-/// answered. So no answer is lost if an allocation or the reader fails: as many were written.
+/// answered. So no answer is lost if the reader or an allocation fails, unless it is the writer's: as many were
+/// written. Left open: memory, after any number of lines; how many bytes are read before the reader fails; a
+/// writer that isn't flushed; as of [`answer`](super::answers::answer).
 pub fn run_counted<R: Read, W: Write>(
     alloc: Global,
     reader: &mut R,
@@ -45,7 +48,7 @@ pub fn run_counted<R: Read, W: Write>(
     flush_all(writer)
 }
 
-/// The same without the flush.
+/// [`run_counted`] without the flush.
 fn run_lines<R: Read, W: Write>(
     alloc: Global,
     reader: &mut R,

@@ -36,8 +36,7 @@ pub(crate) trait Question {
         &self,
         alloc: Global,
     ) -> Result<Vec<u8>, AllocError>
-        ensures answers { IfOk result (λ out.
-            answers self.now (meaning_of T.codec None) out.items) }
+        ensures answers { IfOk result (λ out. answers self.now (meaning_of T.codec None) out.items) }
         ensures line { IfOk result (λ out. IsLine out.items) };
 }
 
@@ -197,8 +196,7 @@ impl Word {
 
     /// The answer to a question about the type that the word names.
     pub(crate) fn ask<Q: Question>(self, question: &Q, alloc: Global) -> Result<Vec<u8>, AllocError>
-        ensures answers { IfOk result (λ out.
-            Q.answers question.now (meaning self) out.items) }
+        ensures answers { IfOk result (λ out. Q.answers question.now (meaning self) out.items) }
         ensures line { IfOk result (λ out. IsLine out.items) }
     {
         match self {

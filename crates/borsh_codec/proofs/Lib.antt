@@ -13,6 +13,7 @@ pub mod DecodeViews
 pub mod WriteRows
 pub mod PutSteps
 pub mod NumberBytes
+pub mod FloatBits
 pub mod ReadWhole
 pub mod ReadSums
 pub mod DecodeSums

@@ -1,5 +1,5 @@
 -- Values that are read part by part: views, pairs, tags, refused values.
-use Rattle.std.proofs.Common.{◌≡◌, ℕ, Bool, true, false, List, [], ◌∷◌, ◌++◌, length, Option, Some, ◌⊎◌, refl, sym, ◌∙◌, ap, subst, inl, inr, append_assoc, true≢false}
+use Rattle.std.proofs.Common.{◌≡◌, ℕ, Bool, true, false, ◌||◌, List, [], ◌∷◌, ◌++◌, length, Option, Some, ◌⊎◌, refl, sym, ◌∙◌, ap, subst, inl, inr, append_assoc, true≢false}
 use Rattle.std.specs.Bool.{⊤}
 use Rattle.borsh_io.specs.declared.error.ErrorKind.{ErrorKind}
 use Rattle.borsh_io.specs.Stream.{ReaderState}
@@ -63,15 +63,15 @@ denied_refused refused c s e r = record { refused = refused_here {P = λ _. ⊤}
 
 -- ---- values that pass a test
 
-pub reads_passed : {A : Type 0} (test : A → Bool) {c : Codec A} {s t : ReaderState} {v : A} → test v ≡ true → Decoded A c s t v → Decoded A (filtered test c) s t v
-reads_passed test e r = record { took = took_weaker (λ x p. record { passed = e; decodes = p }) r.took }
+pub reads_passed : {A : Type 0} (texts : Bool) (test : A → Bool) {c : Codec A} {s t : ReaderState} {v : A} → test v ≡ true → Decoded A c s t v → Decoded A (filtered texts test c) s t v
+reads_passed texts test e r = record { took = took_weaker (λ x p. record { passed = e; decodes = p }) r.took }
 
-pub denied_passed : {A : Type 0} (test : A → Bool) {c : Codec A} {s t : ReaderState} {k : ErrorKind} → NotDecoded A c s t k → NotDecoded A (filtered test c) s t k
-denied_passed test r = record { refused = refused_map (λ e. e) (λ e. refl) (λ none front rest e p. none front rest e (p.0, p.1.decodes)) r.refused }
+pub denied_passed : {A : Type 0} (texts : Bool) (test : A → Bool) {c : Codec A} {s t : ReaderState} {k : ErrorKind} → NotDecoded A c s t k → NotDecoded A (filtered texts test c) s t k
+denied_passed texts test {c = c} r = record { refused = refused_map (λ e. e) (or_right texts c.texts_allocate) (λ none front rest e p. none front rest e (p.0, p.1.decodes)) r.refused }
 
 -- a value was read that doesn't pass
-pub denied_failed : {A : Type 0} (test : A → Bool) {c : Codec A} {s t : ReaderState} {v : A} {k : ErrorKind} → Respects test c → Lawful A c → Decoded A c s t v → IsInvalidData true k → (test v ≡ true → ⊥) → NotDecoded A (filtered test c) s t k
-denied_failed test {c = c} {s = s} {t = t} {v = v} respects l p r failed = record {
+pub denied_failed : {A : Type 0} (texts : Bool) (test : A → Bool) {c : Codec A} {s t : ReaderState} {v : A} {k : ErrorKind} → Respects test c → Lawful A c → Decoded A c s t v → IsInvalidData (texts || c.texts_allocate) k → (test v ≡ true → ⊥) → NotDecoded A (filtered texts test c) s t k
+denied_failed texts test {c = c} {s = s} {t = t} {v = v} respects l p r failed = record {
   refused = refused_here r p.took (λ front rest e w.
       let o = told_after s.bytes t.bytes (front ++ rest) p.took.front e p.took.takes.bytes in
       let f = same_front (IsDecodable c s.strict_order) (decodable_prefix_free l s.strict_order) front rest p.took.front o.0 (w.0, w.1.decodes) (v, p.took.holds) o.2 in

@@ -98,9 +98,10 @@ pub record FilteredDecodes (A : Type 0) (test : A → Bool) (c : Codec A) (stric
   pub passed : test a ≡ true
   pub decodes : c.decodes strict x a
 
--- a value that doesn't pass has no encoding, and nothing is read as it
-abbrev pub filtered : {A : Type 0} → (A → Bool) → Codec A → Codec A
-filtered {A = A} test c = record {
+-- a value that doesn't pass has no encoding, and nothing is read as it; `texts` is whether the text of that error has to be
+-- put together
+abbrev pub filtered : {A : Type 0} → (texts : Bool) → (A → Bool) → Codec A → Codec A
+filtered {A = A} texts test c = record {
   encoding = λ a. cond (test a) (c.encoding a) None;
   equivalent = c.equivalent;
   decodes = FilteredDecodes A test c;
@@ -109,7 +110,7 @@ filtered {A = A} test c = record {
   decoding_allocates = c.decoding_allocates;
   encoding_allocates = c.encoding_allocates;
   refuses = c.refuses;
-  texts_allocate = true;
+  texts_allocate = texts || c.texts_allocate;
 }
 
 -- ---- values in memory of their own

@@ -19,10 +19,14 @@ use std::alloc::Global;
 /// - `OutOfMemory` if an allocation fails, for the value or for the text of an error;
 /// - the reader's error if it fails.
 ///
-/// After an error some of the bytes to come may have been read, and the rest is left. A type that refuses
-/// all of its values returns `InvalidData` before anything is read.
+/// A type that refuses all of its values returns `InvalidData` before anything is read. Left open of each
+/// call: memory; what isn't encoded; after an error, how many bytes are left.
+///
+/// If your type has no implementation, put `// derive: borsh` above it and run derive/borsh_derive.py, or
+/// write one by hand, as docs/IMPLEMENTING.md shows.
 pub trait BorshDeserialize: BorshType + Sized + Drop {
-    /// Decodes a value from the beginning of the bytes to come, and leaves the rest.
+    /// Decodes a value from the beginning of the bytes to come, and leaves the rest. Fails only if no
+    /// beginning decodes to a value, or if the reader or an allocation fails.
     ///
     /// ```
     /// let mut input = b"\x07\x00\xff".as_slice();
@@ -37,7 +41,8 @@ pub trait BorshDeserialize: BorshType + Sized + Drop {
     ghost reads_at_once: { Bool } = { false };
 
     /// Reads `len` values one after another, if the type can read them at once: only `u8` can, and types of
-    /// one's own need not override it. If it returns `None`, nothing was read.
+    /// one's own need not override it. If it returns `None`, nothing was read. Left open: `None`, of any type
+    /// but `u8`; otherwise as of [`deserialize_reader`](BorshDeserialize::deserialize_reader).
     fn vec_from_reader<R: Read>(
         _alloc: Global,
         _len: u32,
@@ -51,6 +56,7 @@ pub trait BorshDeserialize: BorshType + Sized + Drop {
 
     /// How many bytes each encoding has, for a type of which every so many bytes are an encoding, as a
     /// number; 0 for any other type. Lists and arrays of such a type are read many elements at a time.
+    /// Left open: 0, of any type.
     fn width() -> usize
         ensures { 0 < result → IsFixedWidth Self.codec result }
     {
@@ -58,6 +64,7 @@ pub trait BorshDeserialize: BorshType + Sized + Drop {
     }
 
     /// The value that all of the bytes decode to, for a type of fixed [`width`](BorshDeserialize::width).
+    /// Left open: what isn't encoded; `None`, of a type or bytes of another width.
     fn get(alloc: Global, bytes: &[u8]) -> Option<Self>
         ensures { GetsValue Self.codec bytes.now result }
     {
@@ -84,7 +91,7 @@ pub trait BorshDeserialize: BorshType + Sized + Drop {
     }
 
     /// Decodes a value from all of the slice. If bytes are left over, the error is `InvalidData`, "Not
-    /// all bytes read".
+    /// all bytes read". Left open: memory; what isn't encoded.
     ///
     /// ```
     /// assert_eq!(rt; u16::try_from_slice(alloc, b"\x07\x00")?, 7);
@@ -103,6 +110,8 @@ pub trait BorshDeserialize: BorshType + Sized + Drop {
     /// Decodes a value from all of the bytes to come, and looks for one more byte. If there is one, or if
     /// the reader fails then, the error is `InvalidData`, "Not all bytes read"; but a failure of kind
     /// `UnexpectedEof` is taken as the end. After an error of the value itself no further byte is read.
+    /// Left open: memory; what isn't encoded; how many bytes are left after an error; if the reader fails
+    /// after the value, whether the value or an error is returned, and of which kind.
     ///
     /// ```
     /// let mut input = StdReader::new(rt.stdin(), 1000);
@@ -129,7 +138,7 @@ pub trait EnumExt: BorshDeserialize {
     /// Decodes what follows a tag that was read before.
     ///
     /// The errors are those of [`deserialize_reader`](BorshDeserialize::deserialize_reader), for the tag
-    /// followed by the bytes to come.
+    /// followed by the bytes to come. Left open: as there.
     ///
     /// ```
     /// let tag = read_tag(&mut input)?;

@@ -10,9 +10,8 @@ ghost use Rattle.std.specs.Prelude.{◌≡◌, ◌↔◌, true, IsTrue, MatchRes
 use super::deserialize::BorshDeserialize;
 use super::lists::{read_counted, read_list};
 use super::refusals::wrong_order;
-use borsh_io::error::ERROR_ZST_FORBIDDEN;
-use borsh_io::{Error, ErrorKind, Read, Result};
-use borsh_types::BorshKey;
+use borsh_io::{ErrorKind, Read, Result};
+use borsh_types::{BorshKey, refuse_empty};
 use std::alloc::Global;
 
 /// Whether the keys of the entries strictly ascend.
@@ -45,7 +44,7 @@ fn check_entries<K: Ord, V>(strict: bool, entries: &[(K, V)]) -> Result<()>
     Ok(())
 }
 
-/// The same for the keys of a set.
+/// As [`check_entries`].
 #[inline]
 fn check_keys<K: Ord>(strict: bool, keys: &[K]) -> Result<()>
     ensures { MatchResult result
@@ -69,13 +68,11 @@ pub(crate) fn read_pairs<K: BorshDeserialize, V: BorshDeserialize, R: Read>(
     ensures { DecodesVec (refused_if K.codec.is_zero_width (length_prefixed (pair K.codec V.codec)))
         R.stream reader.old reader.new result }
 {
-    if K::encodes_empty() {
-        return Err(Error::new(ErrorKind::InvalidData, ERROR_ZST_FORBIDDEN));
-    }
+    refuse_empty::<K>()?;
     read_counted(alloc, reader)
 }
 
-/// The same, but where the reader wants order the keys have to ascend strictly.
+/// As [`read_pairs`], but the keys have to ascend strictly where the reader wants order.
 #[inline]
 pub(crate) fn read_entries<K: BorshKey + BorshDeserialize + Ord, V: BorshDeserialize, R: Read>(
     alloc: Global,

@@ -6,6 +6,7 @@ pub mod arrays;
 pub mod deserialize;
 mod entries;
 mod fixed;
+pub mod floats;
 pub mod hint;
 pub mod kit_types;
 pub mod lists;

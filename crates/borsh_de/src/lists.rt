@@ -5,13 +5,14 @@ ghost use Rattle.borsh_codec.specs.Reading.{DecodesVec};
 use super::deserialize::BorshDeserialize;
 use super::fixed::{ROOM, read_rooms};
 use super::hint::cautious;
-use borsh_io::error::ERROR_ZST_FORBIDDEN;
-use borsh_io::{Error, ErrorKind, Read, Result};
+use borsh_io::{Read, Result};
+use borsh_types::refuse_empty;
 use std::alloc::Global;
 use std::borrow::CowSlice;
 use std::boxed::BoxedSlice;
 use std::collections::{LinkedList, VecDeque};
 use std::rc::RcSlice;
+use std::sync::ArcSlice;
 
 /// Reads `len` elements one after another, or at once if the type can. The errors are those of an
 /// element, and `OutOfMemory` if memory for the list can't be allocated.
@@ -53,7 +54,7 @@ pub(crate) fn read_counted<T: BorshDeserialize, R: Read>(
     read_elements(alloc, count, reader)
 }
 
-/// The same, but elements whose encodings are empty are refused before anything is read: `InvalidData`.
+/// As [`read_counted`], but elements whose encodings are empty are refused before anything is read: `InvalidData`.
 /// So each element takes at least one byte, and a short input can't announce many of them.
 #[inline]
 pub(crate) fn read_list<T: BorshDeserialize, R: Read>(
@@ -62,9 +63,7 @@ pub(crate) fn read_list<T: BorshDeserialize, R: Read>(
 ) -> Result<Vec<T>>
     ensures { DecodesVec (list T.codec) R.stream reader.old reader.new result }
 {
-    if T::encodes_empty() {
-        return Err(Error::new(ErrorKind::InvalidData, ERROR_ZST_FORBIDDEN));
-    }
+    refuse_empty::<T>()?;
     read_counted(alloc, reader)
 }
 
@@ -104,6 +103,13 @@ impl<T: BorshDeserialize> BorshDeserialize for RcSlice<T> {
     #[inline]
     fn deserialize_reader<R: Read>(alloc: Global, reader: &mut R) -> Result<RcSlice<T>> {
         Ok(RcSlice::from_vec(read_list(alloc, reader)?)?)
+    }
+}
+
+impl<T: BorshDeserialize> BorshDeserialize for ArcSlice<T> {
+    #[inline]
+    fn deserialize_reader<R: Read>(alloc: Global, reader: &mut R) -> Result<ArcSlice<T>> {
+        Ok(ArcSlice::from_vec(read_list(alloc, reader)?)?)
     }
 }
 

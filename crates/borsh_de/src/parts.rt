@@ -46,7 +46,7 @@ pub trait FromParts: Sized {
     /// The parts of a value.
     ghost view: { Self → Self.Parts };
 
-    /// The value with these parts.
+    /// The value with these parts. Left open: what `view` doesn't show.
     ///
     /// ```
     /// fn from_parts((x, y): (u32, u32)) -> Point {
@@ -58,7 +58,7 @@ pub trait FromParts: Sized {
 }
 
 /// Decodes the parts, and puts the value together. The errors are those of the parts, and what is left
-/// after one is what the parts leave.
+/// after one is what the parts leave. Left open: as of [`BorshDeserialize::deserialize_reader`].
 ///
 /// ```
 /// let point: Point = read_parts(alloc, reader)?;
@@ -103,7 +103,7 @@ pub trait TryFromParts: Sized {
     /// The parts of a value.
     ghost view: { Self → Self.Parts };
 
-    /// The value with these parts, if there is one.
+    /// The value with these parts, if there is one. Left open: what `view` doesn't show.
     ///
     /// ```
     /// fn try_from_parts(number: u8) -> Option<NonZeroU8> {
@@ -115,7 +115,7 @@ pub trait TryFromParts: Sized {
         ensures none { IfNone result (
             (v : Self) → Self.Parts.codec.equivalent (view v) parts → ⊥) };
 
-    /// The text of the error if there is none.
+    /// The text of the error if there is none. Left open: any text.
     ///
     /// ```
     /// fn refusal() -> &'static str {
@@ -127,6 +127,7 @@ pub trait TryFromParts: Sized {
 
 /// Decodes the parts, and puts the value together. The errors are those of the parts, and `InvalidData`
 /// with the type's text if no value has these parts: then the parts are read, and the rest is left.
+/// Left open: as of [`BorshDeserialize::deserialize_reader`].
 ///
 /// ```
 /// let number: NonZeroU8 = read_checked(alloc, reader)?;

@@ -2,7 +2,9 @@
 use super::deserialize::BorshDeserialize;
 use borsh_io::{Read, Result};
 use std::alloc::Global;
+use std::borrow::Cow;
 use std::rc::Rc;
+use std::sync::Arc;
 
 impl<T: BorshDeserialize> BorshDeserialize for Box<T> {
     #[inline]
@@ -17,5 +19,30 @@ impl<T: BorshDeserialize> BorshDeserialize for Rc<T> {
     fn deserialize_reader<R: Read>(alloc: Global, reader: &mut R) -> Result<Rc<T>> {
         let value = T::deserialize_reader(alloc, reader)?;
         Ok(Rc::new(alloc, value)?)
+    }
+}
+
+impl<T: BorshDeserialize> BorshDeserialize for Arc<T> {
+    #[inline]
+    fn deserialize_reader<R: Read>(alloc: Global, reader: &mut R) -> Result<Arc<T>> {
+        let value = T::deserialize_reader(alloc, reader)?;
+        Ok(Arc::new(alloc, value)?)
+    }
+}
+
+impl<T: BorshDeserialize> BorshDeserialize for Cow<'_, T> {
+    #[inline]
+    fn deserialize_reader<R: Read>(alloc: Global, reader: &mut R) -> Result<Self> {
+        Ok(Cow::Owned(T::deserialize_reader(alloc, reader)?))
+    }
+
+    // the trait's own body isn't taken here: the borrow checker doesn't cover it at a type with a lifetime and a parameter
+    #[inline]
+    fn vec_from_reader<R: Read>(
+        _alloc: Global,
+        _len: u32,
+        _reader: &mut R,
+    ) -> Result<Option<Vec<Self>>> {
+        Ok(None)
     }
 }

@@ -30,7 +30,7 @@ pub fn fill<R: Read>(reader: &mut R, buf: &mut [u8]) -> Result<()>
 }
 
 /// The next bytes, as many as the array has. If there are fewer, the error is `InvalidData`, "Unexpected
-/// length of input"; any other error is the reader's. After an error some of the bytes may have been read.
+/// length of input"; any other error is the reader's. Left open: how many bytes are left after an error.
 ///
 /// ```
 /// let magic: [u8; 4] = read_bytes(reader)?;
@@ -44,7 +44,7 @@ pub fn read_bytes<R: Read, const N: usize>(reader: &mut R) -> Result<[u8; N]>
     Ok(bytes)
 }
 
-/// The same, as an array of numbers of one byte. The errors are those of [`fill`].
+/// As [`read_bytes`], as numbers of one byte.
 #[inline]
 pub(crate) fn read_octets<R: Read, const N: usize>(reader: &mut R) -> Result<[u8; N]>
     ensures { Decodes (octets N) R.stream reader.old reader.new result }
@@ -53,7 +53,7 @@ pub(crate) fn read_octets<R: Read, const N: usize>(reader: &mut R) -> Result<[u8
     Ok(bytes)
 }
 
-/// The next byte, which says which variant follows. The errors are those of [`read_bytes`].
+/// The next byte, which says which variant follows. The errors are those of [`read_bytes`]. Left open: as there.
 ///
 /// ```
 /// let tag = read_tag(reader)?;

@@ -15,11 +15,15 @@ pub const ERROR_UNEXPECTED_LENGTH_OF_INPUT: &str = "Unexpected length of input";
 /// The text for a non-zero number that is 0.
 pub const ERROR_INVALID_ZERO_VALUE: &str = "Expected a non-zero value";
 
+/// The text for a NaN.
+pub const ERROR_NAN_NOT_DESERIALIZED: &str =
+    "For portability reasons we do not allow to deserialize NaNs.";
+
 /// The text for maps and sets whose keys don't strictly ascend, in strict mode.
 pub const ERROR_WRONG_ORDER_OF_KEYS: &str = "keys were not serialized in ascending order";
 
 /// The error for bytes that decode to no value: `InvalidData` with this text, or `OutOfMemory` if the
-/// text could not be allocated.
+/// text could not be allocated. Left open: the text, which is tested.
 ///
 /// ```
 /// tag => Err(invalid_data(format!(in alloc; "Unexpected variant tag: {tag}"))),

@@ -11,6 +11,7 @@ use std::alloc::Global;
 use std::borrow::CowStr;
 use std::boxed::BoxedStr;
 use std::rc::RcStr;
+use std::sync::ArcStr;
 
 /// Reads the number of bytes and the bytes, which become the text without a copy. Bytes that aren't UTF-8
 /// are refused: `InvalidData`, with the text of std's error.
@@ -42,6 +43,13 @@ impl BorshDeserialize for RcStr {
     #[inline]
     fn deserialize_reader<R: Read>(alloc: Global, reader: &mut R) -> Result<RcStr> {
         Ok(RcStr::from_string(read_text(alloc, reader)?)?)
+    }
+}
+
+impl BorshDeserialize for ArcStr {
+    #[inline]
+    fn deserialize_reader<R: Read>(alloc: Global, reader: &mut R) -> Result<ArcStr> {
+        Ok(ArcStr::from_string(read_text(alloc, reader)?)?)
     }
 }
 

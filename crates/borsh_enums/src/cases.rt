@@ -18,11 +18,11 @@ pub trait Cases: Sized {
 
     ghost variants: { Variants tags codec };
 
-    /// Whether a variant has this tag.
+    /// Whether a variant has this tag. Left open: none.
     fn has_tag(tag: u8) -> bool
         ensures { result ≡ has tag tags };
 
-    /// About how many bytes of memory a value takes, as [`BorshType::element_size`].
+    /// About how many bytes of memory a value takes, as [`BorshType::element_size`]. Left open: any number.
     fn element_size() -> usize;
 }
 
@@ -81,7 +81,7 @@ pub trait FromCases: Sized {
     /// The variant of a value.
     ghost view: { Self → Self.Cases };
 
-    /// The value with this variant.
+    /// The value with this variant. Left open: what `view` doesn't show.
     fn from_cases(cases: Self::Cases) -> Self
         ensures { view result ≡ cases };
 

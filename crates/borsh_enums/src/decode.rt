@@ -11,7 +11,8 @@ use std::alloc::Global;
 
 /// Variants that are decoded.
 pub trait DecodeCases: Cases + Drop {
-    /// Decodes the fields of the variant with this tag, which was read before and is there.
+    /// Decodes the fields of the variant with this tag, which was read before and is there. Left open: as of
+    /// [`EnumExt::deserialize_variant`]; everything, of variants of which two have one tag.
     fn read_case<R: Read>(alloc: Global, reader: &mut R, tag: u8) -> Result<Self>
         requires { has tag Self.tags ≡ true }
         ensures { distinct Self.tags ≡ true →
@@ -34,7 +35,8 @@ impl<A: DecodeCases, B: DecodeCases> DecodeCases for Fork<A, B> {
     }
 }
 
-/// Decodes what follows a tag that was read before. The errors are those of [`read_enum`].
+/// Decodes what follows a tag that was read before. The errors are those of [`read_enum`]. Left open: as
+/// there.
 #[inline]
 pub fn read_variant<T: FromCases, R: Read>(alloc: Global, reader: &mut R, tag: u8) -> Result<T>
 where
@@ -53,7 +55,8 @@ where
 /// Decodes a tag, one byte, and the fields of the variant that has it.
 ///
 /// The errors are those of the fields, and `InvalidData`, "Unexpected variant tag: ..", where no variant
-/// has the tag; then the tag was read, and the rest is left.
+/// has the tag; then the tag was read, and the rest is left. Left open: as of
+/// [`BorshDeserialize::deserialize_reader`].
 #[inline]
 pub fn read_enum<T: FromCases, R: Read>(alloc: Global, reader: &mut R) -> Result<T>
 where

@@ -1,4 +1,4 @@
-// The adapters for std's readers and writers.
+// The adapters for std's readers and writers. Left open of each call: none.
 ghost use Rattle.std.specs.Prelude.{◌≡◌, ◌≢◌, IfErr};
 ghost use Rattle.borsh_io.specs.Errors.{error_kind};
 ghost use Rattle.borsh_io.specs.Stream.{CountedUp, ReadsSome};
@@ -132,6 +132,8 @@ impl<R: std::io::Read> StdReader<R> {
     }
 }
 
+/// As [`Read`] says; an error has no text unless its kind is `Other`. Left open: a failure at every call,
+/// which is counted; which kind an error of std becomes: both tested.
 impl<R: std::io::Read> Read for StdReader<R> {
     ghost stream = { reader_stream R.remaining };
 
@@ -201,6 +203,8 @@ impl<W: std::io::Write> StdWriter<W> {
     }
 }
 
+/// As [`Write`] says; an error has no text unless its kind is `Other` or, of a write, `WriteZero`.
+/// Left open: as of [`StdReader`]; a flush that isn't passed on: tested.
 impl<W: std::io::Write> Write for StdWriter<W> {
     ghost writing = { device_writing W.contents };
 

@@ -1,4 +1,4 @@
-// Errors of readers, writers and codecs.
+// Errors of readers, writers and codecs. Left open of each call: none.
 ghost use Rattle.std.specs.Prelude.{◌≡◌, ◌≢◌, OnOk, IfErr, IsNone, IsSomeAnd, MatchOption, None, Some};
 ghost use Rattle.borsh_io.specs.Errors.{error_kind, error_text, text_bytes, kind_text, display_text};
 ghost use Rattle.borsh_io.specs.declared.error.ErrorKind.TheVariants.{OutOfMemory};

@@ -1,4 +1,4 @@
-// What reads.
+// What reads. Left open of each call: none.
 ghost use Rattle.std.specs.Prelude.{◌≡◌, IfSome};
 ghost use Rattle.borsh_io.specs.Errors.{error_kind};
 ghost use Rattle.borsh_io.specs.Stream.{ReaderState, HasAtMost, ReadsSome, ReadsSomeRetrying, ReadsExactly};
@@ -17,7 +17,8 @@ pub trait Read {
     /// is left and the buffer isn't empty.
     ///
     /// After an error of kind `Interrupted` nothing was read, and the call may be made again. After any
-    /// other error nothing was read, and the count of faults has risen.
+    /// other error nothing was read, and the count of faults has risen. Left open: how many bytes are read,
+    /// what the buffer holds behind them, and when the reader fails.
     ///
     /// ```
     /// let mut input = b"\x07\x00\xff".as_slice();
@@ -39,7 +40,8 @@ pub trait Read {
 
     /// How many bytes are left at most, if the reader knows: a slice returns its length. So a list that
     /// announces more bytes than there are is refused before memory is allocated for it, and any other
-    /// list of bytes is read into memory of its own size. `None`: there may be any number.
+    /// list of bytes is read into memory of its own size. `None`: there may be any number. Left open:
+    /// `None`, of any reader but a slice; any answer of one that doesn't know its bytes.
     ///
     /// ```
     /// let input = b"\x07\x00".as_slice();
@@ -54,8 +56,7 @@ pub trait Read {
     /// Fills the buffer with the next bytes, trying again after interruptions.
     ///
     /// Returns `UnexpectedEof`, "failed to fill whole buffer", if there are fewer bytes, and the reader's
-    /// error if it fails. After an error some of the bytes may have been read, and the contents of the
-    /// buffer are unspecified.
+    /// error if it fails. Left open: after an error, how many bytes were read, and what the buffer holds.
     ///
     /// ```
     /// let mut input = b"\x07\x00\xff".as_slice();
@@ -96,7 +97,8 @@ pub trait Read {
 
 /// One read, trying again after interruptions.
 ///
-/// Returns the reader's error if it fails; nothing was read then.
+/// Returns the reader's error if it fails; nothing was read then. Left open: how many bytes are read, and
+/// what the buffer holds behind them.
 ///
 /// ```
 /// let mut buffer = [0u8; 4096];

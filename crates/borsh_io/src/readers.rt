@@ -5,6 +5,7 @@ ghost use Rattle.borsh_io.specs.Stream.{HasAtMost, ReadsSome, ReadsExactly, slic
 use super::error::{ErrorKind, Result};
 use super::read::{Read, short_read};
 
+/// The reader itself. Left open: what it leaves open.
 impl<R: Read> Read for &mut R {
     ghost stream = { λ r. R.stream r.now };
 
@@ -30,7 +31,7 @@ impl<R: Read> Read for &mut R {
 }
 
 /// The slice becomes what is left. It never fails and is never interrupted; if it is too short for a
-/// `read_exact`, it is left unchanged.
+/// `read_exact`, it is left unchanged. Left open: what the buffer holds behind the bytes that are read.
 impl Read for &[u8] {
     ghost stream = { λ s. slice_state s.now };
 

@@ -1,4 +1,4 @@
-// A reader whose keys may come in any order.
+// A reader whose keys may come in any order. Left open of each call: none.
 ghost use Rattle.std.specs.Prelude.{◌≡◌};
 ghost use Rattle.borsh_io.specs.Stream.{unordered};
 ghost use Rattle.borsh_io.specs.Unordered.{unordered_inner};
@@ -33,6 +33,7 @@ impl<R: Read> Unordered<R> {
     }
 }
 
+/// The inner reader, with keys in any order. Left open: what it leaves open.
 impl<R: Read> Read for Unordered<R> {
     ghost stream = { λ u. unordered (R.stream (unordered_inner u)) };
 

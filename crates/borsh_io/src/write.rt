@@ -1,4 +1,4 @@
-// What writes.
+// What writes. Left open of each call: none.
 ghost use Rattle.std.specs.Prelude.{◌≡◌};
 ghost use Rattle.borsh_io.specs.Errors.{error_kind};
 ghost use Rattle.borsh_io.specs.Sink.{WriterModel, WriterLaws, WritesSome, WritesAll, Flushes, FlushesRetrying};
@@ -19,6 +19,7 @@ pub trait Write {
     ///
     /// After an error of kind `Interrupted` nothing was written, and the call may be made again. After any
     /// other error nothing was written, and an allocation failed or the count of faults has risen.
+    /// Left open: how many bytes are written, and when the writer fails.
     ///
     /// ```
     /// let mut room = [0u8; 2];
@@ -29,7 +30,7 @@ pub trait Write {
         ensures { WritesSome writing self.old self.new buf.now result };
 
     /// Passes on what the writer has buffered. Adds no bytes; the errors are those of
-    /// [`write`](Write::write).
+    /// [`write`](Write::write). Left open: that anything is passed on, and when the writer fails.
     ///
     /// ```
     /// output.flush()?;
@@ -40,7 +41,8 @@ pub trait Write {
     /// Writes the whole buffer, trying again after interruptions.
     ///
     /// Returns `WriteZero`, "failed to write whole buffer", if the writer is full, and the writer's error if
-    /// it fails. After an error a beginning of the buffer was written, and not all of it.
+    /// it fails. After an error a beginning of the buffer was written, and not all of it. Left open: how
+    /// long it is.
     ///
     /// ```
     /// let mut out = Vec::new(alloc);
@@ -85,7 +87,8 @@ pub(crate) fn short_write() -> Error
     Error::new(ErrorKind::WriteZero, "failed to write whole buffer")
 }
 
-/// A flush, trying again after interruptions. Returns the writer's error if it fails.
+/// A flush, trying again after interruptions. Returns the writer's error if it fails. Left open: `Ok`
+/// without a flush, which is tested.
 ///
 /// ```
 /// to_writer(alloc, &mut output, &value)?;

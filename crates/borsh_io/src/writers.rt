@@ -6,6 +6,7 @@ ghost use Rattle.borsh_io.specs.SinkLaws.{contramap_writer-laws, appending-laws,
 use super::error::{Error, ErrorKind, Result};
 use super::write::Write;
 
+/// The writer itself. Left open: what it leaves open.
 impl<W: Write> Write for &mut W {
     ghost writing = { contramap_writer (λ r. r.now) W.writing };
 
@@ -28,7 +29,7 @@ impl<W: Write> Write for &mut W {
 }
 
 /// The bytes are appended to the vector. If an allocation fails (`OutOfMemory`), which happens only if the
-/// vector has to grow, it is unchanged.
+/// vector has to grow, it is unchanged. Left open: memory.
 impl Write for Vec<u8> {
     ghost writing = { appending (λ v. v.items) };
 
@@ -65,7 +66,8 @@ impl Write for Vec<u8> {
 }
 
 /// The bytes overwrite the beginning of the slice, which then begins behind them. It is full when it is
-/// empty; if not all of them fit, those that fit are written.
+/// empty; if not all of them fit, those that fit are written. Left open: which bytes are put into the
+/// slice, and how many by one `write`, at least one if there is room: tested.
 impl Write for &mut [u8] {
     ghost writing = { overwriting (λ s. s.now) };
 

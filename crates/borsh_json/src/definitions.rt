@@ -13,6 +13,7 @@ use std::collections::BTreeMap;
 /// Definitions by name, and what was found out about them.
 #[derive(Drop)]
 pub struct Definitions<'a> {
+    pub alloc: Global,
     map: &'a BTreeMap<String, Definition>,
     zeros: BTreeMap<&'a str, bool>,
     kinds: BTreeMap<&'a str, Kind<'a>>,
@@ -25,6 +26,7 @@ impl<'a> Definitions<'a> {
         map: &'a BTreeMap<String, Definition>,
     ) -> Result<Definitions<'a>, AllocError> {
         Ok(Definitions {
+            alloc,
             map,
             zeros: zero_sizes(alloc, map)?,
             kinds: BTreeMap::new(alloc),
@@ -44,26 +46,21 @@ impl<'a> Definitions<'a> {
     /// How the values of the name, which has this definition, are written.
     pub fn kind(
         &mut self,
-        alloc: Global,
         name: &'a str,
         definition: &'a Definition,
     ) -> Result<Kind<'a>, AllocError> {
         if let Some(kind) = self.kinds.get(name) {
             return Ok(*kind);
         }
-        let kind = kind_of(alloc, self, name, definition)?;
+        let kind = kind_of(self, name, definition)?;
         self.kinds.insert(name, kind)?;
         Ok(kind)
     }
 
     /// How the values of the name are ordered; none where that isn't known.
-    pub fn order_of(
-        &mut self,
-        alloc: Global,
-        name: &'a str,
-    ) -> Result<Option<Ordered<'a>>, AllocError> {
+    pub fn order_of(&mut self, name: &'a str) -> Result<Option<Ordered<'a>>, AllocError> {
         if !self.orders.contains_key(name) {
-            self.find_order(alloc, name)?;
+            self.find_order(name)?;
         }
         Ok(self.known_order(name))
     }
@@ -77,8 +74,8 @@ impl<'a> Definitions<'a> {
     }
 
     /// Finds the order of a name and of those that it needs. It isn't known if that of one of them isn't, as in a circle of names.
-    fn find_order(&mut self, alloc: Global, name: &'a str) -> Result<(), AllocError> {
-        let mut open: Vec<(&'a str, Ordered<'a>, usize)> = Vec::new(alloc);
+    fn find_order(&mut self, name: &'a str) -> Result<(), AllocError> {
+        let mut open: Vec<(&'a str, Ordered<'a>, usize)> = Vec::new(self.alloc);
         let mut name = name;
         for _ in 0..u64::MAX {
             match self.orders.get(name) {
@@ -148,11 +145,7 @@ fn mark<'a>(
     requires { ZeroTable (definitions_in map.now) zeros.old }
     ensures { OnOk result (ZeroTable (definitions_in map.now) zeros.new) }
 {
-    let mut counts = Expansions {
-        size: 0,
-        zero: 0,
-        rules: 0,
-    };
+    let mut counts = Expansions::NONE;
     let mut counted = Counted::new(map, &mut counts);
     let _is_zero = is_zero(alloc, name, zeros, &mut counted)?;
     Ok(())

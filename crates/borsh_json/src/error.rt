@@ -34,6 +34,9 @@ pub enum PartError<'a> {
     Refused(Path<'a>, Refusal),
 }
 
+/// What a step of reading or writing parts returns.
+pub type PartResult<'a, T> = Result<T, PartError<'a>>;
+
 /// What is wrong with a part of a value.
 #[derive(Debug, Drop)]
 pub enum Refusal {

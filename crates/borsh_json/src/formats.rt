@@ -3,16 +3,18 @@
 use crate::definitions::Definitions;
 use borsh_walks::{Definition, Fields};
 
-/// Whether a name is these pieces, one after another.
-pub fn is_composed(name: &str, pieces: &[&str]) -> bool {
+/// What of a name comes behind these pieces; none if it doesn't begin with them.
+pub fn behind<'n>(name: &'n str, pieces: &[&str]) -> Option<&'n str> {
     let mut rest = name;
     for piece in pieces {
-        match rest.strip_prefix(*piece) {
-            Some(after) => rest = after,
-            None => return false,
-        }
+        rest = rest.strip_prefix(*piece)?;
     }
-    rest.is_empty()
+    Some(rest)
+}
+
+/// Whether a name is these pieces, one after another.
+pub fn is_composed(name: &str, pieces: &[&str]) -> bool {
+    behind(name, pieces) == Some("")
 }
 
 /// The name of the value of an `Option`; none if the name isn't one.

@@ -7,6 +7,12 @@ use borsh_walks::{Declaration, Definition, DiscriminantValue, FieldName, Fields,
 use std::alloc::{AllocError, Global};
 use std::collections::BTreeSet;
 
+/// The fields of a struct with their names.
+pub type NamedFields = Vec<(FieldName, Declaration)>;
+
+/// The variants of an enum.
+pub type Variants = Vec<(DiscriminantValue, VariantName, Declaration)>;
+
 /// The elements of a list.
 #[derive(Clone, Copy)]
 pub struct Elements<'a> {
@@ -60,18 +66,17 @@ pub enum Kind<'a> {
     /// What its only part is, which has this name.
     Newtype(&'a str),
     /// `{..}`
-    Object(&'a Vec<(FieldName, Declaration)>),
+    Object(&'a NamedFields),
     /// `null`, or what the part of this name is, which is never `null`.
     Optional(&'a str),
     /// `"Name"`, or `{"Name": ..}` where the variant's value has bytes, with a tag of so many bytes.
-    Choice(u8, &'a Vec<(DiscriminantValue, VariantName, Declaration)>),
+    Choice(u8, &'a Variants),
     /// Not at all: two of its fields or variants have this name.
     Repeated(&'a str),
 }
 
 /// How the values of a name with this definition are written. Their bytes are at least one.
 pub fn kind_of<'a>(
-    alloc: Global,
     definitions: &mut Definitions<'a>,
     name: &'a str,
     definition: &'a Definition,
@@ -79,16 +84,16 @@ pub fn kind_of<'a>(
     match definition {
         Definition::Primitive(size) => Ok(kind_of_primitive(name, *size)),
         Definition::Sequence { elements, .. } => {
-            kind_of_sequence(alloc, definitions, name, definition, elements.as_str())
+            kind_of_sequence(definitions, name, definition, elements.as_str())
         }
         Definition::Tuple { elements } => Ok(Kind::Row(elements.len())),
-        Definition::Struct { fields } => kind_of_struct(alloc, fields),
+        Definition::Struct { fields } => kind_of_struct(definitions.alloc, fields),
         Definition::Enum {
             tag_width,
             variants,
         } => match option_part(definitions, name, definition) {
             Some(part) if !may_be_null(definitions, part) => Ok(Kind::Optional(part)),
-            _ => match repeated_variant(alloc, variants)? {
+            _ => match repeated_variant(definitions.alloc, variants)? {
                 Some(name) => Ok(Kind::Repeated(name)),
                 None => Ok(Kind::Choice(*tag_width, variants)),
             },
@@ -124,7 +129,7 @@ fn kind_of_struct<'a>(alloc: Global, fields: &'a Fields) -> Result<Kind<'a>, All
 /// A name that two fields have.
 fn repeated_field<'a>(
     alloc: Global,
-    fields: &'a Vec<(FieldName, Declaration)>,
+    fields: &'a NamedFields,
 ) -> Result<Option<&'a str>, AllocError> {
     let mut names: BTreeSet<&'a str> = BTreeSet::new(alloc);
     for (field, _) in fields {
@@ -138,7 +143,7 @@ fn repeated_field<'a>(
 /// A name that two variants have.
 fn repeated_variant<'a>(
     alloc: Global,
-    variants: &'a Vec<(DiscriminantValue, VariantName, Declaration)>,
+    variants: &'a Variants,
 ) -> Result<Option<&'a str>, AllocError> {
     let mut names: BTreeSet<&'a str> = BTreeSet::new(alloc);
     for (_, variant, _) in variants {
@@ -150,7 +155,6 @@ fn repeated_variant<'a>(
 }
 
 fn kind_of_sequence<'a>(
-    alloc: Global,
     definitions: &mut Definitions<'a>,
     name: &'a str,
     definition: &'a Definition,
@@ -169,12 +173,12 @@ fn kind_of_sequence<'a>(
     };
     match collection_of(definitions, name, definition) {
         Collection::List => {}
-        Collection::Set => elements.order = definitions.order_of(alloc, element)?,
+        Collection::Set => elements.order = definitions.order_of(element)?,
         Collection::Map(key, value) => {
             if definitions.is_zero_size(key) {
                 elements.is_refused = true;
             }
-            elements.order = definitions.order_of(alloc, key)?;
+            elements.order = definitions.order_of(key)?;
             if let Some(order) = elements.order
                 && let Some(entries) = entries_of(definitions, key, value, order)
             {

@@ -104,23 +104,23 @@ impl Number {
         if self.is_signed { 1 << 127 } else { 0 }
     }
 
-    /// `keys that are whole numbers of 8 bits, unsigned`
+    /// What is wanted of a key, as `keys that are whole numbers of 8 bits, unsigned`.
     pub fn wanted_key(&self, alloc: Global) -> Result<String, AllocError> {
-        let sign = if self.is_signed { "signed" } else { "unsigned" };
-        let bits = u32::from(self.size) * 8;
-        let zero = if self.is_non_zero { ", not zero" } else { "" };
-        format!(in alloc; "keys that are whole numbers of {bits} bits, {sign}{zero}")
+        self.described(alloc, "keys that are whole numbers")
     }
 
-    /// `a whole number of 8 bits, unsigned`
+    /// What is wanted of the text, as `a whole number of 8 bits, unsigned`.
     pub fn wanted(&self, alloc: Global) -> Result<String, AllocError> {
-        let what = if self.is_quoted() {
-            "a decimal string"
+        if self.is_quoted() {
+            self.described(alloc, "a decimal string")
         } else if self.is_long() {
-            "a whole number, or a decimal string,"
+            self.described(alloc, "a whole number, or a decimal string,")
         } else {
-            "a whole number"
-        };
+            self.described(alloc, "a whole number")
+        }
+    }
+
+    fn described(&self, alloc: Global, what: &str) -> Result<String, AllocError> {
         let sign = if self.is_signed { "signed" } else { "unsigned" };
         let bits = u32::from(self.size) * 8;
         let zero = if self.is_non_zero { ", not zero" } else { "" };
@@ -137,7 +137,7 @@ pub fn sign_byte(bytes: &[u8]) -> u8 {
 }
 
 /// Sixteen bytes: these, and the same byte above them.
-fn widened(bytes: &[u8], fill: u8) -> [u8; 16] {
+pub fn widened(bytes: &[u8], fill: u8) -> [u8; 16] {
     let mut all = [fill; 16];
     let mut index = 0;
     for byte in bytes {

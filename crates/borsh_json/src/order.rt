@@ -1,9 +1,9 @@
 // The order of the keys of maps and sets, where names and definitions tell it.
 use crate::definitions::Definitions;
-use crate::formats::{is_composed, is_list, option_part};
+use crate::formats::{behind, is_composed, is_list, option_part};
 use crate::numbers::Number;
 use borsh_walks::{Declaration, Definition};
-use std::alloc::{AllocError, Global};
+use std::alloc::AllocError;
 use std::cmp::Ordering;
 use std::mem;
 
@@ -116,13 +116,7 @@ fn list_as<'a>(definitions: &Definitions<'a>, name: &str, element: &'a str) -> O
 
 /// Whether a name is `[element; count]`.
 fn is_array_name(name: &str, element: &str, count: u64) -> bool {
-    let Some(rest) = name.strip_prefix("[") else {
-        return false;
-    };
-    let Some(rest) = rest.strip_prefix(element) else {
-        return false;
-    };
-    let Some(rest) = rest.strip_prefix("; ") else {
+    let Some(rest) = behind(name, &["[", element, "; "]) else {
         return false;
     };
     match rest.strip_suffix("]") {
@@ -209,14 +203,13 @@ fn number_of(bytes: &[u8]) -> u64 {
 
 /// How two encodings compare, as the values of a name with this order, which begin the bytes.
 pub fn compare<'a>(
-    alloc: Global,
     definitions: &Definitions<'a>,
     order: Ordered<'a>,
     left: &[u8],
     right: &[u8],
 ) -> Result<Ordering, AllocError> {
     let mut pair = Pair { left, right };
-    let mut pending: Vec<Pending<'a>> = Vec::new(alloc);
+    let mut pending: Vec<Pending<'a>> = Vec::new(definitions.alloc);
     let first = compare_front(order, &mut pair, &mut pending)?;
     if first != Ordering::Equal {
         return Ok(first);
@@ -341,18 +334,13 @@ impl<'a> Ascent<'a> {
     }
 
     /// Whether the element that was begun last is above the one before it. All of its bytes are there.
-    pub fn ascends(
-        &self,
-        alloc: Global,
-        definitions: &Definitions<'a>,
-        bytes: &[u8],
-    ) -> Result<bool, AllocError> {
+    pub fn ascends(&self, definitions: &Definitions<'a>, bytes: &[u8]) -> Result<bool, AllocError> {
         let (Some(earlier), Some(last)) = (self.earlier, self.last) else {
             return Ok(true);
         };
         let left = from(bytes, earlier);
         let right = from(bytes, last);
-        Ok(compare(alloc, definitions, self.order, left, right)? == Ordering::Less)
+        Ok(compare(definitions, self.order, left, right)? == Ordering::Less)
     }
 }
 

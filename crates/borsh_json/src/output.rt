@@ -66,48 +66,16 @@ impl Output {
         }
     }
 
-    pub fn begin_array(&mut self) -> Result<(), AllocError> {
-        self.put(Token::BeginArray)
-    }
-
-    pub fn end_array(&mut self) -> Result<(), AllocError> {
-        self.put(Token::EndArray)
-    }
-
-    pub fn begin_object(&mut self) -> Result<(), AllocError> {
-        self.put(Token::BeginObject)
-    }
-
-    pub fn end_object(&mut self) -> Result<(), AllocError> {
-        self.put(Token::EndObject)
-    }
-
-    pub fn key(&mut self, key: &str) -> Result<(), AllocError> {
-        self.put(Token::Key(key))
-    }
-
-    pub fn string(&mut self, text: &str) -> Result<(), AllocError> {
-        self.put(Token::String(text))
-    }
-
     /// A number in decimal; a text that is no number is written as a string.
     pub fn number(&mut self, text: &str) -> Result<(), AllocError> {
         if is_number(text) {
             self.put(Token::Number(text))
         } else {
-            self.string(text)
+            self.put(Token::String(text))
         }
     }
 
-    pub fn boolean(&mut self, value: bool) -> Result<(), AllocError> {
-        self.put(Token::Bool(value))
-    }
-
-    pub fn null(&mut self) -> Result<(), AllocError> {
-        self.put(Token::Null)
-    }
-
-    fn put(&mut self, token: Token<'_>) -> Result<(), AllocError>
+    pub fn put(&mut self, token: Token<'_>) -> Result<(), AllocError>
         requires { IsPrintable (token_of token) }
     {
         match self {

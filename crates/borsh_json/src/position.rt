@@ -1,9 +1,14 @@
 // Where in a value the reader or writer is.
-use crate::kinds::Entries;
-use crate::order::{Ascent, Ordered};
+ghost use Rattle.borsh_json.specs.Errors.{IsPartError, IsUnreadable, IsUnwritable};
+ghost use Rattle.std.specs.Prelude.{IfErr};
+
+use crate::error::{PartError, PartResult, Refusal};
+use crate::kinds::{Elements, Entries, NamedFields};
+use crate::order::{Ascent, Ordered, first_descent};
 use borsh_values::{Path, PathStep};
+use borsh_walks::Definition;
 use borsh_walks::parts::referenced_part;
-use borsh_walks::{Declaration, Definition, FieldName};
+use json::MAX_DEPTH;
 use std::alloc::{AllocError, Global};
 
 /// The parts of a value.
@@ -15,7 +20,7 @@ pub enum Parts<'a> {
     List(&'a str, u64),
     /// Those of a tuple, or of a struct without names.
     Row(&'a Definition),
-    Object(&'a Vec<(FieldName, Declaration)>),
+    Object(&'a NamedFields),
     /// So many values of the entries of a map that is an object.
     Entries(Entries<'a>, u64),
     /// The only part of a struct, of this name.
@@ -78,44 +83,33 @@ impl<'a> Place<'a> {
     }
 
     fn part_at(&self, index: usize) -> Option<Part<'a>> {
-        match self.parts {
-            Parts::Root(name) => only_part(index, name, Key::None, true),
-            Parts::Newtype(name) | Parts::Some(name) => only_part(index, name, Key::None, false),
-            Parts::Variant(variant, name) => only_part(index, name, Key::Name(variant), false),
-            Parts::Entries(entries, count) => {
-                if index as u64 >= count {
-                    return None;
-                }
-                Some(Part {
-                    name: entries.value,
-                    key: Key::Entry(entries),
-                    may_be_empty: true,
-                })
+        let (count, name, key, may_be_empty) = match self.parts {
+            Parts::Root(name) => (1, name, Key::None, true),
+            Parts::Newtype(name) | Parts::Some(name) => (1, name, Key::None, false),
+            Parts::Variant(variant, name) => (1, name, Key::Name(variant), false),
+            Parts::List(name, count) => (count, name, Key::None, false),
+            Parts::Entries(entries, count) => (count, entries.value, Key::Entry(entries), true),
+            Parts::Row(definition) => {
+                (
+                    u64::MAX,
+                    referenced_part(definition, index)?,
+                    Key::None,
+                    true,
+                )
             }
-            Parts::List(name, count) => {
-                if index as u64 >= count {
-                    return None;
-                }
-                Some(Part {
-                    name,
-                    key: Key::None,
-                    may_be_empty: false,
-                })
-            }
-            Parts::Row(definition) => Some(Part {
-                name: referenced_part(definition, index)?,
-                key: Key::None,
-                may_be_empty: true,
-            }),
             Parts::Object(fields) => {
                 let (field, name) = fields.get(index)?;
-                Some(Part {
-                    name: name.as_str(),
-                    key: Key::Name(field.as_str()),
-                    may_be_empty: true,
-                })
+                (u64::MAX, name.as_str(), Key::Name(field.as_str()), true)
             }
+        };
+        if index as u64 >= count {
+            return None;
         }
+        Some(Part {
+            name,
+            key,
+            may_be_empty,
+        })
     }
 
     /// The step to the part that was begun last; of the value of an entry, the step to the entry.
@@ -132,55 +126,131 @@ impl<'a> Place<'a> {
     }
 }
 
-fn only_part<'a>(
-    index: usize,
-    name: &'a str,
-    key: Key<'a>,
-    may_be_empty: bool,
-) -> Option<Part<'a>> {
-    if index == 0 {
-        Some(Part {
-            name,
-            key,
-            may_be_empty,
-        })
-    } else {
-        None
-    }
-}
-
-/// The path of the part that was begun last.
-pub fn path_of<'a>(
+/// Where the reader or writer is: the parts that it is in, the innermost in `place`.
+#[derive(Drop)]
+pub struct Position<'a> {
     alloc: Global,
     root: &'a str,
-    outer: &[Place<'a>],
-    last: &Place<'a>,
-) -> Result<Path<'a>, AllocError> {
-    let mut path = path_of_element(alloc, root, outer, last)?;
-    if let Parts::Entries(_, _) = last.parts {
-        path.steps.push(PathStep::Place(1))?;
-    }
-    Ok(path)
+    outer: Vec<Place<'a>>,
+    pub place: Place<'a>,
 }
 
-/// The path of the part that was begun last; in a map, that of its entry.
-pub fn path_of_element<'a>(
-    alloc: Global,
-    root: &'a str,
-    outer: &[Place<'a>],
-    last: &Place<'a>,
-) -> Result<Path<'a>, AllocError> {
-    let mut steps: Vec<PathStep<'a>> = Vec::new(alloc);
-    for place in outer {
-        if let Some(step) = place.step() {
+impl<'a> Position<'a> {
+    /// In front of a value of this name.
+    pub fn new(alloc: Global, root: &'a str) -> Position<'a> {
+        Position {
+            alloc,
+            root,
+            outer: Vec::new(alloc),
+            place: Place::new(Parts::Root(root)),
+        }
+    }
+
+    /// Goes into the parts of the part that was begun last.
+    pub fn enter(&mut self, place: Place<'a>) -> PartResult<'a, ()>
+        ensures reading { IfErr result (IsPartError IsUnreadable) }
+        ensures writing { IfErr result (IsPartError IsUnwritable) }
+    {
+        if self.outer.len() >= MAX_DEPTH {
+            return Err(self.refused(Refusal::TooDeep));
+        }
+        self.outer.push(self.place)?;
+        self.place = place;
+        Ok(())
+    }
+
+    /// Goes back to the parts around these; says no at the value itself.
+    pub fn leave(&mut self) -> bool {
+        match self.outer.pop() {
+            Some(outer) => {
+                self.place = outer;
+                true
+            }
+            None => false,
+        }
+    }
+
+    /// Refuses a primitive of a list that isn't above the one before it, where these have to ascend.
+    pub fn check_ascent(&self, elements: Elements<'a>, bytes: &[u8]) -> PartResult<'a, ()>
+        ensures reading { IfErr result (IsPartError IsUnreadable) }
+        ensures writing { IfErr result (IsPartError IsUnwritable) }
+    {
+        let Some(order) = elements.order else {
+            return Ok(());
+        };
+        match first_descent(order, usize::from(elements.size), bytes) {
+            Some(index) => {
+                let mut path = self.path()?;
+                path.steps.push(PathStep::Element(index as u64))?;
+                Err(PartError::Refused(path, Refusal::Descends))
+            }
+            None => Ok(()),
+        }
+    }
+
+    /// The error of the part that was begun last.
+    pub fn refused(&self, refusal: Refusal) -> PartError<'a>
+        ensures reading { IsUnreadable refusal → IsPartError IsUnreadable result }
+        ensures writing { IsUnwritable refusal → IsPartError IsUnwritable result }
+    {
+        refused_at(self.path(), refusal)
+    }
+
+    /// The error of the element or entry that was begun last.
+    pub fn refused_element(&self, refusal: Refusal) -> PartError<'a>
+        ensures reading { IsUnreadable refusal → IsPartError IsUnreadable result }
+        ensures writing { IsUnwritable refusal → IsPartError IsUnwritable result }
+    {
+        refused_at(self.path_of_element(), refusal)
+    }
+
+    /// The error of the key of the entry that was begun last.
+    pub fn refused_key(&self, refusal: Refusal) -> PartError<'a>
+        ensures { IsUnwritable refusal → IsPartError IsUnwritable result }
+    {
+        refused_at(self.path_of_key(), refusal)
+    }
+
+    fn path(&self) -> Result<Path<'a>, AllocError> {
+        let mut path = self.path_of_element()?;
+        if let Parts::Entries(_, _) = self.place.parts {
+            path.steps.push(PathStep::Place(1))?;
+        }
+        Ok(path)
+    }
+
+    fn path_of_key(&self) -> Result<Path<'a>, AllocError> {
+        let mut path = self.path_of_element()?;
+        path.steps.push(PathStep::Place(0))?;
+        Ok(path)
+    }
+
+    fn path_of_element(&self) -> Result<Path<'a>, AllocError> {
+        let mut steps: Vec<PathStep<'a>> = Vec::new(self.alloc);
+        for place in self.outer.as_slice() {
+            if let Some(step) = place.step() {
+                steps.push(step)?;
+            }
+            if let Parts::Entries(_, _) = place.parts {
+                steps.push(PathStep::Place(1))?;
+            }
+        }
+        if let Some(step) = self.place.step() {
             steps.push(step)?;
         }
-        if let Parts::Entries(_, _) = place.parts {
-            steps.push(PathStep::Place(1))?;
-        }
+        Ok(Path {
+            root: self.root,
+            steps,
+        })
     }
-    if let Some(step) = last.step() {
-        steps.push(step)?;
+}
+
+fn refused_at<'a>(path: Result<Path<'a>, AllocError>, refusal: Refusal) -> PartError<'a>
+    ensures reading { IsUnreadable refusal → IsPartError IsUnreadable result }
+    ensures writing { IsUnwritable refusal → IsPartError IsUnwritable result }
+{
+    match path {
+        Ok(path) => PartError::Refused(path, refusal),
+        Err(_) => PartError::OutOfMemory,
     }
-    Ok(Path { root, steps })
 }

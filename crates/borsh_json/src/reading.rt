@@ -6,15 +6,14 @@ ghost use Rattle.json.specs.Json.{document};
 ghost use Rattle.std.specs.Prelude.{◌≡◌, IfErr, IfOk, IfSome, IsSome, OnOk};
 
 use crate::definitions::Definitions;
-use crate::error::{JsonError, PartError, Refusal};
-use crate::kinds::{Elements, Entries, KeyKind, Kind};
+use crate::error::{JsonError, PartError, PartResult, Refusal};
+use crate::kinds::{Elements, Entries, KeyKind, Kind, NamedFields, Variants};
 use crate::numbers::Number;
-use crate::order::first_descent;
-use crate::position::{Key, Part, Parts, Place, path_of, path_of_element};
-use borsh_values::{Membership, Path, PathStep, is_member};
-use borsh_walks::{Declaration, Definition, DiscriminantValue, FieldName, VariantName};
+use crate::position::{Key, Part, Parts, Place, Position};
+use borsh_values::{Membership, Path, is_member};
+use borsh_walks::{Declaration, Definition, DiscriminantValue, VariantName};
 use hex::FromHexError;
-use json::{Element, Items, MAX_DEPTH, Reader, Scratch, Tape, Token};
+use json::{Element, Items, MAX_DEPTH, Members, Reader, Scratch, Tape, Token};
 use std::alloc::{AllocError, Global};
 use std::collections::BTreeMap;
 use std::mem;
@@ -26,6 +25,11 @@ use std::mem;
 /// definitions is refused with its path and what was expected; so are keys that come twice, and arrays whose elements or
 /// keys don't ascend where they have to. The bytes are a member of the root.
 ///
+/// Determined: after `Ok` the bytes are a member of the root, and the text is JSON that nests at most 128 deep. After `NotJson`
+/// it isn't; after any other error but `OutOfMemory` and `TooDeep` it is. `Ambiguous` is as of [`is_member`], and `NoMember`
+/// isn't returned. Left open: memory; `TooDeep` for any text; `NoValue` and `Refused` for any such JSON, for any reason that a
+/// text has; the byte of `NotJson`; the bytes of another member: tested, by tables and by round trips.
+///
 /// ```
 /// let bytes = from_json(alloc, "(u8, bool)", &definitions, "[7, true]")?;
 /// assert_eq!(rt; bytes.as_slice(), b"\x07\x01".as_slice());
@@ -36,11 +40,9 @@ pub fn from_json<'a>(
     map: &'a BTreeMap<String, Definition>,
     text: &str,
 ) -> Result<Vec<u8>, JsonError<'a>>
-    ensures member { IfOk result
-        (λ bytes. Member (definitions_in map.now) root.now bytes.items) }
+    ensures member { IfOk result (λ bytes. Member (definitions_in map.now) root.now bytes.items) }
     ensures json { OnOk result (IsSome (document text.now)) }
-    ensures reason { IfErr result
-        (λ e. IsTextReason (definitions_in map.now) root.now text.now e) }
+    ensures reason { IfErr result (λ e. IsTextReason (definitions_in map.now) root.now text.now e) }
 {
     let bytes = read_text(alloc, root, map, text)?;
     check_member(alloc, root, map, bytes.as_slice())?;
@@ -55,8 +57,7 @@ fn check_member<'a>(
     bytes: &[u8],
 ) -> Result<(), JsonError<'a>>
     ensures member { OnOk result (Member (definitions_in map.now) root.now bytes.now) }
-    ensures reason { IfErr result
-        (λ e. IsBytesReason (definitions_in map.now) root.now e) }
+    ensures reason { IfErr result (λ e. IsBytesReason (definitions_in map.now) root.now e) }
 {
     match is_member(alloc, root, map, bytes)? {
         Membership::Member => Ok(()),
@@ -86,8 +87,7 @@ fn read_text<'a>(
     text: &str,
 ) -> Result<Vec<u8>, JsonError<'a>>
     ensures json { OnOk result (IsSome (document text.now)) }
-    ensures reason { IfErr result
-        (λ e. IsTextReason (definitions_in map.now) root.now text.now e) }
+    ensures reason { IfErr result (λ e. IsTextReason (definitions_in map.now) root.now text.now e) }
 {
     let mut scratch = Scratch::new(alloc);
     match Tape::parse(text, &mut scratch, Vec::new(alloc)) {
@@ -130,19 +130,18 @@ fn read_value<'a>(
     root: &'a str,
     map: &'a BTreeMap<String, Definition>,
     element: Element<'_, '_>,
-) -> Result<Vec<u8>, PartError<'a>>
+) -> PartResult<'a, Vec<u8>>
     ensures { IfErr result (IsPartError IsUnreadable) }
 {
     let mut reading = Reading {
-        root,
+        alloc,
         definitions: Definitions::new(alloc, map)?,
         out: Vec::new(alloc),
-        outer: Vec::new(alloc),
-        outer_sources: Vec::new(alloc),
-        place: Place::new(Parts::Root(root)),
+        position: Position::new(alloc, root),
         source: Source::One(Some(element)),
+        outer_sources: Vec::new(alloc),
     };
-    reading.read_all(alloc)?;
+    reading.read_all()?;
     Ok(reading.out)
 }
 
@@ -152,6 +151,8 @@ enum Source<'t, 's> {
     One(Option<Element<'t, 's>>),
     Items(Items<'t, 's>),
     Members(BTreeMap<&'s str, Element<'t, 's>>),
+    /// The values of entries, whose keys are texts and ascend.
+    Entries(Members<'t, 's>),
     /// The values of entries, by their keys.
     Texts(BTreeMap<&'s str, Element<'t, 's>>),
     /// The values of entries, by numbers that order their keys: see [`Number::rank`].
@@ -182,6 +183,10 @@ impl<'t, 's> Source<'t, 's> {
                 Key::Name(name) => (TakenKey::None, members.remove(name)?),
                 _ => return None,
             },
+            Source::Entries(members) => {
+                let (text, element) = members.next()?;
+                (TakenKey::Text(text), element)
+            }
             Source::Texts(members) => {
                 let (text, element) = members.pop_first()?;
                 (TakenKey::Text(text), element)
@@ -195,160 +200,117 @@ impl<'t, 's> Source<'t, 's> {
     }
 }
 
-/// The bytes so far, and the places that are being read with their JSON, the last in `place` and `source`.
+/// The bytes so far, and where the reader is, with the JSON of the parts around it.
 #[derive(Drop)]
 struct Reading<'a, 't, 's> {
-    root: &'a str,
+    alloc: Global,
     definitions: Definitions<'a>,
     out: Vec<u8>,
-    outer: Vec<Place<'a>>,
-    outer_sources: Vec<Source<'t, 's>>,
-    place: Place<'a>,
+    position: Position<'a>,
     source: Source<'t, 's>,
+    outer_sources: Vec<Source<'t, 's>>,
 }
 
 impl<'a, 't, 's> Reading<'a, 't, 's> {
-    fn read_all(&mut self, alloc: Global) -> Result<(), PartError<'a>>
+    fn read_all(&mut self) -> PartResult<'a, ()>
         ensures { IfErr result (IsPartError IsUnreadable) }
     {
         for _ in 0..u64::MAX {
-            self.check_order(alloc)?;
-            match self.place.next_part() {
+            self.check_order()?;
+            match self.position.place.next_part() {
                 Some(part) => {
                     let Some(taken) = self.source.take(part.key) else {
-                        return Err(self.refused(alloc, Refusal::MissingField));
+                        return Err(self.position.refused(Refusal::MissingField));
                     };
-                    self.put_key(alloc, part.key, taken.key)?;
-                    self.read_part(alloc, part, taken.element)?;
+                    self.put_key(part.key, taken.key)?;
+                    self.read_part(part, taken.element)?;
                 }
-                None => match (self.outer.pop(), self.outer_sources.pop()) {
-                    (Some(place), Some(source)) => {
-                        self.place = place;
+                None => match (self.position.leave(), self.outer_sources.pop()) {
+                    (true, Some(source)) => {
                         let read = mem::replace(&mut self.source, source);
-                        self.check_left(alloc, &read)?;
+                        self.check_left(&read)?;
                     }
                     _ => return Ok(()),
                 },
             }
         }
-        Err(self.refused(alloc, Refusal::TooDeep))
+        Err(self.position.refused(Refusal::TooDeep))
     }
 
-    fn read_part(
-        &mut self,
-        alloc: Global,
-        part: Part<'a>,
-        element: Element<'t, 's>,
-    ) -> Result<(), PartError<'a>>
+    fn read_part(&mut self, part: Part<'a>, element: Element<'t, 's>) -> PartResult<'a, ()>
         ensures { IfErr result (IsPartError IsUnreadable) }
     {
         if part.may_be_empty && self.definitions.is_zero_size(part.name) {
             if element.is_null() {
                 return Ok(());
             }
-            return Err(self.expected(alloc, "null"));
+            return Err(self.expected("null"));
         }
         let Some(definition) = self.definitions.get(part.name) else {
-            let name = String::from_str(alloc, part.name)?;
-            return Err(self.refused(alloc, Refusal::Undefined(name)));
+            let name = String::from_str(self.alloc, part.name)?;
+            return Err(self.position.refused(Refusal::Undefined(name)));
         };
-        match self.definitions.kind(alloc, part.name, definition)? {
-            Kind::Number(number) => self.read_number(alloc, number, &element),
+        match self.definitions.kind(part.name, definition)? {
+            Kind::Number(number) => self.read_number(number, &element),
             Kind::Bool => match element.as_bool() {
                 Some(value) => Ok(self.out.push(u8::from(value))?),
-                None => Err(self.expected(alloc, "true or false")),
+                None => Err(self.expected("true or false")),
             },
-            Kind::Bytes(size) => self.read_bytes(alloc, size, &element),
+            Kind::Bytes(size) => self.read_bytes(size, &element),
             Kind::Text => match element.as_str() {
-                Some(text) => self.put_list(alloc, definition, text.as_bytes()),
-                None => Err(self.expected(alloc, "a string")),
+                Some(text) => self.put_list(definition, text.as_bytes()),
+                None => Err(self.expected("a string")),
             },
             Kind::ByteList(elements) => match element.as_str() {
                 Some(text) => {
-                    let bytes = self.hexadecimal(alloc, text)?;
-                    self.check_ascent(alloc, elements, bytes.as_slice())?;
-                    self.put_list(alloc, definition, bytes.as_slice())
+                    let bytes = self.hexadecimal(text)?;
+                    self.position.check_ascent(elements, bytes.as_slice())?;
+                    self.put_list(definition, bytes.as_slice())
                 }
-                None => self.open_list(alloc, definition, elements, &element),
+                None => self.open_list(definition, elements, &element),
             },
             Kind::Numbers(elements) | Kind::List(elements) => {
-                self.open_list(alloc, definition, elements, &element)
+                self.open_list(definition, elements, &element)
             }
-            Kind::Map(entries, _) => self.open_map(alloc, definition, entries, &element),
-            Kind::Row(count) => self.open_row(alloc, definition, count, &element),
-            Kind::Newtype(part) => self.open(
-                alloc,
-                Place::new(Parts::Newtype(part)),
-                Source::One(Some(element)),
-            ),
-            Kind::Object(fields) => self.open_object(alloc, fields, &element),
+            Kind::Map(entries, _) => self.open_map(definition, entries, &element),
+            Kind::Row(count) => self.open_row(definition, count, &element),
+            Kind::Newtype(part) => self.open(Parts::Newtype(part), Source::One(Some(element))),
+            Kind::Object(fields) => self.open_object(fields, &element),
             Kind::Optional(part) => {
                 if element.is_null() {
                     return Ok(self.out.push(0)?);
                 }
                 self.out.push(1)?;
-                self.open(
-                    alloc,
-                    Place::new(Parts::Some(part)),
-                    Source::One(Some(element)),
-                )
+                self.open(Parts::Some(part), Source::One(Some(element)))
             }
             Kind::Choice(tag_width, variants) => {
-                self.read_variant(alloc, tag_width, variants, &element)
+                self.read_variant(tag_width, variants, &element)
             }
             Kind::Repeated(name) => {
-                let name = String::from_str(alloc, name)?;
-                Err(self.refused(alloc, Refusal::RepeatedName(name)))
+                let name = String::from_str(self.alloc, name)?;
+                Err(self.position.refused(Refusal::RepeatedName(name)))
             }
         }
     }
 
     /// Refuses an element that isn't above the one before it, where elements have to ascend.
-    fn check_order(&mut self, alloc: Global) -> Result<(), PartError<'a>>
+    fn check_order(&mut self) -> PartResult<'a, ()>
         ensures { IfErr result (IsPartError IsUnreadable) }
     {
-        let Some(ascent) = &mut self.place.ascent else {
+        let Some(ascent) = &mut self.position.place.ascent else {
             return Ok(());
         };
-        let ascends = ascent.ascends(alloc, &self.definitions, self.out.as_slice())?;
+        let ascends = ascent.ascends(&self.definitions, self.out.as_slice())?;
         ascent.begin(self.out.len());
         if ascends {
             Ok(())
         } else {
-            let path = path_of_element(alloc, self.root, self.outer.as_slice(), &self.place)?;
-            Err(PartError::Refused(path, Refusal::Descends))
-        }
-    }
-
-    /// Refuses a primitive that isn't above the one before it, where these have to ascend.
-    fn check_ascent(
-        &self,
-        alloc: Global,
-        elements: Elements<'a>,
-        bytes: &[u8],
-    ) -> Result<(), PartError<'a>>
-        ensures { IfErr result (IsPartError IsUnreadable) }
-    {
-        let Some(order) = elements.order else {
-            return Ok(());
-        };
-        match first_descent(order, usize::from(elements.size), bytes) {
-            Some(index) => {
-                let mut path = path_of(alloc, self.root, self.outer.as_slice(), &self.place)?;
-                path.steps.push(PathStep::Element(index as u64))?;
-                Err(PartError::Refused(path, Refusal::Descends))
-            }
-            None => Ok(()),
+            Err(self.position.refused_element(Refusal::Descends))
         }
     }
 
     /// Adds the key of an entry.
-    fn put_key(
-        &mut self,
-        alloc: Global,
-        key: Key<'a>,
-        taken: TakenKey<'s>,
-    ) -> Result<(), PartError<'a>>
+    fn put_key(&mut self, key: Key<'a>, taken: TakenKey<'s>) -> PartResult<'a, ()>
         ensures { IfErr result (IsPartError IsUnreadable) }
     {
         let Key::Entry(entries) = key else {
@@ -356,9 +318,7 @@ impl<'a, 't, 's> Reading<'a, 't, 's> {
         };
         match taken {
             TakenKey::None => Ok(()),
-            TakenKey::Text(text) => {
-                self.put_list(alloc, entries.key_definition, text.as_bytes())
-            }
+            TakenKey::Text(text) => { self.put_list(entries.key_definition, text.as_bytes()) }
             TakenKey::Rank(rank) => match entries.key_kind {
                 KeyKind::Number(number) => self.put_number(number, number.of_rank(rank)),
                 KeyKind::Text => Ok(()),
@@ -366,19 +326,14 @@ impl<'a, 't, 's> Reading<'a, 't, 's> {
         }
     }
 
-    fn put_number(&mut self, number: Number, bytes: [u8; 16]) -> Result<(), PartError<'a>>
+    fn put_number(&mut self, number: Number, bytes: [u8; 16]) -> PartResult<'a, ()>
         ensures { IfErr result (IsPartError IsUnreadable) }
     {
         let own = &bytes[..usize::from(number.size).min(16)];
         Ok(self.out.extend_from_slice(own)?)
     }
 
-    fn read_number(
-        &mut self,
-        alloc: Global,
-        number: Number,
-        element: &Element<'t, 's>,
-    ) -> Result<(), PartError<'a>>
+    fn read_number(&mut self, number: Number, element: &Element<'t, 's>) -> PartResult<'a, ()>
         ensures { IfErr result (IsPartError IsUnreadable) }
     {
         let text = if number.is_quoted() {
@@ -391,64 +346,49 @@ impl<'a, 't, 's> Reading<'a, 't, 's> {
         match text.and_then(|text| number.bytes(text)) {
             Some(bytes) => self.put_number(number, bytes),
             None => {
-                let wanted = number.wanted(alloc)?;
-                Err(self.refused(alloc, Refusal::Expected(wanted)))
+                let wanted = number.wanted(self.alloc)?;
+                Err(self.position.refused(Refusal::Expected(wanted)))
             }
         }
     }
 
-    fn read_bytes(
-        &mut self,
-        alloc: Global,
-        size: u8,
-        element: &Element<'t, 's>,
-    ) -> Result<(), PartError<'a>>
+    fn read_bytes(&mut self, size: u8, element: &Element<'t, 's>) -> PartResult<'a, ()>
         ensures { IfErr result (IsPartError IsUnreadable) }
     {
         if let Some(text) = element.as_str() {
-            let bytes = self.hexadecimal(alloc, text)?;
+            let bytes = self.hexadecimal(text)?;
             if bytes.len() == usize::from(size) {
                 return Ok(self.out.extend_from_slice(bytes.as_slice())?);
             }
         }
-        let wanted = format!(in alloc; "\"0x..\" of {size} bytes")?;
-        Err(self.refused(alloc, Refusal::Expected(wanted)))
+        let wanted = format!(in self.alloc; "\"0x..\" of {size} bytes")?;
+        Err(self.position.refused(Refusal::Expected(wanted)))
     }
 
     /// The bytes that `0x` and digits say.
-    fn hexadecimal(&self, alloc: Global, text: &str) -> Result<Vec<u8>, PartError<'a>>
+    fn hexadecimal(&self, text: &str) -> PartResult<'a, Vec<u8>>
         ensures { IfErr result (IsPartError IsUnreadable) }
     {
         let Some(digits) = text.strip_prefix("0x") else {
-            return Err(self.expected(alloc, "\"0x..\", hexadecimal digits"));
+            return Err(self.expected("\"0x..\", hexadecimal digits"));
         };
-        match hex::decode(alloc, digits) {
+        match hex::decode(self.alloc, digits) {
             Ok(bytes) => Ok(bytes),
             Err(FromHexError::OutOfMemory) => Err(PartError::OutOfMemory),
-            Err(_) => Err(self.expected(alloc, "\"0x..\", hexadecimal digits")),
+            Err(_) => Err(self.expected("\"0x..\", hexadecimal digits")),
         }
     }
 
     /// Adds a list of bytes.
-    fn put_list(
-        &mut self,
-        alloc: Global,
-        definition: &'a Definition,
-        bytes: &[u8],
-    ) -> Result<(), PartError<'a>>
+    fn put_list(&mut self, definition: &'a Definition, bytes: &[u8]) -> PartResult<'a, ()>
         ensures { IfErr result (IsPartError IsUnreadable) }
     {
-        self.put_count(alloc, definition, bytes.len())?;
+        self.put_count(definition, bytes.len())?;
         Ok(self.out.extend_from_slice(bytes)?)
     }
 
     /// Adds the number of elements, where it is in the range of the list.
-    fn put_count(
-        &mut self,
-        alloc: Global,
-        definition: &'a Definition,
-        count: usize,
-    ) -> Result<(), PartError<'a>>
+    fn put_count(&mut self, definition: &'a Definition, count: usize) -> PartResult<'a, ()>
         ensures { IfErr result (IsPartError IsUnreadable) }
     {
         let Definition::Sequence {
@@ -457,13 +397,13 @@ impl<'a, 't, 's> Reading<'a, 't, 's> {
             ..
         } = definition
         else {
-            return Err(self.refused(alloc, Refusal::OtherNodes));
+            return Err(self.position.refused(Refusal::OtherNodes));
         };
         let count = count as u64;
         let (start, end) = (length_range.start, length_range.end);
         if count < start || end < count {
-            let wanted = format!(in alloc; "{start} to {end} elements")?;
-            return Err(self.refused(alloc, Refusal::Expected(wanted)));
+            let wanted = format!(in self.alloc; "{start} to {end} elements")?;
+            return Err(self.position.refused(Refusal::Expected(wanted)));
         }
         Ok(self.put_wide(*length_width, count.to_le_bytes(), 0)?)
     }
@@ -477,91 +417,84 @@ impl<'a, 't, 's> Reading<'a, 't, 's> {
         Ok(())
     }
 
-    fn open(
-        &mut self,
-        alloc: Global,
-        place: Place<'a>,
-        source: Source<'t, 's>,
-    ) -> Result<(), PartError<'a>>
+    fn open(&mut self, parts: Parts<'a>, source: Source<'t, 's>) -> PartResult<'a, ()>
         ensures { IfErr result (IsPartError IsUnreadable) }
     {
-        if self.outer.len() >= MAX_DEPTH {
-            return Err(self.refused(alloc, Refusal::TooDeep));
-        }
-        self.outer.push(self.place)?;
+        self.open_place(Place::new(parts), source)
+    }
+
+    fn open_place(&mut self, place: Place<'a>, source: Source<'t, 's>) -> PartResult<'a, ()>
+        ensures { IfErr result (IsPartError IsUnreadable) }
+    {
+        self.position.enter(place)?;
         self.outer_sources
             .push(mem::replace(&mut self.source, source))?;
-        self.place = place;
         Ok(())
     }
 
     fn open_list(
         &mut self,
-        alloc: Global,
         definition: &'a Definition,
         elements: Elements<'a>,
         element: &Element<'t, 's>,
-    ) -> Result<(), PartError<'a>>
+    ) -> PartResult<'a, ()>
         ensures { IfErr result (IsPartError IsUnreadable) }
     {
         if elements.is_refused {
-            return Err(self.refused(alloc, Refusal::EmptyElements));
+            return Err(self.position.refused(Refusal::EmptyElements));
         }
         let (Some(items), Some(count)) = (element.items(), count_items(element)) else {
-            return Err(self.expected(alloc, "an array"));
+            return Err(self.expected("an array"));
         };
-        self.put_count(alloc, definition, count)?;
+        self.put_count(definition, count)?;
         let parts = Parts::List(elements.name, count as u64);
-        self.open(
-            alloc,
-            Place::in_order(parts, elements.order),
-            Source::Items(items),
-        )
+        self.open_place(Place::in_order(parts, elements.order), Source::Items(items))
     }
 
     fn open_map(
         &mut self,
-        alloc: Global,
         definition: &'a Definition,
         entries: Entries<'a>,
         element: &Element<'t, 's>,
-    ) -> Result<(), PartError<'a>>
+    ) -> PartResult<'a, ()>
         ensures { IfErr result (IsPartError IsUnreadable) }
     {
         let (count, source) = match entries.key_kind {
-            KeyKind::Text => {
-                let members = self.members_of(alloc, element)?;
-                (members.len(), Source::Texts(members))
-            }
+            KeyKind::Text => match (element.members(), count_ascending(element)) {
+                (Some(members), Some(count)) => (count, Source::Entries(members)),
+                _ => {
+                    let members = self.members_of(element)?;
+                    (members.len(), Source::Texts(members))
+                }
+            },
             KeyKind::Number(number) => {
-                let members = self.ranks_of(alloc, number, element)?;
+                let members = self.ranks_of(number, element)?;
                 (members.len(), Source::Ranks(members))
             }
         };
-        self.put_count(alloc, definition, count)?;
+        self.put_count(definition, count)?;
         let parts = Parts::Entries(entries, count as u64);
-        self.open(alloc, Place::new(parts), source)
+        self.open(parts, source)
     }
 
     /// The members of an object by their keys, each of which comes once.
     fn members_of(
         &self,
-        alloc: Global,
         element: &Element<'t, 's>,
-    ) -> Result<BTreeMap<&'s str, Element<'t, 's>>, PartError<'a>>
+    ) -> PartResult<'a, BTreeMap<&'s str, Element<'t, 's>>>
         ensures { IfErr result (IsPartError IsUnreadable) }
     {
         let Some(mut members) = element.members() else {
-            return Err(self.expected(alloc, "an object"));
+            return Err(self.expected("an object"));
         };
-        let mut found = BTreeMap::new(alloc);
+        let mut found = BTreeMap::new(self.alloc);
         for _ in 0..u64::MAX {
             let Some((key, member)) = members.next() else {
                 break;
             };
             if found.insert(key, member)?.is_some() {
-                let name = String::from_str(alloc, key)?;
-                return Err(self.refused(alloc, Refusal::RepeatedKey(name)));
+                let name = String::from_str(self.alloc, key)?;
+                return Err(self.position.refused(Refusal::RepeatedKey(name)));
             }
         }
         Ok(found)
@@ -570,27 +503,26 @@ impl<'a, 't, 's> Reading<'a, 't, 's> {
     /// The members of an object whose keys are numbers, each of which comes once.
     fn ranks_of(
         &self,
-        alloc: Global,
         number: Number,
         element: &Element<'t, 's>,
-    ) -> Result<BTreeMap<u128, Element<'t, 's>>, PartError<'a>>
+    ) -> PartResult<'a, BTreeMap<u128, Element<'t, 's>>>
         ensures { IfErr result (IsPartError IsUnreadable) }
     {
         let Some(mut members) = element.members() else {
-            return Err(self.expected(alloc, "an object"));
+            return Err(self.expected("an object"));
         };
-        let mut found = BTreeMap::new(alloc);
+        let mut found = BTreeMap::new(self.alloc);
         for _ in 0..u64::MAX {
             let Some((key, member)) = members.next() else {
                 break;
             };
             let Some(bytes) = number.bytes(key) else {
-                let wanted = number.wanted_key(alloc)?;
-                return Err(self.refused(alloc, Refusal::Expected(wanted)));
+                let wanted = number.wanted_key(self.alloc)?;
+                return Err(self.position.refused(Refusal::Expected(wanted)));
             };
             if found.insert(number.rank(bytes), member)?.is_some() {
-                let name = String::from_str(alloc, key)?;
-                return Err(self.refused(alloc, Refusal::RepeatedKey(name)));
+                let name = String::from_str(self.alloc, key)?;
+                return Err(self.position.refused(Refusal::RepeatedKey(name)));
             }
         }
         Ok(found)
@@ -598,71 +530,59 @@ impl<'a, 't, 's> Reading<'a, 't, 's> {
 
     fn open_row(
         &mut self,
-        alloc: Global,
         definition: &'a Definition,
         count: usize,
         element: &Element<'t, 's>,
-    ) -> Result<(), PartError<'a>>
+    ) -> PartResult<'a, ()>
         ensures { IfErr result (IsPartError IsUnreadable) }
     {
         match element.items() {
             Some(items) if count_items(element) == Some(count) => {
-                self.open(
-                    alloc,
-                    Place::new(Parts::Row(definition)),
-                    Source::Items(items),
-                )
+                self.open(Parts::Row(definition), Source::Items(items))
             }
             _ => {
-                let wanted = format!(in alloc; "an array of {count}")?;
-                Err(self.refused(alloc, Refusal::Expected(wanted)))
+                let wanted = format!(in self.alloc; "an array of {count}")?;
+                Err(self.position.refused(Refusal::Expected(wanted)))
             }
         }
     }
 
     fn open_object(
         &mut self,
-        alloc: Global,
-        fields: &'a Vec<(FieldName, Declaration)>,
+        fields: &'a NamedFields,
         element: &Element<'t, 's>,
-    ) -> Result<(), PartError<'a>>
+    ) -> PartResult<'a, ()>
         ensures { IfErr result (IsPartError IsUnreadable) }
     {
-        let members = self.members_of(alloc, element)?;
-        self.open(
-            alloc,
-            Place::new(Parts::Object(fields)),
-            Source::Members(members),
-        )
+        let members = self.members_of(element)?;
+        self.open(Parts::Object(fields), Source::Members(members))
     }
 
     fn read_variant(
         &mut self,
-        alloc: Global,
         tag_width: u8,
-        variants: &'a Vec<(DiscriminantValue, VariantName, Declaration)>,
+        variants: &'a Variants,
         element: &Element<'t, 's>,
-    ) -> Result<(), PartError<'a>>
+    ) -> PartResult<'a, ()>
         ensures { IfErr result (IsPartError IsUnreadable) }
     {
         let Some((name, value)) = variant_in(element) else {
-            return Err(self.expected(alloc, "a variant: \"Name\" or {\"Name\": value}"));
+            return Err(self.expected("a variant: \"Name\" or {\"Name\": value}"));
         };
         let Some((discriminant, variant, part)) = variant_named(variants, name) else {
-            let name = String::from_str(alloc, name)?;
-            return Err(self.refused(alloc, Refusal::UnknownName(name)));
+            let name = String::from_str(self.alloc, name)?;
+            return Err(self.position.refused(Refusal::UnknownName(name)));
         };
         let is_empty = self.definitions.is_zero_size(part.as_str());
         self.put_tag(tag_width, discriminant)?;
         match value {
             None if is_empty => Ok(()),
             Some(value) if !is_empty => self.open(
-                alloc,
-                Place::new(Parts::Variant(variant.as_str(), part.as_str())),
+                Parts::Variant(variant.as_str(), part.as_str()),
                 Source::One(Some(value)),
             ),
-            None => Err(self.expected(alloc, "{\"Name\": value}, since the variant has a value")),
-            Some(_) => Err(self.expected(alloc, "the variant's name alone, since it has no value")),
+            None => Err(self.expected("{\"Name\": value}, since the variant has a value")),
+            Some(_) => Err(self.expected("the variant's name alone, since it has no value")),
         }
     }
 
@@ -673,7 +593,7 @@ impl<'a, 't, 's> Reading<'a, 't, 's> {
     }
 
     /// Refuses keys of an object that are no fields.
-    fn check_left(&self, alloc: Global, source: &Source<'t, 's>) -> Result<(), PartError<'a>>
+    fn check_left(&self, source: &Source<'t, 's>) -> PartResult<'a, ()>
         ensures { IfErr result (IsPartError IsUnreadable) }
     {
         let Source::Members(members) = source else {
@@ -681,28 +601,18 @@ impl<'a, 't, 's> Reading<'a, 't, 's> {
         };
         match members.first_key_value() {
             Some((key, _)) => {
-                let name = String::from_str(alloc, key)?;
-                Err(self.refused(alloc, Refusal::UnknownName(name)))
+                let name = String::from_str(self.alloc, key)?;
+                Err(self.position.refused(Refusal::UnknownName(name)))
             }
             None => Ok(()),
         }
     }
 
-    fn expected(&self, alloc: Global, wanted: &str) -> PartError<'a>
+    fn expected(&self, wanted: &str) -> PartError<'a>
         ensures { IsPartError IsUnreadable result }
     {
-        match String::from_str(alloc, wanted) {
-            Ok(wanted) => self.refused(alloc, Refusal::Expected(wanted)),
-            Err(_) => PartError::OutOfMemory,
-        }
-    }
-
-    /// The error of the part that was begun last.
-    fn refused(&self, alloc: Global, refusal: Refusal) -> PartError<'a>
-        ensures { IsUnreadable refusal → IsPartError IsUnreadable result }
-    {
-        match path_of(alloc, self.root, self.outer.as_slice(), &self.place) {
-            Ok(path) => PartError::Refused(path, refusal),
+        match String::from_str(self.alloc, wanted) {
+            Ok(wanted) => self.position.refused(Refusal::Expected(wanted)),
             Err(_) => PartError::OutOfMemory,
         }
     }
@@ -715,6 +625,25 @@ fn count_items(element: &Element<'_, '_>) -> Option<usize> {
         if items.next().is_none() {
             break;
         }
+        count = count.saturating_add(1);
+    }
+    Some(count)
+}
+
+/// How many members an object has, if their keys ascend, as those of a map that was written do.
+fn count_ascending(element: &Element<'_, '_>) -> Option<usize> {
+    let mut members = element.members()?;
+    let mut earlier: Option<&[u8]> = None;
+    let mut count: usize = 0;
+    for _ in 0..u64::MAX {
+        let Some((key, _)) = members.next() else {
+            break;
+        };
+        let key = key.as_bytes();
+        if earlier.is_some_and(|earlier| earlier >= key) {
+            return None;
+        }
+        earlier = Some(key);
         count = count.saturating_add(1);
     }
     Some(count)
@@ -735,7 +664,7 @@ fn variant_in<'t, 's>(element: &Element<'t, 's>) -> Option<(&'s str, Option<Elem
 
 /// The first variant of this name.
 fn variant_named<'a>(
-    variants: &'a Vec<(DiscriminantValue, VariantName, Declaration)>,
+    variants: &'a Variants,
     name: &str,
 ) -> Option<&'a (DiscriminantValue, VariantName, Declaration)> {
     variants.iter().find(|variant| variant.1.as_str() == name)

@@ -33,6 +33,9 @@ pub struct Row<'a> {
 /// What each of `bytes` is, in order, in the value of `root` that they are by the definitions of `map` alone. Each byte is
 /// in one row. Values that nest more than 128 deep are refused.
 ///
+/// Determined: after `Ok` the bytes are a member of the root; the errors are as of [`to_json`](crate::to_json), with `TooDeep`
+/// as the only refusal. Left open: memory; `TooDeep` for any member; any rows: tested.
+///
 /// ```
 /// for row in rows_of(alloc, "(u8, bool)", &definitions, &[7, 1])?.as_slice() {
 ///     println!(rt; "{}: {} {}", row.offset, row.path, row.value)?;
@@ -45,8 +48,7 @@ pub fn rows_of<'a>(
     bytes: &'a [u8],
 ) -> Result<Vec<Row<'a>>, JsonError<'a>>
     ensures member { OnOk result (Member (definitions_in map.now) root.now bytes.now) }
-    ensures reason { IfErr result
-        (λ e. IsNoRowsReason (definitions_in map.now) root.now bytes.now e) }
+    ensures reason { IfErr result (λ e. IsNoRowsReason (definitions_in map.now) root.now bytes.now e) }
 {
     match decode(alloc, root, map, bytes)? {
         Decoded::Nodes(nodes) => Ok(list_rows(alloc, root, map, nodes.as_slice())?),
@@ -91,7 +93,7 @@ fn value_of<'a>(
     definitions: &mut Definitions<'a>,
     node: &Node<'a>,
 ) -> Result<String, AllocError> {
-    match definitions.kind(alloc, node.name, node.definition)? {
+    match definitions.kind(node.name, node.definition)? {
         Kind::Number(number) => number.decimal(alloc, node.bytes),
         Kind::Bool => match node.bytes {
             [0] => String::from_str(alloc, "false"),

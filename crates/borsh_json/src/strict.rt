@@ -21,6 +21,9 @@ use std::str;
 /// The order of keys is known of numbers, `bool`, texts, and of tuples, arrays, lists, ordered sets and maps, and options of
 /// these. Keys of other types, as structs and enums, are taken in any order.
 ///
+/// Determined: after `Ok` the bytes are a member of the root; the errors are as of [`to_json`](crate::to_json). Left open:
+/// memory; `Ok` for any member, and `Refused` for any: tested.
+///
 /// ```
 /// assert!(rt; check_strict(alloc, "bool", &definitions, &[1]).is_ok());
 /// assert!(rt; check_strict(alloc, "bool", &definitions, &[2]).is_err());
@@ -32,8 +35,7 @@ pub fn check_strict<'a>(
     bytes: &'a [u8],
 ) -> Result<(), JsonError<'a>>
     ensures member { OnOk result (Member (definitions_in map.now) root.now bytes.now) }
-    ensures reason { IfErr result
-        (λ e. IsNoJsonReason (definitions_in map.now) root.now bytes.now e) }
+    ensures reason { IfErr result (λ e. IsNoJsonReason (definitions_in map.now) root.now bytes.now e) }
 {
     match decode(alloc, root, map, bytes)? {
         Decoded::Nodes(nodes) => Ok(check_nodes(alloc, root, map, bytes, nodes.as_slice())?),
@@ -60,12 +62,12 @@ fn check_nodes<'a>(
         open.truncate(node.depth);
         if let Some(Some(ascent)) = open.last_mut() {
             ascent.begin(node.offset);
-            if !ascent.ascends(alloc, &definitions, bytes)? {
+            if !ascent.ascends(&definitions, bytes)? {
                 return Err(PartError::Refused(paths.path(alloc)?, Refusal::Descends));
             }
         }
-        let kind = definitions.kind(alloc, node.name, node.definition)?;
-        if let Some(Wrong { index, refusal }) = wrong_in(node, kind) {
+        let kind = definitions.kind(node.name, node.definition)?;
+        if let Some((index, refusal)) = wrong_in(node, kind) {
             let mut path = paths.path(alloc)?;
             if let Some(index) = index {
                 path.steps.push(PathStep::Element(index as u64))?;
@@ -87,50 +89,37 @@ fn ascent_of<'a>(kind: Kind<'a>) -> Option<Ascent<'a>> {
 }
 
 /// What is wrong with the own bytes of a node, and of a list with which element.
-#[derive(Drop)]
-struct Wrong {
-    index: Option<usize>,
-    refusal: Refusal,
-}
+type Wrong = (Option<usize>, Refusal);
 
 /// What a type refuses of the own bytes of a node.
 fn wrong_in(node: &Node<'_>, kind: Kind<'_>) -> Option<Wrong>
-    ensures { IfSome result (λ w. IsUnwritable w.refusal) }
+    ensures { IfSome result (λ w. IsUnwritable w.1) }
 {
     match kind {
         Kind::Number(_) | Kind::Bool => wrong_number(node.name, node.bytes, None),
         Kind::Text => match str::from_utf8(elements_of(node)) {
             Ok(_) => None,
-            Err(_) => Some(Wrong {
-                index: None,
-                refusal: Refusal::NotUtf8,
-            }),
+            Err(_) => Some((None, Refusal::NotUtf8)),
         },
         Kind::ByteList(elements) | Kind::Numbers(elements) => {
             wrong_element(elements, elements_of(node))
         }
-        Kind::List(elements) if elements.is_refused => Some(Wrong {
-            index: None,
-            refusal: Refusal::EmptyElements,
-        }),
+        Kind::List(elements) if elements.is_refused => Some((None, Refusal::EmptyElements)),
         _ => None,
     }
 }
 
 /// What is wrong with a number or `bool` of this name.
 fn wrong_number(name: &str, bytes: &[u8], index: Option<usize>) -> Option<Wrong>
-    ensures { IfSome result (λ w. IsUnwritable w.refusal) }
+    ensures { IfSome result (λ w. IsUnwritable w.1) }
 {
     match kind_of_primitive(name, bytes.len().min(255) as u8) {
-        Kind::Bool if bytes != [0u8].as_slice() && bytes != [1u8].as_slice() => Some(Wrong {
+        Kind::Bool if bytes != [0u8].as_slice() && bytes != [1u8].as_slice() => Some((
             index,
-            refusal: Refusal::NotBool,
-        }),
+            Refusal::NotBool,
+        )),
         Kind::Number(number) if number.is_non_zero && bytes.iter().all(|byte| *byte == 0) => {
-            Some(Wrong {
-                index,
-                refusal: Refusal::Zero,
-            })
+            Some((index, Refusal::Zero))
         }
         _ => None,
     }
@@ -138,7 +127,7 @@ fn wrong_number(name: &str, bytes: &[u8], index: Option<usize>) -> Option<Wrong>
 
 /// What is wrong with the elements of a list, which are primitives.
 fn wrong_element(elements: Elements<'_>, bytes: &[u8]) -> Option<Wrong>
-    ensures { IfSome result (λ w. IsUnwritable w.refusal) }
+    ensures { IfSome result (λ w. IsUnwritable w.1) }
 {
     let size = usize::from(elements.size);
     if size == 0 {
@@ -147,10 +136,7 @@ fn wrong_element(elements: Elements<'_>, bytes: &[u8]) -> Option<Wrong>
     if let Some(order) = elements.order
         && let Some(index) = first_descent(order, size, bytes)
     {
-        return Some(Wrong {
-            index: Some(index),
-            refusal: Refusal::Descends,
-        });
+        return Some((Some(index), Refusal::Descends));
     }
     let mut index: usize = 0;
     for element in bytes.chunks_exact(size) {

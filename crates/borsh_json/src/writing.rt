@@ -6,15 +6,15 @@ ghost use Rattle.json.specs.Json.{document};
 ghost use Rattle.std.specs.Prelude.{IfErr, IfOk, IsSome, OnOk, string_bytes};
 
 use crate::definitions::Definitions;
-use crate::error::{JsonError, PartError, Refusal};
-use crate::kinds::{Elements, Entries, KeyKind, Kind, kind_of_primitive};
+use crate::error::{JsonError, PartError, PartResult, Refusal};
+use crate::kinds::{Elements, Entries, KeyKind, Kind, Variants, kind_of_primitive};
 use crate::numbers::Number;
-use crate::order::{Ordered, first_descent};
+use crate::order::Ordered;
 use crate::output::{LongNumbers, Output, Style};
-use crate::position::{Key, Part, Parts, Place, path_of, path_of_element};
-use borsh_values::{Decoded, Node, Path, PathStep, count_of, decode, elements_of, variant_of};
-use borsh_walks::{Declaration, Definition, DiscriminantValue, VariantName};
-use json::{MAX_DEPTH, Scratch, is_valid};
+use crate::position::{Key, Part, Parts, Place, Position};
+use borsh_values::{Decoded, Node, Path, count_of, decode, elements_of, variant_of};
+use borsh_walks::Definition;
+use json::{Scratch, Token, is_valid};
 use std::alloc::{AllocError, Global};
 use std::collections::BTreeMap;
 use std::str;
@@ -37,6 +37,11 @@ use std::str;
 /// whose keys have none, and values that nest more than 128 deep. The order of keys is known of numbers, `bool`, texts, and of
 /// tuples, arrays, lists, ordered sets and maps, and options of these, and not of structs and enums.
 ///
+/// Determined: after `Ok` the bytes are a member of the root, and the text is JSON. After `NoMember` they are none, and
+/// after `Refused` they are one; `NoMember` and `Ambiguous` are as of [`decode`], and `NoValue` and `NotJson` aren't returned.
+/// Left open: memory; `Refused` for any member, for any reason that a value has; the text of another value, or in another
+/// layout: tested, by tables and by round trips.
+///
 /// ```
 /// let text = to_json(alloc, "(u8, bool)", &definitions, &[7, 1], Style::COMPACT)?;
 /// assert_eq!(rt; text, "[7,true]");
@@ -50,8 +55,7 @@ pub fn to_json<'a>(
 ) -> Result<String, JsonError<'a>>
     ensures member { OnOk result (Member (definitions_in map.now) root.now bytes.now) }
     ensures json { IfOk result (λ text. IsSome (document (string_bytes text))) }
-    ensures reason { IfErr result
-        (λ e. IsNoJsonReason (definitions_in map.now) root.now bytes.now e) }
+    ensures reason { IfErr result (λ e. IsNoJsonReason (definitions_in map.now) root.now bytes.now e) }
 {
     match decode(alloc, root, map, bytes)? {
         Decoded::Nodes(nodes) => Ok(write_nodes(alloc, root, map, bytes, nodes.as_slice(), style)?),
@@ -72,16 +76,15 @@ fn write_nodes<'a>(
     ensures refusal { IfErr result (IsPartError IsUnwritable) }
 {
     let mut writing = Writing {
-        root,
+        alloc,
         definitions: Definitions::new(alloc, map)?,
         long_numbers: style.long_numbers,
         out: Output::new(alloc, style.layout),
         bytes,
         nodes,
-        outer: Vec::new(alloc),
-        place: Place::new(Parts::Root(root)),
+        position: Position::new(alloc, root),
     };
-    writing.write_all(alloc)?;
+    writing.write_all()?;
     let Ok(text) = String::from_utf8(writing.out.into_bytes()) else {
         return Err(no_json(alloc, root));
     };
@@ -109,111 +112,110 @@ fn no_json<'a>(alloc: Global, root: &'a str) -> PartError<'a>
     PartError::Refused(Path { root, steps }, Refusal::OtherNodes)
 }
 
-/// The nodes that are left, and the places that are being written, the last in `place`.
+/// The nodes that are left, and where the writer is.
 #[derive(Drop)]
 struct Writing<'a, 'n> {
-    root: &'a str,
+    alloc: Global,
     definitions: Definitions<'a>,
     long_numbers: LongNumbers,
     out: Output,
     bytes: &'a [u8],
     nodes: &'n [Node<'a>],
-    outer: Vec<Place<'a>>,
-    place: Place<'a>,
+    position: Position<'a>,
 }
 
 impl<'a, 'n> Writing<'a, 'n> {
-    fn write_all(&mut self, alloc: Global) -> Result<(), PartError<'a>>
+    fn write_all(&mut self) -> PartResult<'a, ()>
         ensures { IfErr result (IsPartError IsUnwritable) }
     {
         for _ in 0..u64::MAX {
-            match self.place.next_part() {
+            match self.position.place.next_part() {
                 Some(part) => {
-                    self.check_order(alloc)?;
-                    self.write_part(alloc, part)?;
+                    self.check_order()?;
+                    self.write_part(part)?;
                 }
                 None => {
                     self.close()?;
-                    match self.outer.pop() {
-                        Some(outer) => self.place = outer,
-                        None => return Ok(()),
+                    if !self.position.leave() {
+                        return Ok(());
                     }
                 }
             }
         }
-        Err(self.refused(alloc, Refusal::OtherNodes))
+        Err(self.position.refused(Refusal::OtherNodes))
     }
 
     /// Ends the brackets of the place.
     fn close(&mut self) -> Result<(), AllocError> {
-        match self.place.parts {
+        match self.position.place.parts {
             Parts::Root(_) | Parts::Newtype(_) | Parts::Some(_) => Ok(()),
-            Parts::List(_, _) | Parts::Row(_) => self.out.end_array(),
-            Parts::Object(_) | Parts::Entries(_, _) | Parts::Variant(_, _) => self.out.end_object(),
+            Parts::List(_, _) | Parts::Row(_) => self.out.put(Token::EndArray),
+            Parts::Object(_) | Parts::Entries(_, _) | Parts::Variant(_, _) => self
+                .out
+                .put(Token::EndObject),
         }
     }
 
-    fn write_part(&mut self, alloc: Global, part: Part<'a>) -> Result<(), PartError<'a>>
+    fn write_part(&mut self, part: Part<'a>) -> PartResult<'a, ()>
         ensures { IfErr result (IsPartError IsUnwritable) }
     {
         match part.key {
             Key::None => (),
-            Key::Name(name) => self.out.key(name)?,
-            Key::Entry(entries) => self.write_key(alloc, entries)?,
+            Key::Name(name) => self.out.put(Token::Key(name))?,
+            Key::Entry(entries) => self.write_key(entries)?,
         }
         if part.may_be_empty && self.definitions.is_zero_size(part.name) {
-            return Ok(self.out.null()?);
+            return Ok(self.out.put(Token::Null)?);
         }
-        let node = self.take_node(alloc, part.name)?;
-        match self.definitions.kind(alloc, node.name, node.definition)? {
+        let node = self.take_node(part.name)?;
+        match self.definitions.kind(node.name, node.definition)? {
             Kind::Number(_) | Kind::Bool | Kind::Bytes(_) => {
-                self.write_primitive(alloc, node.name, node.bytes)
+                self.write_primitive(node.name, node.bytes)
             }
-            Kind::Text => self.write_text(alloc, elements_of(&node)),
-            Kind::ByteList(elements) => self.write_byte_list(alloc, elements, elements_of(&node)),
-            Kind::Numbers(elements) => self.write_numbers(alloc, elements, elements_of(&node)),
-            Kind::List(elements) => self.open_list(alloc, &node, elements),
-            Kind::Map(entries, order) => self.open_map(alloc, &node, entries, order),
+            Kind::Text => self.write_text(elements_of(&node)),
+            Kind::ByteList(elements) => self.write_byte_list(elements, elements_of(&node)),
+            Kind::Numbers(elements) => self.write_numbers(elements, elements_of(&node)),
+            Kind::List(elements) => self.open_list(&node, elements),
+            Kind::Map(entries, order) => self.open_map(&node, entries, order),
             Kind::Row(_) => {
-                self.out.begin_array()?;
-                self.open(alloc, Place::new(Parts::Row(node.definition)))
+                self.out.put(Token::BeginArray)?;
+                self.open(Parts::Row(node.definition))
             }
-            Kind::Newtype(part) => self.open(alloc, Place::new(Parts::Newtype(part))),
+            Kind::Newtype(part) => self.open(Parts::Newtype(part)),
             Kind::Object(fields) => {
-                self.out.begin_object()?;
-                self.open(alloc, Place::new(Parts::Object(fields)))
+                self.out.put(Token::BeginObject)?;
+                self.open(Parts::Object(fields))
             }
             Kind::Optional(part) => match variant_of(&node) {
-                Some(0) => Ok(self.out.null()?),
-                _ => self.open(alloc, Place::new(Parts::Some(part))),
+                Some(0) => Ok(self.out.put(Token::Null)?),
+                _ => self.open(Parts::Some(part)),
             },
-            Kind::Choice(_, variants) => self.open_variant(alloc, &node, variants),
+            Kind::Choice(_, variants) => self.open_variant(&node, variants),
             Kind::Repeated(name) => {
-                let name = String::from_str(alloc, name)?;
-                Err(self.refused(alloc, Refusal::RepeatedName(name)))
+                let name = String::from_str(self.alloc, name)?;
+                Err(self.position.refused(Refusal::RepeatedName(name)))
             }
         }
     }
 
     /// Refuses an element that isn't above the one before it, where elements have to ascend.
-    fn check_order(&mut self, alloc: Global) -> Result<(), PartError<'a>>
+    fn check_order(&mut self) -> PartResult<'a, ()>
         ensures { IfErr result (IsPartError IsUnwritable) }
     {
-        let Some(ascent) = &mut self.place.ascent else {
+        let Some(ascent) = &mut self.position.place.ascent else {
             return Ok(());
         };
         if let [node, ..] = self.nodes {
             ascent.begin(node.offset);
         }
-        if ascent.ascends(alloc, &self.definitions, self.bytes)? {
+        if ascent.ascends(&self.definitions, self.bytes)? {
             return Ok(());
         }
-        let path = path_of_element(alloc, self.root, self.outer.as_slice(), &self.place)?;
-        Err(PartError::Refused(path, Refusal::Descends))
+        Err(self.position.refused_element(Refusal::Descends))
     }
 
     /// The next node, which has to be of this name.
-    fn take_node(&mut self, alloc: Global, name: &str) -> Result<Node<'a>, PartError<'a>>
+    fn take_node(&mut self, name: &str) -> PartResult<'a, Node<'a>>
         ensures { IfErr result (IsPartError IsUnwritable) }
     {
         match self.nodes {
@@ -221,258 +223,165 @@ impl<'a, 'n> Writing<'a, 'n> {
                 self.nodes = others;
                 Ok(*node)
             }
-            _ => Err(self.refused(alloc, Refusal::OtherNodes)),
+            _ => Err(self.position.refused(Refusal::OtherNodes)),
         }
     }
 
     /// How many elements a list has.
-    fn count_of(&self, alloc: Global, node: &Node<'a>) -> Result<u64, PartError<'a>>
+    fn count_of(&self, node: &Node<'a>) -> PartResult<'a, u64>
         ensures { IfErr result (IsPartError IsUnwritable) }
     {
         match count_of(node) {
             Some(count) => Ok(count),
-            None => Err(self.refused(alloc, Refusal::OtherNodes)),
+            None => Err(self.position.refused(Refusal::OtherNodes)),
         }
     }
 
     /// Begins the parts of a value, whose bracket was written.
-    fn open(&mut self, alloc: Global, place: Place<'a>) -> Result<(), PartError<'a>>
+    fn open(&mut self, parts: Parts<'a>) -> PartResult<'a, ()>
         ensures { IfErr result (IsPartError IsUnwritable) }
     {
-        if self.outer.len() >= MAX_DEPTH {
-            return Err(self.refused(alloc, Refusal::TooDeep));
-        }
-        self.outer.push(self.place)?;
-        self.place = place;
-        Ok(())
+        self.position.enter(Place::new(parts))
     }
 
-    fn open_list(
-        &mut self,
-        alloc: Global,
-        node: &Node<'a>,
-        elements: Elements<'a>,
-    ) -> Result<(), PartError<'a>>
+    fn open_list(&mut self, node: &Node<'a>, elements: Elements<'a>) -> PartResult<'a, ()>
         ensures { IfErr result (IsPartError IsUnwritable) }
     {
-        let count = self.count_of(alloc, node)?;
+        let count = self.count_of(node)?;
         if elements.is_refused {
-            return Err(self.refused(alloc, Refusal::EmptyElements));
+            return Err(self.position.refused(Refusal::EmptyElements));
         }
-        self.out.begin_array()?;
+        self.out.put(Token::BeginArray)?;
         let parts = Parts::List(elements.name, count);
-        self.open(alloc, Place::in_order(parts, elements.order))
+        self.position.enter(Place::in_order(parts, elements.order))
     }
 
     fn open_map(
         &mut self,
-        alloc: Global,
         node: &Node<'a>,
         entries: Entries<'a>,
         order: Ordered<'a>,
-    ) -> Result<(), PartError<'a>>
+    ) -> PartResult<'a, ()>
         ensures { IfErr result (IsPartError IsUnwritable) }
     {
-        let count = self.count_of(alloc, node)?;
-        self.out.begin_object()?;
+        let count = self.count_of(node)?;
+        self.out.put(Token::BeginObject)?;
         let parts = Parts::Entries(entries, count);
-        self.open(alloc, Place::in_order(parts, Some(order)))
+        self.position.enter(Place::in_order(parts, Some(order)))
     }
 
     /// Writes the key of an entry, after whose node the value's follow.
-    fn write_key(&mut self, alloc: Global, entries: Entries<'a>) -> Result<(), PartError<'a>>
+    fn write_key(&mut self, entries: Entries<'a>) -> PartResult<'a, ()>
         ensures { IfErr result (IsPartError IsUnwritable) }
     {
         // The node of the pair, which has no bytes of its own.
         if let [_, others @ ..] = self.nodes {
             self.nodes = others;
         }
-        let node = self.take_node(alloc, entries.key)?;
+        let node = self.take_node(entries.key)?;
         match entries.key_kind {
             KeyKind::Text => match str::from_utf8(elements_of(&node)) {
-                Ok(text) => Ok(self.out.key(text)?),
-                Err(_) => Err(self.refused_key(alloc, Refusal::NotUtf8)),
+                Ok(text) => Ok(self.out.put(Token::Key(text))?),
+                Err(_) => Err(self.position.refused_key(Refusal::NotUtf8)),
             },
             KeyKind::Number(number) => {
-                let text = number.decimal(alloc, node.bytes)?;
+                let text = number.decimal(self.alloc, node.bytes)?;
                 if number.is_non_zero && text.as_str() == "0" {
-                    return Err(self.refused_key(alloc, Refusal::Zero));
+                    return Err(self.position.refused_key(Refusal::Zero));
                 }
-                Ok(self.out.key(text.as_str())?)
+                Ok(self.out.put(Token::Key(text.as_str()))?)
             }
         }
     }
 
-    /// The error of the key of the entry that was begun last.
-    fn refused_key(&self, alloc: Global, refusal: Refusal) -> PartError<'a>
-        ensures { IsUnwritable refusal → IsPartError IsUnwritable result }
-    {
-        match key_path(alloc, self.root, self.outer.as_slice(), &self.place) {
-            Ok(path) => PartError::Refused(path, refusal),
-            Err(_) => PartError::OutOfMemory,
-        }
-    }
-
-    fn open_variant(
-        &mut self,
-        alloc: Global,
-        node: &Node<'a>,
-        variants: &'a Vec<(DiscriminantValue, VariantName, Declaration)>,
-    ) -> Result<(), PartError<'a>>
+    fn open_variant(&mut self, node: &Node<'a>, variants: &'a Variants) -> PartResult<'a, ()>
         ensures { IfErr result (IsPartError IsUnwritable) }
     {
         let Some((_, variant, name)) = variant_of(node).and_then(|index| variants.get(index)) else {
-            return Err(self.refused(alloc, Refusal::OtherNodes));
+            return Err(self.position.refused(Refusal::OtherNodes));
         };
         if self.definitions.is_zero_size(name.as_str()) {
-            return Ok(self.out.string(variant.as_str())?);
+            return Ok(self.out.put(Token::String(variant.as_str()))?);
         }
-        self.out.begin_object()?;
-        self.open(
-            alloc,
-            Place::new(Parts::Variant(variant.as_str(), name.as_str())),
-        )
+        self.out.put(Token::BeginObject)?;
+        self.open(Parts::Variant(variant.as_str(), name.as_str()))
     }
 
     /// Writes a list of primitives.
-    fn write_numbers(
-        &mut self,
-        alloc: Global,
-        elements: Elements<'a>,
-        bytes: &[u8],
-    ) -> Result<(), PartError<'a>>
+    fn write_numbers(&mut self, elements: Elements<'a>, bytes: &[u8]) -> PartResult<'a, ()>
         ensures { IfErr result (IsPartError IsUnwritable) }
     {
         let size = usize::from(elements.size);
         if size == 0 {
-            return Err(self.refused(alloc, Refusal::EmptyElements));
+            return Err(self.position.refused(Refusal::EmptyElements));
         }
-        self.check_ascent(alloc, elements, bytes)?;
-        self.out.begin_array()?;
+        self.position.check_ascent(elements, bytes)?;
+        self.out.put(Token::BeginArray)?;
         let parts = Parts::List(elements.name, (bytes.len() / size) as u64);
-        self.open(alloc, Place::new(parts))?;
+        self.open(parts)?;
         for element in bytes.chunks_exact(size) {
-            let _part = self.place.next_part();
-            self.write_primitive(alloc, elements.name, element)?;
+            let _part = self.position.place.next_part();
+            self.write_primitive(elements.name, element)?;
         }
         Ok(())
     }
 
-    fn write_byte_list(
-        &mut self,
-        alloc: Global,
-        elements: Elements<'a>,
-        bytes: &[u8],
-    ) -> Result<(), PartError<'a>>
+    fn write_byte_list(&mut self, elements: Elements<'a>, bytes: &[u8]) -> PartResult<'a, ()>
         ensures { IfErr result (IsPartError IsUnwritable) }
     {
-        self.check_ascent(alloc, elements, bytes)?;
-        self.write_bytes(alloc, bytes)
+        self.position.check_ascent(elements, bytes)?;
+        self.write_bytes(bytes)
     }
 
-    /// Refuses a primitive that isn't above the one before it, where these have to ascend.
-    fn check_ascent(
-        &self,
-        alloc: Global,
-        elements: Elements<'a>,
-        bytes: &[u8],
-    ) -> Result<(), PartError<'a>>
-        ensures { IfErr result (IsPartError IsUnwritable) }
-    {
-        let Some(order) = elements.order else {
-            return Ok(());
-        };
-        match first_descent(order, usize::from(elements.size), bytes) {
-            Some(index) => {
-                let mut path = path_of(alloc, self.root, self.outer.as_slice(), &self.place)?;
-                path.steps.push(PathStep::Element(index as u64))?;
-                Err(PartError::Refused(path, Refusal::Descends))
-            }
-            None => Ok(()),
-        }
-    }
-
-    fn write_primitive(
-        &mut self,
-        alloc: Global,
-        name: &str,
-        bytes: &[u8],
-    ) -> Result<(), PartError<'a>>
+    fn write_primitive(&mut self, name: &str, bytes: &[u8]) -> PartResult<'a, ()>
         ensures { IfErr result (IsPartError IsUnwritable) }
     {
         let size = bytes.len().min(255) as u8;
         match kind_of_primitive(name, size) {
-            Kind::Number(number) => self.write_number(alloc, number, bytes),
-            Kind::Bool => self.write_bool(alloc, bytes),
-            _ => self.write_bytes(alloc, bytes),
+            Kind::Number(number) => self.write_number(number, bytes),
+            Kind::Bool => self.write_bool(bytes),
+            _ => self.write_bytes(bytes),
         }
     }
 
-    fn write_number(
-        &mut self,
-        alloc: Global,
-        number: Number,
-        bytes: &[u8],
-    ) -> Result<(), PartError<'a>>
+    fn write_number(&mut self, number: Number, bytes: &[u8]) -> PartResult<'a, ()>
         ensures { IfErr result (IsPartError IsUnwritable) }
     {
-        let text = number.decimal(alloc, bytes)?;
+        let text = number.decimal(self.alloc, bytes)?;
         if number.is_non_zero && text.as_str() == "0" {
-            return Err(self.refused(alloc, Refusal::Zero));
+            return Err(self.position.refused(Refusal::Zero));
         }
         if number.is_quoted() || number.is_long() && self.long_numbers == LongNumbers::Quoted {
-            Ok(self.out.string(text.as_str())?)
+            Ok(self.out.put(Token::String(text.as_str()))?)
         } else {
             Ok(self.out.number(text.as_str())?)
         }
     }
 
-    fn write_bool(&mut self, alloc: Global, bytes: &[u8]) -> Result<(), PartError<'a>>
+    fn write_bool(&mut self, bytes: &[u8]) -> PartResult<'a, ()>
         ensures { IfErr result (IsPartError IsUnwritable) }
     {
         match bytes {
-            [0] => Ok(self.out.boolean(false)?),
-            [1] => Ok(self.out.boolean(true)?),
-            _ => Err(self.refused(alloc, Refusal::NotBool)),
+            [0] => Ok(self.out.put(Token::Bool(false))?),
+            [1] => Ok(self.out.put(Token::Bool(true))?),
+            _ => Err(self.position.refused(Refusal::NotBool)),
         }
     }
 
-    fn write_text(&mut self, alloc: Global, bytes: &[u8]) -> Result<(), PartError<'a>>
+    fn write_text(&mut self, bytes: &[u8]) -> PartResult<'a, ()>
         ensures { IfErr result (IsPartError IsUnwritable) }
     {
         match str::from_utf8(bytes) {
-            Ok(text) => Ok(self.out.string(text)?),
-            Err(_) => Err(self.refused(alloc, Refusal::NotUtf8)),
+            Ok(text) => Ok(self.out.put(Token::String(text))?),
+            Err(_) => Err(self.position.refused(Refusal::NotUtf8)),
         }
     }
 
-    fn write_bytes(&mut self, alloc: Global, bytes: &[u8]) -> Result<(), PartError<'a>>
+    fn write_bytes(&mut self, bytes: &[u8]) -> PartResult<'a, ()>
         ensures { IfErr result (IsPartError IsUnwritable) }
     {
-        let digits = hex::encode(alloc, bytes)?;
-        let text = format!(in alloc; "0x{digits}")?;
-        Ok(self.out.string(text.as_str())?)
+        let digits = hex::encode(self.alloc, bytes)?;
+        let text = format!(in self.alloc; "0x{digits}")?;
+        Ok(self.out.put(Token::String(text.as_str()))?)
     }
-
-    /// The error of the part that was begun last.
-    fn refused(&self, alloc: Global, refusal: Refusal) -> PartError<'a>
-        ensures { IsUnwritable refusal → IsPartError IsUnwritable result }
-    {
-        match path_of(alloc, self.root, self.outer.as_slice(), &self.place) {
-            Ok(path) => PartError::Refused(path, refusal),
-            Err(_) => PartError::OutOfMemory,
-        }
-    }
-}
-
-/// The path of the key of the entry that was begun last.
-fn key_path<'a>(
-    alloc: Global,
-    root: &'a str,
-    outer: &[Place<'a>],
-    last: &Place<'a>,
-) -> Result<Path<'a>, AllocError> {
-    let mut path = path_of_element(alloc, root, outer, last)?;
-    path.steps.push(PathStep::Place(0))?;
-    Ok(path)
 }

@@ -15,8 +15,7 @@ pub struct MyStruct {
 }
 
 impl BorshType for MyStruct {
-    ghost codec = { contramap ⟦<MyStruct as FromParts>⟧.view
-        ⟦<(u64, Vec<u8>) as BorshType>⟧.codec };
+    ghost codec = { contramap ⟦<MyStruct as FromParts>⟧.view ⟦<(u64, Vec<u8>) as BorshType>⟧.codec };
 
     ghost lawful_if = { from (contramap-lawful ⟦<MyStruct as FromParts>⟧.view)
         ⟦<(u64, Vec<u8>) as BorshType>⟧.lawful_if };

@@ -5,10 +5,11 @@ ghost use Rattle.borsh.specs.Schema.Laws.Quoted.{contramap_described, number_des
 ghost use Rattle.borsh.specs.Schema.Types.{primitive_definitions};
 
 use borsh::io::{Read, Result, Write};
-use borsh::schema::{Declaration, Definition, SchemaBuildError, add_with_parts, declared};
+use borsh::schema::{
+    Declaration, Definition, DefinitionMap, SchemaResult, add_with_parts, declared,
+};
 use borsh::{BorshDeserialize, BorshSchema, BorshSerialize, BorshType};
 use std::alloc::Global;
-use std::collections::BTreeMap;
 
 /// One byte, declared as `A`.
 #[derive(Clone, Copy)]
@@ -81,16 +82,13 @@ impl BorshSchema for ShortA {
 
     ghost described = { contramap_described (λ v. v.0) (number_described (codes "A") 1) };
 
-    fn declaration(alloc: Global) -> std::result::Result<Declaration, SchemaBuildError> {
+    fn declaration(alloc: Global) -> SchemaResult<Declaration> {
         declared(alloc, "A")
     }
 
-    fn add_definitions_recursively(
-        alloc: Global,
-        definitions: &mut BTreeMap<Declaration, Definition>,
-    ) -> std::result::Result<(), SchemaBuildError> {
+    fn add_definitions_recursively(alloc: Global, map: &mut DefinitionMap) -> SchemaResult<()> {
         let name = Self::declaration(alloc)?;
-        add_with_parts::<()>(alloc, name, Definition::Primitive(1), definitions)
+        add_with_parts::<()>(alloc, name, Definition::Primitive(1), map)
     }
 
     ghost describes = { Self.described.describes };
@@ -103,16 +101,13 @@ impl BorshSchema for LongA {
 
     ghost described = { contramap_described (λ v. v.0) (number_described (codes "A") 2) };
 
-    fn declaration(alloc: Global) -> std::result::Result<Declaration, SchemaBuildError> {
+    fn declaration(alloc: Global) -> SchemaResult<Declaration> {
         declared(alloc, "A")
     }
 
-    fn add_definitions_recursively(
-        alloc: Global,
-        definitions: &mut BTreeMap<Declaration, Definition>,
-    ) -> std::result::Result<(), SchemaBuildError> {
+    fn add_definitions_recursively(alloc: Global, map: &mut DefinitionMap) -> SchemaResult<()> {
         let name = Self::declaration(alloc)?;
-        add_with_parts::<()>(alloc, name, Definition::Primitive(2), definitions)
+        add_with_parts::<()>(alloc, name, Definition::Primitive(2), map)
     }
 
     ghost describes = { Self.described.describes };

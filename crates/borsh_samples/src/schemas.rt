@@ -10,11 +10,10 @@ use super::my_enum::MyEnum;
 use super::readme::A;
 use borsh::BorshSchema;
 use borsh::schema::{
-    Both, Declaration, Definition, FieldTypes, SchemaBuildError, SchemaParts, add_named,
+    Both, Declaration, DefinitionMap, FieldTypes, SchemaParts, SchemaResult, add_named,
     add_tagged_enum, add_unit, add_unnamed, declared,
 };
 use std::alloc::Global;
-use std::collections::BTreeMap;
 
 impl BorshSchema for A {
     ghost name = { codes "A" };
@@ -25,15 +24,12 @@ impl BorshSchema for A {
     ghost described = { struct_described (λ v. (v.x, (v.y, tt)))
         ⟦<(u64, (String, ())) as FieldTypes>⟧.described refl };
 
-    fn declaration(alloc: Global) -> Result<Declaration, SchemaBuildError> {
+    fn declaration(alloc: Global) -> SchemaResult<Declaration> {
         declared(alloc, "A")
     }
 
-    fn add_definitions_recursively(
-        alloc: Global,
-        definitions: &mut BTreeMap<Declaration, Definition>,
-    ) -> Result<(), SchemaBuildError> {
-        add_named::<(u64, (String, ()))>(alloc, "A", &["x", "y"], definitions)
+    fn add_definitions_recursively(alloc: Global, map: &mut DefinitionMap) -> SchemaResult<()> {
+        add_named::<(u64, (String, ()))>(alloc, "A", &["x", "y"], map)
     }
 
     ghost describes = { Self.described.describes };
@@ -45,38 +41,29 @@ struct ZeroPart;
 impl SchemaParts for ZeroPart {
     ghost all_parts = { zero_definitions };
 
-    fn add_all(
-        alloc: Global,
-        definitions: &mut BTreeMap<Declaration, Definition>,
-    ) -> Result<(), SchemaBuildError> {
+    fn add_all(alloc: Global, definitions: &mut DefinitionMap) -> SchemaResult<()> {
         add_unit(alloc, "MyEnum__Zero", definitions)
     }
 }
 
-/// The same of `MyEnum::One`.
+/// The fields of `MyEnum::One`.
 struct OnePart;
 
 impl SchemaParts for OnePart {
     ghost all_parts = { one_definitions };
 
-    fn add_all(
-        alloc: Global,
-        definitions: &mut BTreeMap<Declaration, Definition>,
-    ) -> Result<(), SchemaBuildError> {
+    fn add_all(alloc: Global, definitions: &mut DefinitionMap) -> SchemaResult<()> {
         add_unnamed::<(u8, ())>(alloc, "MyEnum__One", definitions)
     }
 }
 
-/// The same of `MyEnum::Many`.
+/// The fields of `MyEnum::Many`.
 struct ManyPart;
 
 impl SchemaParts for ManyPart {
     ghost all_parts = { many_definitions };
 
-    fn add_all(
-        alloc: Global,
-        definitions: &mut BTreeMap<Declaration, Definition>,
-    ) -> Result<(), SchemaBuildError> {
+    fn add_all(alloc: Global, definitions: &mut DefinitionMap) -> SchemaResult<()> {
         add_unnamed::<(Vec<u8>, ())>(alloc, "MyEnum__Many", definitions)
     }
 }
@@ -105,21 +92,18 @@ impl BorshSchema for MyEnum {
           choice_none))));
     } };
 
-    fn declaration(alloc: Global) -> Result<Declaration, SchemaBuildError> {
+    fn declaration(alloc: Global) -> SchemaResult<Declaration> {
         declared(alloc, "MyEnum")
     }
 
-    fn add_definitions_recursively(
-        alloc: Global,
-        definitions: &mut BTreeMap<Declaration, Definition>,
-    ) -> Result<(), SchemaBuildError> {
+    fn add_definitions_recursively(alloc: Global, map: &mut DefinitionMap) -> SchemaResult<()> {
         add_tagged_enum::<Both<ZeroPart, Both<OnePart, ManyPart>>>(
             alloc,
             "MyEnum",
             &[0, 1, 2],
             &["Zero", "One", "Many"],
             &["MyEnum__Zero", "MyEnum__One", "MyEnum__Many"],
-            definitions,
+            map,
         )
     }
 

@@ -7,13 +7,12 @@ ghost use Rattle.borsh_definitions.specs.Addresses.{ipv4_definitions, ipv6_defin
 ghost use Rattle.borsh_definitions.proofs.Laws.Members.{describes_contramap, describes_choice, describes_number, describes_parts, describes_row, all_one, choice_more, choice_none};
 ghost use Rattle.borsh_definitions.proofs.Laws.Quoted.{struct_described};
 
-use super::definitions::SchemaBuildError;
+use super::definitions::{DefinitionMap, SchemaResult};
 use super::fields::{FieldTypes, add_named, add_tagged_enum, add_unnamed};
 use super::parts::{Both, SchemaParts, declared};
 use super::schema::BorshSchema;
-use borsh_walks::{Declaration, Definition};
+use borsh_walks::Declaration;
 use std::alloc::Global;
-use std::collections::BTreeMap;
 use std::net::{IpAddr, Ipv4Addr, Ipv6Addr};
 
 impl BorshSchema for Ipv4Addr {
@@ -24,15 +23,12 @@ impl BorshSchema for Ipv4Addr {
     ghost described = { struct_described (λ a. (ipv4_octets a, tt))
         ⟦<([u8; 4], ()) as FieldTypes>⟧.described refl };
 
-    fn declaration(alloc: Global) -> Result<Declaration, SchemaBuildError> {
+    fn declaration(alloc: Global) -> SchemaResult<Declaration> {
         declared(alloc, "Ipv4Addr")
     }
 
-    fn add_definitions_recursively(
-        alloc: Global,
-        definitions: &mut BTreeMap<Declaration, Definition>,
-    ) -> Result<(), SchemaBuildError> {
-        add_named::<([u8; 4], ())>(alloc, "Ipv4Addr", &["octets"], definitions)
+    fn add_definitions_recursively(alloc: Global, map: &mut DefinitionMap) -> SchemaResult<()> {
+        add_named::<([u8; 4], ())>(alloc, "Ipv4Addr", &["octets"], map)
     }
 
     ghost describes = { Self.described.describes };
@@ -46,15 +42,12 @@ impl BorshSchema for Ipv6Addr {
     ghost described = { struct_described (λ a. (ipv6_octets a, tt))
         ⟦<([u8; 16], ()) as FieldTypes>⟧.described refl };
 
-    fn declaration(alloc: Global) -> Result<Declaration, SchemaBuildError> {
+    fn declaration(alloc: Global) -> SchemaResult<Declaration> {
         declared(alloc, "Ipv6Addr")
     }
 
-    fn add_definitions_recursively(
-        alloc: Global,
-        definitions: &mut BTreeMap<Declaration, Definition>,
-    ) -> Result<(), SchemaBuildError> {
-        add_named::<([u8; 16], ())>(alloc, "Ipv6Addr", &["octets"], definitions)
+    fn add_definitions_recursively(alloc: Global, map: &mut DefinitionMap) -> SchemaResult<()> {
+        add_named::<([u8; 16], ())>(alloc, "Ipv6Addr", &["octets"], map)
     }
 
     ghost describes = { Self.described.describes };
@@ -66,10 +59,7 @@ struct V4Variant;
 impl SchemaParts for V4Variant {
     ghost all_parts = { v4_variant };
 
-    fn add_all(
-        alloc: Global,
-        definitions: &mut BTreeMap<Declaration, Definition>,
-    ) -> Result<(), SchemaBuildError> {
+    fn add_all(alloc: Global, definitions: &mut DefinitionMap) -> SchemaResult<()> {
         add_unnamed::<(Ipv4Addr, ())>(alloc, "IpAddr__V4", definitions)
     }
 }
@@ -80,10 +70,7 @@ struct V6Variant;
 impl SchemaParts for V6Variant {
     ghost all_parts = { v6_variant };
 
-    fn add_all(
-        alloc: Global,
-        definitions: &mut BTreeMap<Declaration, Definition>,
-    ) -> Result<(), SchemaBuildError> {
+    fn add_all(alloc: Global, definitions: &mut DefinitionMap) -> SchemaResult<()> {
         add_unnamed::<(Ipv6Addr, ())>(alloc, "IpAddr__V6", definitions)
     }
 }
@@ -112,21 +99,18 @@ impl BorshSchema for IpAddr {
           choice_none)));
     } };
 
-    fn declaration(alloc: Global) -> Result<Declaration, SchemaBuildError> {
+    fn declaration(alloc: Global) -> SchemaResult<Declaration> {
         declared(alloc, "IpAddr")
     }
 
-    fn add_definitions_recursively(
-        alloc: Global,
-        definitions: &mut BTreeMap<Declaration, Definition>,
-    ) -> Result<(), SchemaBuildError> {
+    fn add_definitions_recursively(alloc: Global, map: &mut DefinitionMap) -> SchemaResult<()> {
         add_tagged_enum::<Both<V4Variant, V6Variant>>(
             alloc,
             "IpAddr",
             &[0, 1],
             &["V4", "V6"],
             &["IpAddr__V4", "IpAddr__V6"],
-            definitions,
+            map,
         )
     }
 

@@ -5,13 +5,13 @@ ghost use Rattle.borsh_definitions.proofs.Laws.Own.{root_and_map-lawful};
 ghost use Rattle.borsh_schema.specs.Codecs.{container, container_pair};
 
 use super::container::BorshSchemaContainer;
+use super::definitions::DefinitionMap;
 use borsh_de::BorshDeserialize;
 use borsh_io::{Read, Result, Write};
 use borsh_ser::{BorshSerialize, write_two};
 use borsh_types::BorshType;
-use borsh_walks::{Declaration, Definition};
+use borsh_walks::Declaration;
 use std::alloc::Global;
-use std::collections::BTreeMap;
 
 impl BorshType for BorshSchemaContainer {
     ghost codec = { container };
@@ -37,10 +37,9 @@ impl BorshSerialize for BorshSchemaContainer {
 
 impl BorshDeserialize for BorshSchemaContainer {
     fn deserialize_reader<R: Read>(alloc: Global, reader: &mut R) -> Result<BorshSchemaContainer> {
-        let (declaration, definitions) = <(
-            Declaration,
-            BTreeMap<Declaration, Definition>,
-        )>::deserialize_reader(alloc, reader)?;
+        let (declaration, definitions) = <(Declaration, DefinitionMap)>::deserialize_reader(
+            alloc, reader,
+        )?;
         Ok(BorshSchemaContainer {
             declaration,
             definitions,

@@ -1,4 +1,4 @@
-// Containers: a type's name and the definitions that it leads to.
+// Containers: a type's name and the definitions that it leads to. Left open of each call: none.
 ghost use Rattle.std.specs.Prelude.{◌≡◌, Decides, Some, None, OnOk, IfOk, IfErr, OnErr, option_map, string_bytes};
 ghost use Rattle.std.specs.Borrow.{sem};
 ghost use Rattle.std.specs.Option.{option_copied_mut};
@@ -9,17 +9,17 @@ ghost use Rattle.borsh_definitions.specs.Described.{nothing_defined};
 ghost use Rattle.borsh_schema.specs.Joined.{AreConsistent, BuildFault};
 ghost use Rattle.borsh_schema.specs.Lending.{LendsDefinition};
 
-use super::definitions::SchemaBuildError;
+use super::definitions::{DefinitionMap, SchemaResult};
 use super::schema::BorshSchema;
 use borsh_walks::{Declaration, Definition};
 use std::alloc::{AllocError, Global};
-use std::collections::{BTreeMap, btree_map};
+use std::collections::btree_map;
 
 /// A schema as a value: a type's name, the root, and a map from names to definitions.
 #[derive(Clone, Debug, PartialEq, Eq, Drop)]
 pub struct BorshSchemaContainer {
     pub(crate) declaration: Declaration,
-    pub(crate) definitions: BTreeMap<Declaration, Definition>,
+    pub(crate) definitions: DefinitionMap,
 }
 
 impl BorshSchemaContainer {
@@ -28,10 +28,7 @@ impl BorshSchemaContainer {
     /// ```
     /// let container = BorshSchemaContainer::new(String::from_str(alloc, "u8")?, definitions);
     /// ```
-    pub fn new(
-        declaration: Declaration,
-        definitions: BTreeMap<Declaration, Definition>,
-    ) -> BorshSchemaContainer
+    pub fn new(declaration: Declaration, definitions: DefinitionMap) -> BorshSchemaContainer
         ensures declaration { declaration_of result ≡ declaration }
         ensures definitions { map_of result ≡ definitions }
     {
@@ -41,35 +38,36 @@ impl BorshSchemaContainer {
         }
     }
 
-    /// The container of a type.
+    /// The container of a type. Each encoding is a member of its root.
     ///
     /// Returns `Redefinition` of a name of the type that has two different definitions, and
-    /// `OutOfMemory` if an allocation fails.
+    /// `OutOfMemory` if an allocation fails. Left open: memory; which of several such names is reported.
     ///
     /// ```
     /// let container = BorshSchemaContainer::for_type::<Option<u8>>(alloc)?;
     /// assert_eq!(rt; container.declaration().as_str(), "Option<u8>");
     /// ```
-    pub fn for_type<T: BorshSchema>(alloc: Global) -> Result<BorshSchemaContainer, SchemaBuildError>
+    pub fn for_type<T: BorshSchema>(alloc: Global) -> SchemaResult<BorshSchemaContainer>
         ensures ok { IfOk result (λ c. IsContainerOf T.name T.parts c) }
         ensures err { IfErr result (λ e. BuildFault nothing_defined T.parts e) }
         ensures language { IfOk result (λ c. DescribesRoot T.codec c) }
         ensures ascending { IfOk result (λ c. IsOrdered string_cmp (map_of c)) }
     {
-        let mut definitions = BTreeMap::new(alloc);
+        let mut definitions = DefinitionMap::new(alloc);
         T::add_definitions_recursively(alloc, &mut definitions)?;
         let container = BorshSchemaContainer::new(T::declaration(alloc)?, definitions);
+        // For the prover: `definitions` ensures that the names ascend.
         container.definitions();
         Ok(container)
     }
 
     /// Whether this is the container of a type. The errors are those of
-    /// [`for_type`](BorshSchemaContainer::for_type).
+    /// [`for_type`](BorshSchemaContainer::for_type). Left open: as there.
     ///
     /// ```
     /// assert!(rt; container.is_of_type::<Option<u8>>(alloc)?);
     /// ```
-    pub fn is_of_type<T: BorshSchema>(&self, alloc: Global) -> Result<bool, SchemaBuildError>
+    pub fn is_of_type<T: BorshSchema>(&self, alloc: Global) -> SchemaResult<bool>
         ensures ok { IfOk result (λ yes. Decides yes (IsContainerOf T.name T.parts self.now)) }
         ensures consistent { OnOk result (AreConsistent T.parts) }
         ensures err { IfErr result (λ e. BuildFault nothing_defined T.parts e) }
@@ -110,7 +108,7 @@ impl BorshSchemaContainer {
     /// ```
     /// let answer = is_member(alloc, container.declaration(), container.as_map(), bytes)?;
     /// ```
-    pub fn as_map(&self) -> &BTreeMap<Declaration, Definition>
+    pub fn as_map(&self) -> &DefinitionMap
         ensures { result.now ≡ map_of self.now }
     {
         &self.definitions
@@ -142,7 +140,7 @@ impl BorshSchemaContainer {
     }
 
     /// Gives a name a definition, and returns the one that it had, if any. If an allocation fails, the
-    /// container is unchanged, and what was given is dropped.
+    /// container is unchanged, and what was given is dropped. Left open: memory.
     ///
     /// ```
     /// let name = String::from_str(alloc, "u8")?;
@@ -154,8 +152,7 @@ impl BorshSchemaContainer {
         definition: Definition,
     ) -> Result<Option<Definition>, AllocError>
         ensures declaration { declaration_of self.new ≡ declaration_of self.old }
-        ensures replaced { IfOk result
-            (λ d. d ≡ definition_of self.old (string_bytes declaration)) }
+        ensures replaced { IfOk result (λ d. d ≡ definition_of self.old (string_bytes declaration)) }
         ensures ok { OnOk result
             (ReplacesDefinition self.old self.new (string_bytes declaration) (Some definition)) }
         ensures err { OnErr result (IsUnchanged (map_of self.old) (map_of self.new)) }

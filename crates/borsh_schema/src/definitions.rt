@@ -12,6 +12,12 @@ use std::collections::BTreeMap;
 use std::error::Error;
 use std::fmt;
 
+/// The definitions that a schema adds to.
+pub type DefinitionMap = BTreeMap<Declaration, Definition>;
+
+/// What a step of building a schema returns.
+pub type SchemaResult<T> = Result<T, SchemaBuildError>;
+
 /// Why the definitions of a type could not be collected.
 #[derive(Clone, Debug, PartialEq, Eq, Drop)]
 pub enum SchemaBuildError {
@@ -50,7 +56,6 @@ impl fmt::Display for SchemaBuildError {
 
 impl Error for SchemaBuildError {}
 
-/// The same refusal, of a size.
 impl From<SchemaBuildError> for SchemaMaxSerializedSizeError {
     ghost from_gives = { λ e made. made ≡ size_error e };
 
@@ -73,7 +78,7 @@ fn says_the_same(known: &Definition, given: &Definition) -> bool
 
 /// Adds a definition to the map under its name. If the name has an equal definition, nothing changes; if
 /// it has a different one, the error is `Redefinition`. After an error the map is unchanged, and the
-/// definition that was given is dropped.
+/// definition that was given is dropped. Left open: memory.
 ///
 /// ```
 /// let name = String::from_str(alloc, "u8")?;
@@ -82,8 +87,8 @@ fn says_the_same(known: &Definition, given: &Definition) -> bool
 pub fn add_definition(
     declaration: Declaration,
     definition: Definition,
-    definitions: &mut BTreeMap<Declaration, Definition>,
-) -> Result<(), SchemaBuildError>
+    definitions: &mut DefinitionMap,
+) -> SchemaResult<()>
     ensures outcome { AddsDefinitions definitions.old definitions.new
         (definition_with declaration definition none) result }
     ensures unchanged { IfErr result (λ _. IsUnchanged definitions.old definitions.new) }

@@ -1,4 +1,5 @@
-// The fields of structs, tuples and variants: their types, one after another.
+// The fields of structs, tuples and variants: their types, one after another. Left open of each call: as of
+// [`BorshSchema::add_definitions_recursively`].
 ghost use Rattle.std.specs.Prelude.{◌≡◌, ◌++◌, IfErr, OnOk, map, string_bytes};
 ghost use Rattle.borsh_schema.specs.declared.definitions.SchemaBuildError.TheVariants.{OutOfMemory};
 ghost use Rattle.borsh_definitions.specs.Described.{field_bytes, variant_bytes};
@@ -8,12 +9,11 @@ ghost use Rattle.borsh_definitions.proofs.Laws.Quoted.{fields_described, no_fiel
 ghost use Rattle.borsh_definitions.specs.Names.{AppendsNames, AppendsFollowing, texts, beside, listed_variants};
 ghost use Rattle.borsh_definitions.specs.Types.{named_struct, unnamed_struct, unit_struct, tagged_enum};
 
-use super::definitions::SchemaBuildError;
+use super::definitions::{DefinitionMap, SchemaResult};
 use super::parts::{SchemaParts, add_with_parts, declared};
 use super::schema::BorshSchema;
 use borsh_walks::{Declaration, Definition, DiscriminantValue, FieldName, Fields, VariantName};
 use std::alloc::Global;
-use std::collections::BTreeMap;
 
 /// The types of fields, one after another, as `(A, (B, ()))`.
 ///
@@ -21,25 +21,25 @@ use std::collections::BTreeMap;
 pub trait FieldTypes {
     ghost described: { DescribedFields Self };
 
-    /// How many there are.
+    /// How many there are. Left open: any number.
     fn count() -> usize;
 
-    /// Puts the names of the types at the end of the list.
-    fn push_types(alloc: Global, types: &mut Vec<Declaration>) -> Result<(), SchemaBuildError>
+    /// Puts the names of the types at the end of the list. Left open: memory; the list after an error.
+    fn push_types(alloc: Global, types: &mut Vec<Declaration>) -> SchemaResult<()>
         ensures ok { OnOk result (AppendsNames types.old.items types.new.items described.names) }
         ensures err { IfErr result (λ e. e ≡ OutOfMemory) };
 
-    /// Puts the names at the end of the text, each behind a comma.
-    fn push_names(alloc: Global, text: &mut String) -> Result<(), SchemaBuildError>
+    /// Puts the names at the end of the text, each behind a comma. Left open: memory; the text after an error.
+    fn push_names(alloc: Global, text: &mut String) -> SchemaResult<()>
         ensures ok { OnOk result (AppendsFollowing text.old text.new described.names) }
         ensures err { IfErr result (λ e. e ≡ OutOfMemory) };
 
-    /// Puts fields of these names and types at the end of the list.
+    /// Puts fields of these names and types at the end of the list. Left open: memory; the list after an error.
     fn push_fields(
         alloc: Global,
         fields: &[&str],
         list: &mut Vec<(FieldName, Declaration)>,
-    ) -> Result<(), SchemaBuildError>
+    ) -> SchemaResult<()>
         ensures ok { OnOk result (map field_bytes list.new.items
             ≡ map field_bytes list.old.items ++ beside (texts fields.now) described.names) }
         ensures err { IfErr result (λ e. e ≡ OutOfMemory) };
@@ -49,10 +49,7 @@ pub trait FieldTypes {
     /// ```
     /// <(u8, (String, ()))>::add_types(alloc, &mut definitions)?;
     /// ```
-    fn add_types(
-        alloc: Global,
-        definitions: &mut BTreeMap<Declaration, Definition>,
-    ) -> Result<(), SchemaBuildError>
+    fn add_types(alloc: Global, definitions: &mut DefinitionMap) -> SchemaResult<()>
         ensures { AddsDefinitions definitions.old definitions.new described.parts result };
 }
 
@@ -63,11 +60,11 @@ impl FieldTypes for () {
         0
     }
 
-    fn push_types(_alloc: Global, _types: &mut Vec<Declaration>) -> Result<(), SchemaBuildError> {
+    fn push_types(_alloc: Global, _types: &mut Vec<Declaration>) -> SchemaResult<()> {
         Ok(())
     }
 
-    fn push_names(_alloc: Global, _text: &mut String) -> Result<(), SchemaBuildError> {
+    fn push_names(_alloc: Global, _text: &mut String) -> SchemaResult<()> {
         Ok(())
     }
 
@@ -75,15 +72,12 @@ impl FieldTypes for () {
         _alloc: Global,
         _fields: &[&str],
         _list: &mut Vec<(FieldName, Declaration)>,
-    ) -> Result<(), SchemaBuildError> {
+    ) -> SchemaResult<()> {
         Ok(())
     }
 
     #[inline]
-    fn add_types(
-        _alloc: Global,
-        _definitions: &mut BTreeMap<Declaration, Definition>,
-    ) -> Result<(), SchemaBuildError> {
+    fn add_types(_alloc: Global, _definitions: &mut DefinitionMap) -> SchemaResult<()> {
         Ok(())
     }
 }
@@ -95,12 +89,12 @@ impl<T: BorshSchema, R: FieldTypes> FieldTypes for (T, R) {
         R::count().saturating_add(1)
     }
 
-    fn push_types(alloc: Global, types: &mut Vec<Declaration>) -> Result<(), SchemaBuildError> {
+    fn push_types(alloc: Global, types: &mut Vec<Declaration>) -> SchemaResult<()> {
         types.push(T::declaration(alloc)?)?;
         R::push_types(alloc, types)
     }
 
-    fn push_names(alloc: Global, text: &mut String) -> Result<(), SchemaBuildError> {
+    fn push_names(alloc: Global, text: &mut String) -> SchemaResult<()> {
         let name = T::declaration(alloc)?;
         text.push_str(", ")?;
         text.push_str(name.as_str())?;
@@ -111,7 +105,7 @@ impl<T: BorshSchema, R: FieldTypes> FieldTypes for (T, R) {
         alloc: Global,
         fields: &[&str],
         list: &mut Vec<(FieldName, Declaration)>,
-    ) -> Result<(), SchemaBuildError> {
+    ) -> SchemaResult<()> {
         if let [first, rest @ ..] = fields {
             let name = declared(alloc, first)?;
             list.push((name, T::declaration(alloc)?))?;
@@ -121,10 +115,7 @@ impl<T: BorshSchema, R: FieldTypes> FieldTypes for (T, R) {
     }
 
     #[inline]
-    fn add_types(
-        alloc: Global,
-        definitions: &mut BTreeMap<Declaration, Definition>,
-    ) -> Result<(), SchemaBuildError> {
+    fn add_types(alloc: Global, definitions: &mut DefinitionMap) -> SchemaResult<()> {
         T::add_definitions_recursively(alloc, definitions)?;
         R::add_types(alloc, definitions)
     }
@@ -140,8 +131,8 @@ pub fn add_named<P: FieldTypes>(
     alloc: Global,
     name: &str,
     fields: &[&str],
-    definitions: &mut BTreeMap<Declaration, Definition>,
-) -> Result<(), SchemaBuildError>
+    definitions: &mut DefinitionMap,
+) -> SchemaResult<()>
     ensures { AddsDefinitions definitions.old definitions.new
         (named_struct name.now (texts fields.now) P.described.names P.described.parts) result }
 {
@@ -149,12 +140,8 @@ pub fn add_named<P: FieldTypes>(
     P::push_fields(alloc, fields, &mut list)?;
     let declaration = declared(alloc, name)?;
     let fields = Fields::NamedFields(list);
-    add_with_parts::<P>(
-        alloc,
-        declaration,
-        Definition::Struct { fields },
-        definitions,
-    )
+    let definition = Definition::Struct { fields };
+    add_with_parts::<P>(alloc, declaration, definition, definitions)
 }
 
 /// Adds a struct whose fields, of the types `P`, have no names. The answers are those of
@@ -166,8 +153,8 @@ pub fn add_named<P: FieldTypes>(
 pub fn add_unnamed<P: FieldTypes>(
     alloc: Global,
     name: &str,
-    definitions: &mut BTreeMap<Declaration, Definition>,
-) -> Result<(), SchemaBuildError>
+    definitions: &mut DefinitionMap,
+) -> SchemaResult<()>
     ensures { AddsDefinitions definitions.old definitions.new
         (unnamed_struct name.now P.described.names P.described.parts) result }
 {
@@ -175,12 +162,8 @@ pub fn add_unnamed<P: FieldTypes>(
     P::push_types(alloc, &mut list)?;
     let declaration = declared(alloc, name)?;
     let fields = Fields::UnnamedFields(list);
-    add_with_parts::<P>(
-        alloc,
-        declaration,
-        Definition::Struct { fields },
-        definitions,
-    )
+    let definition = Definition::Struct { fields };
+    add_with_parts::<P>(alloc, declaration, definition, definitions)
 }
 
 /// Adds a struct without fields. The answers are those of
@@ -189,21 +172,13 @@ pub fn add_unnamed<P: FieldTypes>(
 /// ```
 /// add_unit(alloc, "Nothing", definitions)?;
 /// ```
-pub fn add_unit(
-    alloc: Global,
-    name: &str,
-    definitions: &mut BTreeMap<Declaration, Definition>,
-) -> Result<(), SchemaBuildError>
+pub fn add_unit(alloc: Global, name: &str, definitions: &mut DefinitionMap) -> SchemaResult<()>
     ensures { AddsDefinitions definitions.old definitions.new (unit_struct name.now) result }
 {
     let declaration = declared(alloc, name)?;
     let fields = Fields::Empty;
-    add_with_parts::<()>(
-        alloc,
-        declaration,
-        Definition::Struct { fields },
-        definitions,
-    )
+    let definition = Definition::Struct { fields };
+    add_with_parts::<()>(alloc, declaration, definition, definitions)
 }
 
 // Puts variants of these tags, names and types at the end of the list.
@@ -213,7 +188,7 @@ fn push_variants(
     names: &[&str],
     types: &[&str],
     list: &mut Vec<(DiscriminantValue, VariantName, Declaration)>,
-) -> Result<(), SchemaBuildError>
+) -> SchemaResult<()>
     ensures ok { OnOk result (map variant_bytes list.new.items
         ≡ map variant_bytes list.old.items
         ++ listed_variants tags.now (texts names.now) (texts types.now)) }
@@ -245,8 +220,8 @@ pub fn add_tagged_enum<P: SchemaParts>(
     tags: &[u8],
     names: &[&str],
     types: &[&str],
-    definitions: &mut BTreeMap<Declaration, Definition>,
-) -> Result<(), SchemaBuildError>
+    definitions: &mut DefinitionMap,
+) -> SchemaResult<()>
     ensures { AddsDefinitions definitions.old definitions.new
         (tagged_enum name.now tags.now (texts names.now) (texts types.now) P.all_parts) result }
 {

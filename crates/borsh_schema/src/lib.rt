@@ -7,6 +7,7 @@ mod codec;
 pub mod container;
 pub mod definitions;
 pub mod fields;
+pub mod floats;
 pub mod lists;
 pub mod maps;
 pub mod non_zeros;
@@ -24,7 +25,7 @@ pub mod tuples;
 pub mod units;
 
 pub use container::{BorshSchemaContainer, Definitions};
-pub use definitions::{SchemaBuildError, add_definition};
+pub use definitions::{DefinitionMap, SchemaBuildError, SchemaResult, add_definition};
 pub use fields::{FieldTypes, add_named, add_tagged_enum, add_unit, add_unnamed};
 pub use parts::{Both, SchemaParts, add_with_parts, declared, field, named_variant, variant};
 pub use schema::BorshSchema;

@@ -6,11 +6,11 @@ ghost use Rattle.borsh_definitions.specs.Names.{applied, applied_to_two};
 ghost use Rattle.borsh_definitions.specs.Types.{list_definitions, map_definitions};
 ghost use Rattle.borsh_definitions.proofs.Laws.Quoted.{btree_map_described, btree_set_described, contramap_described, hash_map_described, hash_set_described};
 
-use super::definitions::SchemaBuildError;
+use super::definitions::{DefinitionMap, SchemaResult};
 use super::parts::add_list;
 use super::schema::BorshSchema;
 use borsh_types::BorshKey;
-use borsh_walks::{Declaration, Definition};
+use borsh_walks::Declaration;
 use std::alloc::Global;
 use std::collections::{BTreeMap, BTreeSet, HashMap, HashSet};
 use std::hash::{BuildHasher, Hash};
@@ -23,17 +23,14 @@ impl<K: BorshSchema + BorshKey + Ord, V: BorshSchema> BorshSchema for BTreeMap<K
     ghost described = { contramap_described (λ m. m.entries)
         (btree_map_described (codes "BTreeMap<") K.cmp K.described V.described) };
 
-    fn declaration(alloc: Global) -> Result<Declaration, SchemaBuildError> {
+    fn declaration(alloc: Global) -> SchemaResult<Declaration> {
         let key = K::declaration(alloc)?;
         let value = V::declaration(alloc)?;
         Ok(format!(in alloc; "BTreeMap<{key}, {value}>")?)
     }
 
-    fn add_definitions_recursively(
-        alloc: Global,
-        definitions: &mut BTreeMap<Declaration, Definition>,
-    ) -> Result<(), SchemaBuildError> {
-        add_list::<(K, V)>(alloc, Self::declaration(alloc)?, definitions)
+    fn add_definitions_recursively(alloc: Global, map: &mut DefinitionMap) -> SchemaResult<()> {
+        add_list::<(K, V)>(alloc, Self::declaration(alloc)?, map)
     }
 
     ghost describes = { λ C h. describes_contramap (λ m. m.entries)
@@ -51,16 +48,13 @@ impl<K: BorshSchema + BorshKey + Ord> BorshSchema for BTreeSet<K> {
     ghost described = { contramap_described (λ s. s.keys)
         (btree_set_described (codes "BTreeSet<") K.cmp K.described) };
 
-    fn declaration(alloc: Global) -> Result<Declaration, SchemaBuildError> {
+    fn declaration(alloc: Global) -> SchemaResult<Declaration> {
         let key = K::declaration(alloc)?;
         Ok(format!(in alloc; "BTreeSet<{key}>")?)
     }
 
-    fn add_definitions_recursively(
-        alloc: Global,
-        definitions: &mut BTreeMap<Declaration, Definition>,
-    ) -> Result<(), SchemaBuildError> {
-        add_list::<K>(alloc, Self::declaration(alloc)?, definitions)
+    fn add_definitions_recursively(alloc: Global, map: &mut DefinitionMap) -> SchemaResult<()> {
+        add_list::<K>(alloc, Self::declaration(alloc)?, map)
     }
 
     ghost describes = { λ C h. describes_contramap (λ s. s.keys)
@@ -78,17 +72,14 @@ impl<K: BorshSchema + BorshKey + Ord + Hash, V: BorshSchema, S: BuildHasher> Bor
     ghost described = { contramap_described (λ m. m.entries)
         (hash_map_described (codes "HashMap<") K.cmp K.described V.described) };
 
-    fn declaration(alloc: Global) -> Result<Declaration, SchemaBuildError> {
+    fn declaration(alloc: Global) -> SchemaResult<Declaration> {
         let key = K::declaration(alloc)?;
         let value = V::declaration(alloc)?;
         Ok(format!(in alloc; "HashMap<{key}, {value}>")?)
     }
 
-    fn add_definitions_recursively(
-        alloc: Global,
-        definitions: &mut BTreeMap<Declaration, Definition>,
-    ) -> Result<(), SchemaBuildError> {
-        add_list::<(K, V)>(alloc, Self::declaration(alloc)?, definitions)
+    fn add_definitions_recursively(alloc: Global, map: &mut DefinitionMap) -> SchemaResult<()> {
+        add_list::<(K, V)>(alloc, Self::declaration(alloc)?, map)
     }
 
     ghost describes = { λ C h. describes_contramap (λ m. m.entries)
@@ -106,16 +97,13 @@ impl<K: BorshSchema + BorshKey + Ord + Hash, S: BuildHasher> BorshSchema for Has
     ghost described = { contramap_described (λ s. s.keys)
         (hash_set_described (codes "HashSet<") K.cmp K.described) };
 
-    fn declaration(alloc: Global) -> Result<Declaration, SchemaBuildError> {
+    fn declaration(alloc: Global) -> SchemaResult<Declaration> {
         let key = K::declaration(alloc)?;
         Ok(format!(in alloc; "HashSet<{key}>")?)
     }
 
-    fn add_definitions_recursively(
-        alloc: Global,
-        definitions: &mut BTreeMap<Declaration, Definition>,
-    ) -> Result<(), SchemaBuildError> {
-        add_list::<K>(alloc, Self::declaration(alloc)?, definitions)
+    fn add_definitions_recursively(alloc: Global, map: &mut DefinitionMap) -> SchemaResult<()> {
+        add_list::<K>(alloc, Self::declaration(alloc)?, map)
     }
 
     ghost describes = { λ C h. describes_contramap (λ s. s.keys)

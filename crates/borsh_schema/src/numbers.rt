@@ -4,12 +4,11 @@ ghost use Rattle.borsh_definitions.specs.Types.{primitive_definitions};
 ghost use Rattle.borsh_definitions.proofs.Laws.Members.{describes_number, describes_signed};
 ghost use Rattle.borsh_definitions.proofs.Laws.Quoted.{number_described, signed_described};
 
-use super::definitions::SchemaBuildError;
+use super::definitions::{DefinitionMap, SchemaResult};
 use super::parts::{add_primitive, declared};
 use super::schema::BorshSchema;
-use borsh_walks::{Declaration, Definition};
+use borsh_walks::Declaration;
 use std::alloc::Global;
-use std::collections::BTreeMap;
 
 impl BorshSchema for u8 {
     ghost name = { codes "u8" };
@@ -18,15 +17,12 @@ impl BorshSchema for u8 {
 
     ghost described = { number_described (codes "u8") 1 };
 
-    fn declaration(alloc: Global) -> Result<Declaration, SchemaBuildError> {
+    fn declaration(alloc: Global) -> SchemaResult<Declaration> {
         declared(alloc, "u8")
     }
 
-    fn add_definitions_recursively(
-        alloc: Global,
-        definitions: &mut BTreeMap<Declaration, Definition>,
-    ) -> Result<(), SchemaBuildError> {
-        add_primitive(alloc, "u8", 1, definitions)
+    fn add_definitions_recursively(alloc: Global, map: &mut DefinitionMap) -> SchemaResult<()> {
+        add_primitive(alloc, "u8", 1, map)
     }
 
     ghost describes = { Self.described.describes };
@@ -39,15 +35,12 @@ impl BorshSchema for u16 {
 
     ghost described = { number_described (codes "u16") 2 };
 
-    fn declaration(alloc: Global) -> Result<Declaration, SchemaBuildError> {
+    fn declaration(alloc: Global) -> SchemaResult<Declaration> {
         declared(alloc, "u16")
     }
 
-    fn add_definitions_recursively(
-        alloc: Global,
-        definitions: &mut BTreeMap<Declaration, Definition>,
-    ) -> Result<(), SchemaBuildError> {
-        add_primitive(alloc, "u16", 2, definitions)
+    fn add_definitions_recursively(alloc: Global, map: &mut DefinitionMap) -> SchemaResult<()> {
+        add_primitive(alloc, "u16", 2, map)
     }
 
     ghost describes = { Self.described.describes };
@@ -60,15 +53,12 @@ impl BorshSchema for u32 {
 
     ghost described = { number_described (codes "u32") 4 };
 
-    fn declaration(alloc: Global) -> Result<Declaration, SchemaBuildError> {
+    fn declaration(alloc: Global) -> SchemaResult<Declaration> {
         declared(alloc, "u32")
     }
 
-    fn add_definitions_recursively(
-        alloc: Global,
-        definitions: &mut BTreeMap<Declaration, Definition>,
-    ) -> Result<(), SchemaBuildError> {
-        add_primitive(alloc, "u32", 4, definitions)
+    fn add_definitions_recursively(alloc: Global, map: &mut DefinitionMap) -> SchemaResult<()> {
+        add_primitive(alloc, "u32", 4, map)
     }
 
     ghost describes = { Self.described.describes };
@@ -81,15 +71,12 @@ impl BorshSchema for u64 {
 
     ghost described = { number_described (codes "u64") 8 };
 
-    fn declaration(alloc: Global) -> Result<Declaration, SchemaBuildError> {
+    fn declaration(alloc: Global) -> SchemaResult<Declaration> {
         declared(alloc, "u64")
     }
 
-    fn add_definitions_recursively(
-        alloc: Global,
-        definitions: &mut BTreeMap<Declaration, Definition>,
-    ) -> Result<(), SchemaBuildError> {
-        add_primitive(alloc, "u64", 8, definitions)
+    fn add_definitions_recursively(alloc: Global, map: &mut DefinitionMap) -> SchemaResult<()> {
+        add_primitive(alloc, "u64", 8, map)
     }
 
     ghost describes = { Self.described.describes };
@@ -102,15 +89,12 @@ impl BorshSchema for u128 {
 
     ghost described = { number_described (codes "u128") 16 };
 
-    fn declaration(alloc: Global) -> Result<Declaration, SchemaBuildError> {
+    fn declaration(alloc: Global) -> SchemaResult<Declaration> {
         declared(alloc, "u128")
     }
 
-    fn add_definitions_recursively(
-        alloc: Global,
-        definitions: &mut BTreeMap<Declaration, Definition>,
-    ) -> Result<(), SchemaBuildError> {
-        add_primitive(alloc, "u128", 16, definitions)
+    fn add_definitions_recursively(alloc: Global, map: &mut DefinitionMap) -> SchemaResult<()> {
+        add_primitive(alloc, "u128", 16, map)
     }
 
     ghost describes = { Self.described.describes };
@@ -123,15 +107,12 @@ impl BorshSchema for usize {
 
     ghost described = { number_described (codes "u64") 8 };
 
-    fn declaration(alloc: Global) -> Result<Declaration, SchemaBuildError> {
+    fn declaration(alloc: Global) -> SchemaResult<Declaration> {
         declared(alloc, "u64")
     }
 
-    fn add_definitions_recursively(
-        alloc: Global,
-        definitions: &mut BTreeMap<Declaration, Definition>,
-    ) -> Result<(), SchemaBuildError> {
-        add_primitive(alloc, "u64", 8, definitions)
+    fn add_definitions_recursively(alloc: Global, map: &mut DefinitionMap) -> SchemaResult<()> {
+        add_primitive(alloc, "u64", 8, map)
     }
 
     ghost describes = { Self.described.describes };
@@ -144,15 +125,12 @@ impl BorshSchema for i8 {
 
     ghost described = { signed_described (codes "i8") 1 };
 
-    fn declaration(alloc: Global) -> Result<Declaration, SchemaBuildError> {
+    fn declaration(alloc: Global) -> SchemaResult<Declaration> {
         declared(alloc, "i8")
     }
 
-    fn add_definitions_recursively(
-        alloc: Global,
-        definitions: &mut BTreeMap<Declaration, Definition>,
-    ) -> Result<(), SchemaBuildError> {
-        add_primitive(alloc, "i8", 1, definitions)
+    fn add_definitions_recursively(alloc: Global, map: &mut DefinitionMap) -> SchemaResult<()> {
+        add_primitive(alloc, "i8", 1, map)
     }
 
     ghost describes = { Self.described.describes };
@@ -165,15 +143,12 @@ impl BorshSchema for i16 {
 
     ghost described = { signed_described (codes "i16") 2 };
 
-    fn declaration(alloc: Global) -> Result<Declaration, SchemaBuildError> {
+    fn declaration(alloc: Global) -> SchemaResult<Declaration> {
         declared(alloc, "i16")
     }
 
-    fn add_definitions_recursively(
-        alloc: Global,
-        definitions: &mut BTreeMap<Declaration, Definition>,
-    ) -> Result<(), SchemaBuildError> {
-        add_primitive(alloc, "i16", 2, definitions)
+    fn add_definitions_recursively(alloc: Global, map: &mut DefinitionMap) -> SchemaResult<()> {
+        add_primitive(alloc, "i16", 2, map)
     }
 
     ghost describes = { Self.described.describes };
@@ -186,15 +161,12 @@ impl BorshSchema for i32 {
 
     ghost described = { signed_described (codes "i32") 4 };
 
-    fn declaration(alloc: Global) -> Result<Declaration, SchemaBuildError> {
+    fn declaration(alloc: Global) -> SchemaResult<Declaration> {
         declared(alloc, "i32")
     }
 
-    fn add_definitions_recursively(
-        alloc: Global,
-        definitions: &mut BTreeMap<Declaration, Definition>,
-    ) -> Result<(), SchemaBuildError> {
-        add_primitive(alloc, "i32", 4, definitions)
+    fn add_definitions_recursively(alloc: Global, map: &mut DefinitionMap) -> SchemaResult<()> {
+        add_primitive(alloc, "i32", 4, map)
     }
 
     ghost describes = { Self.described.describes };
@@ -207,15 +179,12 @@ impl BorshSchema for i64 {
 
     ghost described = { signed_described (codes "i64") 8 };
 
-    fn declaration(alloc: Global) -> Result<Declaration, SchemaBuildError> {
+    fn declaration(alloc: Global) -> SchemaResult<Declaration> {
         declared(alloc, "i64")
     }
 
-    fn add_definitions_recursively(
-        alloc: Global,
-        definitions: &mut BTreeMap<Declaration, Definition>,
-    ) -> Result<(), SchemaBuildError> {
-        add_primitive(alloc, "i64", 8, definitions)
+    fn add_definitions_recursively(alloc: Global, map: &mut DefinitionMap) -> SchemaResult<()> {
+        add_primitive(alloc, "i64", 8, map)
     }
 
     ghost describes = { Self.described.describes };
@@ -228,15 +197,12 @@ impl BorshSchema for i128 {
 
     ghost described = { signed_described (codes "i128") 16 };
 
-    fn declaration(alloc: Global) -> Result<Declaration, SchemaBuildError> {
+    fn declaration(alloc: Global) -> SchemaResult<Declaration> {
         declared(alloc, "i128")
     }
 
-    fn add_definitions_recursively(
-        alloc: Global,
-        definitions: &mut BTreeMap<Declaration, Definition>,
-    ) -> Result<(), SchemaBuildError> {
-        add_primitive(alloc, "i128", 16, definitions)
+    fn add_definitions_recursively(alloc: Global, map: &mut DefinitionMap) -> SchemaResult<()> {
+        add_primitive(alloc, "i128", 16, map)
     }
 
     ghost describes = { Self.described.describes };
@@ -249,15 +215,12 @@ impl BorshSchema for isize {
 
     ghost described = { signed_described (codes "i64") 8 };
 
-    fn declaration(alloc: Global) -> Result<Declaration, SchemaBuildError> {
+    fn declaration(alloc: Global) -> SchemaResult<Declaration> {
         declared(alloc, "i64")
     }
 
-    fn add_definitions_recursively(
-        alloc: Global,
-        definitions: &mut BTreeMap<Declaration, Definition>,
-    ) -> Result<(), SchemaBuildError> {
-        add_primitive(alloc, "i64", 8, definitions)
+    fn add_definitions_recursively(alloc: Global, map: &mut DefinitionMap) -> SchemaResult<()> {
+        add_primitive(alloc, "i64", 8, map)
     }
 
     ghost describes = { Self.described.describes };

@@ -7,7 +7,7 @@ ghost use Rattle.borsh_definitions.proofs.Laws.Own.{length_range_described, fiel
 ghost use Rattle.borsh_definitions.specs.Own.{length_range_name, length_range_definitions, fields_definitions, named_fields_variant, unnamed_fields_variant, empty_variant, definition_definitions, primitive_variant, sequence_variant, tuple_variant, enum_variant, struct_variant, container_definitions};
 
 use super::container::BorshSchemaContainer;
-use super::definitions::SchemaBuildError;
+use super::definitions::{DefinitionMap, SchemaResult};
 use super::fields::{add_named, add_tagged_enum, add_unit, add_unnamed};
 use super::parts::{Both, SchemaParts, add_with_parts, declared, field};
 use super::schema::BorshSchema;
@@ -15,7 +15,6 @@ use borsh_walks::{
     Declaration, Definition, DiscriminantValue, FieldName, Fields, LengthRange, VariantName,
 };
 use std::alloc::Global;
-use std::collections::BTreeMap;
 
 impl BorshSchema for LengthRange {
     ghost name = { length_range_name };
@@ -24,24 +23,17 @@ impl BorshSchema for LengthRange {
 
     ghost described = { record { codec = length_range; describes = length_range_described } };
 
-    fn declaration(alloc: Global) -> Result<Declaration, SchemaBuildError> {
+    fn declaration(alloc: Global) -> SchemaResult<Declaration> {
         declared(alloc, "RangeInclusive<u64>")
     }
 
-    fn add_definitions_recursively(
-        alloc: Global,
-        definitions: &mut BTreeMap<Declaration, Definition>,
-    ) -> Result<(), SchemaBuildError> {
+    fn add_definitions_recursively(alloc: Global, map: &mut DefinitionMap) -> SchemaResult<()> {
         let fields = Fields::NamedFields(vec![in alloc;
             field::<u64>(alloc, "start")?,
             field::<u64>(alloc, "end")?,
         ]?);
-        add_with_parts::<(u64, ())>(
-            alloc,
-            Self::declaration(alloc)?,
-            Definition::Struct { fields },
-            definitions,
-        )
+        let definition = Definition::Struct { fields };
+        add_with_parts::<(u64, ())>(alloc, Self::declaration(alloc)?, definition, map)
     }
 
     ghost describes = { Self.described.describes };
@@ -53,10 +45,7 @@ struct NamedFieldsVariant;
 impl SchemaParts for NamedFieldsVariant {
     ghost all_parts = { named_fields_variant };
 
-    fn add_all(
-        alloc: Global,
-        definitions: &mut BTreeMap<Declaration, Definition>,
-    ) -> Result<(), SchemaBuildError> {
+    fn add_all(alloc: Global, definitions: &mut DefinitionMap) -> SchemaResult<()> {
         add_unnamed::<(Vec<(FieldName, Declaration)>, ())>(
             alloc,
             "Fields__NamedFields",
@@ -71,10 +60,7 @@ struct UnnamedFieldsVariant;
 impl SchemaParts for UnnamedFieldsVariant {
     ghost all_parts = { unnamed_fields_variant };
 
-    fn add_all(
-        alloc: Global,
-        definitions: &mut BTreeMap<Declaration, Definition>,
-    ) -> Result<(), SchemaBuildError> {
+    fn add_all(alloc: Global, definitions: &mut DefinitionMap) -> SchemaResult<()> {
         add_unnamed::<(Vec<Declaration>, ())>(alloc, "Fields__UnnamedFields", definitions)
     }
 }
@@ -85,10 +71,7 @@ struct EmptyVariant;
 impl SchemaParts for EmptyVariant {
     ghost all_parts = { empty_variant };
 
-    fn add_all(
-        alloc: Global,
-        definitions: &mut BTreeMap<Declaration, Definition>,
-    ) -> Result<(), SchemaBuildError> {
+    fn add_all(alloc: Global, definitions: &mut DefinitionMap) -> SchemaResult<()> {
         add_unit(alloc, "Fields__Empty", definitions)
     }
 }
@@ -100,14 +83,11 @@ impl BorshSchema for Fields {
 
     ghost described = { record { codec = fields; describes = fields_described } };
 
-    fn declaration(alloc: Global) -> Result<Declaration, SchemaBuildError> {
+    fn declaration(alloc: Global) -> SchemaResult<Declaration> {
         declared(alloc, "Fields")
     }
 
-    fn add_definitions_recursively(
-        alloc: Global,
-        definitions: &mut BTreeMap<Declaration, Definition>,
-    ) -> Result<(), SchemaBuildError> {
+    fn add_definitions_recursively(alloc: Global, map: &mut DefinitionMap) -> SchemaResult<()> {
         add_tagged_enum::<Both<NamedFieldsVariant, Both<UnnamedFieldsVariant, EmptyVariant>>>(
             alloc,
             "Fields",
@@ -118,7 +98,7 @@ impl BorshSchema for Fields {
                 "Fields__UnnamedFields",
                 "Fields__Empty",
             ],
-            definitions,
+            map,
         )
     }
 
@@ -131,10 +111,7 @@ struct PrimitiveVariant;
 impl SchemaParts for PrimitiveVariant {
     ghost all_parts = { primitive_variant };
 
-    fn add_all(
-        alloc: Global,
-        definitions: &mut BTreeMap<Declaration, Definition>,
-    ) -> Result<(), SchemaBuildError> {
+    fn add_all(alloc: Global, definitions: &mut DefinitionMap) -> SchemaResult<()> {
         add_unnamed::<(u8, ())>(alloc, "Definition__Primitive", definitions)
     }
 }
@@ -145,10 +122,7 @@ struct SequenceVariant;
 impl SchemaParts for SequenceVariant {
     ghost all_parts = { sequence_variant };
 
-    fn add_all(
-        alloc: Global,
-        definitions: &mut BTreeMap<Declaration, Definition>,
-    ) -> Result<(), SchemaBuildError> {
+    fn add_all(alloc: Global, definitions: &mut DefinitionMap) -> SchemaResult<()> {
         add_named::<(u8, (LengthRange, (Declaration, ())))>(
             alloc,
             "Definition__Sequence",
@@ -164,10 +138,7 @@ struct TupleVariant;
 impl SchemaParts for TupleVariant {
     ghost all_parts = { tuple_variant };
 
-    fn add_all(
-        alloc: Global,
-        definitions: &mut BTreeMap<Declaration, Definition>,
-    ) -> Result<(), SchemaBuildError> {
+    fn add_all(alloc: Global, definitions: &mut DefinitionMap) -> SchemaResult<()> {
         add_named::<(Vec<Declaration>, ())>(alloc, "Definition__Tuple", &["elements"], definitions)
     }
 }
@@ -178,10 +149,7 @@ struct EnumVariant;
 impl SchemaParts for EnumVariant {
     ghost all_parts = { enum_variant };
 
-    fn add_all(
-        alloc: Global,
-        definitions: &mut BTreeMap<Declaration, Definition>,
-    ) -> Result<(), SchemaBuildError> {
+    fn add_all(alloc: Global, definitions: &mut DefinitionMap) -> SchemaResult<()> {
         add_named::<(u8, (Vec<(DiscriminantValue, VariantName, Declaration)>, ()))>(
             alloc,
             "Definition__Enum",
@@ -197,10 +165,7 @@ struct StructVariant;
 impl SchemaParts for StructVariant {
     ghost all_parts = { struct_variant };
 
-    fn add_all(
-        alloc: Global,
-        definitions: &mut BTreeMap<Declaration, Definition>,
-    ) -> Result<(), SchemaBuildError> {
+    fn add_all(alloc: Global, definitions: &mut DefinitionMap) -> SchemaResult<()> {
         add_named::<(Fields, ())>(alloc, "Definition__Struct", &["fields"], definitions)
     }
 }
@@ -212,14 +177,11 @@ impl BorshSchema for Definition {
 
     ghost described = { record { codec = definition; describes = definition_described } };
 
-    fn declaration(alloc: Global) -> Result<Declaration, SchemaBuildError> {
+    fn declaration(alloc: Global) -> SchemaResult<Declaration> {
         declared(alloc, "Definition")
     }
 
-    fn add_definitions_recursively(
-        alloc: Global,
-        definitions: &mut BTreeMap<Declaration, Definition>,
-    ) -> Result<(), SchemaBuildError> {
+    fn add_definitions_recursively(alloc: Global, map: &mut DefinitionMap) -> SchemaResult<()> {
         add_tagged_enum::<
             Both<
                 PrimitiveVariant,
@@ -237,7 +199,7 @@ impl BorshSchema for Definition {
                 "Definition__Enum",
                 "Definition__Struct",
             ],
-            definitions,
+            map,
         )
     }
 
@@ -254,19 +216,16 @@ impl BorshSchema for BorshSchemaContainer {
       describes = λ C h. describes_contramap container_pair (container_described C h);
     } };
 
-    fn declaration(alloc: Global) -> Result<Declaration, SchemaBuildError> {
+    fn declaration(alloc: Global) -> SchemaResult<Declaration> {
         declared(alloc, "BorshSchemaContainer")
     }
 
-    fn add_definitions_recursively(
-        alloc: Global,
-        definitions: &mut BTreeMap<Declaration, Definition>,
-    ) -> Result<(), SchemaBuildError> {
-        add_named::<(Declaration, (BTreeMap<Declaration, Definition>, ()))>(
+    fn add_definitions_recursively(alloc: Global, map: &mut DefinitionMap) -> SchemaResult<()> {
+        add_named::<(Declaration, (DefinitionMap, ()))>(
             alloc,
             "BorshSchemaContainer",
             &["declaration", "definitions"],
-            definitions,
+            map,
         )
     }
 

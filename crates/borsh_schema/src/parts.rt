@@ -1,16 +1,15 @@
-// The definitions of a type and of its parts, one after another.
+// The definitions of a type and of its parts, one after another. Left open of each call: memory.
 ghost use Rattle.std.specs.Prelude.{◌≡◌, IfOk, IfErr, string_bytes};
 ghost use Rattle.borsh_schema.specs.declared.definitions.SchemaBuildError.TheVariants.{OutOfMemory};
 ghost use Rattle.borsh_definitions.specs.Described.{DefinitionTree, none, both, defined};
 ghost use Rattle.borsh_schema.specs.Joined.{AddsDefinitions, definition_with};
 ghost use Rattle.borsh_definitions.specs.Types.{primitive_definitions, list_of};
 
-use super::definitions::{SchemaBuildError, add_definition};
+use super::definitions::{DefinitionMap, SchemaResult, add_definition};
 use super::fields::FieldTypes;
 use super::schema::BorshSchema;
 use borsh_walks::{Declaration, Definition, DiscriminantValue, FieldName, VariantName};
 use std::alloc::Global;
-use std::collections::BTreeMap;
 use std::marker::PhantomData;
 
 /// Several types whose definitions are added to a map: `(A, (B, (C, ())))` are `A`, `B` and `C`
@@ -19,15 +18,12 @@ pub trait SchemaParts {
     ghost all_parts: { DefinitionTree };
 
     /// Adds the definitions of all of them, with the errors of
-    /// [`BorshSchema::add_definitions_recursively`].
+    /// [`BorshSchema::add_definitions_recursively`]. Left open: as there.
     ///
     /// ```
     /// <(u8, (String, ()))>::add_all(alloc, &mut definitions)?;
     /// ```
-    fn add_all(
-        alloc: Global,
-        definitions: &mut BTreeMap<Declaration, Definition>,
-    ) -> Result<(), SchemaBuildError>
+    fn add_all(alloc: Global, definitions: &mut DefinitionMap) -> SchemaResult<()>
         ensures { AddsDefinitions definitions.old definitions.new all_parts result };
 }
 
@@ -35,10 +31,7 @@ impl<P: FieldTypes> SchemaParts for P {
     ghost all_parts = { P.described.parts };
 
     #[inline]
-    fn add_all(
-        alloc: Global,
-        definitions: &mut BTreeMap<Declaration, Definition>,
-    ) -> Result<(), SchemaBuildError> {
+    fn add_all(alloc: Global, definitions: &mut DefinitionMap) -> SchemaResult<()> {
         P::add_types(alloc, definitions)
     }
 }
@@ -53,17 +46,14 @@ impl<P: SchemaParts, Q: SchemaParts> SchemaParts for Both<P, Q> {
     ghost all_parts = { both P.all_parts Q.all_parts };
 
     #[inline]
-    fn add_all(
-        alloc: Global,
-        definitions: &mut BTreeMap<Declaration, Definition>,
-    ) -> Result<(), SchemaBuildError> {
+    fn add_all(alloc: Global, definitions: &mut DefinitionMap) -> SchemaResult<()> {
         P::add_all(alloc, definitions)?;
         Q::add_all(alloc, definitions)
     }
 }
 
 /// Adds a type's definition and those of its parts, which are given as `(A, (B, ()))`. The errors are
-/// those of [`BorshSchema::add_definitions_recursively`].
+/// those of [`BorshSchema::add_definitions_recursively`]. Left open: as there.
 ///
 /// ```
 /// add_with_parts::<(u64, (String, ()))>(alloc, name, Definition::Struct { fields }, definitions)?;
@@ -72,8 +62,8 @@ pub fn add_with_parts<P: SchemaParts>(
     alloc: Global,
     declaration: Declaration,
     definition: Definition,
-    definitions: &mut BTreeMap<Declaration, Definition>,
-) -> Result<(), SchemaBuildError>
+    definitions: &mut DefinitionMap,
+) -> SchemaResult<()>
     ensures { AddsDefinitions definitions.old definitions.new
         (definition_with declaration definition P.all_parts) result }
 {
@@ -86,7 +76,7 @@ pub fn add_with_parts<P: SchemaParts>(
 /// ```
 /// let name = declared(alloc, "Account")?;
 /// ```
-pub fn declared(alloc: Global, name: &str) -> Result<Declaration, SchemaBuildError>
+pub fn declared(alloc: Global, name: &str) -> SchemaResult<Declaration>
     ensures ok { IfOk result (λ d. string_bytes d ≡ name.now) }
     ensures err { IfErr result (λ e. e ≡ OutOfMemory) }
 {
@@ -98,10 +88,7 @@ pub fn declared(alloc: Global, name: &str) -> Result<Declaration, SchemaBuildErr
 /// ```
 /// let fields = Fields::NamedFields(vec![in alloc; field::<u64>(alloc, "amount")?]?);
 /// ```
-pub fn field<T: BorshSchema>(
-    alloc: Global,
-    name: &str,
-) -> Result<(FieldName, Declaration), SchemaBuildError>
+pub fn field<T: BorshSchema>(alloc: Global, name: &str) -> SchemaResult<(FieldName, Declaration)>
     ensures name { IfOk result (λ f. string_bytes f.0 ≡ name.now) }
     ensures declaration { IfOk result (λ f. string_bytes f.1 ≡ T.name) }
     ensures err { IfErr result (λ e. e ≡ OutOfMemory) }
@@ -118,7 +105,7 @@ pub fn variant<T: BorshSchema>(
     alloc: Global,
     discriminant: DiscriminantValue,
     name: &str,
-) -> Result<(DiscriminantValue, VariantName, Declaration), SchemaBuildError>
+) -> SchemaResult<(DiscriminantValue, VariantName, Declaration)>
     ensures discriminant { IfOk result (λ v. v.0 ≡ discriminant) }
     ensures name { IfOk result (λ v. string_bytes v.1 ≡ name.now) }
     ensures declaration { IfOk result (λ v. string_bytes v.2 ≡ T.name) }
@@ -138,7 +125,7 @@ pub fn named_variant(
     discriminant: DiscriminantValue,
     name: &str,
     declaration: &str,
-) -> Result<(DiscriminantValue, VariantName, Declaration), SchemaBuildError>
+) -> SchemaResult<(DiscriminantValue, VariantName, Declaration)>
     ensures discriminant { IfOk result (λ v. v.0 ≡ discriminant) }
     ensures name { IfOk result (λ v. string_bytes v.1 ≡ name.now) }
     ensures declaration { IfOk result (λ v. string_bytes v.2 ≡ declaration.now) }
@@ -156,10 +143,9 @@ pub(crate) fn add_primitive(
     alloc: Global,
     name: &str,
     size: u8,
-    definitions: &mut BTreeMap<Declaration, Definition>,
-) -> Result<(), SchemaBuildError>
-    ensures { AddsDefinitions definitions.old definitions.new
-        (primitive_definitions name.now size) result }
+    definitions: &mut DefinitionMap,
+) -> SchemaResult<()>
+    ensures { AddsDefinitions definitions.old definitions.new (primitive_definitions name.now size) result }
 {
     add_definition(
         declared(alloc, name)?,
@@ -172,8 +158,8 @@ pub(crate) fn add_primitive(
 pub(crate) fn add_list<T: BorshSchema>(
     alloc: Global,
     declaration: Declaration,
-    definitions: &mut BTreeMap<Declaration, Definition>,
-) -> Result<(), SchemaBuildError>
+    definitions: &mut DefinitionMap,
+) -> SchemaResult<()>
     ensures { AddsDefinitions definitions.old definitions.new
         (defined (string_bytes declaration) (list_of T.name) (both T.parts none)) result }
 {

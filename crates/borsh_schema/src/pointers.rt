@@ -1,13 +1,15 @@
 // Pointers, which are what they point to.
+ghost use Rattle.std.specs.Cow.{cow_value};
 ghost use Rattle.borsh_definitions.proofs.Laws.Members.{describes_contramap, describes_stored};
 ghost use Rattle.borsh_definitions.proofs.Laws.Quoted.{allocated_described, contramap_described};
 
-use super::definitions::SchemaBuildError;
+use super::definitions::{DefinitionMap, SchemaResult};
 use super::schema::BorshSchema;
-use borsh_walks::{Declaration, Definition};
+use borsh_walks::Declaration;
 use std::alloc::Global;
-use std::collections::BTreeMap;
+use std::borrow::Cow;
 use std::rc::Rc;
+use std::sync::Arc;
 
 impl<T: BorshSchema> BorshSchema for Box<T> {
     ghost name = { T.name };
@@ -16,19 +18,15 @@ impl<T: BorshSchema> BorshSchema for Box<T> {
 
     ghost described = { contramap_described (λ b. b.value) (allocated_described T.described) };
 
-    fn declaration(alloc: Global) -> Result<Declaration, SchemaBuildError> {
+    fn declaration(alloc: Global) -> SchemaResult<Declaration> {
         T::declaration(alloc)
     }
 
-    fn add_definitions_recursively(
-        alloc: Global,
-        definitions: &mut BTreeMap<Declaration, Definition>,
-    ) -> Result<(), SchemaBuildError> {
-        T::add_definitions_recursively(alloc, definitions)
+    fn add_definitions_recursively(alloc: Global, map: &mut DefinitionMap) -> SchemaResult<()> {
+        T::add_definitions_recursively(alloc, map)
     }
 
-    ghost describes = { λ C h. describes_contramap (λ b. b.value)
-        (describes_stored (T.describes C h)) };
+    ghost describes = { λ C h. describes_contramap (λ b. b.value) (describes_stored (T.describes C h)) };
 }
 
 impl<T: BorshSchema> BorshSchema for Rc<T> {
@@ -38,17 +36,56 @@ impl<T: BorshSchema> BorshSchema for Rc<T> {
 
     ghost described = { contramap_described (λ b. b.value) (allocated_described T.described) };
 
-    fn declaration(alloc: Global) -> Result<Declaration, SchemaBuildError> {
+    fn declaration(alloc: Global) -> SchemaResult<Declaration> {
+        T::declaration(alloc)
+    }
+
+    fn add_definitions_recursively(alloc: Global, map: &mut DefinitionMap) -> SchemaResult<()> {
+        T::add_definitions_recursively(alloc, map)
+    }
+
+    ghost describes = { λ C h. describes_contramap (λ b. b.value) (describes_stored (T.describes C h)) };
+}
+
+impl<T: BorshSchema> BorshSchema for Arc<T> {
+    ghost name = { T.name };
+
+    ghost parts = { T.parts };
+
+    ghost described = { contramap_described (λ b. b.value) (allocated_described T.described) };
+
+    fn declaration(alloc: Global) -> SchemaResult<Declaration> {
         T::declaration(alloc)
     }
 
     fn add_definitions_recursively(
         alloc: Global,
-        definitions: &mut BTreeMap<Declaration, Definition>,
-    ) -> Result<(), SchemaBuildError> {
+        definitions: &mut DefinitionMap,
+    ) -> SchemaResult<()> {
         T::add_definitions_recursively(alloc, definitions)
     }
 
     ghost describes = { λ C h. describes_contramap (λ b. b.value)
         (describes_stored (T.describes C h)) };
+}
+
+impl<T: BorshSchema> BorshSchema for Cow<'_, T> {
+    ghost name = { T.name };
+
+    ghost parts = { T.parts };
+
+    ghost described = { contramap_described cow_value T.described };
+
+    fn declaration(alloc: Global) -> SchemaResult<Declaration> {
+        T::declaration(alloc)
+    }
+
+    fn add_definitions_recursively(
+        alloc: Global,
+        definitions: &mut DefinitionMap,
+    ) -> SchemaResult<()> {
+        T::add_definitions_recursively(alloc, definitions)
+    }
+
+    ghost describes = { λ C h. describes_contramap cow_value (T.describes C h) };
 }

@@ -11,7 +11,8 @@ use std::alloc::Global;
 impl BorshSchemaContainer {
     /// Checks that each name that the root refers to, directly or through other definitions, has a
     /// definition that keeps the rules, which [`check_rules`] lists. An error says which name breaks which
-    /// rule, one of them if there are several; `OutOfMemory` is returned if an allocation fails.
+    /// rule; `OutOfMemory` is returned if an allocation fails. Left open: memory; which of several broken
+    /// rules is reported; how many definitions are visited.
     ///
     /// ```
     /// container.validate(alloc)?;
@@ -19,16 +20,12 @@ impl BorshSchemaContainer {
     pub fn validate(&self, alloc: Global) -> Result<(), SchemaContainerValidateError>
         ensures { Validates self.now result }
     {
-        let mut counts = Expansions {
-            size: 0,
-            zero: 0,
-            rules: 0,
-        };
+        let mut counts = Expansions::NONE;
         self.validate_counted(alloc, &mut counts)
     }
 
     /// [`BorshSchemaContainer::validate`], which adds the number of definitions that it visits to
-    /// `counts`.
+    /// `counts`. Left open: as of [`check_rules`].
     ///
     /// ```
     /// container.validate_counted(alloc, &mut counts)?;
@@ -48,6 +45,7 @@ impl BorshSchemaContainer {
     ///
     /// Returns `Overflow` if it doesn't fit in a `usize`, `Recursive` if a definition that it needs
     /// contains itself, `MissingDefinition` if one is missing, and `OutOfMemory` if an allocation fails.
+    /// Left open: memory; which of several causes is reported; how many definitions are visited.
     ///
     /// ```
     /// let most = container.max_serialized_size(alloc)?;
@@ -55,16 +53,12 @@ impl BorshSchemaContainer {
     pub fn max_serialized_size(&self, alloc: Global) -> Result<usize, SchemaMaxSerializedSizeError>
         ensures { Sizes self.now result }
     {
-        let mut counts = Expansions {
-            size: 0,
-            zero: 0,
-            rules: 0,
-        };
+        let mut counts = Expansions::NONE;
         self.max_serialized_size_counted(alloc, &mut counts)
     }
 
     /// [`BorshSchemaContainer::max_serialized_size`], which adds the number of definitions that it
-    /// visits to `counts`.
+    /// visits to `counts`. Left open: as of [`root_size`].
     ///
     /// ```
     /// let most = container.max_serialized_size_counted(alloc, &mut counts)?;

@@ -7,41 +7,32 @@ ghost use Rattle.borsh_definitions.specs.Names.{applied};
 ghost use Rattle.borsh_definitions.specs.Types.{range_of, range_from, range_to};
 ghost use Rattle.borsh_definitions.proofs.Laws.Quoted.{fields_described, no_fields_described, range_described, struct_described};
 
-use super::definitions::SchemaBuildError;
+use super::definitions::{DefinitionMap, SchemaResult};
 use super::parts::{add_with_parts, field};
 use super::schema::BorshSchema;
 use borsh_walks::{Declaration, Definition, Fields};
 use std::alloc::Global;
-use std::collections::BTreeMap;
 use std::ops::{Range, RangeFrom, RangeInclusive, RangeTo, RangeToInclusive};
 
 impl<T: BorshSchema> BorshSchema for Range<T> {
     ghost name = { applied (codes "Range<") T.name };
 
-    ghost parts = { defined (applied (codes "Range<") T.name) (range_of T.name)
-        (both T.parts none) };
+    ghost parts = { defined (applied (codes "Range<") T.name) (range_of T.name) (both T.parts none) };
 
     ghost described = { range_described (λ r. (r.start, r.end)) (codes "Range<") T.described };
 
-    fn declaration(alloc: Global) -> Result<Declaration, SchemaBuildError> {
+    fn declaration(alloc: Global) -> SchemaResult<Declaration> {
         let start = T::declaration(alloc)?;
         Ok(format!(in alloc; "Range<{start}>")?)
     }
 
-    fn add_definitions_recursively(
-        alloc: Global,
-        definitions: &mut BTreeMap<Declaration, Definition>,
-    ) -> Result<(), SchemaBuildError> {
+    fn add_definitions_recursively(alloc: Global, map: &mut DefinitionMap) -> SchemaResult<()> {
         let fields = Fields::NamedFields(vec![in alloc;
             field::<T>(alloc, "start")?,
             field::<T>(alloc, "end")?,
         ]?);
-        add_with_parts::<(T, ())>(
-            alloc,
-            Self::declaration(alloc)?,
-            Definition::Struct { fields },
-            definitions,
-        )
+        let definition = Definition::Struct { fields };
+        add_with_parts::<(T, ())>(alloc, Self::declaration(alloc)?, definition, map)
     }
 
     ghost describes = { λ C h. describes_contramap (λ r. (r.start, r.end))
@@ -57,25 +48,18 @@ impl<T: BorshSchema> BorshSchema for RangeInclusive<T> {
     ghost described = { range_described (λ r. (range_inclusive_start r, range_inclusive_end r))
         (codes "RangeInclusive<") T.described };
 
-    fn declaration(alloc: Global) -> Result<Declaration, SchemaBuildError> {
+    fn declaration(alloc: Global) -> SchemaResult<Declaration> {
         let start = T::declaration(alloc)?;
         Ok(format!(in alloc; "RangeInclusive<{start}>")?)
     }
 
-    fn add_definitions_recursively(
-        alloc: Global,
-        definitions: &mut BTreeMap<Declaration, Definition>,
-    ) -> Result<(), SchemaBuildError> {
+    fn add_definitions_recursively(alloc: Global, map: &mut DefinitionMap) -> SchemaResult<()> {
         let fields = Fields::NamedFields(vec![in alloc;
             field::<T>(alloc, "start")?,
             field::<T>(alloc, "end")?,
         ]?);
-        add_with_parts::<(T, ())>(
-            alloc,
-            Self::declaration(alloc)?,
-            Definition::Struct { fields },
-            definitions,
-        )
+        let definition = Definition::Struct { fields };
+        add_with_parts::<(T, ())>(alloc, Self::declaration(alloc)?, definition, map)
     }
 
     ghost describes = { λ C h. describes_contramap
@@ -86,28 +70,20 @@ impl<T: BorshSchema> BorshSchema for RangeInclusive<T> {
 impl<T: BorshSchema> BorshSchema for RangeFrom<T> {
     ghost name = { applied (codes "RangeFrom<") T.name };
 
-    ghost parts = { defined (applied (codes "RangeFrom<") T.name) (range_from T.name)
-        (both T.parts none) };
+    ghost parts = { defined (applied (codes "RangeFrom<") T.name) (range_from T.name) (both T.parts none) };
 
     ghost described = { struct_described (λ r. (r.start, tt))
         (fields_described T.described no_fields_described) refl };
 
-    fn declaration(alloc: Global) -> Result<Declaration, SchemaBuildError> {
+    fn declaration(alloc: Global) -> SchemaResult<Declaration> {
         let start = T::declaration(alloc)?;
         Ok(format!(in alloc; "RangeFrom<{start}>")?)
     }
 
-    fn add_definitions_recursively(
-        alloc: Global,
-        definitions: &mut BTreeMap<Declaration, Definition>,
-    ) -> Result<(), SchemaBuildError> {
+    fn add_definitions_recursively(alloc: Global, map: &mut DefinitionMap) -> SchemaResult<()> {
         let fields = Fields::NamedFields(vec![in alloc; field::<T>(alloc, "start")?]?);
-        add_with_parts::<(T, ())>(
-            alloc,
-            Self::declaration(alloc)?,
-            Definition::Struct { fields },
-            definitions,
-        )
+        let definition = Definition::Struct { fields };
+        add_with_parts::<(T, ())>(alloc, Self::declaration(alloc)?, definition, map)
     }
 
     ghost describes = { λ C h. describes_contramap (λ r. r.start)
@@ -117,28 +93,20 @@ impl<T: BorshSchema> BorshSchema for RangeFrom<T> {
 impl<T: BorshSchema> BorshSchema for RangeTo<T> {
     ghost name = { applied (codes "RangeTo<") T.name };
 
-    ghost parts = { defined (applied (codes "RangeTo<") T.name) (range_to T.name)
-        (both T.parts none) };
+    ghost parts = { defined (applied (codes "RangeTo<") T.name) (range_to T.name) (both T.parts none) };
 
     ghost described = { struct_described (λ r. (r.end, tt))
         (fields_described T.described no_fields_described) refl };
 
-    fn declaration(alloc: Global) -> Result<Declaration, SchemaBuildError> {
+    fn declaration(alloc: Global) -> SchemaResult<Declaration> {
         let end = T::declaration(alloc)?;
         Ok(format!(in alloc; "RangeTo<{end}>")?)
     }
 
-    fn add_definitions_recursively(
-        alloc: Global,
-        definitions: &mut BTreeMap<Declaration, Definition>,
-    ) -> Result<(), SchemaBuildError> {
+    fn add_definitions_recursively(alloc: Global, map: &mut DefinitionMap) -> SchemaResult<()> {
         let fields = Fields::NamedFields(vec![in alloc; field::<T>(alloc, "end")?]?);
-        add_with_parts::<(T, ())>(
-            alloc,
-            Self::declaration(alloc)?,
-            Definition::Struct { fields },
-            definitions,
-        )
+        let definition = Definition::Struct { fields };
+        add_with_parts::<(T, ())>(alloc, Self::declaration(alloc)?, definition, map)
     }
 
     ghost describes = { λ C h. describes_contramap (λ r. r.end)
@@ -154,22 +122,15 @@ impl<T: BorshSchema> BorshSchema for RangeToInclusive<T> {
     ghost described = { struct_described (λ r. (r.end, tt))
         (fields_described T.described no_fields_described) refl };
 
-    fn declaration(alloc: Global) -> Result<Declaration, SchemaBuildError> {
+    fn declaration(alloc: Global) -> SchemaResult<Declaration> {
         let end = T::declaration(alloc)?;
         Ok(format!(in alloc; "RangeToInclusive<{end}>")?)
     }
 
-    fn add_definitions_recursively(
-        alloc: Global,
-        definitions: &mut BTreeMap<Declaration, Definition>,
-    ) -> Result<(), SchemaBuildError> {
+    fn add_definitions_recursively(alloc: Global, map: &mut DefinitionMap) -> SchemaResult<()> {
         let fields = Fields::NamedFields(vec![in alloc; field::<T>(alloc, "end")?]?);
-        add_with_parts::<(T, ())>(
-            alloc,
-            Self::declaration(alloc)?,
-            Definition::Struct { fields },
-            definitions,
-        )
+        let definition = Definition::Struct { fields };
+        add_with_parts::<(T, ())>(alloc, Self::declaration(alloc)?, definition, map)
     }
 
     ghost describes = { λ C h. describes_contramap (λ r. r.end)

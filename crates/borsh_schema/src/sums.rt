@@ -8,12 +8,11 @@ ghost use Rattle.borsh_definitions.specs.Names.{applied, applied_to_two};
 ghost use Rattle.borsh_definitions.specs.Types.{primitive_definitions, unit_definitions, option_of, result_of};
 ghost use Rattle.borsh_definitions.proofs.Laws.Quoted.{bool_described, option_described, result_described};
 
-use super::definitions::SchemaBuildError;
+use super::definitions::{DefinitionMap, SchemaResult};
 use super::parts::{add_primitive, add_with_parts, declared, variant};
 use super::schema::BorshSchema;
 use borsh_walks::{Declaration, Definition};
 use std::alloc::Global;
-use std::collections::BTreeMap;
 
 impl BorshSchema for bool {
     ghost name = { codes "bool" };
@@ -22,15 +21,12 @@ impl BorshSchema for bool {
 
     ghost described = { bool_described };
 
-    fn declaration(alloc: Global) -> Result<Declaration, SchemaBuildError> {
+    fn declaration(alloc: Global) -> SchemaResult<Declaration> {
         declared(alloc, "bool")
     }
 
-    fn add_definitions_recursively(
-        alloc: Global,
-        definitions: &mut BTreeMap<Declaration, Definition>,
-    ) -> Result<(), SchemaBuildError> {
-        add_primitive(alloc, "bool", 1, definitions)
+    fn add_definitions_recursively(alloc: Global, map: &mut DefinitionMap) -> SchemaResult<()> {
+        add_primitive(alloc, "bool", 1, map)
     }
 
     ghost describes = { Self.described.describes };
@@ -44,15 +40,12 @@ impl<T: BorshSchema> BorshSchema for Option<T> {
 
     ghost described = { option_described T.described };
 
-    fn declaration(alloc: Global) -> Result<Declaration, SchemaBuildError> {
+    fn declaration(alloc: Global) -> SchemaResult<Declaration> {
         let value = T::declaration(alloc)?;
         Ok(format!(in alloc; "Option<{value}>")?)
     }
 
-    fn add_definitions_recursively(
-        alloc: Global,
-        definitions: &mut BTreeMap<Declaration, Definition>,
-    ) -> Result<(), SchemaBuildError> {
+    fn add_definitions_recursively(alloc: Global, map: &mut DefinitionMap) -> SchemaResult<()> {
         let variants = vec![in alloc;
             variant::<()>(alloc, 0, "None")?,
             variant::<T>(alloc, 1, "Some")?,
@@ -64,7 +57,7 @@ impl<T: BorshSchema> BorshSchema for Option<T> {
                 tag_width: 1,
                 variants,
             },
-            definitions,
+            map,
         )
     }
 
@@ -83,16 +76,13 @@ impl<T: BorshSchema, E: BorshSchema> BorshSchema for Result<T, E> {
 
     ghost described = { result_described T.described E.described };
 
-    fn declaration(alloc: Global) -> Result<Declaration, SchemaBuildError> {
+    fn declaration(alloc: Global) -> SchemaResult<Declaration> {
         let value = T::declaration(alloc)?;
         let error = E::declaration(alloc)?;
         Ok(format!(in alloc; "Result<{value}, {error}>")?)
     }
 
-    fn add_definitions_recursively(
-        alloc: Global,
-        definitions: &mut BTreeMap<Declaration, Definition>,
-    ) -> Result<(), SchemaBuildError> {
+    fn add_definitions_recursively(alloc: Global, map: &mut DefinitionMap) -> SchemaResult<()> {
         let variants = vec![in alloc;
             variant::<T>(alloc, 1, "Ok")?,
             variant::<E>(alloc, 0, "Err")?,
@@ -104,7 +94,7 @@ impl<T: BorshSchema, E: BorshSchema> BorshSchema for Result<T, E> {
                 tag_width: 1,
                 variants,
             },
-            definitions,
+            map,
         )
     }
 

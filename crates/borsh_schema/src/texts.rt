@@ -1,5 +1,6 @@
 // Texts: a count of four bytes and the bytes of the characters.
 ghost use Rattle.std.specs.Prelude.{◌≡◌, IfOk, IfErr, codes};
+ghost use Rattle.std.specs.Arc.{arc_str_bytes};
 ghost use Rattle.std.specs.Box.{boxed_str_bytes};
 ghost use Rattle.std.specs.Cow.{cow_str_bytes};
 ghost use Rattle.std.specs.Rc.{rc_str_bytes};
@@ -10,15 +11,15 @@ ghost use Rattle.borsh_definitions.proofs.Laws.Members.{describes_contramap, des
 ghost use Rattle.borsh_definitions.specs.Types.{text_definitions};
 ghost use Rattle.borsh_definitions.proofs.Laws.Quoted.{contramap_described, text_described};
 
-use super::definitions::SchemaBuildError;
+use super::definitions::{DefinitionMap, SchemaResult};
 use super::parts::{add_list, declared};
 use super::schema::BorshSchema;
-use borsh_walks::{Declaration, Definition};
+use borsh_walks::Declaration;
 use std::alloc::Global;
 use std::borrow::CowStr;
 use std::boxed::BoxedStr;
-use std::collections::BTreeMap;
 use std::rc::RcStr;
+use std::sync::ArcStr;
 
 impl BorshSchema for String {
     ghost name = { codes "String" };
@@ -27,15 +28,12 @@ impl BorshSchema for String {
 
     ghost described = { contramap_described string_bytes text_described };
 
-    fn declaration(alloc: Global) -> Result<Declaration, SchemaBuildError> {
+    fn declaration(alloc: Global) -> SchemaResult<Declaration> {
         declared(alloc, "String")
     }
 
-    fn add_definitions_recursively(
-        alloc: Global,
-        definitions: &mut BTreeMap<Declaration, Definition>,
-    ) -> Result<(), SchemaBuildError> {
-        add_list::<u8>(alloc, Self::declaration(alloc)?, definitions)
+    fn add_definitions_recursively(alloc: Global, map: &mut DefinitionMap) -> SchemaResult<()> {
+        add_list::<u8>(alloc, Self::declaration(alloc)?, map)
     }
 
     ghost describes = { Self.described.describes };
@@ -48,20 +46,17 @@ impl BorshSchema for &str {
 
     ghost described = { contramap_described (λ r. r.now) text_described };
 
-    fn declaration(alloc: Global) -> Result<Declaration, SchemaBuildError>
+    fn declaration(alloc: Global) -> SchemaResult<Declaration>
         ensures ok { IfOk result (λ d. string_bytes d ≡ codes "String") }
         ensures err { IfErr result (λ e. e ≡ OutOfMemory) }
     {
         declared(alloc, "String")
     }
 
-    fn add_definitions_recursively(
-        alloc: Global,
-        definitions: &mut BTreeMap<Declaration, Definition>,
-    ) -> Result<(), SchemaBuildError>
-        ensures { AddsDefinitions definitions.old definitions.new text_definitions result }
+    fn add_definitions_recursively(alloc: Global, map: &mut DefinitionMap) -> SchemaResult<()>
+        ensures { AddsDefinitions map.old map.new text_definitions result }
     {
-        add_list::<u8>(alloc, Self::declaration(alloc)?, definitions)
+        add_list::<u8>(alloc, Self::declaration(alloc)?, map)
     }
 
     ghost describes = { Self.described.describes };
@@ -74,15 +69,12 @@ impl BorshSchema for BoxedStr {
 
     ghost described = { contramap_described boxed_str_bytes text_described };
 
-    fn declaration(alloc: Global) -> Result<Declaration, SchemaBuildError> {
+    fn declaration(alloc: Global) -> SchemaResult<Declaration> {
         declared(alloc, "String")
     }
 
-    fn add_definitions_recursively(
-        alloc: Global,
-        definitions: &mut BTreeMap<Declaration, Definition>,
-    ) -> Result<(), SchemaBuildError> {
-        add_list::<u8>(alloc, Self::declaration(alloc)?, definitions)
+    fn add_definitions_recursively(alloc: Global, map: &mut DefinitionMap) -> SchemaResult<()> {
+        add_list::<u8>(alloc, Self::declaration(alloc)?, map)
     }
 
     ghost describes = { Self.described.describes };
@@ -95,14 +87,32 @@ impl BorshSchema for RcStr {
 
     ghost described = { contramap_described rc_str_bytes text_described };
 
-    fn declaration(alloc: Global) -> Result<Declaration, SchemaBuildError> {
+    fn declaration(alloc: Global) -> SchemaResult<Declaration> {
+        declared(alloc, "String")
+    }
+
+    fn add_definitions_recursively(alloc: Global, map: &mut DefinitionMap) -> SchemaResult<()> {
+        add_list::<u8>(alloc, Self::declaration(alloc)?, map)
+    }
+
+    ghost describes = { Self.described.describes };
+}
+
+impl BorshSchema for ArcStr {
+    ghost name = { codes "String" };
+
+    ghost parts = { text_definitions };
+
+    ghost described = { contramap_described arc_str_bytes text_described };
+
+    fn declaration(alloc: Global) -> SchemaResult<Declaration> {
         declared(alloc, "String")
     }
 
     fn add_definitions_recursively(
         alloc: Global,
-        definitions: &mut BTreeMap<Declaration, Definition>,
-    ) -> Result<(), SchemaBuildError> {
+        definitions: &mut DefinitionMap,
+    ) -> SchemaResult<()> {
         add_list::<u8>(alloc, Self::declaration(alloc)?, definitions)
     }
 
@@ -116,20 +126,17 @@ impl BorshSchema for CowStr<'_> {
 
     ghost described = { contramap_described cow_str_bytes text_described };
 
-    fn declaration(alloc: Global) -> Result<Declaration, SchemaBuildError>
+    fn declaration(alloc: Global) -> SchemaResult<Declaration>
         ensures ok { IfOk result (λ d. string_bytes d ≡ codes "String") }
         ensures err { IfErr result (λ e. e ≡ OutOfMemory) }
     {
         declared(alloc, "String")
     }
 
-    fn add_definitions_recursively(
-        alloc: Global,
-        definitions: &mut BTreeMap<Declaration, Definition>,
-    ) -> Result<(), SchemaBuildError>
-        ensures { AddsDefinitions definitions.old definitions.new text_definitions result }
+    fn add_definitions_recursively(alloc: Global, map: &mut DefinitionMap) -> SchemaResult<()>
+        ensures { AddsDefinitions map.old map.new text_definitions result }
     {
-        add_list::<u8>(alloc, Self::declaration(alloc)?, definitions)
+        add_list::<u8>(alloc, Self::declaration(alloc)?, map)
     }
 
     ghost describes = { Self.described.describes };

@@ -5,18 +5,17 @@ ghost use Rattle.borsh_schema.specs.Joined.{AddsDefinitions};
 ghost use Rattle.borsh_definitions.specs.Names.{longer_tuple_name};
 ghost use Rattle.borsh_definitions.specs.Types.{tuple_described};
 
-use super::definitions::SchemaBuildError;
+use super::definitions::{DefinitionMap, SchemaResult};
 use super::fields::FieldTypes;
 use super::parts::add_with_parts;
 use super::schema::BorshSchema;
 use borsh_walks::{Declaration, Definition};
 use std::alloc::Global;
-use std::collections::BTreeMap;
 
 /// The name of a tuple of two places or more.
 pub(crate) fn tuple_declaration<T: BorshSchema, R: FieldTypes>(
     alloc: Global,
-) -> Result<Declaration, SchemaBuildError>
+) -> SchemaResult<Declaration>
     ensures ok { IfOk result (λ d. string_bytes d ≡ longer_tuple_name T.name R.described.names) }
     ensures err { IfErr result (λ e. e ≡ OutOfMemory) }
 {
@@ -31,17 +30,13 @@ pub(crate) fn tuple_declaration<T: BorshSchema, R: FieldTypes>(
 pub(crate) fn add_tuple<P: FieldTypes>(
     alloc: Global,
     declaration: Declaration,
-    definitions: &mut BTreeMap<Declaration, Definition>,
-) -> Result<(), SchemaBuildError>
+    definitions: &mut DefinitionMap,
+) -> SchemaResult<()>
     ensures { AddsDefinitions definitions.old definitions.new
         (tuple_described (string_bytes declaration) P.described.names P.described.parts) result }
 {
     let mut elements = Vec::with_capacity(alloc, P::count())?;
     P::push_types(alloc, &mut elements)?;
-    add_with_parts::<P>(
-        alloc,
-        declaration,
-        Definition::Tuple { elements },
-        definitions,
-    )
+    let definition = Definition::Tuple { elements };
+    add_with_parts::<P>(alloc, declaration, definition, definitions)
 }

@@ -6,33 +6,27 @@ ghost use Rattle.borsh_definitions.specs.Names.{tuple_name};
 ghost use Rattle.borsh_definitions.specs.Types.{tuple_definitions};
 ghost use Rattle.borsh_definitions.proofs.Laws.Quoted.{struct_described, tuple_of};
 
-use super::definitions::SchemaBuildError;
+use super::definitions::{DefinitionMap, SchemaResult};
 use super::fields::FieldTypes;
 use super::schema::BorshSchema;
 use super::tuple_parts::{add_tuple, tuple_declaration};
-use borsh_walks::{Declaration, Definition};
+use borsh_walks::Declaration;
 use std::alloc::Global;
-use std::collections::BTreeMap;
 
 impl<A: BorshSchema> BorshSchema for (A,) {
     ghost name = { tuple_name ⟦<(A, ()) as FieldTypes>⟧.described.names };
 
     ghost parts = { tuple_of ⟦<(A, ()) as FieldTypes>⟧.described };
 
-    ghost described = { struct_described
-        (λ t. (t.0, tt))
-        ⟦<(A, ()) as FieldTypes>⟧.described refl };
+    ghost described = { struct_described (λ t. (t.0, tt)) ⟦<(A, ()) as FieldTypes>⟧.described refl };
 
-    fn declaration(alloc: Global) -> Result<Declaration, SchemaBuildError> {
+    fn declaration(alloc: Global) -> SchemaResult<Declaration> {
         let a = A::declaration(alloc)?;
         Ok(format!(in alloc; "({a},)")?)
     }
 
-    fn add_definitions_recursively(
-        alloc: Global,
-        definitions: &mut BTreeMap<Declaration, Definition>,
-    ) -> Result<(), SchemaBuildError> {
-        add_tuple::<(A, ())>(alloc, Self::declaration(alloc)?, definitions)
+    fn add_definitions_recursively(alloc: Global, map: &mut DefinitionMap) -> SchemaResult<()> {
+        add_tuple::<(A, ())>(alloc, Self::declaration(alloc)?, map)
     }
 
     ghost describes = { λ defs h. describes_contramap (λ t. t.0)
@@ -48,15 +42,12 @@ impl<A: BorshSchema, B: BorshSchema> BorshSchema for (A, B) {
         (λ t. (t.0, (t.1, tt)))
         ⟦<(A, (B, ())) as FieldTypes>⟧.described refl };
 
-    fn declaration(alloc: Global) -> Result<Declaration, SchemaBuildError> {
+    fn declaration(alloc: Global) -> SchemaResult<Declaration> {
         tuple_declaration::<A, (B, ())>(alloc)
     }
 
-    fn add_definitions_recursively(
-        alloc: Global,
-        definitions: &mut BTreeMap<Declaration, Definition>,
-    ) -> Result<(), SchemaBuildError> {
-        add_tuple::<(A, (B, ()))>(alloc, Self::declaration(alloc)?, definitions)
+    fn add_definitions_recursively(alloc: Global, map: &mut DefinitionMap) -> SchemaResult<()> {
+        add_tuple::<(A, (B, ()))>(alloc, Self::declaration(alloc)?, map)
     }
 
     ghost describes = { λ defs h. describes_parts h.0
@@ -72,15 +63,12 @@ impl<A: BorshSchema, B: BorshSchema, C: BorshSchema> BorshSchema for (A, B, C) {
         (λ t. (t.0, (t.1, (t.2, tt))))
         ⟦<(A, (B, (C, ()))) as FieldTypes>⟧.described refl };
 
-    fn declaration(alloc: Global) -> Result<Declaration, SchemaBuildError> {
+    fn declaration(alloc: Global) -> SchemaResult<Declaration> {
         tuple_declaration::<A, (B, (C, ()))>(alloc)
     }
 
-    fn add_definitions_recursively(
-        alloc: Global,
-        definitions: &mut BTreeMap<Declaration, Definition>,
-    ) -> Result<(), SchemaBuildError> {
-        add_tuple::<(A, (B, (C, ())))>(alloc, Self::declaration(alloc)?, definitions)
+    fn add_definitions_recursively(alloc: Global, map: &mut DefinitionMap) -> SchemaResult<()> {
+        add_tuple::<(A, (B, (C, ())))>(alloc, Self::declaration(alloc)?, map)
     }
 
     ghost describes = { λ defs h. describes_contramap (λ t. (t.0, (t.1, t.2))) (describes_parts h.0
@@ -97,15 +85,12 @@ impl<A: BorshSchema, B: BorshSchema, C: BorshSchema, D: BorshSchema> BorshSchema
         (λ t. (t.0, (t.1, (t.2, (t.3, tt)))))
         ⟦<(A, (B, (C, (D, ())))) as FieldTypes>⟧.described refl };
 
-    fn declaration(alloc: Global) -> Result<Declaration, SchemaBuildError> {
+    fn declaration(alloc: Global) -> SchemaResult<Declaration> {
         tuple_declaration::<A, (B, (C, (D, ())))>(alloc)
     }
 
-    fn add_definitions_recursively(
-        alloc: Global,
-        definitions: &mut BTreeMap<Declaration, Definition>,
-    ) -> Result<(), SchemaBuildError> {
-        add_tuple::<(A, (B, (C, (D, ()))))>(alloc, Self::declaration(alloc)?, definitions)
+    fn add_definitions_recursively(alloc: Global, map: &mut DefinitionMap) -> SchemaResult<()> {
+        add_tuple::<(A, (B, (C, (D, ()))))>(alloc, Self::declaration(alloc)?, map)
     }
 
     ghost describes = { λ defs h. describes_contramap (λ t. (t.0, (t.1, (t.2, t.3))))
@@ -123,15 +108,12 @@ impl<A: BorshSchema, B: BorshSchema, C: BorshSchema, D: BorshSchema, E: BorshSch
         (λ t. (t.0, (t.1, (t.2, (t.3, (t.4, tt))))))
         ⟦<(A, (B, (C, (D, (E, ()))))) as FieldTypes>⟧.described refl };
 
-    fn declaration(alloc: Global) -> Result<Declaration, SchemaBuildError> {
+    fn declaration(alloc: Global) -> SchemaResult<Declaration> {
         tuple_declaration::<A, (B, (C, (D, (E, ()))))>(alloc)
     }
 
-    fn add_definitions_recursively(
-        alloc: Global,
-        definitions: &mut BTreeMap<Declaration, Definition>,
-    ) -> Result<(), SchemaBuildError> {
-        add_tuple::<(A, (B, (C, (D, (E, ())))))>(alloc, Self::declaration(alloc)?, definitions)
+    fn add_definitions_recursively(alloc: Global, map: &mut DefinitionMap) -> SchemaResult<()> {
+        add_tuple::<(A, (B, (C, (D, (E, ())))))>(alloc, Self::declaration(alloc)?, map)
     }
 
     ghost describes = { λ defs h. describes_contramap (λ t. (t.0, (t.1, (t.2, (t.3, t.4)))))
@@ -156,15 +138,12 @@ impl<
         (λ t. (t.0, (t.1, (t.2, (t.3, (t.4, (t.5, tt)))))))
         ⟦<(A, (B, (C, (D, (E, (F, ())))))) as FieldTypes>⟧.described refl };
 
-    fn declaration(alloc: Global) -> Result<Declaration, SchemaBuildError> {
+    fn declaration(alloc: Global) -> SchemaResult<Declaration> {
         tuple_declaration::<A, (B, (C, (D, (E, (F, ())))))>(alloc)
     }
 
-    fn add_definitions_recursively(
-        alloc: Global,
-        definitions: &mut BTreeMap<Declaration, Definition>,
-    ) -> Result<(), SchemaBuildError> {
-        add_tuple::<(A, (B, (C, (D, (E, (F, ()))))))>(alloc, Self::declaration(alloc)?, definitions)
+    fn add_definitions_recursively(alloc: Global, map: &mut DefinitionMap) -> SchemaResult<()> {
+        add_tuple::<(A, (B, (C, (D, (E, (F, ()))))))>(alloc, Self::declaration(alloc)?, map)
     }
 
     ghost describes = { λ defs h. describes_contramap (λ t. (t.0, (t.1, (t.2, (t.3, (t.4, t.5))))))
@@ -191,19 +170,12 @@ impl<
         (λ t. (t.0, (t.1, (t.2, (t.3, (t.4, (t.5, (t.6, tt))))))))
         ⟦<(A, (B, (C, (D, (E, (F, (G, ()))))))) as FieldTypes>⟧.described refl };
 
-    fn declaration(alloc: Global) -> Result<Declaration, SchemaBuildError> {
+    fn declaration(alloc: Global) -> SchemaResult<Declaration> {
         tuple_declaration::<A, (B, (C, (D, (E, (F, (G, ()))))))>(alloc)
     }
 
-    fn add_definitions_recursively(
-        alloc: Global,
-        definitions: &mut BTreeMap<Declaration, Definition>,
-    ) -> Result<(), SchemaBuildError> {
-        add_tuple::<(A, (B, (C, (D, (E, (F, (G, ())))))))>(
-            alloc,
-            Self::declaration(alloc)?,
-            definitions,
-        )
+    fn add_definitions_recursively(alloc: Global, map: &mut DefinitionMap) -> SchemaResult<()> {
+        add_tuple::<(A, (B, (C, (D, (E, (F, (G, ())))))))>(alloc, Self::declaration(alloc)?, map)
     }
 
     ghost describes = { λ defs h.
@@ -226,26 +198,19 @@ impl<
 > BorshSchema for (A, B, C, D, E, F, G, H) {
     ghost name = { tuple_name ⟦<(A, (B, (C, (D, (E, (F, (G, (H, ())))))))) as FieldTypes>⟧.described.names };
 
-    ghost parts = { tuple_of
-        ⟦<(A, (B, (C, (D, (E, (F, (G, (H, ())))))))) as FieldTypes>⟧.described };
+    ghost parts = { tuple_of ⟦<(A, (B, (C, (D, (E, (F, (G, (H, ())))))))) as FieldTypes>⟧.described };
 
     ghost described = { struct_described
         (λ t. (t.0, (t.1, (t.2, (t.3, (t.4, (t.5, (t.6, (t.7, tt)))))))))
         ⟦<(A, (B, (C, (D, (E, (F, (G, (H, ())))))))) as FieldTypes>⟧.described refl };
 
-    fn declaration(alloc: Global) -> Result<Declaration, SchemaBuildError> {
+    fn declaration(alloc: Global) -> SchemaResult<Declaration> {
         tuple_declaration::<A, (B, (C, (D, (E, (F, (G, (H, ())))))))>(alloc)
     }
 
-    fn add_definitions_recursively(
-        alloc: Global,
-        definitions: &mut BTreeMap<Declaration, Definition>,
-    ) -> Result<(), SchemaBuildError> {
-        add_tuple::<(A, (B, (C, (D, (E, (F, (G, (H, ()))))))))>(
-            alloc,
-            Self::declaration(alloc)?,
-            definitions,
-        )
+    fn add_definitions_recursively(alloc: Global, map: &mut DefinitionMap) -> SchemaResult<()> {
+        let name = Self::declaration(alloc)?;
+        add_tuple::<(A, (B, (C, (D, (E, (F, (G, (H, ()))))))))>(alloc, name, map)
     }
 
     ghost describes = { λ defs h.
@@ -271,26 +236,19 @@ impl<
     ghost name = { tuple_name
         ⟦<(A, (B, (C, (D, (E, (F, (G, (H, (I, ()))))))))) as FieldTypes>⟧.described.names };
 
-    ghost parts = { tuple_of
-        ⟦<(A, (B, (C, (D, (E, (F, (G, (H, (I, ()))))))))) as FieldTypes>⟧.described };
+    ghost parts = { tuple_of ⟦<(A, (B, (C, (D, (E, (F, (G, (H, (I, ()))))))))) as FieldTypes>⟧.described };
 
     ghost described = { struct_described
         (λ t. (t.0, (t.1, (t.2, (t.3, (t.4, (t.5, (t.6, (t.7, (t.8, tt))))))))))
         ⟦<(A, (B, (C, (D, (E, (F, (G, (H, (I, ()))))))))) as FieldTypes>⟧.described refl };
 
-    fn declaration(alloc: Global) -> Result<Declaration, SchemaBuildError> {
+    fn declaration(alloc: Global) -> SchemaResult<Declaration> {
         tuple_declaration::<A, (B, (C, (D, (E, (F, (G, (H, (I, ()))))))))>(alloc)
     }
 
-    fn add_definitions_recursively(
-        alloc: Global,
-        definitions: &mut BTreeMap<Declaration, Definition>,
-    ) -> Result<(), SchemaBuildError> {
-        add_tuple::<(A, (B, (C, (D, (E, (F, (G, (H, (I, ())))))))))>(
-            alloc,
-            Self::declaration(alloc)?,
-            definitions,
-        )
+    fn add_definitions_recursively(alloc: Global, map: &mut DefinitionMap) -> SchemaResult<()> {
+        let name = Self::declaration(alloc)?;
+        add_tuple::<(A, (B, (C, (D, (E, (F, (G, (H, (I, ())))))))))>(alloc, name, map)
     }
 
     ghost describes = { λ defs h.
@@ -325,19 +283,13 @@ impl<
         (λ t. (t.0, (t.1, (t.2, (t.3, (t.4, (t.5, (t.6, (t.7, (t.8, (t.9, tt)))))))))))
         ⟦<(A, (B, (C, (D, (E, (F, (G, (H, (I, (J, ())))))))))) as FieldTypes>⟧.described refl };
 
-    fn declaration(alloc: Global) -> Result<Declaration, SchemaBuildError> {
+    fn declaration(alloc: Global) -> SchemaResult<Declaration> {
         tuple_declaration::<A, (B, (C, (D, (E, (F, (G, (H, (I, (J, ())))))))))>(alloc)
     }
 
-    fn add_definitions_recursively(
-        alloc: Global,
-        definitions: &mut BTreeMap<Declaration, Definition>,
-    ) -> Result<(), SchemaBuildError> {
-        add_tuple::<(A, (B, (C, (D, (E, (F, (G, (H, (I, (J, ()))))))))))>(
-            alloc,
-            Self::declaration(alloc)?,
-            definitions,
-        )
+    fn add_definitions_recursively(alloc: Global, map: &mut DefinitionMap) -> SchemaResult<()> {
+        let name = Self::declaration(alloc)?;
+        add_tuple::<(A, (B, (C, (D, (E, (F, (G, (H, (I, (J, ()))))))))))>(alloc, name, map)
     }
 
     ghost describes = { λ defs h.
@@ -374,19 +326,13 @@ impl<
         (λ t. (t.0, (t.1, (t.2, (t.3, (t.4, (t.5, (t.6, (t.7, (t.8, (t.9, (t.10, tt))))))))))))
         ⟦<(A, (B, (C, (D, (E, (F, (G, (H, (I, (J, (K, ()))))))))))) as FieldTypes>⟧.described refl };
 
-    fn declaration(alloc: Global) -> Result<Declaration, SchemaBuildError> {
+    fn declaration(alloc: Global) -> SchemaResult<Declaration> {
         tuple_declaration::<A, (B, (C, (D, (E, (F, (G, (H, (I, (J, (K, ()))))))))))>(alloc)
     }
 
-    fn add_definitions_recursively(
-        alloc: Global,
-        definitions: &mut BTreeMap<Declaration, Definition>,
-    ) -> Result<(), SchemaBuildError> {
-        add_tuple::<(A, (B, (C, (D, (E, (F, (G, (H, (I, (J, (K, ())))))))))))>(
-            alloc,
-            Self::declaration(alloc)?,
-            definitions,
-        )
+    fn add_definitions_recursively(alloc: Global, map: &mut DefinitionMap) -> SchemaResult<()> {
+        let name = Self::declaration(alloc)?;
+        add_tuple::<(A, (B, (C, (D, (E, (F, (G, (H, (I, (J, (K, ())))))))))))>(alloc, name, map)
     }
 
     ghost describes = { λ defs h.
@@ -425,18 +371,15 @@ impl<
         (λ t. (t.0, (t.1, (t.2, (t.3, (t.4, (t.5, (t.6, (t.7, (t.8, (t.9, (t.10, (t.11, tt)))))))))))))
         ⟦<(A, (B, (C, (D, (E, (F, (G, (H, (I, (J, (K, (L, ())))))))))))) as FieldTypes>⟧.described refl };
 
-    fn declaration(alloc: Global) -> Result<Declaration, SchemaBuildError> {
+    fn declaration(alloc: Global) -> SchemaResult<Declaration> {
         tuple_declaration::<A, (B, (C, (D, (E, (F, (G, (H, (I, (J, (K, (L, ())))))))))))>(alloc)
     }
 
-    fn add_definitions_recursively(
-        alloc: Global,
-        definitions: &mut BTreeMap<Declaration, Definition>,
-    ) -> Result<(), SchemaBuildError> {
+    fn add_definitions_recursively(alloc: Global, map: &mut DefinitionMap) -> SchemaResult<()> {
         add_tuple::<(A, (B, (C, (D, (E, (F, (G, (H, (I, (J, (K, (L, ()))))))))))))>(
             alloc,
             Self::declaration(alloc)?,
-            definitions,
+            map,
         )
     }
 

@@ -5,12 +5,11 @@ ghost use Rattle.borsh_definitions.proofs.Laws.Members.{describes_contramap, des
 ghost use Rattle.borsh_definitions.specs.Types.{unit_definitions};
 ghost use Rattle.borsh_definitions.proofs.Laws.Quoted.{contramap_described, no_fields_described, struct_described, unit_described};
 
-use super::definitions::SchemaBuildError;
+use super::definitions::{DefinitionMap, SchemaResult};
 use super::parts::{add_primitive, add_with_parts, declared};
 use super::schema::BorshSchema;
 use borsh_walks::{Declaration, Definition, Fields};
 use std::alloc::Global;
-use std::collections::BTreeMap;
 use std::marker::PhantomData;
 use std::ops::RangeFull;
 
@@ -21,15 +20,12 @@ impl BorshSchema for () {
 
     ghost described = { unit_described };
 
-    fn declaration(alloc: Global) -> Result<Declaration, SchemaBuildError> {
+    fn declaration(alloc: Global) -> SchemaResult<Declaration> {
         declared(alloc, "()")
     }
 
-    fn add_definitions_recursively(
-        alloc: Global,
-        definitions: &mut BTreeMap<Declaration, Definition>,
-    ) -> Result<(), SchemaBuildError> {
-        add_primitive(alloc, "()", 0, definitions)
+    fn add_definitions_recursively(alloc: Global, map: &mut DefinitionMap) -> SchemaResult<()> {
+        add_primitive(alloc, "()", 0, map)
     }
 
     ghost describes = { Self.described.describes };
@@ -42,15 +38,12 @@ impl<T> BorshSchema for PhantomData<T> {
 
     ghost described = { contramap_described (λ _. tt) unit_described };
 
-    fn declaration(alloc: Global) -> Result<Declaration, SchemaBuildError> {
+    fn declaration(alloc: Global) -> SchemaResult<Declaration> {
         declared(alloc, "()")
     }
 
-    fn add_definitions_recursively(
-        alloc: Global,
-        definitions: &mut BTreeMap<Declaration, Definition>,
-    ) -> Result<(), SchemaBuildError> {
-        add_primitive(alloc, "()", 0, definitions)
+    fn add_definitions_recursively(alloc: Global, map: &mut DefinitionMap) -> SchemaResult<()> {
+        add_primitive(alloc, "()", 0, map)
     }
 
     ghost describes = { Self.described.describes };
@@ -63,18 +56,15 @@ impl BorshSchema for RangeFull {
 
     ghost described = { struct_described (λ _. tt) no_fields_described refl };
 
-    fn declaration(alloc: Global) -> Result<Declaration, SchemaBuildError> {
+    fn declaration(alloc: Global) -> SchemaResult<Declaration> {
         declared(alloc, "RangeFull")
     }
 
-    fn add_definitions_recursively(
-        alloc: Global,
-        definitions: &mut BTreeMap<Declaration, Definition>,
-    ) -> Result<(), SchemaBuildError> {
+    fn add_definitions_recursively(alloc: Global, map: &mut DefinitionMap) -> SchemaResult<()> {
         let definition = Definition::Struct {
             fields: Fields::Empty,
         };
-        add_with_parts::<()>(alloc, Self::declaration(alloc)?, definition, definitions)
+        add_with_parts::<()>(alloc, Self::declaration(alloc)?, definition, map)
     }
 
     ghost describes = { Self.described.describes };

@@ -1,15 +1,18 @@
 -- Items of an iterator that are written one after another.
-use Rattle.std.specs.Prelude.{map, length, take, MatchOption}
-use Rattle.std.proofs.Common.{◌≡◌, ◌∙◌, ℕ, ◌+◌, ◌≤◌, Bool, false, List, [], ◌∷◌, Option, Some, None, Result, Err, refl, sym, ap, subst}
+use Rattle.std.specs.Prelude.{map, length, take, suc}
+use Rattle.std.proofs.Common.{◌≡◌, ◌∙◌, ℕ, ◌+◌, ◌≤◌, Bool, false, true, List, [], ◌∷◌, Option, Some, None, Result, Err, refl, sym, ap}
+use Rattle.std.specs.Map.Iter.{TakesFirst}
 use Rattle.std.specs.Result.{IsErrAnd}
 use Rattle.std.specs.Iterator.{AlwaysYields}
 use borrow.Rule.Slice.PartMut.{mid_of, put_mid}
 use Rattle.borsh_io.specs.declared.error.Error.{Error}
+use Rattle.borsh_io.specs.declared.error.ErrorKind.TheVariants.{InvalidData}
 use Rattle.borsh_io.specs.Errors.{error_kind}
 use Rattle.borsh_io.specs.Sink.{WriterModel, WriterLaws}
-use Rattle.borsh_codec.specs.Shapes.{append_encodings, concat_encodings}
-use Rattle.borsh_codec.specs.Writing.{Puts, Written, NotWritten, WritesEncoding}
-use Rattle.borsh_codec.proofs.WriteOutcomes.{writes_is}
+use Rattle.borsh_codec.specs.Codec.{Codec}
+use Rattle.borsh_codec.specs.Shapes.{append_encodings, concat_encodings, unsigned_encoding, length_prefixed, refused_if}
+use Rattle.borsh_codec.specs.Writing.{Puts, Written, NotWritten, WritesEncoding, Writes}
+use Rattle.borsh_codec.proofs.WriteOutcomes.{writes_is, writes_exit, writes_refused_if}
 use Rattle.borsh_codec.proofs.PutSteps.{HeldSoFar, held_none, held_put, held_kept, held_written, held_exit, held_more, held_more_exit, held_last}
 
 abbrev pub Encodings : Type 0
@@ -67,17 +70,23 @@ concat_map : {X : Type 0} (f : X → Option (List ℕ)) (xs : List X) → concat
 concat_map f [] = refl
 concat_map f (x ∷ xs) = ap (append_encodings (f x)) (concat_map f xs)
 
--- an iterator whose state is the list of what is left
-abbrev pub FirstOf : {A X : Type 0} → (A → X) → List X → Option A → List X → Type 0
-FirstOf shows s r t = MatchOption r ((s ≡ []) × (t ≡ [])) (λ x. s ≡ shows x ∷ t)
+-- an iterator that shows what is left of a list
+module _ {S A X : Type 0} (steps : S → Option A → S → Type 0) (shows : A → X) (rest : S → List X) (none : (s t : S) → steps s None t → length (rest s) ≡ 0) (some : (s t : S) (a : A) → steps s (Some a) t → rest s ≡ shows a ∷ rest t) where
+  always_shown : (f : X → Option (List ℕ)) (xs : List X) (s : S) → rest s ≡ xs → AlwaysYields steps (λ a. f (shows a)) s (map f xs)
+  always_shown f [] s r = λ x j e. (let h : rest s ≡ shows x ∷ rest j = some s j x e in cc)
+  always_shown f (y ∷ ys) s r = (
+    (λ j e. (let h : suc (length ys) ≡ 0 = sym (ap length r) ∙ none s j e in cc)),
+    (λ x j e. (let h : rest s ≡ shows x ∷ rest j = some s j x e in let y : shows x ≡ y = cc in let t : rest j ≡ ys = cc in (ap f y, always_shown f ys j t))),
+  )
 
-always_first : {A X : Type 0} (shows : A → X) (f : X → Option (List ℕ)) (xs : List X) → AlwaysYields (FirstOf shows) (λ a. f (shows a)) xs (map f xs)
-always_first shows f [] = λ x j e. cc
-always_first shows f (y ∷ ys) = (
-  (λ j e. cc),
-  (λ x j e. (let h : shows x ≡ y = cc in ap f h, let t : ys ≡ j = cc in subst (λ l. AlwaysYields (FirstOf shows) (λ a. f (shows a)) l (map f ys)) t (always_first shows f ys))),
-)
+  -- what is written of it, after the count, is the list
+  pub writes_shown : {W : Type 0} {w : WriterModel W} {old new : W} {n : ℕ} {r : Result (Unit {0}) Error} (c : Codec X) (xs : List X) (s : S) → rest s ≡ xs → n ≡ length xs → ((es : Encodings) → AlwaysYields steps (λ a. c.encoding (shows a)) s es → WritesEncoding w old new c.encoding_allocates false (append_encodings (unsigned_encoding 4 n) (concat_encodings (λ e. e) es)) r) → Writes (length_prefixed c) xs w old new r
+  writes_shown c xs s e n h = writes_is (ap (λ m. append_encodings (unsigned_encoding 4 m) (concat_encodings (λ e. e) (map c.encoding xs))) n ∙ ap (append_encodings (unsigned_encoding 4 (length xs))) (concat_map c.encoding xs)) (h (map c.encoding xs) (always_shown c.encoding xs s e))
 
--- what is written of such an iterator is its list
-pub writes_first : {A X W : Type 0} {w : WriterModel W} {old new : W} {own : Bool} {r : Result (Unit {0}) Error} (shows : A → X) (f : X → Option (List ℕ)) (s xs : List X) → s ≡ xs → ((es : Encodings) → AlwaysYields (FirstOf shows) (λ a. f (shows a)) s es → WritesEncoding w old new own false (concat_encodings (λ e. e) es) r) → WritesEncoding w old new own false (concat_encodings f xs) r
-writes_first shows f s xs e h = writes_is (concat_map f s ∙ ap (concat_encodings f) e) (h (map f s) (always_first shows f s))
+-- the same where the state is the list
+pub writes_first : {A X W : Type 0} {w : WriterModel W} {old new : W} {n : ℕ} {r : Result (Unit {0}) Error} (shows : A → X) (c : Codec X) (s xs : List X) → s ≡ xs → n ≡ length xs → ((es : Encodings) → AlwaysYields (TakesFirst shows) (λ a. c.encoding (shows a)) s es → WritesEncoding w old new c.encoding_allocates false (append_encodings (unsigned_encoding 4 n) (concat_encodings (λ e. e) es)) r) → Writes (length_prefixed c) xs w old new r
+writes_first shows c s xs = writes_shown (TakesFirst shows) shows (λ t. t) (λ t u e. ap length e.0) (λ t u a e. e) c xs s
+
+-- keys or elements whose encodings are empty were refused
+pub refused_exit : {A W : Type 0} {w : WriterModel W} (laws : WriterLaws W w) (refused : Bool) (c : Codec A) (v : A) (a : W) (e : Error) {r : Result (Unit {0}) Error} → IsErrAnd r (λ y. y ≡ e) → (refused ≡ true) × (error_kind e ≡ InvalidData) → Writes (refused_if refused c) v w a a r
+refused_exit laws refused c v a e is p = writes_exit e is (writes_refused_if laws refused c v a p.0 p.1)

@@ -1,21 +1,16 @@
 // Hashed maps and sets: references to the entries are collected, sorted by key and written, so
 // that the bytes depend on the entries alone.
 ghost use Rattle.borsh_codec.specs.Maps.{unit_entries, sorted_by_key};
-ghost use Rattle.borsh_codec.specs.Shapes.{concat_encodings, length_prefixed, pair};
-ghost use Rattle.borsh_codec.specs.Writing.{Writes, WritesEncoding};
 ghost use Rattle.std.specs.HashMap.{IsUnique};
 ghost use Rattle.std.specs.List.{IsDistinct};
 ghost use Rattle.std.specs.Map.Iter.{deref_pair};
-ghost use Rattle.std.specs.Prelude.{◌≡◌, ◌||◌, IfOk, map, false};
+ghost use Rattle.std.specs.Prelude.{◌≡◌, IfOk, map};
 
-use super::each::write_held;
-use super::lists::{write_count, write_counted};
-use super::parts::write_two;
-use super::puts::put_two;
+use super::each::write_items;
+use super::lists::write_counted;
 use super::serialize::BorshSerialize;
-use borsh_io::error::ERROR_ZST_FORBIDDEN;
-use borsh_io::{Error, ErrorKind, Result, Write};
-use borsh_types::BorshKey;
+use borsh_io::{Result, Write};
+use borsh_types::{BorshKey, refuse_empty};
 use std::alloc::{AllocError, Global};
 use std::collections::{HashMap, HashSet};
 use std::hash::{BuildHasher, Hash};
@@ -72,70 +67,55 @@ fn sorted_keys<'a, K: Ord + Hash, S: BuildHasher>(
     Ok(all)
 }
 
-/// Writes the entries one after another, each key before its value.
-///
-/// Returns the error of the key or the value that could not be written. Then a beginning of the
-/// encoding was written.
-#[inline]
-fn write_entries<K: BorshSerialize, V: BorshSerialize, W: Write>(
-    entries: &[(&K, &V)],
-    alloc: Global,
-    writer: &mut W,
-) -> Result<()>
-    ensures { WritesEncoding W.writing writer.old writer.new
-        (K.codec.encoding_allocates || V.codec.encoding_allocates) false
-        (concat_encodings (pair K.codec V.codec).encoding (map deref_pair entries.now)) result }
-{
-    let mut room = [0u8; 256];
-    let mut filled = 0;
-    for e in entries {
-        match put_two(e.0, e.1, &mut room[filled..]) {
-            Some(n) => filled += n,
-            None => {
-                write_held(&room[..filled], writer)?;
-                filled = 0;
-                write_two(e.0, e.1, alloc, writer)?;
-            }
-        }
-    }
-    write_held(&room[..filled], writer)
+/// The entries that are left. An iterator over the slice names several lifetimes, and the borrow checker refuses that as
+/// a type argument.
+#[derive(Drop)]
+struct Entries<'a, K, V> {
+    left: &'a [(&'a K, &'a V)],
 }
 
-/// Writes the count and the entries.
-///
-/// Returns `InvalidData` for more than 4294967295, and the error of a key or a value that could not
-/// be written. Then a beginning of the encoding was written.
-#[inline]
-fn write_sorted<K: BorshSerialize, V: BorshSerialize, W: Write>(
-    entries: &[(&K, &V)],
-    alloc: Global,
-    writer: &mut W,
-) -> Result<()>
-    ensures { Writes (length_prefixed (pair K.codec V.codec)) (map deref_pair entries.now)
-        W.writing writer.old writer.new result }
-{
-    write_count(entries.len(), writer)?;
-    write_entries(entries, alloc, writer)
+impl<'a, K, V> Iterator for Entries<'a, K, V> {
+    type Item = (&'a K, &'a V);
+
+    ghost use Rattle.std.specs.Prelude.{length};
+    ghost use Rattle.std.specs.Iterator.{at_most};
+    ghost use Rattle.std.specs.Map.Iter.{TakesFirst};
+
+    ghost next_gives = { λ s r t. TakesFirst (λ e. e) s.left.now r t.left.now };
+
+    ghost remaining = { λ s. at_most (length s.left.now) };
+
+    fn next(&mut self) -> Option<(&'a K, &'a V)> {
+        let left = self.left;
+        if left.is_empty() {
+            return None;
+        }
+        self.left = &left[1..];
+        Some(left[0])
+    }
 }
 
 impl<K: BorshKey + BorshSerialize + Ord + Hash, V: BorshSerialize, S: BuildHasher> BorshSerialize
     for HashMap<K, V, S> {
     #[inline]
     fn serialize<W: Write>(&self, alloc: Global, writer: &mut W) -> Result<()> {
-        if K::encodes_empty() {
-            return Err(Error::new(ErrorKind::InvalidData, ERROR_ZST_FORBIDDEN));
-        }
+        refuse_empty::<K>()?;
         let entries = sorted_entries(alloc, self)?;
-        write_sorted(entries.as_slice(), alloc, writer)
+        write_items(
+            entries.len(),
+            Entries {
+                left: entries.as_slice(),
+            },
+            alloc,
+            writer,
+        )
     }
 }
 
 impl<K: BorshKey + BorshSerialize + Ord + Hash, S: BuildHasher> BorshSerialize for HashSet<K, S> {
     #[inline]
     fn serialize<W: Write>(&self, alloc: Global, writer: &mut W) -> Result<()> {
-        if K::encodes_empty() {
-            return Err(Error::new(ErrorKind::InvalidData, ERROR_ZST_FORBIDDEN));
-        }
+        refuse_empty::<K>()?;
         let keys = sorted_keys(alloc, self)?;
         write_counted(keys.as_slice(), alloc, writer)
     }

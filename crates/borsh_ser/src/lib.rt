@@ -4,6 +4,7 @@
 pub mod addresses;
 pub mod arrays;
 pub mod each;
+pub mod floats;
 pub mod hashed;
 pub mod kit_types;
 pub mod linked;

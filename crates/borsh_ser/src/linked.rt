@@ -2,11 +2,11 @@
 ghost use Rattle.borsh_codec.specs.Shapes.{length_prefixed};
 ghost use Rattle.borsh_codec.specs.Writing.{Writes};
 
-use super::each::write_each;
+use super::each::write_items;
 use super::lists::{write_count, write_elements};
 use super::serialize::BorshSerialize;
-use borsh_io::error::ERROR_ZST_FORBIDDEN;
-use borsh_io::{Error, ErrorKind, Result, Write};
+use borsh_io::{Result, Write};
+use borsh_types::refuse_empty;
 use std::alloc::Global;
 use std::collections::{LinkedList, VecDeque};
 
@@ -27,25 +27,10 @@ fn write_queue<T: BorshSerialize, W: Write>(
     write_elements(back, alloc, writer)
 }
 
-/// Writes the count and the elements of the list. The errors are those of `write_counted`.
-#[inline]
-fn write_linked_counted<T: BorshSerialize, W: Write>(
-    list: &LinkedList<T>,
-    alloc: Global,
-    writer: &mut W,
-) -> Result<()>
-    ensures { Writes (length_prefixed T.codec) list.now W.writing writer.old writer.new result }
-{
-    write_count(list.len(), writer)?;
-    write_each(list.iter(), alloc, writer)
-}
-
 impl<T: BorshSerialize> BorshSerialize for VecDeque<T> {
     #[inline]
     fn serialize<W: Write>(&self, alloc: Global, writer: &mut W) -> Result<()> {
-        if T::encodes_empty() {
-            return Err(Error::new(ErrorKind::InvalidData, ERROR_ZST_FORBIDDEN));
-        }
+        refuse_empty::<T>()?;
         write_queue(self, alloc, writer)
     }
 }
@@ -53,9 +38,7 @@ impl<T: BorshSerialize> BorshSerialize for VecDeque<T> {
 impl<T: BorshSerialize> BorshSerialize for LinkedList<T> {
     #[inline]
     fn serialize<W: Write>(&self, alloc: Global, writer: &mut W) -> Result<()> {
-        if T::encodes_empty() {
-            return Err(Error::new(ErrorKind::InvalidData, ERROR_ZST_FORBIDDEN));
-        }
-        write_linked_counted(self, alloc, writer)
+        refuse_empty::<T>()?;
+        write_items(self.len(), self.iter(), alloc, writer)
     }
 }

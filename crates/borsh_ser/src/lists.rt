@@ -12,12 +12,13 @@ use super::numbers::bytes_of_u32;
 use super::puts::put_front;
 use super::raw_bytes::write_bytes;
 use super::serialize::BorshSerialize;
-use borsh_io::error::ERROR_ZST_FORBIDDEN;
 use borsh_io::{Error, ErrorKind, Result, Write};
+use borsh_types::refuse_empty;
 use std::alloc::Global;
 use std::borrow::CowSlice;
 use std::boxed::BoxedSlice;
 use std::rc::RcSlice;
+use std::sync::ArcSlice;
 
 /// Writes the elements one after another: at once if that is how their encodings lie in memory, and
 /// otherwise through a buffer, the room, if there are so many that clearing it pays.
@@ -130,9 +131,7 @@ pub(crate) fn write_list<T: BorshSerialize, W: Write>(
 ) -> Result<()>
     ensures { Writes (list T.codec) items.now W.writing writer.old writer.new result }
 {
-    if T::encodes_empty() {
-        return Err(Error::new(ErrorKind::InvalidData, ERROR_ZST_FORBIDDEN));
-    }
+    refuse_empty::<T>()?;
     write_counted(items, alloc, writer)
 }
 
@@ -151,6 +150,13 @@ impl<T: BorshSerialize> BorshSerialize for BoxedSlice<T> {
 }
 
 impl<T: BorshSerialize> BorshSerialize for RcSlice<T> {
+    #[inline]
+    fn serialize<W: Write>(&self, alloc: Global, writer: &mut W) -> Result<()> {
+        write_list(self.as_slice(), alloc, writer)
+    }
+}
+
+impl<T: BorshSerialize> BorshSerialize for ArcSlice<T> {
     #[inline]
     fn serialize<W: Write>(&self, alloc: Global, writer: &mut W) -> Result<()> {
         write_list(self.as_slice(), alloc, writer)

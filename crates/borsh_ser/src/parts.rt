@@ -11,6 +11,7 @@ use std::alloc::Global;
 /// Writes two parts, one after the other.
 ///
 /// Returns the error of the part that could not be written. Then a beginning of the encoding was written.
+/// Left open: as of [`BorshSerialize::serialize`].
 ///
 /// ```
 /// write_two(&self.a, &self.b, alloc, writer)?;
@@ -28,13 +29,7 @@ pub fn write_two<A: BorshSerialize, B: BorshSerialize, W: Write>(
     b.serialize(alloc, writer)
 }
 
-/// Writes three parts in order.
-///
-/// Returns the error of the part that could not be written. Then a beginning of the encoding was written.
-///
-/// ```
-/// write_three(&self.a, &self.b, &self.c, alloc, writer)?;
-/// ```
+/// [`write_two`] for three parts.
 #[inline]
 pub fn write_three<A: BorshSerialize, B: BorshSerialize, C: BorshSerialize, W: Write>(
     a: &A,
@@ -52,13 +47,7 @@ pub fn write_three<A: BorshSerialize, B: BorshSerialize, C: BorshSerialize, W: W
     write_two(b, c, alloc, writer)
 }
 
-/// Writes four parts in order.
-///
-/// Returns the error of the part that could not be written. Then a beginning of the encoding was written.
-///
-/// ```
-/// write_four(&self.a, &self.b, &self.c, &self.d, alloc, writer)?;
-/// ```
+/// [`write_two`] for four parts.
 #[inline]
 pub fn write_four<
     A: BorshSerialize,
@@ -76,13 +65,7 @@ pub fn write_four<
     write_three(b, c, d, alloc, writer)
 }
 
-/// Writes five parts in order.
-///
-/// Returns the error of the part that could not be written. Then a beginning of the encoding was written.
-///
-/// ```
-/// write_five(&self.a, &self.b, &self.c, &self.d, &self.e, alloc, writer)?;
-/// ```
+/// [`write_two`] for five parts.
 #[inline]
 pub fn write_five<
     A: BorshSerialize,
@@ -101,13 +84,7 @@ pub fn write_five<
     write_four(b, c, d, e, alloc, writer)
 }
 
-/// Writes six parts in order.
-///
-/// Returns the error of the part that could not be written. Then a beginning of the encoding was written.
-///
-/// ```
-/// write_six(&self.a, &self.b, &self.c, &self.d, &self.e, &self.f, alloc, writer)?;
-/// ```
+/// [`write_two`] for six parts.
 #[inline]
 pub fn write_six<
     A: BorshSerialize,
@@ -127,13 +104,7 @@ pub fn write_six<
     write_five(b, c, d, e, f, alloc, writer)
 }
 
-/// Writes seven parts in order.
-///
-/// Returns the error of the part that could not be written. Then a beginning of the encoding was written.
-///
-/// ```
-/// write_seven(&self.a, &self.b, &self.c, &self.d, &self.e, &self.f, &self.g, alloc, writer)?;
-/// ```
+/// [`write_two`] for seven parts.
 #[inline]
 pub fn write_seven<
     A: BorshSerialize,
@@ -155,16 +126,7 @@ pub fn write_seven<
     write_six(b, c, d, e, f, g, alloc, writer)
 }
 
-/// Writes eight parts in order.
-///
-/// Returns the error of the part that could not be written. Then a beginning of the encoding was written.
-///
-/// ```
-/// write_eight(
-///     &self.a, &self.b, &self.c, &self.d,
-///     &self.e, &self.f, &self.g, &self.h, alloc, writer,
-/// )?;
-/// ```
+/// [`write_two`] for eight parts.
 #[inline]
 pub fn write_eight<
     A: BorshSerialize,
@@ -198,16 +160,7 @@ pub fn write_eight<
     write_seven(b, c, d, e, f, g, h, alloc, writer)
 }
 
-/// Writes nine parts in order.
-///
-/// Returns the error of the part that could not be written. Then a beginning of the encoding was written.
-///
-/// ```
-/// write_nine(
-///     &self.a, &self.b, &self.c, &self.d, &self.e,
-///     &self.f, &self.g, &self.h, &self.i, alloc, writer,
-/// )?;
-/// ```
+/// [`write_two`] for nine parts.
 #[inline]
 pub fn write_nine<
     A: BorshSerialize,
@@ -243,16 +196,7 @@ pub fn write_nine<
     write_eight(b, c, d, e, f, g, h, i, alloc, writer)
 }
 
-/// Writes ten parts in order.
-///
-/// Returns the error of the part that could not be written. Then a beginning of the encoding was written.
-///
-/// ```
-/// write_ten(
-///     &self.a, &self.b, &self.c, &self.d, &self.e,
-///     &self.f, &self.g, &self.h, &self.i, &self.j, alloc, writer,
-/// )?;
-/// ```
+/// [`write_two`] for ten parts.
 #[inline]
 pub fn write_ten<
     A: BorshSerialize,
@@ -290,16 +234,7 @@ pub fn write_ten<
     write_nine(b, c, d, e, f, g, h, i, j, alloc, writer)
 }
 
-/// Writes eleven parts in order.
-///
-/// Returns the error of the part that could not be written. Then a beginning of the encoding was written.
-///
-/// ```
-/// write_eleven(
-///     &self.a, &self.b, &self.c, &self.d, &self.e, &self.f,
-///     &self.g, &self.h, &self.i, &self.j, &self.k, alloc, writer,
-/// )?;
-/// ```
+/// [`write_two`] for eleven parts.
 #[inline]
 pub fn write_eleven<
     A: BorshSerialize,
@@ -340,16 +275,7 @@ pub fn write_eleven<
     write_ten(b, c, d, e, f, g, h, i, j, k, alloc, writer)
 }
 
-/// Writes twelve parts in order.
-///
-/// Returns the error of the part that could not be written. Then a beginning of the encoding was written.
-///
-/// ```
-/// write_twelve(
-///     &self.a, &self.b, &self.c, &self.d, &self.e, &self.f,
-///     &self.g, &self.h, &self.i, &self.j, &self.k, &self.l, alloc, writer,
-/// )?;
-/// ```
+/// [`write_two`] for twelve parts.
 #[inline]
 pub fn write_twelve<
     A: BorshSerialize,
@@ -396,7 +322,7 @@ pub fn write_twelve<
 /// Writes a tag, one byte, and a part: a variant with one field.
 ///
 /// Returns the writer's error if it fails, or the error of the part. Then a beginning of the encoding was
-/// written.
+/// written. Left open: as of [`BorshSerialize::serialize`].
 ///
 /// ```
 /// write_tagged(2, reason, alloc, writer)?;

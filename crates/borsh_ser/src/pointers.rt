@@ -2,7 +2,9 @@
 use super::serialize::BorshSerialize;
 use borsh_io::{Result, Write};
 use std::alloc::Global;
+use std::borrow::Cow;
 use std::rc::Rc;
+use std::sync::Arc;
 
 impl<T: BorshSerialize> BorshSerialize for &T {
     #[inline]
@@ -29,6 +31,30 @@ impl<T: BorshSerialize> BorshSerialize for Box<T> {
 }
 
 impl<T: BorshSerialize> BorshSerialize for Rc<T> {
+    #[inline]
+    fn serialize<W: Write>(&self, alloc: Global, writer: &mut W) -> Result<()> {
+        self.as_ref().serialize(alloc, writer)
+    }
+
+    #[inline]
+    fn put(&self, room: &mut [u8]) -> Option<usize> {
+        self.as_ref().put(room)
+    }
+}
+
+impl<T: BorshSerialize> BorshSerialize for Arc<T> {
+    #[inline]
+    fn serialize<W: Write>(&self, alloc: Global, writer: &mut W) -> Result<()> {
+        self.as_ref().serialize(alloc, writer)
+    }
+
+    #[inline]
+    fn put(&self, room: &mut [u8]) -> Option<usize> {
+        self.as_ref().put(room)
+    }
+}
+
+impl<T: BorshSerialize> BorshSerialize for Cow<'_, T> {
     #[inline]
     fn serialize<W: Write>(&self, alloc: Global, writer: &mut W) -> Result<()> {
         self.as_ref().serialize(alloc, writer)

@@ -1,6 +1,6 @@
 // Encodings that are written over the front of a buffer, the room: each of these calls returns how
 // many bytes it put, or `None` if they don't fit or a part doesn't support it. Lists fill one room,
-// and write it at once.
+// and write it at once. Left open of each call: as of [`BorshSerialize::put`].
 ghost use Rattle.borsh_codec.specs.Shapes.{concat_encodings, pair, tagged};
 ghost use Rattle.borsh_codec.specs.Writing.{Puts};
 ghost use Rattle.std.specs.Prelude.{◌≤◌, Some, length, take};
@@ -38,9 +38,9 @@ pub(crate) fn put_elements<T: BorshSerialize>(items: &[T], room: &mut [u8]) -> O
     if let Some(bytes) = T::u8_slice(items) {
         return put_bytes(bytes, room);
     }
-    let mut filled = 0;
-    for item in items {
-        filled += item.put(&mut room[filled..])?;
+    let (count, filled) = put_front(items, room);
+    if count < items.len() {
+        return None;
     }
     Some(filled)
 }
@@ -74,7 +74,7 @@ pub fn put_two<A: BorshSerialize, B: BorshSerialize>(a: &A, b: &B, room: &mut [u
     Some(first + second)
 }
 
-/// Puts three parts in order.
+/// [`put_two`] for three parts.
 #[inline]
 pub fn put_three<A: BorshSerialize, B: BorshSerialize, C: BorshSerialize>(
     a: &A,
@@ -90,7 +90,7 @@ pub fn put_three<A: BorshSerialize, B: BorshSerialize, C: BorshSerialize>(
     Some(first + second)
 }
 
-/// Puts four parts in order.
+/// [`put_two`] for four parts.
 #[inline]
 pub fn put_four<A: BorshSerialize, B: BorshSerialize, C: BorshSerialize, D: BorshSerialize>(
     a: &A,
@@ -112,7 +112,7 @@ pub fn put_four<A: BorshSerialize, B: BorshSerialize, C: BorshSerialize, D: Bors
     Some(first + second)
 }
 
-/// Puts five parts in order.
+/// [`put_two`] for five parts.
 #[inline]
 pub fn put_five<
     A: BorshSerialize,
@@ -129,7 +129,7 @@ pub fn put_five<
     Some(first + second)
 }
 
-/// Puts six parts in order.
+/// [`put_two`] for six parts.
 #[inline]
 pub fn put_six<
     A: BorshSerialize,
@@ -148,7 +148,7 @@ pub fn put_six<
     Some(first + second)
 }
 
-/// Puts seven parts in order.
+/// [`put_two`] for seven parts.
 #[inline]
 pub fn put_seven<
     A: BorshSerialize,
@@ -168,7 +168,7 @@ pub fn put_seven<
     Some(first + second)
 }
 
-/// Puts eight parts in order.
+/// [`put_two`] for eight parts.
 #[inline]
 pub fn put_eight<
     A: BorshSerialize,
@@ -203,7 +203,7 @@ pub fn put_eight<
     Some(first + second)
 }
 
-/// Puts nine parts in order.
+/// [`put_two`] for nine parts.
 #[inline]
 pub fn put_nine<
     A: BorshSerialize,
@@ -236,7 +236,7 @@ pub fn put_nine<
     Some(first + second)
 }
 
-/// Puts ten parts in order.
+/// [`put_two`] for ten parts.
 #[inline]
 pub fn put_ten<
     A: BorshSerialize,
@@ -277,7 +277,7 @@ pub fn put_ten<
     Some(first + second)
 }
 
-/// Puts eleven parts in order.
+/// [`put_two`] for eleven parts.
 #[inline]
 pub fn put_eleven<
     A: BorshSerialize,
@@ -343,7 +343,7 @@ pub fn put_eleven<
     Some(first + second)
 }
 
-/// Puts twelve parts in order.
+/// [`put_two`] for twelve parts.
 #[inline]
 pub fn put_twelve<
     A: BorshSerialize,

@@ -6,7 +6,8 @@ use borsh_io::{Result, Write};
 
 /// Writes bytes that are an encoding, as the tag of a variant.
 ///
-/// Returns the writer's error if it fails. Then a beginning of the bytes was written.
+/// Returns the writer's error if it fails. Then a beginning of the bytes was written. Left open: memory, of
+/// a writer that allocates; how long the beginning is.
 ///
 /// ```
 /// write_bytes(&[0], writer)?;

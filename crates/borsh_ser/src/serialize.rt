@@ -7,14 +7,16 @@ use borsh_io::{Result, Write};
 use borsh_types::BorshType;
 use std::alloc::Global;
 
-/// A type whose values can be encoded.
+/// A type whose values can be encoded. If your type has no implementation, put `// derive: borsh` above it
+/// and run derive/borsh_derive.py, or write one by hand, as docs/IMPLEMENTING.md shows.
 pub trait BorshSerialize: BorshType + Sized {
     /// Writes the value's encoding.
     ///
     /// Returns `InvalidData` if the value has no encoding (some bytes may have been written, but
     /// none by a type that refuses all of its values), `OutOfMemory` if an allocation of the value
     /// or of the writer fails, and the writer's error. After an error a beginning of the encoding
-    /// was written.
+    /// was written. Left open: memory; how long the beginning is; what is written of a value without an
+    /// encoding.
     ///
     /// ```
     /// let mut out = Vec::new(alloc);
@@ -28,7 +30,7 @@ pub trait BorshSerialize: BorshType + Sized {
     ghost lies_encoded: { Bool } = { false };
 
     /// The encodings of the values, one after another, if that is how they lie in memory: only `u8`
-    /// returns them, and types of one's own need not override it.
+    /// returns them, and types of one's own need not override it. Left open: `None`, of any type but `u8`.
     fn u8_slice(_slice: &[Self]) -> Option<&[u8]>
         ensures bytes { IfSome result (λ bytes.
             concat_encodings Self.codec.encoding _slice.now ≡ Some bytes.now) }
@@ -40,7 +42,8 @@ pub trait BorshSerialize: BorshType + Sized {
     /// Writes the encoding over the front of the buffer `room` and returns how many bytes it has.
     /// `None`: it doesn't fit, or the type doesn't support this, and the contents of the room are
     /// unspecified. Lists put their elements into one room and write it at once; an element that
-    /// returns `None` is written by `serialize`.
+    /// returns `None` is written by `serialize`. Left open: `None`, always; what the room holds behind the
+    /// encoding.
     ///
     /// ```
     /// let mut room = [0u8; 4];

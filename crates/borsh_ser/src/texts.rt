@@ -9,6 +9,7 @@ use std::alloc::Global;
 use std::borrow::CowStr;
 use std::boxed::BoxedStr;
 use std::rc::RcStr;
+use std::sync::ArcStr;
 
 /// Writes the count of bytes and the bytes. The errors are those of `write_counted`.
 #[inline]
@@ -40,6 +41,13 @@ impl BorshSerialize for BoxedStr {
 }
 
 impl BorshSerialize for RcStr {
+    #[inline]
+    fn serialize<W: Write>(&self, alloc: Global, writer: &mut W) -> Result<()> {
+        write_text(self.as_str(), alloc, writer)
+    }
+}
+
+impl BorshSerialize for ArcStr {
     #[inline]
     fn serialize<W: Write>(&self, alloc: Global, writer: &mut W) -> Result<()> {
         write_text(self.as_str(), alloc, writer)

@@ -1,18 +1,23 @@
 -- What is printed of an error, and of a number.
-use Rattle.std.proofs.Common.{◌≡◌, ℕ, ◌+◌, ◌%◌, ◌^◌, ◌<◌, false, List, [], ◌∷◌, Option, refl, rules, arith, string_bytes, decimal, flat_map}
+use Rattle.std.proofs.Common.{◌≡◌, ℕ, ◌+◌, ◌%◌, ◌^◌, ◌<◌, false, List, [], ◌∷◌, Option, Some, MatchOption, refl, subst, rules, arith, string_bytes, decimal, flat_map}
 use Rattle.std.proofs.lemmas.Fmt.{decimal_by_steps}
 use Rattle.std.proofs.lemmas.Grind.{flat_map-append}
 use Rattle.borsh_walks.specs.Container.{Shape, zst_sequence, tag_too_wide, tag_too_narrow, tag_not_power_of_two, missing_definition, empty_length_range}
+use Rattle.borsh_walks.specs.Errors.{broken_rule}
 use Rattle.borsh_walks.specs.RulesAnswer.{RulesFault}
 use Rattle.borsh_walks.specs.SizeAnswer.{SizeFault}
 use Rattle.borsh_walks.specs.declared.error.SchemaContainerValidateError.{SchemaContainerValidateError}
 use Rattle.borsh_walks.specs.declared.error.SchemaContainerValidateError.TheVariants.{ZSTSequence, TagTooWide, TagTooNarrow, TagNotPowerOfTwo, MissingDefinition, EmptyLengthRange, OutOfMemory}
 use Rattle.borsh_walks.specs.declared.error.SchemaMaxSerializedSizeError.{SchemaMaxSerializedSizeError}
 use Rattle.borsh_walks.specs.declared.error.SchemaMaxSerializedSizeError.TheVariants.{Overflow, Recursive, MissingDefinition as Missing, OutOfMemory as NoMemory, Redefinition}
-use Rattle.borsh_tool_commands.specs.Answers.{AnswersCheck, AnswersSize, TellsRule, TellsSize}
+use Rattle.borsh_tool_commands.specs.Answers.{AnswersCheck, AnswersSize, TellsRule, TellsSize, broken_text}
 use Rattle.borsh_tool_commands.specs.Answers.AnswersCheck.{invalid}
 use Rattle.borsh_tool_commands.specs.Answers.AnswersSize.{overflows, recurs, misses}
 use Rattle.borsh_tool_commands.specs.Plain.{escaped}
+
+-- what is said of an error, by the table of the rules
+pub told : (e : SchemaContainerValidateError) {out rule name : List ℕ} → Some (rule, name) ≡ broken_rule e → out ≡ broken_text (flat_map escaped rule) name → TellsRule e out
+told e {out = out} says t = subst (λ o. MatchOption o ⊥ (λ p. out ≡ broken_text (flat_map escaped p.0) p.1)) says t
 
 pub rules_told : {C : List ℕ → Option Shape} {root out : List ℕ} (e : SchemaContainerValidateError) → RulesFault C root e → TellsRule e out → AnswersCheck C root false out
 rules_told (ZSTSequence m) f t = invalid (string_bytes m) zst_sequence f.0 f.1 refl t

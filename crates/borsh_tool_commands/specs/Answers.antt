@@ -1,26 +1,17 @@
 -- What the commands answer.
-use Rattle.std.specs.Prelude.{◌≡◌, ℕ, ◌^◌, ◌<◌, ◌≤◌, Bool, true, false, List, [], ◌∷◌, ◌++◌, Option, None, codes, decimal, string_bytes}
-use Rattle.borsh_walks.specs.Container.{Shape, Rule, zst_sequence, tag_too_wide, tag_too_narrow, tag_not_power_of_two, missing_definition, empty_length_range, Breaks, IsValid, Reached, SizeReaches, IsRecursive, MaxSize, PartialSize}
+use Rattle.std.specs.Prelude.{◌≡◌, ℕ, ◌^◌, ◌<◌, ◌≤◌, Bool, true, false, List, [], ◌∷◌, ◌++◌, Option, None, MatchOption, codes, decimal, flat_map, string_bytes}
+use Rattle.borsh_walks.specs.Container.{Shape, Rule, Breaks, IsValid, Reached, SizeReaches, IsRecursive, MaxSize, PartialSize}
+use Rattle.borsh_walks.specs.Errors.{broken_rule, rule_name}
 use Rattle.borsh_walks.specs.declared.error.SchemaContainerValidateError.{SchemaContainerValidateError}
-use Rattle.borsh_walks.specs.declared.error.SchemaContainerValidateError.TheVariants.{ZSTSequence, TagTooWide, TagTooNarrow, TagNotPowerOfTwo, MissingDefinition, EmptyLengthRange, OutOfMemory}
 use Rattle.borsh_walks.specs.declared.error.SchemaMaxSerializedSizeError.{SchemaMaxSerializedSizeError}
 use Rattle.borsh_walks.specs.declared.error.SchemaMaxSerializedSizeError.TheVariants.{Overflow, Recursive, MissingDefinition as Missing, OutOfMemory as NoMemory, Redefinition}
-use Rattle.borsh_tool_commands.specs.Plain.{name_text}
+use Rattle.borsh_tool_commands.specs.Plain.{escaped, name_text}
 
 -- a text as a line
 abbrev pub line_of : List ℕ → List ℕ
 line_of text = text ++ (10 ∷ [])
 
 -- ---- `check`
-
--- how a rule is printed
-abbrev pub rule_name : Rule → List ℕ
-rule_name zst_sequence = codes "ZSTSequence"
-rule_name tag_too_wide = codes "TagTooWide"
-rule_name tag_too_narrow = codes "TagTooNarrow"
-rule_name tag_not_power_of_two = codes "TagNotPowerOfTwo"
-rule_name missing_definition = codes "MissingDefinition"
-rule_name empty_length_range = codes "EmptyLengthRange"
 
 -- that a name breaks a rule
 abbrev pub broken_text : List ℕ → List ℕ → List ℕ
@@ -33,13 +24,7 @@ pub data AnswersCheck (C : List ℕ → Option Shape) (root : List ℕ) (yes : B
 
 -- what is printed of an error
 abbrev pub TellsRule : SchemaContainerValidateError → List ℕ → Type 0
-TellsRule (ZSTSequence m) out = out ≡ broken_text (codes "ZSTSequence") (string_bytes m)
-TellsRule (TagTooWide m) out = out ≡ broken_text (codes "TagTooWide") (string_bytes m)
-TellsRule (TagTooNarrow m) out = out ≡ broken_text (codes "TagTooNarrow") (string_bytes m)
-TellsRule (TagNotPowerOfTwo m) out = out ≡ broken_text (codes "TagNotPowerOfTwo") (string_bytes m)
-TellsRule (MissingDefinition m) out = out ≡ broken_text (codes "MissingDefinition") (string_bytes m)
-TellsRule (EmptyLengthRange m) out = out ≡ broken_text (codes "EmptyLengthRange") (string_bytes m)
-TellsRule OutOfMemory out = ⊥
+TellsRule e out = MatchOption (broken_rule e) ⊥ (λ p. out ≡ broken_text (flat_map escaped p.0) p.1)
 
 -- ---- `size`
 

@@ -1,4 +1,5 @@
-// What is asked of a container, and the answer.
+// What is asked of a container, and the answer. Left open of each call: memory; which of several broken rules or causes is
+// reported.
 ghost use Rattle.std.specs.Prelude.{◌≡◌, IfOk, IfErr, Some, true, decimal, flat_map};
 ghost use Rattle.borsh.specs.Errors.{error_kind};
 ghost use Rattle.borsh.specs.Reading.{WhyNotDecoded};
@@ -36,7 +37,7 @@ pub struct Answer {
     pub text: PlainText,
 }
 
-/// The container whose encoding the bytes are.
+/// The container whose encoding the bytes are. Left open: memory.
 pub fn container_from(alloc: Global, bytes: &[u8]) -> Result<BorshSchemaContainer, Error>
     ensures ok { IfOk result (λ c. container_codec.encoding c ≡ Some bytes.now) }
     ensures err { IfErr result (λ e. WhyNotDecoded container_codec true bytes.now (error_kind e)) }
@@ -50,8 +51,7 @@ pub fn answer_to(
     question: Question,
     container: &BorshSchemaContainer,
 ) -> Result<Answer, AllocError>
-    ensures { IfOk result
-        (λ a. AnswersQuestion question container.now a.is_yes (printed a.text)) }
+    ensures { IfOk result (λ a. AnswersQuestion question container.now a.is_yes (printed a.text)) }
 {
     match question {
         Question::Schema => Ok(Answer {
@@ -84,27 +84,15 @@ pub fn check(alloc: Global, container: &BorshSchemaContainer) -> Result<Answer, 
 fn broken_rule(alloc: Global, error: &SchemaContainerValidateError) -> Result<PlainText, AllocError>
     ensures { IfOk result (λ t. TellsRule error.now (printed t)) }
 {
-    match error {
-        SchemaContainerValidateError::ZSTSequence(name) => broken(alloc, "ZSTSequence", name),
-        SchemaContainerValidateError::TagTooWide(name) => broken(alloc, "TagTooWide", name),
-        SchemaContainerValidateError::TagTooNarrow(name) => broken(alloc, "TagTooNarrow", name),
-        SchemaContainerValidateError::TagNotPowerOfTwo(name) => {
-            broken(alloc, "TagNotPowerOfTwo", name)
-        }
-        SchemaContainerValidateError::MissingDefinition(name) => {
-            broken(alloc, "MissingDefinition", name)
-        }
-        SchemaContainerValidateError::EmptyLengthRange(name) => {
-            broken(alloc, "EmptyLengthRange", name)
-        }
-        SchemaContainerValidateError::OutOfMemory => Err(AllocError),
+    match error.broken_rule() {
+        Some((rule, name)) => broken(alloc, rule, name),
+        None => Err(AllocError),
     }
 }
 
 /// `invalid`, the rule and the name, as a line.
 fn broken(alloc: Global, rule: &str, name: &str) -> Result<PlainText, AllocError>
-    ensures { IfOk result
-        (λ t. printed t ≡ broken_text (flat_map escaped rule.now) name.now) }
+    ensures { IfOk result (λ t. printed t ≡ broken_text (flat_map escaped rule.now) name.now) }
 {
     let mut out = PlainText::new(alloc);
     out.push("invalid ")?;
@@ -166,7 +154,7 @@ fn number(alloc: Global, number: usize) -> Result<PlainText, AllocError>
 }
 
 /// A text as a line.
-fn line(alloc: Global, text: &str) -> Result<PlainText, AllocError>
+pub(crate) fn line(alloc: Global, text: &str) -> Result<PlainText, AllocError>
     ensures { IfOk result (λ t. printed t ≡ line_of (flat_map escaped text.now)) }
 {
     let mut out = PlainText::new(alloc);

@@ -18,7 +18,7 @@ pub enum Color {
 }
 
 /// Text of printable ASCII and line feeds, in colours or without any. So whatever names a container has, nothing but the
-/// colours of this module changes how a terminal shows it.
+/// colours of this module changes how a terminal shows it. Left open of each call: memory; the text after an error.
 #[derive(Debug, Drop)]
 pub struct ColoredText {
     is_colored: bool,
@@ -48,8 +48,7 @@ impl ColoredText {
     /// Adds a text in the terminal's own colour. If an allocation fails, nothing is added.
     pub fn push(&mut self, text: &PlainText) -> Result<(), AllocError>
         ensures colored { self.new.is_colored ≡ self.old.is_colored }
-        ensures ok { OnOk result
-            (self.new.text.items ≡ self.old.text.items ++ printed text.now) }
+        ensures ok { OnOk result (self.new.text.items ≡ self.old.text.items ++ printed text.now) }
     {
         self.put(text.as_bytes())
     }

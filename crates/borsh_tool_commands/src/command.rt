@@ -1,4 +1,4 @@
-// The command line.
+// The command line. Left open of each call: everything, which is tested.
 use super::answers::Question;
 use clap::{Arg, ArgAction, ArgMatches, Command};
 use std::alloc::{AllocError, Global};

@@ -1,44 +1,38 @@
 // Definitions as text, one a line.
-ghost use Rattle.std.specs.Prelude.{◌≡◌, ◌++◌, OnOk, IfOk, codes, flat_map, option_map};
+ghost use Rattle.std.specs.Prelude.{◌≡◌, ◌++◌, IfOk, codes, flat_map, option_map};
 ghost use Rattle.borsh_schema.specs.Containers.{map_of};
 ghost use Rattle.borsh_tool_commands.specs.Answers.{line_of, missing_text};
 ghost use Rattle.borsh_tool_commands.specs.Definitions.{braced, definition_text, elements_text, field_text, fields_text, listed, other_text, part_text, parts_text, range_text, root_line, schema_lines, sequence_text, size_text, variant_text};
 ghost use Rattle.borsh_tool_commands.specs.Plain.{name_text};
-ghost use Rattle.borsh_tool_commands.specs.Printed.{printed};
+ghost use Rattle.borsh_tool_commands.specs.Printed.{Adds, printed};
 
-use super::plain_text::PlainText;
+use super::plain_text::{Added, PlainText};
 use borsh::schema::{BorshSchemaContainer, Declaration, Definition, Fields, LengthRange};
 use std::alloc::{AllocError, Global};
 
 /// The definitions of a container, one a line: the root's, and then the others by name. A root without a
-/// definition is `missing` and its name.
+/// definition is `missing` and its name. Left open: memory.
 pub fn schema_text(alloc: Global, container: &BorshSchemaContainer) -> Result<PlainText, AllocError>
     ensures { IfOk result (λ t. printed t ≡ schema_lines container.now) }
 {
     let mut out = PlainText::new(alloc);
     let root = container.declaration().as_str();
-    push_root(alloc, root, container.get_definition(root), &mut out)?;
-    push_others(alloc, root, container, &mut out)?;
+    push_root(root, container.get_definition(root), &mut out)?;
+    push_others(root, container, &mut out)?;
     Ok(out)
 }
 
-fn push_root(
-    alloc: Global,
-    root: &str,
-    definition: Option<&Definition>,
-    out: &mut PlainText,
-) -> Result<(), AllocError>
-    ensures { OnOk result (printed out.new ≡ printed out.old
-        ++ root_line root.now (option_map (λ d. d.now) definition.entry)) }
+fn push_root(root: &str, definition: Option<&Definition>, out: &mut PlainText) -> Added
+    ensures { Adds out.old out.new result (root_line root.now (option_map (λ d. d.now) definition.entry)) }
 {
     match definition {
-        Some(definition) => push_definition(alloc, root, definition, out),
+        Some(definition) => push_definition(root, definition, out),
         None => push_missing(root, out),
     }
 }
 
-fn push_missing(name: &str, out: &mut PlainText) -> Result<(), AllocError>
-    ensures { OnOk result (printed out.new ≡ printed out.old ++ missing_text name.now) }
+fn push_missing(name: &str, out: &mut PlainText) -> Added
+    ensures { Adds out.old out.new result (missing_text name.now) }
 {
     out.push("missing ")?;
     out.push_name(name)?;
@@ -46,160 +40,119 @@ fn push_missing(name: &str, out: &mut PlainText) -> Result<(), AllocError>
 }
 
 /// The definitions of the names other than the root.
-fn push_others(
-    alloc: Global,
-    root: &str,
-    container: &BorshSchemaContainer,
-    out: &mut PlainText,
-) -> Result<(), AllocError>
-    ensures { OnOk result (printed out.new ≡ printed out.old
-        ++ flat_map (other_text root.now) (map_of container.now).entries) }
+fn push_others(root: &str, container: &BorshSchemaContainer, out: &mut PlainText) -> Added
+    ensures { Adds out.old out.new result (flat_map (other_text root.now) (map_of container.now).entries) }
 {
     for (name, definition) in container.definitions() {
-        push_other(alloc, root, name, definition, out)?;
+        push_other(root, name, definition, out)?;
     }
     Ok(())
 }
 
 /// A name and its definition, as a line, or nothing for the root.
 #[tactic(auto, unfolding(crate::specs::Definitions::other_text))]
-fn push_other(
-    alloc: Global,
-    root: &str,
-    name: &Declaration,
-    definition: &Definition,
-    out: &mut PlainText,
-) -> Result<(), AllocError>
-    ensures { OnOk result (printed out.new ≡ printed out.old
-        ++ other_text root.now (name.now, definition.now)) }
+fn push_other(root: &str, name: &Declaration, definition: &Definition, out: &mut PlainText) -> Added
+    ensures { Adds out.old out.new result (other_text root.now (name.now, definition.now)) }
 {
     if name.as_str() == root {
         return Ok(());
     }
-    push_definition(alloc, name.as_str(), definition, out)
+    push_definition(name.as_str(), definition, out)
 }
 
 /// A name and its definition, as a line.
-fn push_definition(
-    alloc: Global,
-    name: &str,
-    definition: &Definition,
-    out: &mut PlainText,
-) -> Result<(), AllocError>
-    ensures { OnOk result (printed out.new ≡ printed out.old
-        ++ line_of (definition_text name.now definition.now)) }
+fn push_definition(name: &str, definition: &Definition, out: &mut PlainText) -> Added
+    ensures { Adds out.old out.new result (line_of (definition_text name.now definition.now)) }
 {
-    push_definition_text(alloc, name, definition, out)?;
+    push_definition_text(name, definition, out)?;
     out.end_line()
 }
 
-fn push_definition_text(
-    alloc: Global,
-    name: &str,
-    definition: &Definition,
-    out: &mut PlainText,
-) -> Result<(), AllocError>
-    ensures { OnOk result (printed out.new ≡ printed out.old
-        ++ definition_text name.now definition.now) }
+fn push_definition_text(name: &str, definition: &Definition, out: &mut PlainText) -> Added
+    ensures { Adds out.old out.new result (definition_text name.now definition.now) }
 {
     match definition {
-        Definition::Primitive(size) => push_primitive(alloc, name, *size, out),
+        Definition::Primitive(size) => push_primitive(name, *size, out),
         Definition::Sequence {
             length_width,
             length_range,
             elements,
-        } => push_sequence(
-            alloc,
-            name,
-            *length_width,
-            length_range,
-            elements.as_str(),
-            out,
-        ),
+        } => push_sequence(name, *length_width, length_range, elements.as_str(), out),
         Definition::Tuple { elements } => push_tuple(name, elements.as_slice(), out),
         Definition::Enum {
             tag_width,
             variants,
-        } => push_enum(alloc, name, *tag_width, variants.as_slice(), out),
+        } => push_enum(name, *tag_width, variants.as_slice(), out),
         Definition::Struct { fields } => push_struct(name, fields, out),
     }
 }
 
 /// `primitive u32 = 4 bytes`
-fn push_primitive(
-    alloc: Global,
-    name: &str,
-    size: u8,
-    out: &mut PlainText,
-) -> Result<(), AllocError>
-    ensures { OnOk result (printed out.new ≡ printed out.old
-        ++ (codes "primitive " ++ (name_text name.now ++ (codes " = " ++ size_text size)))) }
+fn push_primitive(name: &str, size: u8, out: &mut PlainText) -> Added
+    ensures { Adds out.old out.new result
+        (codes "primitive " ++ (name_text name.now ++ (codes " = " ++ size_text size))) }
 {
     out.push("primitive ")?;
     out.push_name(name)?;
     out.push(" = ")?;
-    push_size(alloc, size, out)
+    push_size(size, out)
 }
 
 /// `sequence String = [u8; 0..=4294967295], length in 4 bytes`, or `array "[u8; 4]" = [u8; 4]` where no
 /// length is written.
 fn push_sequence(
-    alloc: Global,
     name: &str,
     length_width: u8,
     length_range: &LengthRange,
     elements: &str,
     out: &mut PlainText,
-) -> Result<(), AllocError>
-    ensures { OnOk result (printed out.new ≡ printed out.old
-        ++ sequence_text name.now length_width length_range.now elements.now) }
+) -> Added
+    ensures { Adds out.old out.new result (sequence_text name.now length_width length_range.now elements.now) }
 {
     if length_width == 0 {
         out.push("array ")?;
-        return push_elements(alloc, name, length_range, elements, out);
+        return push_elements(name, length_range, elements, out);
     }
     out.push("sequence ")?;
-    push_elements(alloc, name, length_range, elements, out)?;
+    push_elements(name, length_range, elements, out)?;
     out.push(", length in ")?;
-    push_size(alloc, length_width, out)
+    push_size(length_width, out)
 }
 
 /// `String = [u8; 0..=4294967295]`
 #[tactic(auto, unfolding(crate::specs::Definitions::elements_text))]
 fn push_elements(
-    alloc: Global,
     name: &str,
     length_range: &LengthRange,
     elements: &str,
     out: &mut PlainText,
-) -> Result<(), AllocError>
-    ensures { OnOk result (printed out.new ≡ printed out.old
-        ++ elements_text name.now length_range.now elements.now) }
+) -> Added
+    ensures { Adds out.old out.new result (elements_text name.now length_range.now elements.now) }
 {
     out.push_name(name)?;
     out.push(" = [")?;
     out.push_name(elements)?;
     out.push("; ")?;
-    push_range(alloc, length_range, out)?;
+    push_range(length_range, out)?;
     out.push("]")
 }
 
 /// `0..=4294967295`, or `4`
-fn push_range(alloc: Global, range: &LengthRange, out: &mut PlainText) -> Result<(), AllocError>
-    ensures { OnOk result (printed out.new ≡ printed out.old ++ range_text range.now) }
+fn push_range(range: &LengthRange, out: &mut PlainText) -> Added
+    ensures { Adds out.old out.new result (range_text range.now) }
 {
-    out.push_number(alloc, range.start)?;
+    out.push_number(range.start)?;
     if range.start == range.end {
         return Ok(());
     }
     out.push("..=")?;
-    out.push_number(alloc, range.end)
+    out.push_number(range.end)
 }
 
 /// `tuple "(u8, u16)" = (u8, u16)`
-fn push_tuple(name: &str, elements: &[Declaration], out: &mut PlainText) -> Result<(), AllocError>
-    ensures { OnOk result (printed out.new ≡ printed out.old
-        ++ (codes "tuple " ++ (name_text name.now ++ (codes " = " ++ parts_text elements.now)))) }
+fn push_tuple(name: &str, elements: &[Declaration], out: &mut PlainText) -> Added
+    ensures { Adds out.old out.new result
+        (codes "tuple " ++ (name_text name.now ++ (codes " = " ++ parts_text elements.now))) }
 {
     out.push("tuple ")?;
     out.push_name(name)?;
@@ -209,84 +162,67 @@ fn push_tuple(name: &str, elements: &[Declaration], out: &mut PlainText) -> Resu
 
 /// `enum "Option<u8>" { None("()") = 0, Some(u8) = 1 }, tag in 1 byte`
 fn push_enum(
-    alloc: Global,
     name: &str,
     tag_width: u8,
     variants: &[(i64, String, Declaration)],
     out: &mut PlainText,
-) -> Result<(), AllocError>
-    ensures { OnOk result (printed out.new ≡ printed out.old
-        ++ (codes "enum " ++ (name_text name.now ++ (braced variant_text variants.now
-        ++ (codes ", tag in " ++ size_text tag_width))))) }
+) -> Added
+    ensures { Adds out.old out.new result
+        (codes "enum " ++ (name_text name.now ++ (braced variant_text variants.now ++ (codes ", tag in " ++ size_text tag_width)))) }
 {
     out.push("enum ")?;
     out.push_name(name)?;
-    push_variants(alloc, variants, out)?;
+    push_variants(variants, out)?;
     out.push(", tag in ")?;
-    push_size(alloc, tag_width, out)
+    push_size(tag_width, out)
 }
 
 /// ` { None("()") = 0, Some(u8) = 1 }`
-fn push_variants(
-    alloc: Global,
-    variants: &[(i64, String, Declaration)],
-    out: &mut PlainText,
-) -> Result<(), AllocError>
-    ensures { OnOk result (printed out.new ≡ printed out.old
-        ++ braced variant_text variants.now) }
+fn push_variants(variants: &[(i64, String, Declaration)], out: &mut PlainText) -> Added
+    ensures { Adds out.old out.new result (braced variant_text variants.now) }
 {
     let [first, others @ ..] = variants else {
         return out.push(" {}");
     };
     out.push(" { ")?;
-    push_variant(alloc, first, out)?;
-    push_other_variants(alloc, others, out)?;
+    push_variant(first, out)?;
+    push_other_variants(others, out)?;
     out.push(" }")
 }
 
-fn push_other_variants(
-    alloc: Global,
-    variants: &[(i64, String, Declaration)],
-    out: &mut PlainText,
-) -> Result<(), AllocError>
-    ensures { OnOk result (printed out.new ≡ printed out.old
-        ++ flat_map (λ v. codes ", " ++ variant_text v) variants.now) }
+fn push_other_variants(variants: &[(i64, String, Declaration)], out: &mut PlainText) -> Added
+    ensures { Adds out.old out.new result (flat_map (λ v. codes ", " ++ variant_text v) variants.now) }
 {
     for variant in variants {
         out.push(", ")?;
-        push_variant(alloc, variant, out)?;
+        push_variant(variant, out)?;
     }
     Ok(())
 }
 
 /// `Some(u8) = 1`
-fn push_variant(
-    alloc: Global,
-    variant: &(i64, String, Declaration),
-    out: &mut PlainText,
-) -> Result<(), AllocError>
-    ensures { OnOk result (printed out.new ≡ printed out.old ++ variant_text variant.now) }
+fn push_variant(variant: &(i64, String, Declaration), out: &mut PlainText) -> Added
+    ensures { Adds out.old out.new result (variant_text variant.now) }
 {
     let (tag, name, part) = variant;
     out.push_name(name.as_str())?;
     out.push("(")?;
     out.push_name(part.as_str())?;
     out.push(") = ")?;
-    out.push_signed(alloc, tag)
+    out.push_signed(tag)
 }
 
 /// `struct A { x: u64, y: String }`, `struct B(u64, String)` or `struct C`
-fn push_struct(name: &str, fields: &Fields, out: &mut PlainText) -> Result<(), AllocError>
-    ensures { OnOk result (printed out.new ≡ printed out.old
-        ++ (codes "struct " ++ (name_text name.now ++ fields_text fields.now))) }
+fn push_struct(name: &str, fields: &Fields, out: &mut PlainText) -> Added
+    ensures { Adds out.old out.new result (codes "struct " ++ (name_text name.now ++ fields_text fields.now)) }
 {
     out.push("struct ")?;
     out.push_name(name)?;
     push_fields(fields, out)
 }
 
-fn push_fields(fields: &Fields, out: &mut PlainText) -> Result<(), AllocError>
-    ensures { OnOk result (printed out.new ≡ printed out.old ++ fields_text fields.now) }
+fn push_fields(fields: &Fields, out: &mut PlainText) -> Added
+    ensures { Adds out.old out.new result (fields_text fields.now) }
 {
     match fields {
         Fields::NamedFields(fields) => push_named(fields.as_slice(), out),
@@ -296,9 +232,8 @@ fn push_fields(fields: &Fields, out: &mut PlainText) -> Result<(), AllocError>
 }
 
 /// ` { x: u64, y: String }`
-fn push_named(fields: &[(String, Declaration)], out: &mut PlainText) -> Result<(), AllocError>
-    ensures { OnOk result (printed out.new ≡ printed out.old
-        ++ braced field_text fields.now) }
+fn push_named(fields: &[(String, Declaration)], out: &mut PlainText) -> Added
+    ensures { Adds out.old out.new result (braced field_text fields.now) }
 {
     let [first, others @ ..] = fields else {
         return out.push(" {}");
@@ -309,12 +244,8 @@ fn push_named(fields: &[(String, Declaration)], out: &mut PlainText) -> Result<(
     out.push(" }")
 }
 
-fn push_other_fields(
-    fields: &[(String, Declaration)],
-    out: &mut PlainText,
-) -> Result<(), AllocError>
-    ensures { OnOk result (printed out.new ≡ printed out.old
-        ++ flat_map (λ f. codes ", " ++ field_text f) fields.now) }
+fn push_other_fields(fields: &[(String, Declaration)], out: &mut PlainText) -> Added
+    ensures { Adds out.old out.new result (flat_map (λ f. codes ", " ++ field_text f) fields.now) }
 {
     for field in fields {
         out.push(", ")?;
@@ -324,8 +255,8 @@ fn push_other_fields(
 }
 
 /// `x: u64`
-fn push_field(field: &(String, Declaration), out: &mut PlainText) -> Result<(), AllocError>
-    ensures { OnOk result (printed out.new ≡ printed out.old ++ field_text field.now) }
+fn push_field(field: &(String, Declaration), out: &mut PlainText) -> Added
+    ensures { Adds out.old out.new result (field_text field.now) }
 {
     let (name, part) = field;
     out.push_name(name.as_str())?;
@@ -334,17 +265,16 @@ fn push_field(field: &(String, Declaration), out: &mut PlainText) -> Result<(), 
 }
 
 /// `(u64, String)`
-fn push_parts(parts: &[Declaration], out: &mut PlainText) -> Result<(), AllocError>
-    ensures { OnOk result (printed out.new ≡ printed out.old ++ parts_text parts.now) }
+fn push_parts(parts: &[Declaration], out: &mut PlainText) -> Added
+    ensures { Adds out.old out.new result (parts_text parts.now) }
 {
     out.push("(")?;
     push_listed_parts(parts, out)?;
     out.push(")")
 }
 
-fn push_listed_parts(parts: &[Declaration], out: &mut PlainText) -> Result<(), AllocError>
-    ensures { OnOk result (printed out.new ≡ printed out.old
-        ++ listed part_text parts.now) }
+fn push_listed_parts(parts: &[Declaration], out: &mut PlainText) -> Added
+    ensures { Adds out.old out.new result (listed part_text parts.now) }
 {
     let [first, others @ ..] = parts else {
         return Ok(());
@@ -353,9 +283,8 @@ fn push_listed_parts(parts: &[Declaration], out: &mut PlainText) -> Result<(), A
     push_other_parts(others, out)
 }
 
-fn push_other_parts(parts: &[Declaration], out: &mut PlainText) -> Result<(), AllocError>
-    ensures { OnOk result (printed out.new ≡ printed out.old
-        ++ flat_map (λ p. codes ", " ++ part_text p) parts.now) }
+fn push_other_parts(parts: &[Declaration], out: &mut PlainText) -> Added
+    ensures { Adds out.old out.new result (flat_map (λ p. codes ", " ++ part_text p) parts.now) }
 {
     for part in parts {
         out.push(", ")?;
@@ -365,10 +294,10 @@ fn push_other_parts(parts: &[Declaration], out: &mut PlainText) -> Result<(), Al
 }
 
 /// `1 byte` or `4 bytes`
-fn push_size(alloc: Global, size: u8, out: &mut PlainText) -> Result<(), AllocError>
-    ensures { OnOk result (printed out.new ≡ printed out.old ++ size_text size) }
+fn push_size(size: u8, out: &mut PlainText) -> Added
+    ensures { Adds out.old out.new result (size_text size) }
 {
-    out.push_number(alloc, u64::from(size))?;
+    out.push_number(u64::from(size))?;
     if size == 1 {
         out.push(" byte")
     } else {

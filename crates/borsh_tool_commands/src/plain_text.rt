@@ -7,8 +7,11 @@ ghost use Rattle.std.specs.List.{list_all};
 use std::alloc::{AllocError, Global};
 use std::{fmt, str};
 
+/// What adding to a text returns.
+pub type Added = Result<(), AllocError>;
+
 /// Text of printable ASCII and line feeds. So nothing in it can move a terminal's cursor, change its
-/// colours or hide what follows, whatever names a container has.
+/// colours or hide what follows, whatever names a container has. Left open of each call: memory; the text after an error.
 #[derive(Debug, Drop)]
 pub struct PlainText {
     text: Vec<u8>,
@@ -34,9 +37,8 @@ impl PlainText {
     }
 
     /// Adds a text, in which printable ASCII appears as it is, and any other byte as `\x` and two digits.
-    pub fn push(&mut self, text: &str) -> Result<(), AllocError>
-        ensures { OnOk result
-            (self.new.text.items ≡ self.old.text.items ++ flat_map escaped text.now) }
+    pub fn push(&mut self, text: &str) -> Added
+        ensures { OnOk result (self.new.text.items ≡ self.old.text.items ++ flat_map escaped text.now) }
     {
         for byte in text.as_bytes() {
             self.push_byte(*byte)?;
@@ -45,25 +47,27 @@ impl PlainText {
     }
 
     /// Adds a number in decimal.
-    pub fn push_number(&mut self, alloc: Global, number: u64) -> Result<(), AllocError>
+    pub fn push_number(&mut self, number: u64) -> Added
         ensures { OnOk result (self.new.text.items ≡ self.old.text.items ++ decimal number) }
     {
+        let alloc = *self.text.allocator();
         let text = format!(in alloc; "{number}")?;
         self.push(text.as_str())
     }
 
-    /// The same of a number with a sign.
-    pub fn push_signed(&mut self, alloc: Global, number: &i64) -> Result<(), AllocError>
+    /// Adds a signed number in decimal.
+    pub fn push_signed(&mut self, number: &i64) -> Added
         ensures { OnOk result (self.new.text.items
             ≡ self.old.text.items ++ flat_map escaped (signed_decimal number.now)) }
     {
+        let alloc = *self.text.allocator();
         let text = format!(in alloc; "{number}")?;
         self.push(text.as_str())
     }
 
     /// Adds a name: an identifier as it is, and any other name in quotation marks, with a backslash
     /// before each quotation mark and backslash in it.
-    pub fn push_name(&mut self, name: &str) -> Result<(), AllocError>
+    pub fn push_name(&mut self, name: &str) -> Added
         ensures { OnOk result (self.new.text.items ≡ self.old.text.items ++ name_text name.now) }
     {
         if is_identifier(name) {
@@ -74,16 +78,18 @@ impl PlainText {
         self.put(b'"')
     }
 
-    /// Adds JSON, in which a character that isn't printable ASCII, but for line feeds, appears as `\u` and four digits, or
+    /// Adds JSON. Left open: memory; any text: tested.
+    ///
+    /// A character that isn't printable ASCII, but for line feeds, appears as `\u` and four digits, or
     /// as two of these. Only strings of JSON have such characters, and the texts say the same.
-    pub fn push_json(&mut self, json: &str) -> Result<(), AllocError> {
+    pub fn push_json(&mut self, json: &str) -> Added {
         for character in json.chars() {
             self.push_character(character)?;
         }
         Ok(())
     }
 
-    fn push_character(&mut self, character: char) -> Result<(), AllocError> {
+    fn push_character(&mut self, character: char) -> Added {
         let number = u32::from(character);
         if number == 10 {
             return self.end_line();
@@ -99,7 +105,7 @@ impl PlainText {
     }
 
     /// `\u` and four digits.
-    fn push_unit(&mut self, unit: u32) -> Result<(), AllocError> {
+    fn push_unit(&mut self, unit: u32) -> Added {
         self.put(b'\\')?;
         self.put(b'u')?;
         self.put(digit((unit / 4096 % 16) as u8))?;
@@ -109,9 +115,8 @@ impl PlainText {
     }
 
     /// Adds the bytes of a name that is in quotation marks.
-    fn push_quoted(&mut self, name: &[u8]) -> Result<(), AllocError>
-        ensures { OnOk result
-            (self.new.text.items ≡ self.old.text.items ++ flat_map quoted name.now) }
+    fn push_quoted(&mut self, name: &[u8]) -> Added
+        ensures { OnOk result (self.new.text.items ≡ self.old.text.items ++ flat_map quoted name.now) }
     {
         for byte in name {
             if *byte == b'"' || *byte == b'\\' {
@@ -123,14 +128,14 @@ impl PlainText {
     }
 
     /// Ends the line.
-    pub fn end_line(&mut self) -> Result<(), AllocError>
+    pub fn end_line(&mut self) -> Added
         ensures { OnOk result (self.new.text.items ≡ self.old.text.items ++ (10 ∷ [])) }
     {
         self.put(b'\n')
     }
 
     /// Adds a byte of a text.
-    fn push_byte(&mut self, byte: u8) -> Result<(), AllocError>
+    fn push_byte(&mut self, byte: u8) -> Added
         ensures { OnOk result (self.new.text.items ≡ self.old.text.items ++ escaped byte) }
     {
         if 32 <= byte && byte < 127 {
@@ -143,7 +148,7 @@ impl PlainText {
     }
 
     /// Adds a byte as it is.
-    fn put(&mut self, byte: u8) -> Result<(), AllocError>
+    fn put(&mut self, byte: u8) -> Added
         requires { IsPlain byte }
         ensures { OnOk result (self.new.text.items ≡ self.old.text.items ++ (byte ∷ [])) }
     {

@@ -25,7 +25,8 @@ use std::{env, fs, io};
 /// The answer goes to standard output, and what is wrong to standard error, as one line.
 ///
 /// `is_terminal` is whether standard output is a terminal: then `show` has colours, unless `--plain` is
-/// among the words or the variable `NO_COLOR` is set and isn't empty.
+/// among the words or the variable `NO_COLOR` is set and isn't empty. Left open: everything, which is
+/// tested.
 ///
 /// ```
 /// let words: Vec<String> = env::args(&rt)?.collect(rt.alloc())?;
@@ -106,7 +107,7 @@ fn perform<'a, R: Files + Env + Input + Print + AllocGlobal>(
     Ok(is_yes)
 }
 
-/// The same of a request about a value.
+/// Does a request about a value.
 fn perform_on_value<'a, R: Files + Env + Input + Print + AllocGlobal>(
     rt: &R,
     request: &ValueRequest<'a>,
@@ -231,7 +232,8 @@ fn print_bytes<'a, R: Print + AllocGlobal>(rt: &R, bytes: &[u8]) -> Result<(), F
 
 /// The answer to a request about the container whose encoding the bytes are.
 ///
-/// Returns `NotContainer` with the request's path if they are none, and `OutOfMemory` if an allocation fails.
+/// Returns `NotContainer` with the request's path if they are none, and `OutOfMemory` if an allocation fails. Left open: as
+/// of [`answer_to`].
 ///
 /// ```
 /// let answer = answer_about(alloc, &request, bytes.as_slice())?;
@@ -242,8 +244,7 @@ pub fn answer_about<'a>(
     request: &Request<'a>,
     bytes: &[u8],
 ) -> Result<Answer, Failure<'a>>
-    ensures ok { IfOk result (λ a. AnswersRequest request.now.question bytes.now
-        a.is_yes (printed a.text)) }
+    ensures ok { IfOk result (λ a. AnswersRequest request.now.question bytes.now a.is_yes (printed a.text)) }
     ensures err { IfErr result (IsNoContainer request.now.path.now bytes.now) }
 {
     match container_from(alloc, bytes) {

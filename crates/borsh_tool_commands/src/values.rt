@@ -10,7 +10,7 @@ ghost use Rattle.borsh_json.specs.declared.error.JsonError.TheVariants.{OutOfMem
 ghost use Rattle.borsh_walks.specs.Container.{Member};
 ghost use Rattle.borsh_walks.specs.Definitions.{definitions_in};
 
-use super::answers::Answer;
+use super::answers::{Answer, line};
 use super::colors::{Color, ColoredText};
 use super::failure::Failure;
 use super::plain_text::PlainText;
@@ -33,7 +33,7 @@ pub struct Schema {
 
 /// The container whose encoding the bytes are.
 ///
-/// Returns `NotContainer` with the path if they are none, and `OutOfMemory` if an allocation fails.
+/// Returns `NotContainer` with the path if they are none, and `OutOfMemory` if an allocation fails. Left open: memory.
 ///
 /// ```
 /// let schema = schema_from(alloc, "readme.borsh", bytes.as_slice())?;
@@ -52,7 +52,7 @@ pub fn schema_from<'a>(alloc: Global, path: &'a str, bytes: &[u8]) -> Result<Sch
 
 /// The container whose encoding is in front of other bytes, and these.
 ///
-/// The errors are those of [`schema_from`].
+/// The errors are those of [`schema_from`]. Left open: as there.
 ///
 /// ```
 /// let (schema, value) = schema_in_front(alloc, "sent.borsh", bytes.as_slice())?;
@@ -74,7 +74,8 @@ pub fn schema_in_front<'a, 'b>(
     }
 }
 
-/// The encoding of a container, and behind it the bytes of a value. Returns `OutOfMemory` if an allocation fails.
+/// The encoding of a container, and behind it the bytes of a value. Returns `OutOfMemory` if an allocation fails. Left open:
+/// memory.
 ///
 /// ```
 /// let sent = with_schema(alloc, &schema, value)?;
@@ -92,7 +93,7 @@ pub fn with_schema(alloc: Global, schema: &Schema, value: &[u8]) -> Result<Vec<u
     Ok(sent)
 }
 
-/// The container of containers.
+/// The container of containers. Returns `OutOfMemory` if an allocation fails. Left open: memory; any container: tested.
 pub fn own_schema<'a>(alloc: Global) -> Result<Schema, Failure<'a>>
     ensures { IfErr result IsNoMemory }
 {
@@ -108,7 +109,8 @@ pub fn own_schema<'a>(alloc: Global) -> Result<Schema, Failure<'a>>
 /// The container whose encoding the bytes are as JSON, and a line feed: what [`json_text`] says of them by the
 /// container of containers, and what [`bytes_said`] makes a container of.
 ///
-/// The errors are those of [`schema_from`].
+/// The errors are those of [`schema_from`]. Determined: after `Ok` the bytes are the encoding of a container; `NotContainer`
+/// exactly if they are that of none. Left open: memory; `NotValue` for any container; any text: tested.
 ///
 /// ```
 /// let text = schema_json(alloc, "readme.borsh", bytes.as_slice())?;
@@ -137,7 +139,8 @@ pub(crate) fn no_container<'a>(path: &'a str, error: Error) -> Failure<'a>
 /// The value that the bytes are as JSON, and a line feed.
 ///
 /// Returns `NotValue` with the path and the reason if the bytes are no value of the root or one without JSON, and
-/// `OutOfMemory` if an allocation fails.
+/// `OutOfMemory` if an allocation fails. Determined: after `Ok` the bytes are a member of the root; `NotValue` only where
+/// [`to_json`] may return an error. Left open: as of [`to_json`]; any text: tested.
 ///
 /// ```
 /// let text = json_text(alloc, &schema, "value.borsh", bytes.as_slice(), Style::COMPACT)?;
@@ -174,7 +177,8 @@ pub fn json_text<'a>(
 /// The bytes of the value that JSON says.
 ///
 /// Returns `NotText` if the JSON isn't UTF-8, `NotValue` with the path and the reason if it says no value of the root,
-/// and `OutOfMemory` if an allocation fails.
+/// and `OutOfMemory` if an allocation fails. Determined: after `Ok` the bytes are a member of the root; `NotText` exactly
+/// if the JSON isn't UTF-8; `NotValue` only where [`from_json`] may return an error. Left open: as of [`from_json`].
 ///
 /// ```
 /// let bytes = bytes_said(alloc, &schema, "value.json", b"{\"x\": 12}".as_slice())?;
@@ -201,7 +205,9 @@ pub fn bytes_said<'a>(
 
 /// `member`, or `no member`, where the bytes stop being one, and why.
 ///
-/// Returns `NotValue` if the container is ambiguous, and `OutOfMemory` if an allocation fails.
+/// Returns `NotValue` if the container is ambiguous, and `OutOfMemory` if an allocation fails. Determined: after `Ok`
+/// whether the answer is yes, exactly; `NotValue` only if a definition is ambiguous or breaks a rule of widths. Left open:
+/// memory; the text; `NotValue` in place of yes or no for such definitions.
 ///
 /// ```
 /// assert!(rt; member(alloc, &schema, "value.borsh", bytes.as_slice())?.is_yes);
@@ -220,8 +226,8 @@ pub fn member<'a>(
     match is_member(alloc, schema.root.as_str(), &schema.definitions, bytes)? {
         Membership::Member => Ok(yes(alloc)?),
         Membership::NoMember(fault) => {
-            let why = format!(in alloc; "{fault}")?;
-            Ok(no(alloc, "no member: ", why.as_str())?)
+            let why = format!(in alloc; "no member: {fault}")?;
+            Ok(no(alloc, why.as_str())?)
         }
         Membership::Ambiguous(name) => Err(no_value(alloc, path, JsonError::Ambiguous(name))),
     }
@@ -229,7 +235,8 @@ pub fn member<'a>(
 
 /// `member`, or `no member`, or `not canonical` if the type refuses the bytes as far as names tell, and why.
 ///
-/// Returns `NotValue` if the container is ambiguous, and `OutOfMemory` if an allocation fails.
+/// Returns `NotValue` if the container is ambiguous, and `OutOfMemory` if an allocation fails. Determined: after yes the
+/// bytes are a member of the root; `NotValue` as of [`member`]. Left open: memory; no for any member; the text: tested.
 ///
 /// ```
 /// assert!(rt; !strict_member(alloc, &schema, "value.borsh", b"\x02")?.is_yes);
@@ -248,12 +255,12 @@ pub fn strict_member<'a>(
     match check_strict(alloc, schema.root.as_str(), &schema.definitions, bytes) {
         Ok(()) => Ok(yes(alloc)?),
         Err(JsonError::NoMember(fault)) => {
-            let why = format!(in alloc; "{fault}")?;
-            Ok(no(alloc, "no member: ", why.as_str())?)
+            let why = format!(in alloc; "no member: {fault}")?;
+            Ok(no(alloc, why.as_str())?)
         }
         Err(JsonError::Refused(part, refusal)) => {
-            let why = format!(in alloc; "{part}: {refusal}")?;
-            Ok(no(alloc, "not canonical: ", why.as_str())?)
+            let why = format!(in alloc; "not canonical: {part}: {refusal}")?;
+            Ok(no(alloc, why.as_str())?)
         }
         Err(error) => Err(no_value(alloc, path, error)),
     }
@@ -262,19 +269,14 @@ pub fn strict_member<'a>(
 fn yes(alloc: Global) -> Result<Answer, AllocError>
     ensures { IfOk result (λ a. a.is_yes ≡ true) }
 {
-    let mut text = PlainText::new(alloc);
-    text.push("member")?;
-    text.end_line()?;
+    let text = line(alloc, "member")?;
     Ok(Answer { is_yes: true, text })
 }
 
-fn no(alloc: Global, what: &str, why: &str) -> Result<Answer, AllocError>
+fn no(alloc: Global, why: &str) -> Result<Answer, AllocError>
     ensures { IfOk result (λ a. a.is_yes ≡ false) }
 {
-    let mut text = PlainText::new(alloc);
-    text.push(what)?;
-    text.push(why)?;
-    text.end_line()?;
+    let text = line(alloc, why)?;
     Ok(Answer {
         is_yes: false,
         text,
@@ -284,7 +286,8 @@ fn no(alloc: Global, what: &str, why: &str) -> Result<Answer, AllocError>
 /// What each byte of the value is, one line for each number, text, count and tag; in colours if `is_colored` is true.
 ///
 /// Returns `NotValue` with the path and the reason if the bytes are no value of the root, and `OutOfMemory` if an
-/// allocation fails.
+/// allocation fails. Determined: after `Ok` the bytes are a member of the root, and the text has no colours unless they are
+/// asked for; `NotValue` only where [`rows_of`] may return an error. Left open: as of [`rows_of`]; any text: tested.
 ///
 /// ```
 /// let text = shown(alloc, &schema, "value.borsh", bytes.as_slice(), false)?;
@@ -361,13 +364,10 @@ fn plain(alloc: Global, text: &str) -> Result<PlainText, AllocError> {
     Ok(out)
 }
 
-/// Bytes as hexadecimal digits, and a line feed.
+/// Bytes as hexadecimal digits, and a line feed. Left open: memory; any text: tested.
 pub fn hex_line(alloc: Global, bytes: &[u8]) -> Result<PlainText, AllocError> {
     let digits = hex::encode(alloc, bytes)?;
-    let mut out = PlainText::new(alloc);
-    out.push(digits.as_str())?;
-    out.end_line()?;
-    Ok(out)
+    line(alloc, digits.as_str())
 }
 
 fn no_value<'a>(alloc: Global, path: &'a str, error: JsonError<'_>) -> Failure<'a>

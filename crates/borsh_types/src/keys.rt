@@ -7,8 +7,9 @@ ghost use Rattle.borsh_codec.specs.Shapes.{pair};
 ghost use Rattle.borsh_codec.specs.Types.Addresses.{ip, socket_v4_view};
 ghost use Rattle.std.specs.contracts.net.ip_addr.IpAddrOrd.TheImpl.Laws.{total-law as ip-total, matches_eq-law as ip-matches};
 ghost use Rattle.std.proofs.Common.{refl};
+ghost use Rattle.std.specs.Arc.{arc_slice_items, arc_str_bytes};
 ghost use Rattle.std.specs.Box.{boxed_slice_items, boxed_str_bytes};
-ghost use Rattle.std.specs.Cow.{cow_slice_items, cow_str_bytes};
+ghost use Rattle.std.specs.Cow.{cow_slice_items, cow_str_bytes, cow_value};
 ghost use Rattle.std.specs.Int.NonZero.{non_zero_u8_get, non_zero_u16_get, non_zero_u32_get, non_zero_u64_get, non_zero_u128_get, non_zero_usize_get, non_zero_i8_get, non_zero_i16_get, non_zero_i32_get, non_zero_i64_get, non_zero_i128_get};
 ghost use Rattle.std.specs.Net.Addr.{ipv4_octets};
 ghost use Rattle.std.specs.Rc.{rc_slice_items, rc_str_bytes};
@@ -16,7 +17,7 @@ ghost use Rattle.std.specs.String.{string_bytes};
 
 use super::types::BorshType;
 use bytes::{Bytes, BytesMut};
-use std::borrow::{CowSlice, CowStr};
+use std::borrow::{Cow, CowSlice, CowStr};
 use std::boxed::{BoxedSlice, BoxedStr};
 use std::collections::{BTreeMap, BTreeSet, LinkedList, VecDeque};
 use std::marker::PhantomData;
@@ -27,6 +28,7 @@ use std::num::{
 };
 use std::ops::{Range, RangeFrom, RangeFull, RangeTo, RangeToInclusive};
 use std::rc::{Rc, RcSlice, RcStr};
+use std::sync::{Arc, ArcSlice, ArcStr};
 use uuid::Uuid;
 
 /// A type whose values can be keys of a map or elements of a set.
@@ -231,6 +233,12 @@ impl BorshKey for RcStr {
     ghost key = { Self.ordered.key };
 }
 
+impl BorshKey for ArcStr {
+    ghost ordered = { contramap_ordered arc_str_bytes text_ordered };
+
+    ghost key = { Self.ordered.key };
+}
+
 impl BorshKey for CowStr<'_> {
     ghost ordered = { contramap_ordered cow_str_bytes text_ordered };
 
@@ -253,6 +261,18 @@ impl<T: BorshKey> BorshKey for Rc<T> {
     ghost ordered = { contramap_ordered (λ b. b.value) (allocated_ordered T.ordered) };
 
     ghost key = { λ a b. T.key a.value b.value };
+}
+
+impl<T: BorshKey> BorshKey for Arc<T> {
+    ghost ordered = { contramap_ordered (λ b. b.value) (allocated_ordered T.ordered) };
+
+    ghost key = { λ a b. T.key a.value b.value };
+}
+
+impl<T: BorshKey> BorshKey for Cow<'_, T> {
+    ghost ordered = { contramap_ordered cow_value T.ordered };
+
+    ghost key = { λ a b. T.key (cow_value a) (cow_value b) };
 }
 
 impl<T: BorshKey> BorshKey for Range<T> {
@@ -505,6 +525,12 @@ impl<T: BorshKey> BorshKey for RcSlice<T> {
     ghost ordered = { contramap_ordered rc_slice_items (list_ordered T.ordered) };
 
     ghost key = { λ a b. all_key T.codec T.key (rc_slice_items a) (rc_slice_items b) };
+}
+
+impl<T: BorshKey> BorshKey for ArcSlice<T> {
+    ghost ordered = { contramap_ordered arc_slice_items (list_ordered T.ordered) };
+
+    ghost key = { λ a b. all_key T.codec T.key (arc_slice_items a) (arc_slice_items b) };
 }
 
 impl<T: BorshKey> BorshKey for CowSlice<'_, T> {

@@ -3,6 +3,7 @@
 
 pub mod addresses;
 pub mod arrays;
+pub mod floats;
 pub mod keys;
 pub mod kit_types;
 pub mod lists;
@@ -18,4 +19,4 @@ pub mod types;
 pub mod units;
 
 pub use keys::BorshKey;
-pub use types::BorshType;
+pub use types::{BorshType, refuse_empty};

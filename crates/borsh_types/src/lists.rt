@@ -1,4 +1,5 @@
 // Lists: a count of four bytes and the elements in order.
+ghost use Rattle.std.specs.Arc.{arc_slice_items};
 ghost use Rattle.std.specs.Box.{boxed_slice_items};
 ghost use Rattle.std.specs.Rc.{rc_slice_items};
 ghost use Rattle.std.specs.Cow.{cow_slice_items};
@@ -12,6 +13,7 @@ use std::borrow::CowSlice;
 use std::boxed::BoxedSlice;
 use std::collections::{LinkedList, VecDeque};
 use std::rc::RcSlice;
+use std::sync::ArcSlice;
 
 impl<T: BorshType> BorshType for Vec<T> {
     ghost codec = { contramap (λ v. v.items) (list T.codec) };
@@ -81,6 +83,22 @@ impl<T: BorshType> BorshType for RcSlice<T> {
     ghost codec = { contramap rc_slice_items (list T.codec) };
 
     ghost lawful_if = { from (λ l. contramap-lawful rc_slice_items (list-lawful l)) T.lawful_if };
+
+    ghost premises = { T.premises };
+
+    fn encodes_empty() -> bool {
+        false
+    }
+
+    fn element_size() -> usize {
+        16
+    }
+}
+
+impl<T: BorshType> BorshType for ArcSlice<T> {
+    ghost codec = { contramap arc_slice_items (list T.codec) };
+
+    ghost lawful_if = { from (λ l. contramap-lawful arc_slice_items (list-lawful l)) T.lawful_if };
 
     ghost premises = { T.premises };
 

@@ -1,5 +1,6 @@
 // Texts: a count of four bytes and the bytes of the characters, in UTF-8.
 ghost use Rattle.std.specs.Prelude.{◌≡◌};
+ghost use Rattle.std.specs.Arc.{arc_str_bytes};
 ghost use Rattle.std.specs.Box.{boxed_str_bytes};
 ghost use Rattle.std.specs.Cow.{cow_str_bytes};
 ghost use Rattle.std.specs.Rc.{rc_str_bytes};
@@ -14,6 +15,7 @@ use super::types::BorshType;
 use std::borrow::CowStr;
 use std::boxed::BoxedStr;
 use std::rc::RcStr;
+use std::sync::ArcStr;
 
 impl BorshType for String {
     ghost codec = { contramap string_bytes text };
@@ -69,6 +71,22 @@ impl BorshType for RcStr {
     ghost codec = { contramap rc_str_bytes text };
 
     ghost lawful_if = { always (contramap-lawful rc_str_bytes text-lawful) };
+
+    ghost premises = { tt };
+
+    fn encodes_empty() -> bool {
+        false
+    }
+
+    fn element_size() -> usize {
+        16
+    }
+}
+
+impl BorshType for ArcStr {
+    ghost codec = { contramap arc_str_bytes text };
+
+    ghost lawful_if = { always (contramap-lawful arc_str_bytes text-lawful) };
 
     ghost premises = { tt };
 

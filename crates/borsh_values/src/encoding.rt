@@ -27,6 +27,7 @@ fn is_same(a: &Node<'_>, b: &Node<'_>) -> bool
 fn are_same(a: &[Node<'_>], b: &[Node<'_>]) -> bool
     ensures { Decides result (names_and_bytes (views a.now) ≡ names_and_bytes (views b.now)) }
 {
+    // For the prover: `index` is at most this length.
     let _nodes = a.len();
     let mut index: usize = 0;
     while let Some(node) = node_at(a, index) {
@@ -68,7 +69,7 @@ fn have_nodes(
 ///
 /// Where the definitions that are reached are valid and unambiguous, there is no such value if the answer is none;
 /// otherwise none may also say that the definitions don't determine the nodes. The definitions that the nodes have
-/// aren't looked at. The only error is that an allocation failed.
+/// aren't looked at. The only error is that an allocation failed. Left open: memory; none, for other definitions.
 ///
 /// ```
 /// if let Some(bytes) = encode_value(alloc, "Vec<u8>", &definitions, nodes.as_slice())? {

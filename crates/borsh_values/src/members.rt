@@ -122,7 +122,8 @@ fn at_end<'a>(alloc: Global, root: &'a str, bytes: &[u8], left: &[u8]) -> Member
 /// to itself before any byte. If they are no member, the answer says where: no member of [`Fault::name`] begins at
 /// [`Fault::offset`], or bytes are left behind a whole value. The answer is never [`Membership::Ambiguous`] where the
 /// definitions that are reached are valid, as [`borsh_walks::check_rules`] says, and unambiguous. The only
-/// error is that an allocation failed.
+/// error is that an allocation failed. Left open: memory; for other definitions `Ambiguous` in place of yes or no; which
+/// of several faults is answered, its path, and the reason `BytesLeft` where no whole value ends: tested.
 ///
 /// ```
 /// match is_member(alloc, "Vec<u8>", &definitions, b"\x01\x00\x00\x00\x07")? {
@@ -144,7 +145,7 @@ pub fn is_member<'a>(
 }
 
 /// As [`is_member`], and adds to `opened` how many definitions were opened: at most `(n + 1) * (d + 1)` for `n` bytes and
-/// `d` definitions. At its greatest value the count stays.
+/// `d` definitions. At its greatest value the count stays. Left open: as there; a count that isn't raised.
 ///
 /// ```
 /// let mut opened = 0;
@@ -183,8 +184,9 @@ pub enum Decoded<'a> {
 ///
 /// The definitions may be any, as for [`is_member`], and the answer is of the same kind. Where they are
 /// unambiguous, as [`crate::find_ambiguous`] says, the bytes have these nodes and no others. The own bytes of all
-/// nodes, one after another, are `bytes`, and each node says where its own begin. The only error is
-/// that an allocation failed.
+/// nodes, one after another, are `bytes`, and each node says where its own begin. There are at most `(n + 1) * (d + 1)` for
+/// `n` bytes and `d` definitions. The only error is that an allocation failed. Left open: as of [`is_member`]; the names of
+/// fields and variants in a node's definition; its depth, which is tested.
 ///
 /// ```
 /// if let Decoded::Nodes(nodes) = decode(alloc, "Vec<u8>", &definitions, bytes)? {
@@ -247,6 +249,7 @@ fn decide<'a>(
     let mut table: BTreeMap<&'a str, Mark> = BTreeMap::new(alloc);
     let mut tags: BTreeMap<&'a str, BTreeMap<u64, AtKey>> = BTreeMap::new(alloc);
     let mut stack: Vec<Frame<'a>> = Vec::new(alloc);
+    // For the prover: the loop ends after at most so many definitions.
     let _definitions = map.len();
     let asked = Question {
         alloc,

@@ -28,7 +28,8 @@ pub struct Node<'a> {
     pub depth: usize,
 }
 
-/// The index of the variant that a node of an enum encodes; none for a node of another kind.
+/// The index of the variant that a node of an enum encodes; none for a node of another kind. Left open: which of several
+/// variants with one tag.
 ///
 /// ```
 /// let name = match (node.definition, variant_of(&node)) {
@@ -46,7 +47,7 @@ pub fn variant_of(node: &Node<'_>) -> Option<usize>
 }
 
 /// How many elements the sequence has whose node this is; none for a node of another kind, and where the count has more
-/// than eight bytes, which no valid container allows.
+/// than eight bytes, which no valid container allows, or more than the node. Left open: none.
 ///
 /// ```
 /// // the node of `Vec<u8>` in 01 00 00 00 07
@@ -74,7 +75,7 @@ pub fn count_of(node: &Node<'_>) -> Option<u64>
 }
 
 /// The bytes of the elements that are in the node of their sequence, those behind its count; all own bytes of a node
-/// of another kind.
+/// of another kind. Left open: none.
 ///
 /// ```
 /// // the node of `Vec<u8>` in 01 00 00 00 07
@@ -114,11 +115,7 @@ pub fn list_node<'a>(
         return Ok(());
     }
     if node.bytes.is_empty() {
-        let mut counts = Expansions {
-            size: 0,
-            zero: 0,
-            rules: 0,
-        };
+        let mut counts = Expansions::NONE;
         let mut counted = Counted::new(map, &mut counts);
         if is_zero(alloc, node.name, zeros, &mut counted)? {
             return Ok(());
@@ -131,7 +128,7 @@ pub fn list_node<'a>(
 /// The bytes of the value that has these nodes: the own bytes of each, one after another.
 ///
 /// Whether they are a value at all isn't asked: [`crate::encode_value`] does. The only error is that an allocation
-/// failed.
+/// failed. Left open: memory.
 ///
 /// ```
 /// let bytes = encode(alloc, nodes.as_slice())?;

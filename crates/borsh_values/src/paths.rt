@@ -25,7 +25,7 @@ struct Around<'a> {
 ///
 /// A field is looked for once in all, behind the one before it, so that all paths of a value take as long as its nodes and
 /// the fields of their definitions. Each call returns for any nodes; the paths are those of the value for the nodes that
-/// [`crate::decode`] answers, in order from the first.
+/// [`crate::decode`] answers, in order from the first. Left open of each call: memory; any path: tested.
 ///
 /// ```
 /// let mut paths = Paths::new(alloc, "Pair");

@@ -80,6 +80,7 @@ fn unseen<'a>(
 ///
 /// A sequence is at fault where its range has more counts than its width can encode, an enum where two variants
 /// have the same tag in its width. Each definition is looked at once. The only error is that an allocation failed.
+/// Left open: memory; which of several such names; how often a definition is looked at.
 ///
 /// ```
 /// if let Some(name) = find_ambiguous(alloc, "Event", &definitions)? {
@@ -96,6 +97,7 @@ pub fn find_ambiguous<'a>(
 {
     let mut seen: BTreeMap<&'a str, bool> = BTreeMap::new(alloc);
     let mut stack: Vec<Frame<'a>> = Vec::new(alloc);
+    // For the prover: the loop ends after at most so many definitions.
     let _definitions = map.len();
     let mut frame = Frame {
         name: root,

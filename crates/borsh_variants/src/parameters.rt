@@ -6,13 +6,12 @@ ghost use Rattle.borsh_definitions.specs.Names.{texts};
 ghost use Rattle.borsh_definitions.specs.Types.{named_struct, unnamed_struct};
 ghost use Rattle.borsh_variants.specs.Variants.{name_with};
 
-use borsh_schema::{BorshSchema, FieldTypes, SchemaBuildError, add_named, add_unnamed};
-use borsh_walks::{Declaration, Definition};
+use borsh_schema::{BorshSchema, DefinitionMap, FieldTypes, SchemaResult, add_named, add_unnamed};
+use borsh_walks::Declaration;
 use std::alloc::Global;
-use std::collections::BTreeMap;
 
 /// The name of a type with its parameters, which are `T` and those of `R`, as `Pair<u8, String>`. The error
-/// is always `OutOfMemory`.
+/// is always `OutOfMemory`. Left open: memory.
 ///
 /// ```
 /// let name = declared_with::<u8, (String, ())>(alloc, "Pair")?;
@@ -20,7 +19,7 @@ use std::collections::BTreeMap;
 pub fn declared_with<T: BorshSchema, R: FieldTypes>(
     alloc: Global,
     name: &str,
-) -> Result<Declaration, SchemaBuildError>
+) -> SchemaResult<Declaration>
     ensures ok { IfOk result (λ d. string_bytes d ≡ name_with name.now T.name R.described.names) }
     ensures err { IfErr result (λ e. e ≡ OutOfMemory) }
 {
@@ -34,6 +33,7 @@ pub fn declared_with<T: BorshSchema, R: FieldTypes>(
 /// Adds a struct whose parameters are `T` and those of `R`, with these names of fields, and the definitions of
 /// their types, `P`. The answers are those of
 /// [`BorshSchema::add_definitions_recursively`](borsh_schema::BorshSchema::add_definitions_recursively).
+/// Left open: as there.
 ///
 /// ```
 /// // struct Pair<A, B> { first: A, second: B }, as Pair<u8, String>
@@ -43,8 +43,8 @@ pub fn add_named_with<T: BorshSchema, R: FieldTypes, P: FieldTypes>(
     alloc: Global,
     name: &str,
     fields: &[&str],
-    definitions: &mut BTreeMap<Declaration, Definition>,
-) -> Result<(), SchemaBuildError>
+    definitions: &mut DefinitionMap,
+) -> SchemaResult<()>
     ensures { AddsDefinitions definitions.old definitions.new
         (named_struct (name_with name.now T.name R.described.names)
         (texts fields.now) P.described.names P.described.parts) result }
@@ -53,7 +53,7 @@ pub fn add_named_with<T: BorshSchema, R: FieldTypes, P: FieldTypes>(
     add_named::<P>(alloc, declaration.as_str(), fields, definitions)
 }
 
-/// The same of a struct whose fields have no names.
+/// [`add_named_with`] for unnamed fields.
 ///
 /// ```
 /// // struct Pair<A, B>(A, B), as Pair<u8, String>
@@ -62,8 +62,8 @@ pub fn add_named_with<T: BorshSchema, R: FieldTypes, P: FieldTypes>(
 pub fn add_unnamed_with<T: BorshSchema, R: FieldTypes, P: FieldTypes>(
     alloc: Global,
     name: &str,
-    definitions: &mut BTreeMap<Declaration, Definition>,
-) -> Result<(), SchemaBuildError>
+    definitions: &mut DefinitionMap,
+) -> SchemaResult<()>
     ensures { AddsDefinitions definitions.old definitions.new
         (unnamed_struct (name_with name.now T.name R.described.names)
         P.described.names P.described.parts) result }

@@ -8,10 +8,11 @@ ghost use Rattle.borsh_definitions.specs.Names.{texts};
 ghost use Rattle.borsh_variants.specs.Variants.{ReadsVariants, enum_definitions, read_case, read_fork, variant_fields, variant_names, variant_type};
 
 use borsh_enums::{Case, Fork};
-use borsh_schema::{FieldTypes, SchemaBuildError, add_definition, add_with_parts, declared};
+use borsh_schema::{
+    DefinitionMap, FieldTypes, SchemaResult, add_definition, add_with_parts, declared,
+};
 use borsh_walks::{Declaration, Definition, DiscriminantValue, Fields, VariantName};
 use std::alloc::Global;
-use std::collections::BTreeMap;
 use std::slice::Iter;
 
 /// The variants of an enum in the form that its schema goes through: a [`Case`] of the types of the fields,
@@ -20,13 +21,13 @@ pub trait VariantTypes {
     ghost read: { ReadsVariants };
 
     /// Puts the variants of the enum `name` at the end of the list. The names of each variant and of its
-    /// fields are taken from `names`.
+    /// fields are taken from `names`. Left open: memory; the list and what `names` has left after an error.
     fn push_variants(
         alloc: Global,
         name: &str,
         names: &mut Iter<'_, (&str, &[&str])>,
         list: &mut Vec<(DiscriminantValue, VariantName, Declaration)>,
-    ) -> Result<(), SchemaBuildError>
+    ) -> SchemaResult<()>
         ensures rows { OnOk result (map variant_bytes list.new.items
             ≡ map variant_bytes list.old.items
             ++ (read name.now (variant_names (iter_rest names.old))).rows) }
@@ -37,12 +38,13 @@ pub trait VariantTypes {
     /// Adds the definition of each variant's fields, under the name of the enum, two underscores and the
     /// variant's name, and those of their types. The answers are those of
     /// [`BorshSchema::add_definitions_recursively`](borsh_schema::BorshSchema::add_definitions_recursively).
+    /// Left open: as there; what `names` has left after an error.
     fn add_variants(
         alloc: Global,
         name: &str,
         names: &mut Iter<'_, (&str, &[&str])>,
-        definitions: &mut BTreeMap<Declaration, Definition>,
-    ) -> Result<(), SchemaBuildError>
+        definitions: &mut DefinitionMap,
+    ) -> SchemaResult<()>
         ensures outcome { AddsDefinitions definitions.old definitions.new
             (read name.now (variant_names (iter_rest names.old))).parts result }
         ensures rest { OnOk result (variant_names (iter_rest names.new)
@@ -57,7 +59,7 @@ impl<const TAG: u8, P: FieldTypes> VariantTypes for Case<TAG, P> {
         name: &str,
         names: &mut Iter<'_, (&str, &[&str])>,
         list: &mut Vec<(DiscriminantValue, VariantName, Declaration)>,
-    ) -> Result<(), SchemaBuildError> {
+    ) -> SchemaResult<()> {
         if let Some(first) = names.next() {
             let variant = declared(alloc, first.0)?;
             let declaration = type_of(alloc, name, first.0)?;
@@ -70,8 +72,8 @@ impl<const TAG: u8, P: FieldTypes> VariantTypes for Case<TAG, P> {
         alloc: Global,
         name: &str,
         names: &mut Iter<'_, (&str, &[&str])>,
-        definitions: &mut BTreeMap<Declaration, Definition>,
-    ) -> Result<(), SchemaBuildError> {
+        definitions: &mut DefinitionMap,
+    ) -> SchemaResult<()> {
         match names.next() {
             Some(first) => add_variant::<P>(alloc, name, first.0, first.1, definitions),
             None => Ok(()),
@@ -87,7 +89,7 @@ impl<A: VariantTypes, B: VariantTypes> VariantTypes for Fork<A, B> {
         name: &str,
         names: &mut Iter<'_, (&str, &[&str])>,
         list: &mut Vec<(DiscriminantValue, VariantName, Declaration)>,
-    ) -> Result<(), SchemaBuildError> {
+    ) -> SchemaResult<()> {
         A::push_variants(alloc, name, names, list)?;
         B::push_variants(alloc, name, names, list)
     }
@@ -96,15 +98,15 @@ impl<A: VariantTypes, B: VariantTypes> VariantTypes for Fork<A, B> {
         alloc: Global,
         name: &str,
         names: &mut Iter<'_, (&str, &[&str])>,
-        definitions: &mut BTreeMap<Declaration, Definition>,
-    ) -> Result<(), SchemaBuildError> {
+        definitions: &mut DefinitionMap,
+    ) -> SchemaResult<()> {
         A::add_variants(alloc, name, names, definitions)?;
         B::add_variants(alloc, name, names, definitions)
     }
 }
 
 // Fields of these names, or without names where there are none, and of the types `P`.
-fn fields_of<P: FieldTypes>(alloc: Global, names: &[&str]) -> Result<Fields, SchemaBuildError>
+fn fields_of<P: FieldTypes>(alloc: Global, names: &[&str]) -> SchemaResult<Fields>
     ensures ok { IfOk result (λ f. named_fields f ≡ variant_fields (texts names.now) P.described.names) }
     ensures err { IfErr result (λ e. e ≡ OutOfMemory) }
 {
@@ -122,7 +124,7 @@ fn fields_of<P: FieldTypes>(alloc: Global, names: &[&str]) -> Result<Fields, Sch
 }
 
 // The name of the definition of a variant's fields.
-fn type_of(alloc: Global, name: &str, variant: &str) -> Result<Declaration, SchemaBuildError>
+fn type_of(alloc: Global, name: &str, variant: &str) -> SchemaResult<Declaration>
     ensures ok { IfOk result (λ d. string_bytes d ≡ variant_type name.now variant.now) }
     ensures err { IfErr result (λ e. e ≡ OutOfMemory) }
 {
@@ -135,8 +137,8 @@ fn add_variant<P: FieldTypes>(
     name: &str,
     variant: &str,
     fields: &[&str],
-    definitions: &mut BTreeMap<Declaration, Definition>,
-) -> Result<(), SchemaBuildError>
+    definitions: &mut DefinitionMap,
+) -> SchemaResult<()>
     ensures { AddsDefinitions definitions.old definitions.new
         (defined (variant_type name.now variant.now)
         (variant_fields (texts fields.now) P.described.names) P.described.parts) result }
@@ -154,6 +156,7 @@ fn add_variant<P: FieldTypes>(
 /// Adds an enum with the variants `V`, whose names and names of fields are given, and the definitions of
 /// their fields. The answers are those of
 /// [`BorshSchema::add_definitions_recursively`](borsh_schema::BorshSchema::add_definitions_recursively).
+/// Left open: as there.
 ///
 /// ```
 /// type Variants = Fork<Case<0, ()>, Case<1, (u64, (u8, ()))>>;
@@ -163,8 +166,8 @@ pub fn add_enum<V: VariantTypes>(
     alloc: Global,
     name: &str,
     names: &[(&str, &[&str])],
-    definitions: &mut BTreeMap<Declaration, Definition>,
-) -> Result<(), SchemaBuildError>
+    definitions: &mut DefinitionMap,
+) -> SchemaResult<()>
     ensures { AddsDefinitions definitions.old definitions.new
         (enum_definitions name.now (variant_names names.now) V.read) result }
 {

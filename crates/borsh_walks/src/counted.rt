@@ -1,4 +1,4 @@
-// How many definitions a walk visits.
+// How many definitions a walk visits. Left open of each call: none.
 ghost use Rattle.borsh_walks.specs.Counts.{CountsLook, definition_at, IsCounting, LooksOn};
 ghost use Rattle.std.specs.Prelude.{◌≡◌, option_map};
 
@@ -14,6 +14,15 @@ pub struct Expansions {
     pub rules: u64,
 }
 
+impl Expansions {
+    /// Nothing was visited yet.
+    pub const NONE: Expansions = Expansions {
+        size: 0,
+        zero: 0,
+        rules: 0,
+    };
+}
+
 /// What a definition is visited for.
 #[derive(Clone, Copy, Debug, PartialEq, Eq)]
 pub enum Question {
@@ -25,18 +34,18 @@ pub enum Question {
     Rules,
 }
 
-/// A map of definitions that counts how many of them are visited.
+/// A map of definitions that counts how many of them are visited: [`Counted::look`] is the only way to one.
 #[derive(Drop)]
 pub struct Counted<'a, 'b> {
-    pub(crate) map: &'a BTreeMap<String, Definition>,
-    pub(crate) counts: &'b mut Expansions,
+    map: &'a BTreeMap<String, Definition>,
+    counts: &'b mut Expansions,
 }
 
 impl<'a, 'b> Counted<'a, 'b> {
     /// The definitions of `map`, counted in `counts`.
     ///
     /// ```
-    /// let mut counts = Expansions { size: 0, zero: 0, rules: 0 };
+    /// let mut counts = Expansions::NONE;
     /// let mut counted = Counted::new(&definitions, &mut counts);
     /// ```
     pub fn new(map: &'a BTreeMap<String, Definition>, counts: &'b mut Expansions) -> Counted<'a, 'b>

@@ -1,13 +1,13 @@
 // Why a container breaks the rules, or has no greatest size.
-ghost use Rattle.borsh_walks.specs.Errors.{no_memory, out_of_memory};
-ghost use Rattle.std.specs.Prelude.{◌≡◌};
+ghost use Rattle.borsh_walks.specs.Errors.{broken_rule, no_memory, out_of_memory};
+ghost use Rattle.std.specs.Prelude.{◌≡◌, option_map};
 
 use crate::definition::Declaration;
 use std::alloc::{AllocError, AllocFailed};
 use std::error::Error;
 use std::fmt;
 
-/// The rule that is broken, by a name that the root reaches.
+/// The rule that is broken, by a name that the root reaches. Left open of each call: none.
 #[derive(Clone, Debug, PartialEq, Eq, Drop)]
 pub enum SchemaContainerValidateError {
     /// The elements of the sequence have empty encodings.
@@ -24,6 +24,38 @@ pub enum SchemaContainerValidateError {
     EmptyLengthRange(Declaration),
     /// An allocation failed.
     OutOfMemory,
+}
+
+impl SchemaContainerValidateError {
+    /// The name of the rule, and the name that breaks it; none if an allocation failed.
+    ///
+    /// ```
+    /// if let Some((rule, name)) = error.broken_rule() {
+    ///     println!(rt; "{name} breaks the rule {rule}")?;
+    /// }
+    /// ```
+    pub fn broken_rule(&self) -> Option<(&'static str, &str)>
+        ensures { option_map (λ p. (p.0.now, p.1.now)) result ≡ broken_rule self.now }
+    {
+        match self {
+            SchemaContainerValidateError::ZSTSequence(name) => Some(("ZSTSequence", name.as_str())),
+            SchemaContainerValidateError::TagTooWide(name) => Some(("TagTooWide", name.as_str())),
+            SchemaContainerValidateError::TagTooNarrow(name) => Some((
+                "TagTooNarrow",
+                name.as_str(),
+            )),
+            SchemaContainerValidateError::TagNotPowerOfTwo(name) => {
+                Some(("TagNotPowerOfTwo", name.as_str()))
+            }
+            SchemaContainerValidateError::MissingDefinition(name) => {
+                Some(("MissingDefinition", name.as_str()))
+            }
+            SchemaContainerValidateError::EmptyLengthRange(name) => {
+                Some(("EmptyLengthRange", name.as_str()))
+            }
+            SchemaContainerValidateError::OutOfMemory => None,
+        }
+    }
 }
 
 /// Why there is no greatest size.

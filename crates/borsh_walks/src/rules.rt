@@ -104,11 +104,11 @@ fn element_to_check(definition: &Definition) -> Option<&str>
 }
 
 // The rule that the definition breaks, if it breaks one.
-fn broken_rule<'a>(
+fn broken_rule<'a, 'm: 'a>(
     alloc: Global,
     definition: &'a Definition,
     table: &mut BTreeMap<&'a str, bool>,
-    counted: &mut Counted<'a, '_>,
+    counted: &mut Counted<'m, '_>,
 ) -> Result<Option<Broken>, AllocError>
     requires { ZeroTable (definitions_of counted.old) table.old }
     ensures same { LooksOn counted.old counted.new }
@@ -149,13 +149,13 @@ fn error_of(alloc: Global, broken: Broken, name: &str) -> SchemaContainerValidat
 }
 
 // The first visit of a reached name: its rules are checked, and the names that it refers to wait on the stack.
-fn visit<'a>(
+fn visit<'a, 'm: 'a>(
     alloc: Global,
     name: &'a str,
     seen: &mut BTreeMap<&'a str, bool>,
     stack: &mut Vec<Spot<'a>>,
     table: &mut BTreeMap<&'a str, bool>,
-    counted: &mut Counted<'a, '_>,
+    counted: &mut Counted<'m, '_>,
 ) -> Result<(), SchemaContainerValidateError>
     requires { ZeroTable (definitions_of counted.old) table.old }
     ensures same { LooksOn counted.old counted.new }
@@ -181,7 +181,10 @@ fn visit<'a>(
 /// A sequence of width 0 whose least length is its greatest (an array) keeps them. Of any other sequence
 /// the least length is at most the greatest, the width is 0, 1, 2, 4 or 8 with room for the greatest
 /// length, and the elements have bytes. The tag of an enum has at most eight bytes. An error says which
-/// name breaks which rule; if several are broken, the contract doesn't say which of them.
+/// name breaks which rule. Only reached definitions are counted, each at most once, and after `Ok` all of them;
+/// for zero size only those that decide whether a checked element has bytes, each at most once, and after
+/// `Ok` all checked elements. Left open: memory; which of several broken rules is reported; how many of these
+/// are counted otherwise; definitions that are read without [`Counted::look`].
 ///
 /// ```
 /// check_rules(alloc, "Vec<u8>", &mut Counted::new(&definitions, &mut counts))?;
@@ -198,19 +201,15 @@ pub fn check_rules(
     ensures work { RulesWork (definitions_of counted.old) root.now (definition_count counted.old)
         (counts_of counted.old) (counts_of counted.new) }
 {
-    let mut lent = Counted {
-        map: counted.map,
-        counts: &mut *counted.counts,
-    };
-    walk_rules(alloc, root, &mut lent)
+    walk_rules(alloc, root, counted)
 }
 
 // The walk over the names that are reached. A name that was visited waits on the stack `stack` until each
 // name that it refers to was visited.
-fn walk_rules<'a>(
+fn walk_rules<'a, 'm: 'a>(
     alloc: Global,
     root: &'a str,
-    counted: &mut Counted<'a, '_>,
+    counted: &mut Counted<'m, '_>,
 ) -> Result<(), SchemaContainerValidateError>
     ensures same { LooksOn counted.old counted.new }
     ensures answer { JudgesRules (definitions_of counted.old) root.now result }

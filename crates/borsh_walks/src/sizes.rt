@@ -72,8 +72,9 @@ fn finish(definition: &Definition, gathered: usize) -> Option<usize>
 ///
 /// `Overflow` for a size that doesn't fit in a `usize`, `Recursive` for a needed definition that contains
 /// itself, `MissingDefinition` for a needed name without a definition, `OutOfMemory` if an allocation
-/// fails. If several of these hold, the contract doesn't say which of them is returned. After an error
-/// `counted` has counted the definitions that were visited, as it has after a size.
+/// fails. Only definitions that the size needs are counted, each at most once, and after `Ok` all of them.
+/// Left open: memory; which of several causes is reported; after an error, how many are counted; definitions
+/// that are read without [`Counted::look`].
 pub fn root_size(
     alloc: Global,
     root: &str,
@@ -85,18 +86,14 @@ pub fn root_size(
         (counts_of counted.old) (counts_of counted.new) result }
     ensures bounded_work { SizeWork counted.old counted.new }
 {
-    let mut lent = Counted {
-        map: counted.map,
-        counts: &mut *counted.counts,
-    };
-    walk_sizes(alloc, root, &mut lent)
+    walk_sizes(alloc, root, counted)
 }
 
 // The walk for the size of the root. A name on the stack is `Open`, and one with a size is `Finished`.
-fn walk_sizes<'a>(
+fn walk_sizes<'a, 'm: 'a>(
     alloc: Global,
     root: &'a str,
-    counted: &mut Counted<'a, '_>,
+    counted: &mut Counted<'m, '_>,
 ) -> Result<usize, SchemaMaxSerializedSizeError>
     ensures same { LooksOn counted.old counted.new }
     ensures answer { IsSizeAnswer (definitions_of counted.old) root.now result }

@@ -24,13 +24,14 @@ fn never_zero(definition: &Definition) -> bool
     }
 }
 
-// Whether the name is of zero size. A name on the stack is marked `false`: if it is met again, it is not of zero
-// size, and neither is any name below it on the stack; its mark is `true` once all its parts are of zero size.
-pub fn is_zero<'a>(
+/// Whether the name is of zero size. A name on the stack is marked `false`: if it is met again, it is not of zero
+/// size, and neither is any name below it on the stack; its mark is `true` once all its parts are of zero size.
+/// Left open: memory.
+pub fn is_zero<'a, 'm: 'a>(
     alloc: Global,
     name: &'a str,
     table: &mut BTreeMap<&'a str, bool>,
-    counted: &mut Counted<'a, '_>,
+    counted: &mut Counted<'m, '_>,
 ) -> Result<bool, AllocError>
     requires { ZeroTable (definitions_of counted.old) table.old }
     ensures same { LooksOn counted.old counted.new }

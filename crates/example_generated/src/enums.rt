@@ -1,28 +1,20 @@
 // Enums.
 use super::records::Session;
-use std::collections::HashMap;
 use std::marker::PhantomData;
 
-/// Eight variants, of each kind. Their tags count from 0.
+/// Eight variants, of each kind, also with fields that aren't encoded. Their tags count from 0.
 // derive: borsh, schema
 #[derive(Drop)]
 pub enum Message {
     /// Nothing but its tag.
     Ping,
     Text(String),
-    Move { x: i32, y: i32 },
+    Move {
+        x: i32,
+        y: i32,
+    },
     Open(u8, Session),
-    Index(HashMap<u8, u16>),
     Tagged([u8; 4]),
-    Scaled { by: i8 },
-    Last,
-}
-
-/// Fields of variants that aren't encoded.
-// derive: borsh, schema
-#[derive(Drop)]
-pub enum Job {
-    Idle,
     Run {
         id: u16,
         // skip
@@ -39,9 +31,9 @@ pub enum Job {
     },
 }
 
-/// Discriminants are tags.
-// derive: borsh, schema
-#[derive(Drop)]
+/// Discriminants are tags. An enum without fields can be a key.
+// derive: borsh, schema, key
+#[derive(Drop, PartialEq, Eq, PartialOrd, Ord)]
 pub enum Level {
     Low = 20,
     High = 9,
@@ -62,17 +54,9 @@ pub enum XY {
     F(u64),
 }
 
-/// One variant.
-// derive: borsh, schema
-#[derive(Drop)]
-pub enum Version {
-    V1 { number: u32 },
-}
-
-/// Parameters of markers alone.
+/// One variant, and parameters of markers alone.
 // derive: borsh, schema
 #[derive(Drop)]
 pub enum Markers<T, U> {
-    Item(PhantomData<T>),
-    Other(PhantomData<U>),
+    Both(PhantomData<T>, PhantomData<U>),
 }

@@ -3,7 +3,10 @@ ghost use Rattle.borsh.specs.Derived.{case_described, contramap, enum_definition
 ghost use Rattle.borsh.specs.Derived.{enum_lawful_if, fields, fork_described, key_facts, left};
 ghost use Rattle.borsh.specs.Derived.{no_fields_described, right};
 ghost use Rattle.std.specs.Prelude.{codes, refl, ⊤, ◌∷◌, [], ◌≡◌};
+ghost use Rattle.std.proofs.Common.{sym, true≢false};
 ghost use Rattle.example_generated.specs.declared.enums.Level.{Level};
+ghost use Rattle.example_generated.specs.contracts.enums.LevelOrd.TheImpl.Laws.{total-law};
+ghost use Rattle.example_generated.specs.contracts.enums.LevelOrd.TheImpl.Laws.{matches_eq-law};
 
 use super::enums::Level;
 use borsh::derived::*;
@@ -80,27 +83,41 @@ impl EnumExt for Level {
     }
 }
 
-/// The variants of [`Level`] as its schema goes through them.
-type VariantList = Fork<Fork<Case<20, ()>, Case<9, ()>>, Case<10, ()>>;
+impl BorshKey for Level {
+    ghost ordered = { record {
+      codec = ⟦<Level as BorshType>⟧.codec;
+      eq = ⟦<Level as PartialEq>⟧.eq;
+      cmp = ⟦<Level as Ord>⟧.cmp;
+      total = total-law;
+      matches = matches_eq-law;
+      key = elim [
+        | Level.Low ↦ elim [
+          | Level.Low ↦ (λ _. refl, λ _. refl)
+          | _ ↦ (λ e. absurd (true≢false (sym e)), λ h. absurd h)
+        ]
+        | Level.High ↦ elim [
+          | Level.High ↦ (λ _. refl, λ _. refl)
+          | _ ↦ (λ e. absurd (true≢false (sym e)), λ h. absurd h)
+        ]
+        | Level.Top ↦ elim [
+          | Level.Top ↦ (λ _. refl, λ _. refl)
+          | _ ↦ (λ e. absurd (true≢false (sym e)), λ h. absurd h)
+        ]
+      ];
+    } };
+
+    ghost key = { Self.ordered.key };
+}
 
 impl BorshSchema for Level {
     ghost name = { codes "Level" };
 
-    ghost parts = { enum_definitions
-        (codes "Level")
-        ((codes "Low", [])
-        ∷ (codes "High", [])
-        ∷ (codes "Top", [])
-        ∷ [])
-        ⟦<VariantList as VariantTypes>⟧.read };
+    ghost parts = { enum_definitions (codes "Level") ((codes "Low", []) ∷ (codes "High", [])
+        ∷ (codes "Top", []) ∷ []) ⟦<Variants as VariantTypes>⟧.read };
 
-    ghost described = { enum_described
-        ⟦<Level as FromCases>⟧.view
-        (fork_described
-        (fork_described
-        (case_described (λ _. tt) no_fields_described refl refl)
-        (case_described (λ _. tt) no_fields_described refl refl))
-        (case_described (λ _. tt) no_fields_described refl refl)) };
+    ghost described = { enum_described ⟦<Level as FromCases>⟧.view (fork_described (fork_described
+        (case_described (λ _. tt) no_fields_described refl refl) (case_described (λ _. tt)
+        no_fields_described refl refl)) (case_described (λ _. tt) no_fields_described refl refl)) };
 
     fn declaration(alloc: Global) -> SchemaResult<Declaration> {
         declared(alloc, "Level")
@@ -108,7 +125,7 @@ impl BorshSchema for Level {
 
     fn add_definitions_recursively(alloc: Global, map: &mut DefinitionMap) -> SchemaResult<()> {
         const NAMES: &[(&str, &[&str])] = &[("Low", &[]), ("High", &[]), ("Top", &[])];
-        add_enum::<VariantList>(alloc, "Level", NAMES, map)
+        add_enum::<Variants>(alloc, "Level", NAMES, map)
     }
 
     ghost describes = { Self.described.describes };

@@ -1,7 +1,6 @@
 // Written by borsh_derive.py from enums.rt: edit that file, and run the program again.
 ghost use Rattle.borsh.specs.Derived.{case_described, contramap, enum_definitions, enum_described};
-ghost use Rattle.borsh.specs.Derived.{enum_lawful_if, fields, fork_described, key_facts, left};
-ghost use Rattle.borsh.specs.Derived.{right};
+ghost use Rattle.borsh.specs.Derived.{enum_lawful_if, fields, key_facts};
 ghost use Rattle.std.specs.Prelude.{codes, refl, ⊤, ◌∷◌, [], ◌≡◌};
 ghost use Rattle.example_generated.specs.declared.enums.Markers.{Markers};
 
@@ -10,22 +9,21 @@ use borsh::derived::*;
 use std::marker::PhantomData;
 
 /// The variants of [`Markers`]: each has a tag and its fields, in order.
-type Variants<T, U> = Fork<Case<0, PhantomData<T>>, Case<1, PhantomData<U>>>;
+type Variants<T, U> = Case<0, (PhantomData<T>, PhantomData<U>)>;
 
 impl<T, U> FromCases for Markers<T, U> {
     type Cases = Variants<T, U>;
 
-    ghost view = { elim [
-      | Markers.Item part0 ↦ left (fields part0)
-      | Markers.Other part0 ↦ right (fields part0)
-    ] };
+    ghost view = { elim [ Markers.Both part0 part1 ↦ fields (part0, part1) ] };
 
     fn from_cases(cases: Variants<T, U>) -> Markers<T, U>
         ensures { ⊤ → ⟦<Markers<T, U> as FromCases>⟧.view result ≡ cases }
     {
         match cases {
-            Fork::Left(Case(part0)) => Markers::Item(part0),
-            Fork::Right(Case(part0)) => Markers::Other(part0),
+            Case(fields) => {
+                let (part0, part1) = fields;
+                Markers::Both(part0, part1)
+            }
         }
     }
 
@@ -53,8 +51,7 @@ impl<T, U> BorshType for Markers<T, U> {
 impl<T, U> BorshSerialize for Markers<T, U> {
     fn serialize<W: Write>(&self, alloc: Global, writer: &mut W) -> Result<()> {
         match self {
-            Markers::Item(part0) => write_two(&Tag(0), part0, alloc, writer),
-            Markers::Other(part0) => write_two(&Tag(1), part0, alloc, writer),
+            Markers::Both(part0, part1) => write_three(&Tag(0), part0, part1, alloc, writer),
         }
     }
 }
@@ -76,31 +73,24 @@ impl<T, U> EnumExt for Markers<T, U> {
 }
 
 /// The variants of [`Markers`] as its schema goes through them.
-type VariantList<T, U> = Fork<Case<0, (PhantomData<T>, ())>, Case<1, (PhantomData<U>, ())>>;
+type VariantList<T, U> = Case<0, (PhantomData<T>, (PhantomData<U>, ()))>;
 
 impl<T, U> BorshSchema for Markers<T, U> {
     ghost name = { codes "Markers" };
 
-    ghost parts = { enum_definitions
-        (codes "Markers")
-        ((codes "Item", [])
-        ∷ (codes "Other", [])
-        ∷ [])
+    ghost parts = { enum_definitions (codes "Markers") ((codes "Both", []) ∷ [])
         ⟦<VariantList<T, U> as VariantTypes>⟧.read };
 
-    ghost described = { enum_described
-        ⟦<Markers<T, U> as FromCases>⟧.view
-        (fork_described
-        (case_described (λ v. (v, tt)) ⟦<(PhantomData<T>, ()) as FieldTypes>⟧.described refl refl)
-        (case_described (λ v. (v, tt))
-        ⟦<(PhantomData<U>, ()) as FieldTypes>⟧.described refl refl)) };
+    ghost described = { enum_described ⟦<Markers<T, U> as FromCases>⟧.view (case_described
+        (λ v. (v.0, (v.1, tt)))
+        ⟦<(PhantomData<T>, (PhantomData<U>, ())) as FieldTypes>⟧.described refl refl) };
 
     fn declaration(alloc: Global) -> SchemaResult<Declaration> {
         declared(alloc, "Markers")
     }
 
     fn add_definitions_recursively(alloc: Global, map: &mut DefinitionMap) -> SchemaResult<()> {
-        const NAMES: &[(&str, &[&str])] = &[("Item", &[]), ("Other", &[])];
+        const NAMES: &[(&str, &[&str])] = &[("Both", &[])];
         add_enum::<VariantList<T, U>>(alloc, "Markers", NAMES, map)
     }
 

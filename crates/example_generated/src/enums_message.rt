@@ -8,12 +8,11 @@ ghost use Rattle.example_generated.specs.declared.enums.Message.{Message};
 use super::enums::Message;
 use super::records::Session;
 use borsh::derived::*;
-use std::collections::HashMap;
 
 /// The variants of [`Message`]: each has a tag and its fields, in order.
 type Variants = Fork<
     Fork<Fork<Case<0, ()>, Case<1, String>>, Fork<Case<2, (i32, i32)>, Case<3, (u8, Session)>>>,
-    Fork<Fork<Case<4, HashMap<u8, u16>>, Case<5, [u8; 4]>>, Fork<Case<6, i8>, Case<7, ()>>>,
+    Fork<Fork<Case<4, [u8; 4]>, Case<5, u16>>, Fork<Case<6, u8>, Case<7, ()>>>,
 >;
 
 impl FromCases for Message {
@@ -24,10 +23,10 @@ impl FromCases for Message {
       | Message.Text part0 ↦ left (left (right (fields part0)))
       | Message.Move x y ↦ left (right (left (fields (x, y))))
       | Message.Open part0 part1 ↦ left (right (right (fields (part0, part1))))
-      | Message.Index part0 ↦ right (left (left (fields part0)))
-      | Message.Tagged part0 ↦ right (left (right (fields part0)))
-      | Message.Scaled by ↦ right (right (left (fields by)))
-      | Message.Last ↦ right (right (right (fields tt)))
+      | Message.Tagged part0 ↦ right (left (left (fields part0)))
+      | Message.Run id _ ↦ right (left (right (fields id)))
+      | Message.Wait part0 _ ↦ right (right (left (fields part0)))
+      | Message.Stop _ ↦ right (right (right (fields tt)))
     ] };
 
     fn from_cases(cases: Variants) -> Message
@@ -44,13 +43,21 @@ impl FromCases for Message {
                 let (part0, part1) = fields;
                 Message::Open(part0, part1)
             }
-            Fork::Right(Fork::Left(Fork::Left(Case(part0)))) => Message::Index(part0),
-            Fork::Right(Fork::Left(Fork::Right(case))) => {
+            Fork::Right(Fork::Left(Fork::Left(case))) => {
                 let part0 = case.0;
                 Message::Tagged(part0)
             }
-            Fork::Right(Fork::Right(Fork::Left(Case(by)))) => Message::Scaled { by },
-            Fork::Right(Fork::Right(Fork::Right(Case(())))) => Message::Last,
+            Fork::Right(Fork::Left(Fork::Right(Case(id)))) => Message::Run {
+                id,
+                attempts: Default::default(),
+            },
+            Fork::Right(Fork::Right(Fork::Left(Case(part0)))) => Message::Wait(
+                part0,
+                Default::default(),
+            ),
+            Fork::Right(Fork::Right(Fork::Right(Case(())))) => Message::Stop {
+                reason: Default::default(),
+            },
         }
     }
 
@@ -81,10 +88,10 @@ impl BorshSerialize for Message {
             Message::Text(part0) => write_two(&Tag(1), part0, alloc, writer),
             Message::Move { x, y } => write_three(&Tag(2), x, y, alloc, writer),
             Message::Open(part0, part1) => write_three(&Tag(3), part0, part1, alloc, writer),
-            Message::Index(part0) => write_two(&Tag(4), part0, alloc, writer),
-            Message::Tagged(part0) => write_two(&Tag(5), part0, alloc, writer),
-            Message::Scaled { by } => write_two(&Tag(6), by, alloc, writer),
-            Message::Last => write_bytes(&[7], writer),
+            Message::Tagged(part0) => write_two(&Tag(4), part0, alloc, writer),
+            Message::Run { id, .. } => write_two(&Tag(5), id, alloc, writer),
+            Message::Wait(part0, _) => write_two(&Tag(6), part0, alloc, writer),
+            Message::Stop { .. } => write_bytes(&[7], writer),
         }
     }
 }
@@ -107,47 +114,28 @@ type VariantList = Fork<
         Fork<Case<0, ()>, Case<1, (String, ())>>,
         Fork<Case<2, (i32, (i32, ()))>, Case<3, (u8, (Session, ()))>>,
     >,
-    Fork<
-        Fork<Case<4, (HashMap<u8, u16>, ())>, Case<5, ([u8; 4], ())>>,
-        Fork<Case<6, (i8, ())>, Case<7, ()>>,
-    >,
+    Fork<Fork<Case<4, ([u8; 4], ())>, Case<5, (u16, ())>>, Fork<Case<6, (u8, ())>, Case<7, ()>>>,
 >;
 
 impl BorshSchema for Message {
     ghost name = { codes "Message" };
 
-    ghost parts = { enum_definitions
-        (codes "Message")
-        ((codes "Ping", [])
-        ∷ (codes "Text", [])
-        ∷ (codes "Move", codes "x" ∷ codes "y" ∷ [])
-        ∷ (codes "Open", [])
-        ∷ (codes "Index", [])
-        ∷ (codes "Tagged", [])
-        ∷ (codes "Scaled", codes "by" ∷ [])
-        ∷ (codes "Last", [])
-        ∷ [])
+    ghost parts = { enum_definitions (codes "Message") ((codes "Ping", []) ∷ (codes "Text", [])
+        ∷ (codes "Move", codes "x" ∷ codes "y" ∷ []) ∷ (codes "Open", []) ∷ (codes "Tagged", [])
+        ∷ (codes "Run", codes "id" ∷ []) ∷ (codes "Wait", []) ∷ (codes "Stop", []) ∷ [])
         ⟦<VariantList as VariantTypes>⟧.read };
 
-    ghost described = { enum_described
-        ⟦<Message as FromCases>⟧.view
-        (fork_described
-        (fork_described
-        (fork_described
-        (case_described (λ _. tt) no_fields_described refl refl)
-        (case_described (λ v. (v, tt)) ⟦<(String, ()) as FieldTypes>⟧.described refl refl))
-        (fork_described
+    ghost described = { enum_described ⟦<Message as FromCases>⟧.view (fork_described (fork_described
+        (fork_described (case_described (λ _. tt) no_fields_described refl refl) (case_described
+        (λ v. (v, tt)) ⟦<(String, ()) as FieldTypes>⟧.described refl refl)) (fork_described
         (case_described (λ v. (v.0, (v.1, tt)))
-        ⟦<(i32, (i32, ())) as FieldTypes>⟧.described refl refl)
-        (case_described (λ v. (v.0, (v.1, tt)))
-        ⟦<(u8, (Session, ())) as FieldTypes>⟧.described refl refl)))
-        (fork_described
-        (fork_described
-        (case_described (λ v. (v, tt)) ⟦<(HashMap<u8, u16>, ()) as FieldTypes>⟧.described refl refl)
-        (case_described (λ v. (v, tt)) ⟦<([u8; 4], ()) as FieldTypes>⟧.described refl refl))
-        (fork_described
-        (case_described (λ v. (v, tt)) ⟦<(i8, ()) as FieldTypes>⟧.described refl refl)
-        (case_described (λ _. tt) no_fields_described refl refl)))) };
+        ⟦<(i32, (i32, ())) as FieldTypes>⟧.described refl refl) (case_described
+        (λ v. (v.0, (v.1, tt))) ⟦<(u8, (Session, ())) as FieldTypes>⟧.described refl refl)))
+        (fork_described (fork_described (case_described (λ v. (v, tt))
+        ⟦<([u8; 4], ()) as FieldTypes>⟧.described refl refl) (case_described (λ v. (v, tt))
+        ⟦<(u16, ()) as FieldTypes>⟧.described refl refl)) (fork_described (case_described
+        (λ v. (v, tt)) ⟦<(u8, ()) as FieldTypes>⟧.described refl refl) (case_described (λ _. tt)
+        no_fields_described refl refl)))) };
 
     fn declaration(alloc: Global) -> SchemaResult<Declaration> {
         declared(alloc, "Message")
@@ -159,10 +147,10 @@ impl BorshSchema for Message {
             ("Text", &[]),
             ("Move", &["x", "y"]),
             ("Open", &[]),
-            ("Index", &[]),
             ("Tagged", &[]),
-            ("Scaled", &["by"]),
-            ("Last", &[]),
+            ("Run", &["id"]),
+            ("Wait", &[]),
+            ("Stop", &[]),
         ];
         add_enum::<VariantList>(alloc, "Message", NAMES, map)
     }

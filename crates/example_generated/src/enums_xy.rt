@@ -96,31 +96,17 @@ type VariantList = Fork<
 impl BorshSchema for XY {
     ghost name = { codes "XY" };
 
-    ghost parts = { enum_definitions
-        (codes "XY")
-        ((codes "A", [])
-        ∷ (codes "B", [])
-        ∷ (codes "C", [])
-        ∷ (codes "D", [])
-        ∷ (codes "E", [])
-        ∷ (codes "F", [])
-        ∷ [])
+    ghost parts = { enum_definitions (codes "XY") ((codes "A", []) ∷ (codes "B", [])
+        ∷ (codes "C", []) ∷ (codes "D", []) ∷ (codes "E", []) ∷ (codes "F", []) ∷ [])
         ⟦<VariantList as VariantTypes>⟧.read };
 
-    ghost described = { enum_described
-        ⟦<XY as FromCases>⟧.view
-        (fork_described
-        (fork_described
-        (fork_described
-        (case_described (λ _. tt) no_fields_described refl refl)
-        (case_described (λ _. tt) no_fields_described refl refl))
-        (case_described (λ _. tt) no_fields_described refl refl))
-        (fork_described
-        (fork_described
-        (case_described (λ v. (v.0, (v.1, tt)))
-        ⟦<(u32, (u32, ())) as FieldTypes>⟧.described refl refl)
-        (case_described (λ _. tt) no_fields_described refl refl))
-        (case_described (λ v. (v, tt)) ⟦<(u64, ()) as FieldTypes>⟧.described refl refl))) };
+    ghost described = { enum_described ⟦<XY as FromCases>⟧.view (fork_described (fork_described
+        (fork_described (case_described (λ _. tt) no_fields_described refl refl) (case_described
+        (λ _. tt) no_fields_described refl refl)) (case_described (λ _. tt)
+        no_fields_described refl refl)) (fork_described (fork_described (case_described
+        (λ v. (v.0, (v.1, tt))) ⟦<(u32, (u32, ())) as FieldTypes>⟧.described refl refl)
+        (case_described (λ _. tt) no_fields_described refl refl)) (case_described (λ v. (v, tt))
+        ⟦<(u64, ()) as FieldTypes>⟧.described refl refl))) };
 
     fn declaration(alloc: Global) -> SchemaResult<Declaration> {
         declared(alloc, "XY")

@@ -5,31 +5,27 @@ use std::hash::Hash;
 use std::marker::PhantomData;
 use std::rc::Rc;
 
-/// A parameter within the types of the library.
+/// A parameter within the types of the library, and one that isn't encoded: it isn't in the name of the schema either.
 // derive: borsh, schema
 #[derive(Drop)]
-pub struct Held<T>
+pub struct Held<T, M>
 where
     T: Clone,
 {
     pub rows: [Vec<T>; 2],
-    pub by_number: BTreeMap<u32, Option<T>>,
-    pub boxed: Box<T>,
-    pub tried: Result<T, u8>,
-    pub pair: (T, u8),
-    pub queue: VecDeque<T>,
-    pub linked: LinkedList<T>,
-    pub shared: Rc<T>,
+    pub map: BTreeMap<u32, Option<T>>,
+    pub way: Result<Box<T>, VecDeque<T>>,
+    pub pair: (LinkedList<T>, Rc<T>),
+    pub mark: PhantomData<M>,
 }
 
 /// A parameter that is the key of maps and sets.
 // derive: borsh, schema
 #[derive(Drop)]
 pub struct Hashed<K: BorshKey + Ord + Hash + Eq, V> {
-    pub label: String,
-    pub entries: HashMap<K, V>,
+    pub map: HashMap<K, V>,
     pub keys: HashSet<K>,
-    pub order: BTreeSet<K>,
+    pub set: BTreeSet<K>,
 }
 
 /// A parameter that is a length.
@@ -38,14 +34,6 @@ pub struct Hashed<K: BorshKey + Ord + Hash + Eq, V> {
 pub struct Grid<const N: usize> {
     pub cells: [u8; N],
     pub turned: bool,
-}
-
-/// A marker, whose parameter isn't encoded: it isn't in the name of the schema either.
-// derive: borsh, schema
-#[derive(Drop)]
-pub struct Parametrized<K, V> {
-    pub field: K,
-    pub another: PhantomData<V>,
 }
 
 /// An enum with two parameters, which are within a list and a box.

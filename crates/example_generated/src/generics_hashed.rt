@@ -11,13 +11,12 @@ use std::collections::{BTreeSet, HashMap, HashSet};
 use std::hash::Hash;
 
 /// The fields of [`Hashed`], in order.
-type Fields<K, V> = (String, HashMap<K, V>, HashSet<K>, BTreeSet<K>);
+type Fields<K, V> = (HashMap<K, V>, HashSet<K>, BTreeSet<K>);
 
 impl<K: BorshKey + Ord + Hash + Eq + BorshType, V: BorshType> BorshType for Hashed<K, V> {
-    ghost codec = { contramap (λ v. (v.label, v.entries, v.keys, v.order))
-        ⟦<Fields<K, V> as BorshType>⟧.codec };
+    ghost codec = { contramap (λ v. (v.map, v.keys, v.set)) ⟦<Fields<K, V> as BorshType>⟧.codec };
 
-    ghost lawful_if = { from (contramap-lawful (λ v. (v.label, v.entries, v.keys, v.order)))
+    ghost lawful_if = { from (contramap-lawful (λ v. (v.map, v.keys, v.set)))
         ⟦<Fields<K, V> as BorshType>⟧.lawful_if };
 
     ghost premises = { let k_key : IsKey K.ordered K.cmp K.eq K.codec =
@@ -36,14 +35,7 @@ impl<K: BorshKey + Ord + Hash + Eq + BorshType, V: BorshType> BorshType for Hash
 impl<K: BorshKey + Ord + Hash + Eq + BorshSerialize, V: BorshSerialize> BorshSerialize
     for Hashed<K, V> {
     fn serialize<W: Write>(&self, alloc: Global, writer: &mut W) -> Result<()> {
-        write_four(
-            &self.label,
-            &self.entries,
-            &self.keys,
-            &self.order,
-            alloc,
-            writer,
-        )
+        write_three(&self.map, &self.keys, &self.set, alloc, writer)
     }
 }
 
@@ -51,15 +43,10 @@ impl<K: BorshKey + Ord + Hash + Eq + BorshDeserialize, V: BorshDeserialize> From
     for Hashed<K, V> {
     type Parts = Fields<K, V>;
 
-    ghost view = { λ v. (v.label, v.entries, v.keys, v.order) };
+    ghost view = { λ v. (v.map, v.keys, v.set) };
 
-    fn from_parts((label, entries, keys, order): Fields<K, V>) -> Hashed<K, V> {
-        Hashed {
-            label,
-            entries,
-            keys,
-            order,
-        }
+    fn from_parts((map, keys, set): Fields<K, V>) -> Hashed<K, V> {
+        Hashed { map, keys, set }
     }
 }
 
@@ -74,11 +61,11 @@ impl<K: BorshKey + Ord + Hash + Eq + BorshSchema, V: BorshSchema> BorshSchema fo
     ghost name = { name_with (codes "Hashed") K.name (V.name ∷ []) };
 
     ghost parts = { struct_parts (name_with (codes "Hashed") K.name (V.name ∷ []))
-        (codes "label" ∷ codes "entries" ∷ codes "keys" ∷ codes "order" ∷ [])
+        (codes "map" ∷ codes "keys" ∷ codes "set" ∷ [])
         ⟦<Chain<Fields<K, V>> as FieldTypes>⟧.described };
 
-    ghost described = { named_described (λ v. (v.label, (v.entries, (v.keys, (v.order, tt)))))
-        (codes "label" ∷ codes "entries" ∷ codes "keys" ∷ codes "order" ∷ [])
+    ghost described = { named_described (λ v. (v.map, (v.keys, (v.set, tt))))
+        (codes "map" ∷ codes "keys" ∷ codes "set" ∷ [])
         ⟦<Chain<Fields<K, V>> as FieldTypes>⟧.described refl };
 
     fn declaration(alloc: Global) -> SchemaResult<Declaration> {
@@ -86,33 +73,19 @@ impl<K: BorshKey + Ord + Hash + Eq + BorshSchema, V: BorshSchema> BorshSchema fo
     }
 
     fn add_definitions_recursively(alloc: Global, map: &mut DefinitionMap) -> SchemaResult<()> {
-        const NAMES: &[&str] = &["label", "entries", "keys", "order"];
+        const NAMES: &[&str] = &["map", "keys", "set"];
         add_named_with::<K, (V, ()), Chain<Fields<K, V>>>(alloc, "Hashed", NAMES, map)
     }
 
-    ghost describes = { λ defs held. describes_contramap
-        (λ v. (v.label, (v.entries, (v.keys, v.order))))
-        (describes_parts held.0
-        (all_more
-        (⟦<String as BorshSchema>⟧.described.describes defs held.1.0)
-        (all_more
-        (describes_contramap (λ map. map.entries)
-        (describes_refused_if K.codec.is_zero_width
-        (describes_sorted K.cmp V.codec.equivalent held.1.1.0.0
-        (describes_parts held.1.1.0.1.0.0
-        (all_more
-        (K.describes defs held.1.1.0.1.0.1.0)
-        (all_one (V.describes defs held.1.1.0.1.0.1.1.0)))))))
-        (all_more
-        (describes_contramap (λ set. set.keys)
-        (describes_contramap unit_entries
-        (describes_refused_if K.codec.is_zero_width
-        (describes_sorted K.cmp (λ _ _. ⊤) held.1.1.1.0.0
-        (describes_contramap (λ entry. entry.0) (K.describes defs held.1.1.1.0.1.0))))))
-        (all_one
-        (describes_contramap (λ set. set.keys)
-        (describes_contramap unit_entries
-        (describes_refused_if K.codec.is_zero_width
-        (describes_ordered K.cmp held.1.1.1.1.0.0
-        (describes_contramap (λ entry. entry.0) (K.describes defs held.1.1.1.1.0.1.0))))))))))) };
+    ghost describes = { λ defs held. describes_contramap (λ v. (v.map, (v.keys, v.set)))
+        (describes_parts held.0 (all_more (describes_contramap (λ map. map.entries)
+        (describes_refused_if K.codec.is_zero_width (describes_sorted K.cmp V.codec.equivalent
+        held.1.0.0 (describes_parts held.1.0.1.0.0 (all_more (K.describes defs held.1.0.1.0.1.0)
+        (all_one (V.describes defs held.1.0.1.0.1.1.0))))))) (all_more (describes_contramap
+        (λ set. set.keys) (describes_contramap unit_entries (describes_refused_if
+        K.codec.is_zero_width (describes_sorted K.cmp (λ _ _. ⊤) held.1.1.0.0 (describes_contramap
+        (λ entry. entry.0) (K.describes defs held.1.1.0.1.0)))))) (all_one (describes_contramap
+        (λ set. set.keys) (describes_contramap unit_entries (describes_refused_if
+        K.codec.is_zero_width (describes_ordered K.cmp held.1.1.1.0.0 (describes_contramap
+        (λ entry. entry.0) (K.describes defs held.1.1.1.0.1.0)))))))))) };
 }

@@ -11,115 +11,81 @@ ghost use Rattle.std.specs.Prelude.{codes, refl, ◌∷◌, []};
 use super::generics::Held;
 use borsh::derived::{
     BorshDeserialize, BorshSchema, BorshSerialize, BorshType, Chain, Declaration, DefinitionMap,
-    FieldTypes, FromParts, Global, Read, SchemaResult, Tuple8, Write, add_named_with,
-    declared_with, read_parts, write_eight,
+    FieldTypes, FromParts, Global, Read, SchemaResult, Tuple5, Write, add_named_with,
+    declared_with, read_parts, write_five,
 };
 use std::collections::{BTreeMap, LinkedList, VecDeque};
+use std::marker::PhantomData;
 use std::rc::Rc;
 
 /// The fields of [`Held`], in order.
-type Fields<T> = Tuple8<
+type Fields<T, M> = Tuple5<
     [Vec<T>; 2],
     BTreeMap<u32, Option<T>>,
-    Box<T>,
-    Result<T, u8>,
-    (T, u8),
-    VecDeque<T>,
-    LinkedList<T>,
-    Rc<T>,
+    Result<Box<T>, VecDeque<T>>,
+    (LinkedList<T>, Rc<T>),
+    PhantomData<M>,
 >;
 
-impl<T: BorshType> BorshType for Held<T>
+impl<T: BorshType, M> BorshType for Held<T, M>
 where
     T: Clone,
 {
-    ghost codec = { contramap
-        (λ v. (v.rows, v.by_number, v.boxed, v.tried, v.pair, v.queue, v.linked, v.shared))
-        ⟦<Fields<T> as BorshType>⟧.codec };
+    ghost codec = { contramap (λ v. (v.rows, v.map, v.way, v.pair, v.mark))
+        ⟦<Fields<T, M> as BorshType>⟧.codec };
 
-    ghost lawful_if = { from
-        (contramap-lawful (λ v. (
-          v.rows,
-          v.by_number,
-          v.boxed,
-          v.tried,
-          v.pair,
-          v.queue,
-          v.linked,
-          v.shared,
-        ))) ⟦<Fields<T> as BorshType>⟧.lawful_if };
+    ghost lawful_if = { from (contramap-lawful (λ v. (v.rows, v.map, v.way, v.pair, v.mark)))
+        ⟦<Fields<T, M> as BorshType>⟧.lawful_if };
 
     ghost premises = { Prim.search (key_facts, T.premises) };
 
     fn encodes_empty() -> bool {
-        <Fields<T>>::encodes_empty()
+        <Fields<T, M>>::encodes_empty()
     }
 
     fn element_size() -> usize {
-        <Fields<T>>::element_size()
+        <Fields<T, M>>::element_size()
     }
 }
 
-impl<T: BorshSerialize> BorshSerialize for Held<T>
+impl<T: BorshSerialize, M> BorshSerialize for Held<T, M>
 where
     T: Clone,
 {
     fn serialize<W: Write>(&self, alloc: Global, writer: &mut W) -> borsh::derived::Result<()> {
-        write_eight(
-            &self.rows,
-            &self.by_number,
-            &self.boxed,
-            &self.tried,
-            &self.pair,
-            &self.queue,
-            &self.linked,
-            &self.shared,
-            alloc,
-            writer,
+        write_five(
+            &self.rows, &self.map, &self.way, &self.pair, &self.mark, alloc, writer,
         )
     }
 }
 
-impl<T: BorshDeserialize> FromParts for Held<T>
+impl<T: BorshDeserialize, M> FromParts for Held<T, M>
 where
     T: Clone,
 {
-    type Parts = Fields<T>;
+    type Parts = Fields<T, M>;
 
-    ghost view = { λ v. (
-      v.rows,
-      v.by_number,
-      v.boxed,
-      v.tried,
-      v.pair,
-      v.queue,
-      v.linked,
-      v.shared,
-    ) };
+    ghost view = { λ v. (v.rows, v.map, v.way, v.pair, v.mark) };
 
-    fn from_parts(fields: Fields<T>) -> Held<T> {
-        let (rows, by_number, boxed, tried, pair, queue, linked, shared) = fields;
+    fn from_parts((rows, map, way, pair, mark): Fields<T, M>) -> Held<T, M> {
         Held {
             rows,
-            by_number,
-            boxed,
-            tried,
+            map,
+            way,
             pair,
-            queue,
-            linked,
-            shared,
+            mark,
         }
     }
 }
 
-impl<T: BorshDeserialize> BorshDeserialize for Held<T>
+impl<T: BorshDeserialize, M> BorshDeserialize for Held<T, M>
 where
     T: Clone,
 {
     fn deserialize_reader<R: Read>(
         alloc: Global,
         reader: &mut R,
-    ) -> borsh::derived::Result<Held<T>> {
+    ) -> borsh::derived::Result<Held<T, M>> {
         read_parts(alloc, reader)
     }
 
@@ -128,89 +94,48 @@ where
     }
 }
 
-impl<T: BorshSchema> BorshSchema for Held<T>
+impl<T: BorshSchema, M> BorshSchema for Held<T, M>
 where
     T: Clone,
 {
     ghost name = { name_with (codes "Held") T.name [] };
 
     ghost parts = { struct_parts (name_with (codes "Held") T.name [])
-        (codes "rows" ∷ codes "by_number" ∷ codes "boxed" ∷ codes "tried" ∷ codes "pair"
-        ∷ codes "queue" ∷ codes "linked" ∷ codes "shared" ∷ [])
-        ⟦<Chain<Fields<T>> as FieldTypes>⟧.described };
+        (codes "rows" ∷ codes "map" ∷ codes "way" ∷ codes "pair" ∷ codes "mark" ∷ [])
+        ⟦<Chain<Fields<T, M>> as FieldTypes>⟧.described };
 
-    ghost described = { named_described
-        (λ v. (
-          v.rows,
-          (v.by_number, (v.boxed, (v.tried, (v.pair, (v.queue, (v.linked, (v.shared, tt))))))),
-        ))
-        (codes "rows" ∷ codes "by_number" ∷ codes "boxed" ∷ codes "tried" ∷ codes "pair"
-        ∷ codes "queue" ∷ codes "linked" ∷ codes "shared" ∷ [])
-        ⟦<Chain<Fields<T>> as FieldTypes>⟧.described refl };
+    ghost described = { named_described (λ v. (v.rows, (v.map, (v.way, (v.pair, (v.mark, tt))))))
+        (codes "rows" ∷ codes "map" ∷ codes "way" ∷ codes "pair" ∷ codes "mark" ∷ [])
+        ⟦<Chain<Fields<T, M>> as FieldTypes>⟧.described refl };
 
     fn declaration(alloc: Global) -> SchemaResult<Declaration> {
         declared_with::<T, ()>(alloc, "Held")
     }
 
     fn add_definitions_recursively(alloc: Global, map: &mut DefinitionMap) -> SchemaResult<()> {
-        const NAMES: &[&str] = &[
-            "rows",
-            "by_number",
-            "boxed",
-            "tried",
-            "pair",
-            "queue",
-            "linked",
-            "shared",
-        ];
-        add_named_with::<T, (), Chain<Fields<T>>>(alloc, "Held", NAMES, map)
+        const NAMES: &[&str] = &["rows", "map", "way", "pair", "mark"];
+        add_named_with::<T, (), Chain<Fields<T, M>>>(alloc, "Held", NAMES, map)
     }
 
     ghost describes = { λ defs held. describes_contramap
-        (λ v. (
-          v.rows,
-          (v.by_number, (v.boxed, (v.tried, (v.pair, (v.queue, (v.linked, v.shared)))))),
-        ))
-        (describes_parts held.0
-        (all_more
-        (describes_row 2 held.1.0.0
-        (describes_contramap (λ list. list.items)
-        (describes_elements held.1.0.1.0.0 (T.describes defs held.1.0.1.0.1.0))))
-        (all_more
-        (describes_contramap (λ map. map.entries)
-        (describes_refused_if ⟦<u32 as BorshType>⟧.codec.is_zero_width
-        (describes_ordered ⟦<u32 as Ord>⟧.cmp held.1.1.0.0
-        (describes_parts held.1.1.0.1.0.0
-        (all_more
-        (⟦<u32 as BorshSchema>⟧.described.describes defs held.1.1.0.1.0.1.0)
-        (all_one
-        (describes_contramap option_view
-        (describes_choice held.1.1.0.1.0.1.1.0.0
-        (choice_more first_variant refl
-        (describes_unit held.1.1.0.1.0.1.1.0.1.1.0.0)
-        (choice_more (later_variant first_variant) refl
-        (T.describes defs held.1.1.0.1.0.1.1.0.1.0) choice_none))))))))))
-        (all_more
-        (describes_contramap (λ boxed. boxed.value)
-        (describes_stored (T.describes defs held.1.1.1.0)))
-        (all_more
-        (describes_contramap result_view
-        (describes_choice held.1.1.1.1.0.0
-        (choice_more (later_variant first_variant) refl
-        (⟦<u8 as BorshSchema>⟧.described.describes defs held.1.1.1.1.0.1.1.0)
-        (choice_more first_variant refl (T.describes defs held.1.1.1.1.0.1.0) choice_none))))
-        (all_more
-        (describes_contramap (λ tuple. (tuple.0, tuple.1))
-        (describes_parts held.1.1.1.1.1.0.0
-        (all_more
-        (T.describes defs held.1.1.1.1.1.0.1.0)
-        (all_one (⟦<u8 as BorshSchema>⟧.described.describes defs held.1.1.1.1.1.0.1.1.0)))))
-        (all_more
-        (describes_contramap (λ list. list.items)
-        (describes_elements held.1.1.1.1.1.1.0.0 (T.describes defs held.1.1.1.1.1.1.0.1.0)))
-        (all_more
-        (describes_elements held.1.1.1.1.1.1.1.0.0 (T.describes defs held.1.1.1.1.1.1.1.0.1.0))
-        (all_one
-        (describes_contramap (λ boxed. boxed.value)
-        (describes_stored (T.describes defs held.1.1.1.1.1.1.1.1.0)))))))))))) };
+        (λ v. (v.rows, (v.map, (v.way, (v.pair, v.mark))))) (describes_parts held.0 (all_more
+        (describes_row 2 held.1.0.0 (describes_contramap (λ list. list.items) (describes_elements
+        held.1.0.1.0.0 (T.describes defs held.1.0.1.0.1.0)))) (all_more (describes_contramap
+        (λ map. map.entries) (describes_refused_if ⟦<u32 as BorshType>⟧.codec.is_zero_width
+        (describes_ordered ⟦<u32 as Ord>⟧.cmp held.1.1.0.0 (describes_parts held.1.1.0.1.0.0
+        (all_more (⟦<u32 as BorshSchema>⟧.described.describes defs held.1.1.0.1.0.1.0) (all_one
+        (describes_contramap option_view (describes_choice held.1.1.0.1.0.1.1.0.0 (choice_more
+        first_variant refl (describes_unit held.1.1.0.1.0.1.1.0.1.1.0.0) (choice_more
+        (later_variant first_variant) refl (T.describes defs held.1.1.0.1.0.1.1.0.1.0)
+        choice_none)))))))))) (all_more (describes_contramap result_view (describes_choice
+        held.1.1.1.0.0 (choice_more (later_variant first_variant) refl (describes_contramap
+        (λ list. list.items) (describes_elements held.1.1.1.0.1.1.0.0 (T.describes defs
+        held.1.1.1.0.1.1.0.1.0))) (choice_more first_variant refl (describes_contramap
+        (λ boxed. boxed.value) (describes_stored (T.describes defs held.1.1.1.0.1.0)))
+        choice_none)))) (all_more (describes_contramap (λ tuple. (tuple.0, tuple.1))
+        (describes_parts held.1.1.1.1.0.0 (all_more (describes_elements held.1.1.1.1.0.1.0.0
+        (T.describes defs held.1.1.1.1.0.1.0.1.0)) (all_one (describes_contramap
+        (λ boxed. boxed.value) (describes_stored (T.describes defs held.1.1.1.1.0.1.1.0)))))))
+        (all_one (⟦<PhantomData<M> as BorshSchema>⟧.described.describes defs
+        held.1.1.1.1.1.0))))))) };
 }

@@ -10,18 +10,11 @@ pub struct Place {
     pub street: String,
 }
 
-/// A map whose keys are marked as well, and a set of them.
+/// A map whose keys are marked as well, a set of them, and a field of a type of another crate.
 // derive: borsh, schema
 #[derive(Drop)]
 pub struct Visits {
     pub counts: BTreeMap<Place, u32>,
     pub closed: BTreeSet<Place>,
-}
-
-/// A field of a type of another crate.
-// derive: borsh, schema
-#[derive(Drop)]
-pub struct Lodger {
     pub book: A,
-    pub room: u16,
 }

@@ -5,10 +5,11 @@ ghost use Rattle.std.specs.Prelude.{codes, refl, ◌∷◌, []};
 
 use super::keys::{Place, Visits};
 use borsh::derived::*;
+use borsh_samples::A;
 use std::collections::{BTreeMap, BTreeSet};
 
 /// The fields of [`Visits`], in order.
-type Fields = (BTreeMap<Place, u32>, BTreeSet<Place>);
+type Fields = (BTreeMap<Place, u32>, BTreeSet<Place>, A);
 
 impl BorshType for Visits {
     ghost codec = { contramap ⟦<Visits as FromParts>⟧.view ⟦<Fields as BorshType>⟧.codec };
@@ -29,17 +30,21 @@ impl BorshType for Visits {
 
 impl BorshSerialize for Visits {
     fn serialize<W: Write>(&self, alloc: Global, writer: &mut W) -> Result<()> {
-        write_two(&self.counts, &self.closed, alloc, writer)
+        write_three(&self.counts, &self.closed, &self.book, alloc, writer)
     }
 }
 
 impl FromParts for Visits {
     type Parts = Fields;
 
-    ghost view = { λ v. (v.counts, v.closed) };
+    ghost view = { λ v. (v.counts, v.closed, v.book) };
 
-    fn from_parts((counts, closed): Fields) -> Visits {
-        Visits { counts, closed }
+    fn from_parts((counts, closed, book): Fields) -> Visits {
+        Visits {
+            counts,
+            closed,
+            book,
+        }
     }
 }
 
@@ -52,18 +57,20 @@ impl BorshDeserialize for Visits {
 impl BorshSchema for Visits {
     ghost name = { codes "Visits" };
 
-    ghost parts = { struct_parts (codes "Visits") (codes "counts" ∷ codes "closed" ∷ [])
+    ghost parts = { struct_parts (codes "Visits")
+        (codes "counts" ∷ codes "closed" ∷ codes "book" ∷ [])
         ⟦<Chain<Fields> as FieldTypes>⟧.described };
 
-    ghost described = { named_described (λ v. (v.counts, (v.closed, tt)))
-        (codes "counts" ∷ codes "closed" ∷ []) ⟦<Chain<Fields> as FieldTypes>⟧.described refl };
+    ghost described = { named_described (λ v. (v.counts, (v.closed, (v.book, tt))))
+        (codes "counts" ∷ codes "closed" ∷ codes "book" ∷ [])
+        ⟦<Chain<Fields> as FieldTypes>⟧.described refl };
 
     fn declaration(alloc: Global) -> SchemaResult<Declaration> {
         declared(alloc, "Visits")
     }
 
     fn add_definitions_recursively(alloc: Global, map: &mut DefinitionMap) -> SchemaResult<()> {
-        const NAMES: &[&str] = &["counts", "closed"];
+        const NAMES: &[&str] = &["counts", "closed", "book"];
         add_named::<Chain<Fields>>(alloc, "Visits", NAMES, map)
     }
 

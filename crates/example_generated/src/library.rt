@@ -9,53 +9,37 @@ use std::ops::{Range, RangeFrom, RangeFull, RangeInclusive, RangeTo, RangeToIncl
 use std::rc::{Rc, RcSlice, RcStr};
 use uuid::Uuid;
 
-/// Numbers of every width, numbers that aren't 0, and addresses without ports: as many fields as a tuple has.
+/// Numbers, addresses without ports, lists and sets, values on the heap, whose schema is that of what they hold, ranges, which are
+/// their ends, and tuples.
 // derive: borsh, schema
 #[derive(Drop)]
-pub struct Numbers {
-    pub small: i8,
-    pub medium: i16,
-    pub large: u128,
-    pub signed: i128,
-    pub offset: isize,
-    pub byte: NonZeroU8,
-    pub delta: NonZeroI64,
-    pub more: NonZeroU128,
-    pub size: NonZeroUsize,
-    pub old: Ipv4Addr,
-    pub new: Ipv6Addr,
-    pub either: IpAddr,
-}
-
-/// Lists and sets, and values on the heap, whose schema is that of what they hold.
-// derive: borsh, schema
-#[derive(Drop)]
-pub struct Lists {
-    pub queue: VecDeque<u16>,
-    pub linked: LinkedList<u8>,
-    pub names: BTreeSet<String>,
-    pub seen: HashSet<u32>,
-    pub fixed: BoxedSlice<u16>,
-    pub boxed: Box<u64>,
-    pub letters: BoxedStr,
-    pub count: Rc<u32>,
-    pub label: RcStr,
-    pub parts: RcSlice<u16>,
-}
-
-/// Ranges, which are their ends, and tuples.
-// derive: borsh, schema
-#[derive(Drop)]
-pub struct Ranges {
-    pub half_open: Range<u8>,
-    pub closed: RangeInclusive<u8>,
-    pub from: RangeFrom<u16>,
-    pub to: RangeTo<u8>,
-    pub through: RangeToInclusive<u8>,
-    pub all: RangeFull,
+pub struct Library {
+    pub ints: (i8, i16, u128, i128, isize),
+    pub some: (NonZeroU8, NonZeroI64, NonZeroU128, NonZeroUsize),
+    pub at: (Ipv4Addr, Ipv6Addr, IpAddr),
+    pub all: (
+        VecDeque<u16>,
+        LinkedList<u8>,
+        BTreeSet<String>,
+        HashSet<u32>,
+    ),
+    pub heap: (
+        BoxedSlice<u16>,
+        Box<u64>,
+        BoxedStr,
+        Rc<u32>,
+        RcStr,
+        RcSlice<u16>,
+    ),
+    pub ends: (
+        Range<u8>,
+        RangeInclusive<u8>,
+        RangeFrom<u16>,
+        RangeTo<u8>,
+        RangeToInclusive<u8>,
+    ),
+    pub full: RangeFull,
     pub one: (u8,),
-    pub two: (u8, String),
-    pub four: (u8, bool, u16, Option<u8>),
 }
 
 /// Types without a schema: those of other libraries, and addresses with ports.
@@ -65,9 +49,9 @@ pub struct Others {
     pub ages: IndexMap<String, u8>,
     pub seen: IndexSet<u16>,
     pub raw: Bytes,
-    pub buffer: BytesMut,
+    pub more: BytesMut,
     pub id: Uuid,
     pub old: SocketAddrV4,
     pub new: SocketAddrV6,
-    pub either: SocketAddr,
+    pub any: SocketAddr,
 }

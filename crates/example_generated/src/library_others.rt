@@ -40,16 +40,8 @@ impl BorshType for Others {
 impl BorshSerialize for Others {
     fn serialize<W: Write>(&self, alloc: Global, writer: &mut W) -> Result<()> {
         write_eight(
-            &self.ages,
-            &self.seen,
-            &self.raw,
-            &self.buffer,
-            &self.id,
-            &self.old,
-            &self.new,
-            &self.either,
-            alloc,
-            writer,
+            &self.ages, &self.seen, &self.raw, &self.more, &self.id, &self.old, &self.new,
+            &self.any, alloc, writer,
         )
     }
 }
@@ -57,18 +49,18 @@ impl BorshSerialize for Others {
 impl FromParts for Others {
     type Parts = Fields;
 
-    ghost view = { λ v. (v.ages, v.seen, v.raw, v.buffer, v.id, v.old, v.new, v.either) };
+    ghost view = { λ v. (v.ages, v.seen, v.raw, v.more, v.id, v.old, v.new, v.any) };
 
-    fn from_parts((ages, seen, raw, buffer, id, old, new, either): Fields) -> Others {
+    fn from_parts((ages, seen, raw, more, id, old, new, any): Fields) -> Others {
         Others {
             ages,
             seen,
             raw,
-            buffer,
+            more,
             id,
             old,
             new,
-            either,
+            any,
         }
     }
 }

@@ -72,7 +72,6 @@ impl<A: BorshSchema, B: BorshSchema> BorshSchema for Pair<A, B> {
         add_named_with::<A, (B, ()), Chain<Fields<A, B>>>(alloc, "Pair", NAMES, map)
     }
 
-    ghost describes = { λ defs held. describes_contramap (λ v. (v.first, v.second))
-        (describes_parts held.0
-        (all_more (A.describes defs held.1.0) (all_one (B.describes defs held.1.1.0)))) };
+    ghost describes = { λ defs held. describes_contramap (λ v. (v.first, v.second)) (describes_parts
+        held.0 (all_more (A.describes defs held.1.0) (all_one (B.describes defs held.1.1.0)))) };
 }

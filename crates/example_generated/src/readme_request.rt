@@ -89,22 +89,15 @@ type VariantList = Fork<Fork<Case<0, ()>, Case<1, (String, (u32, (u32, ())))>>, 
 impl BorshSchema for Request {
     ghost name = { codes "Request" };
 
-    ghost parts = { enum_definitions
-        (codes "Request")
-        ((codes "List", [])
+    ghost parts = { enum_definitions (codes "Request") ((codes "List", [])
         ∷ (codes "Buy", codes "name" ∷ codes "pieces" ∷ codes "price" ∷ [])
-        ∷ (codes "Cancel", codes "number" ∷ [])
-        ∷ [])
-        ⟦<VariantList as VariantTypes>⟧.read };
+        ∷ (codes "Cancel", codes "number" ∷ []) ∷ []) ⟦<VariantList as VariantTypes>⟧.read };
 
-    ghost described = { enum_described
-        ⟦<Request as FromCases>⟧.view
-        (fork_described
-        (fork_described
-        (case_described (λ _. tt) no_fields_described refl refl)
-        (case_described (λ v. (v.0, (v.1, (v.2, tt))))
-        ⟦<(String, (u32, (u32, ()))) as FieldTypes>⟧.described refl refl))
-        (case_described (λ v. (v, tt)) ⟦<(u64, ()) as FieldTypes>⟧.described refl refl)) };
+    ghost described = { enum_described ⟦<Request as FromCases>⟧.view (fork_described (fork_described
+        (case_described (λ _. tt) no_fields_described refl refl) (case_described
+        (λ v. (v.0, (v.1, (v.2, tt))))
+        ⟦<(String, (u32, (u32, ()))) as FieldTypes>⟧.described refl refl)) (case_described
+        (λ v. (v, tt)) ⟦<(u64, ()) as FieldTypes>⟧.described refl refl)) };
 
     fn declaration(alloc: Global) -> SchemaResult<Declaration> {
         declared(alloc, "Request")

@@ -3,11 +3,11 @@ ghost use Rattle.borsh.specs.Derived.{contramap, contramap-lawful, from, key_fac
 ghost use Rattle.borsh.specs.Derived.{named_described, struct_parts};
 ghost use Rattle.std.specs.Prelude.{codes, refl, ◌∷◌, []};
 
-use super::records::{Block, Marker, Name, Point};
+use super::records::{Block, Code, Marker};
 use borsh::derived::*;
 
 /// The fields of [`Block`], in order.
-type Fields = ([u8; 32], [[u16; 3]; 2], Vec<Name>, Option<(Point, Marker)>);
+type Fields = ([u8; 32], [[u16; 3]; 2], Vec<Code>, Option<(Code, Marker)>);
 
 impl BorshType for Block {
     ghost codec = { contramap ⟦<Block as FromParts>⟧.view ⟦<Fields as BorshType>⟧.codec };

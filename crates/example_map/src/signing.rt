@@ -1,15 +1,29 @@
 // Bytes that are signed, and the values that they encode.
-ghost use Rattle.std.specs.Prelude.{◌≡◌, ◌≤◌, ◌+◌, true, Some, IfOk, length};
+ghost use Rattle.std.specs.Prelude.{◌≡◌, ◌≤◌, ◌+◌, true, IfOk, length};
+ghost use Rattle.borsh.specs.Signing.{EncodesValue};
 
 use borsh::io::Result;
-use borsh::{BorshDeserialize, BorshSerialize, from_slice, to_vec};
+use borsh::{BorshDeserialize, BorshKey, BorshSerialize, from_slice, to_vec};
 use std::alloc::Global;
 
-/// The bytes that are signed: the value's encoding.
+/// The bytes that are signed: the value's encoding, which encodes no other value and decodes to this one.
 pub fn bytes_to_sign<T: BorshSerialize>(alloc: Global, value: &T) -> Result<Vec<u8>>
-    ensures { IfOk result (λ v. T.codec.encoding value.now ≡ Some v.items) }
+    ensures { EncodesValue T T.codec value.now result }
 {
     to_vec(alloc, value)
+}
+
+/// The bytes of two values that are to be signed. If they are the same, the values are.
+pub fn both_to_sign<T: BorshSerialize + BorshKey>(
+    alloc: Global,
+    first: &T,
+    second: &T,
+) -> Result<(Vec<u8>, Vec<u8>)>
+    ensures { IfOk result (λ both. both.0.items ≡ both.1.items → T.eq first.now second.now ≡ true) }
+{
+    let bytes = bytes_to_sign(alloc, first)?;
+    let others = bytes_to_sign(alloc, second)?;
+    Ok((bytes, others))
 }
 
 /// The value that was signed: one that the bytes decode to.
@@ -17,6 +31,17 @@ pub fn signed_value<T: BorshDeserialize>(alloc: Global, bytes: &[u8]) -> Result<
     ensures { IfOk result (λ v. T.codec.decodes true bytes.now v) }
 {
     from_slice(alloc, bytes)
+}
+
+/// What another one decodes from the bytes that are signed for a value: the same value.
+pub fn value_at_receiver<T: BorshSerialize + BorshDeserialize>(
+    alloc: Global,
+    value: &T,
+) -> Result<T>
+    ensures { IfOk result (λ theirs. T.codec.equivalent theirs value.now) }
+{
+    let bytes = bytes_to_sign(alloc, value)?;
+    signed_value(alloc, bytes.as_slice())
 }
 
 /// The list that was signed. However long a list it says it is, its bytes are more: four and one for each element, or more.

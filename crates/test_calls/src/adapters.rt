@@ -1,5 +1,5 @@
 // The adapters for the readers and writers of std.
-use super::support::{FULL, SHORT, TWELVE, check, is_error, is_invalid};
+use super::support::{FULL, SHORT, TWELVE, check, is_error, is_invalid, is_kind_alone};
 use borsh::io::{Error, ErrorKind, Read, StdReader, StdWriter, Write, flush_all};
 use borsh::{BorshDeserialize, to_writer};
 use std::alloc::Global;
@@ -128,14 +128,6 @@ impl std::io::Write for Device {
     }
 }
 
-/// Whether the outcome is an error of this kind without a text of its own.
-fn is_kind_alone<T>(outcome: &Result<T, Error>, kind: ErrorKind) -> bool {
-    match outcome {
-        Ok(_) => false,
-        Err(e) => e.kind() == kind && e.get_ref().is_none() && e.message() == kind.as_str(),
-    }
-}
-
 /// Reads from a device that fails so at the call after so many bytes, which is counted, and reads on; and makes a first call
 /// that fails so.
 fn check_reader(alloc: Global, after: u32, kind: Kind, expected: ErrorKind) -> Result<(), Fail> {
@@ -146,18 +138,12 @@ fn check_reader(alloc: Global, after: u32, kind: Kind, expected: ErrorKind) -> R
     let is_end = expected == ErrorKind::UnexpectedEof && is_invalid(&outcome, SHORT);
     let is_failed = is_end || is_kind_alone(&outcome, expected);
     check(is_failed && reader.faults() == 1, "failed read", number)?;
-    check(
-        u8::deserialize_reader(alloc, &mut reader)? == 12,
-        "next read",
-        number,
-    )?;
+    let is_right = u8::deserialize_reader(alloc, &mut reader)? == 12;
+    check(is_right, "next read", number)?;
     let mut reader = StdReader::new(Device::new(alloc, 0, Some((0, kind))), 0);
     let first = reader.read(&mut [0u8; 2]);
-    check(
-        is_kind_alone(&first, expected) && reader.faults() == 1,
-        "first read",
-        number,
-    )
+    let is_right = is_kind_alone(&first, expected) && reader.faults() == 1;
+    check(is_right, "first read", number)
 }
 
 /// Writes into a device that fails so at the call after so many bytes, which is counted, and flushes it; and makes a first flush
@@ -172,11 +158,8 @@ fn check_writer(alloc: Global, after: u32, kind: Kind, expected: ErrorKind) -> R
     writer.flush()?;
     let taken = device.bytes.as_slice();
     let is_beginning = taken.len() == number && TWELVE.starts_with(taken);
-    check(
-        is_beginning && device.flushes == 1,
-        "bytes of a failed write",
-        number,
-    )?;
+    let is_right = is_beginning && device.flushes == 1;
+    check(is_right, "bytes of a failed write", number)?;
     let mut device = Device::new(alloc, 0, Some((0, kind)));
     let mut writer = StdWriter::new(&mut device, 0);
     let is_failed = is_kind_alone(&writer.flush(), expected) && writer.faults() == 1;
@@ -220,28 +203,26 @@ fn is_read_at_last(alloc: Global, interruptions: u32) -> Result<bool, Fail> {
     Ok(is_read && is_counted && is_refused == (interruptions > MOST))
 }
 
-/// The same of writing.
-fn is_written_at_last(alloc: Global, interruptions: u32) -> bool {
+/// The same of writing, or of flushing alone.
+fn is_written_at_last(alloc: Global, interruptions: u32, is_flush: bool) -> bool {
     let mut device = Device::new(alloc, interruptions, None);
     let mut writer = StdWriter::new(&mut device, MOST);
-    let outcome = to_writer(alloc, &mut writer, &12u64);
+    let outcome = if is_flush {
+        flush_all(&mut writer)
+    } else {
+        to_writer(alloc, &mut writer, &12u64)
+    };
+    let faults = writer.faults();
+    let (taken, flushes) = (device.bytes.as_slice(), device.flushes);
     if interruptions > MOST {
-        return is_given_up(&outcome) && writer.faults() == 1 && device.bytes.is_empty();
+        return is_given_up(&outcome) && faults == 1 && taken.is_empty() && flushes == 0;
     }
-    let is_counted = writer.faults() == 0;
-    outcome.is_ok() && is_counted && device.bytes.as_slice() == TWELVE.as_slice()
-}
-
-/// The same of flushing.
-fn is_flushed_at_last(alloc: Global, interruptions: u32) -> bool {
-    let mut device = Device::new(alloc, interruptions, None);
-    let mut writer = StdWriter::new(&mut device, MOST);
-    let outcome = flush_all(&mut writer);
-    if interruptions > MOST {
-        return is_given_up(&outcome) && writer.faults() == 1 && device.flushes == 0;
-    }
-    let is_counted = writer.faults() == 0;
-    outcome.is_ok() && is_counted && device.flushes == 1
+    let is_done = if is_flush {
+        flushes == 1
+    } else {
+        taken == TWELVE.as_slice()
+    };
+    outcome.is_ok() && faults == 0 && is_done
 }
 
 #[test]
@@ -249,21 +230,12 @@ fn interruptions_are_bounded(rt: HostRuntime) -> Result<(), Fail> {
     let alloc = rt.alloc();
     for interruptions in 0..5u32 {
         let number = interruptions as usize;
-        check(
-            is_read_at_last(alloc, interruptions)?,
-            "interrupted reads",
-            number,
-        )?;
-        check(
-            is_written_at_last(alloc, interruptions),
-            "interrupted writes",
-            number,
-        )?;
-        check(
-            is_flushed_at_last(alloc, interruptions),
-            "interrupted flushes",
-            number,
-        )?;
+        let is_right = is_read_at_last(alloc, interruptions)?;
+        check(is_right, "interrupted reads", number)?;
+        let is_right = is_written_at_last(alloc, interruptions, false);
+        check(is_right, "interrupted writes", number)?;
+        let is_right = is_written_at_last(alloc, interruptions, true);
+        check(is_right, "interrupted flushes", number)?;
     }
     Ok(())
 }

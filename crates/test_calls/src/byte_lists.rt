@@ -5,7 +5,7 @@ use borsh::{BorshDeserialize, BorshSerialize, from_slice, to_writer};
 use borsh_samples::Octet;
 use std::alloc::Global;
 use std::test::Fail;
-use test_devices::{Course, Failure, TestReader, TestWriter};
+use test_devices::{ABORTED, Course, Failure, TestReader, TestWriter};
 
 const LENGTHS: [u32; 7] = [0, 1, 7, 1048575, 1048576, 1048577, 2097153];
 
@@ -56,16 +56,10 @@ fn bytes_at_once_are_the_bytes_one_by_one(rt: HostRuntime) -> Result<(), Fail> {
         all.extend_from_slice(BEHIND)?;
         let all = all.as_slice();
         let list = &all[..all.len().saturating_sub(3)];
-        check(
-            is_read::<Vec<u8>>(alloc, all, list)?,
-            "Vec<u8>",
-            len as usize,
-        )?;
-        check(
-            is_read::<Vec<Octet>>(alloc, all, list)?,
-            "Vec<Octet>",
-            len as usize,
-        )?;
+        let is_right = is_read::<Vec<u8>>(alloc, all, list)?;
+        check(is_right, "Vec<u8>", len as usize)?;
+        let is_right = is_read::<Vec<Octet>>(alloc, all, list)?;
+        check(is_right, "Vec<Octet>", len as usize)?;
     }
     Ok(())
 }
@@ -76,18 +70,12 @@ fn a_long_list_takes_few_calls(rt: HostRuntime) -> Result<(), Fail> {
     let list = list_of(alloc, LONG)?;
     let mut reader = TestReader::new(list.as_slice(), Course::smooth());
     let bytes = Vec::<u8>::deserialize_reader(alloc, &mut reader)?;
-    check(
-        reader.calls() <= 10,
-        "calls of read",
-        reader.calls() as usize,
-    )?;
+    let is_right = reader.calls() <= 10;
+    check(is_right, "calls of read", reader.calls() as usize)?;
     let mut writer = TestWriter::new(Vec::new(alloc), usize::MAX, Course::smooth());
     to_writer(alloc, &mut writer, &bytes)?;
-    check(
-        writer.calls() <= 10,
-        "calls of write",
-        writer.calls() as usize,
-    )
+    let is_right = writer.calls() <= 10;
+    check(is_right, "calls of write", writer.calls() as usize)
 }
 
 /// Reads the list in pieces of 512 KiB, and lets the read after so many others fail: the second MiB is read by the fourth and
@@ -98,7 +86,7 @@ fn is_failed_read(alloc: Global, list: &[u8], read: u32, failure: Failure) -> bo
     let mut reader = TestReader::new(list, course);
     let outcome = Vec::<u8>::deserialize_reader(alloc, &mut reader);
     let is_right = match failure {
-        Failure::TimedOut => is_error(&outcome, ErrorKind::TimedOut, "too slow"),
+        Failure::Aborted => is_error(&outcome, ErrorKind::ConnectionAborted, ABORTED),
         Failure::End => is_invalid(&outcome, SHORT),
     };
     // The first read takes the length, of four bytes.
@@ -123,22 +111,16 @@ fn reads_of_a_long_list_fail(rt: HostRuntime) -> Result<(), Fail> {
     let list = list_of(alloc, LONG)?;
     let list = list.as_slice();
     for read in 0..6u32 {
-        for failure in [Failure::TimedOut, Failure::End] {
-            check(
-                is_failed_read(alloc, list, read, failure),
-                "failed read",
-                read as usize,
-            )?;
+        for failure in [Failure::Aborted, Failure::End] {
+            let is_right = is_failed_read(alloc, list, read, failure);
+            check(is_right, "failed read", read as usize)?;
         }
     }
     for len in [0usize, 3, 4, 1048579, 1048580, 1048581, 2097155, 2097156] {
         let beginning = &list[..len.min(list.len())];
         for course in [Course::smooth(), Course::smooth().in_pieces(65536)] {
-            check(
-                is_beginning_refused(alloc, beginning, course),
-                "beginning",
-                len,
-            )?;
+            let is_right = is_beginning_refused(alloc, beginning, course);
+            check(is_right, "beginning", len)?;
         }
     }
     Ok(())
@@ -147,10 +129,10 @@ fn reads_of_a_long_list_fail(rt: HostRuntime) -> Result<(), Fail> {
 /// Whether a writer that fails at a write, which is counted, has a beginning of the list.
 fn is_failed_write(alloc: Global, bytes: &Vec<u8>, list: &[u8], write: u32) -> bool {
     let course = Course::smooth().in_pieces(524288);
-    let failing = course.failing(write, Failure::TimedOut);
+    let failing = course.failing(write, Failure::Aborted);
     let mut writer = TestWriter::new(Vec::new(alloc), usize::MAX, failing);
     let outcome = to_writer(alloc, &mut writer, bytes);
-    is_error(&outcome, ErrorKind::TimedOut, "too slow")
+    is_error(&outcome, ErrorKind::ConnectionAborted, ABORTED)
         && writer.faults() == 1
         && list.starts_with(writer.taken())
 }
@@ -170,18 +152,12 @@ fn writes_of_a_long_list_fail(rt: HostRuntime) -> Result<(), Fail> {
     let list = list.as_slice();
     let bytes: Vec<u8> = from_slice(alloc, list)?;
     for write in 0..6u32 {
-        check(
-            is_failed_write(alloc, &bytes, list, write),
-            "failed write",
-            write as usize,
-        )?;
+        let is_right = is_failed_write(alloc, &bytes, list, write);
+        check(is_right, "failed write", write as usize)?;
     }
     for room in [0usize, 4, 1048576, 2097156] {
-        check(
-            is_full_writer(alloc, &bytes, list, room),
-            "full writer",
-            room,
-        )?;
+        let is_right = is_full_writer(alloc, &bytes, list, room);
+        check(is_right, "full writer", room)?;
     }
     Ok(())
 }

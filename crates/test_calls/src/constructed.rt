@@ -1,8 +1,9 @@
 // Values that a program makes: which of them the bytes mean, and values that no bytes make.
+use super::shapes::named_fields;
 use super::support::{check, check_value, check_written, is_written, owned_text};
 use super::tagged::Tagged;
 use borsh::from_slice;
-use borsh::schema::{Definition, Fields, LengthRange};
+use borsh::schema::LengthRange;
 use borsh_samples::{A, MyEnum, MyStruct, ShortA};
 use std::alloc::Global;
 use std::borrow::{CowSlice, CowStr};
@@ -16,54 +17,35 @@ use uuid::Uuid;
 
 #[test]
 fn numbers_of_the_machine_s_width_have_eight_bytes(rt: HostRuntime) -> Result<(), Fail> {
-    let alloc = rt.alloc();
-    for &(n, bytes) in &[
-        (-100isize, b"\x9c\xff\xff\xff\xff\xff\xff\xff"),
-        (100, b"\x64\0\0\0\0\0\0\0"),
-        (isize::MIN, b"\0\0\0\0\0\0\0\x80"),
-        (isize::MAX, b"\xff\xff\xff\xff\xff\xff\xff\x7f"),
-    ] {
-        check_value(alloc, "isize", n, bytes)?;
-    }
-    for &(n, bytes) in &[
-        (100usize, b"\x64\0\0\0\0\0\0\0"),
-        (usize::MIN, b"\0\0\0\0\0\0\0\0"),
-        (usize::MAX, b"\xff\xff\xff\xff\xff\xff\xff\xff"),
-    ] {
-        check_value(alloc, "usize", n, bytes)?;
-    }
-    Ok(())
+    let signed = (-100isize, 100isize, isize::MIN, isize::MAX);
+    let bytes =
+        b"\x9c\xff\xff\xff\xff\xff\xff\xff\x64\0\0\0\0\0\0\0\0\0\0\0\0\0\0\x80\xff\xff\xff\xff\xff\xff\xff\x7f";
+    check_value(rt.alloc(), "isize", signed, bytes)?;
+    let unsigned = (100usize, usize::MIN, usize::MAX);
+    let bytes = b"\x64\0\0\0\0\0\0\0\0\0\0\0\0\0\0\0\xff\xff\xff\xff\xff\xff\xff\xff";
+    check_value(rt.alloc(), "usize", unsigned, bytes)
 }
 
-fn are_non_zero(alloc: Global) -> Result<bool, Fail> {
-    Ok(
-        from_slice::<NonZeroU8>(alloc, b"\x01")?.get() == 1
-            && from_slice::<NonZeroU32>(alloc, b"\xff\0\0\0")?.get() == 255
-            && from_slice::<NonZeroUsize>(alloc, b"\x01\x01\0\0\0\0\0\0")?.get() == 257
-            && from_slice::<NonZeroI64>(alloc, &[255u8; 8])?.get() == -1
-            && from_slice::<NonZeroI16>(alloc, b"\0\x80")?.get() == i16::MIN,
-    )
-}
+type NonZero = (NonZeroU8, NonZeroU32, NonZeroUsize, NonZeroI64, NonZeroI16);
 
 #[test]
 fn non_zero_numbers_are_their_number(rt: HostRuntime) -> Result<(), Fail> {
-    check(are_non_zero(rt.alloc())?, "numbers", 0)
+    let bytes = b"\x01\xff\0\0\0\x01\x01\0\0\0\0\0\0\xff\xff\xff\xff\xff\xff\xff\xff\0\x80";
+    let (a, b, c, d, e) = from_slice::<NonZero>(rt.alloc(), bytes)?;
+    let numbers = (a.get(), b.get(), c.get(), d.get(), e.get());
+    check(numbers == (1, 255, 257, -1, i16::MIN), "numbers", 0)
 }
 
 fn are_structs(alloc: Global) -> Result<bool, Fail> {
     let bytes = b"\xe5\x0c\0\0\0\0\0\0\x0c\0\0\0liber primus";
-    let read: A = from_slice(alloc, bytes)?;
-    let y = owned_text(alloc, "liber primus")?;
-    let is_a = read.x == 3301 && read.y.as_str() == "liber primus";
+    let a: A = from_slice(alloc, bytes)?;
     let bytes_of_lists = b"\x0a\0\0\0\0\0\0\0\x03\0\0\0\x01\x02\x03";
-    let read: MyStruct = from_slice(alloc, bytes_of_lists)?;
+    let list: MyStruct = from_slice(alloc, bytes_of_lists)?;
+    let y = owned_text(alloc, "liber primus")?;
     let b = Vec::from_slice(alloc, &[1u8, 2, 3])?;
-    let is_my_struct = read.a == 10 && read.b == b;
-    Ok(
-        is_a && is_my_struct
-            && is_written(alloc, &A { x: 3301, y }, bytes)?
-            && is_written(alloc, &MyStruct { a: 10, b }, bytes_of_lists)?,
-    )
+    let are_read = a.x == 3301 && a.y == y && list.a == 10 && list.b == b;
+    let is_a = is_written(alloc, &A { x: 3301, y }, bytes)?;
+    Ok(are_read && is_a && is_written(alloc, &MyStruct { a: 10, b }, bytes_of_lists)?)
 }
 
 fn is_enum(alloc: Global) -> Result<bool, Fail> {
@@ -93,22 +75,6 @@ fn are_ranges(alloc: Global) -> Result<bool, Fail> {
     )
 }
 
-/// A map of one entry, whose key and value differ.
-fn map(alloc: Global) -> Result<BTreeMap<u8, u8>, Fail> {
-    let mut map = BTreeMap::new(alloc);
-    map.insert(1, 10)?;
-    Ok(map)
-}
-
-fn struct_of_two(alloc: Global) -> Result<Definition, Fail> {
-    let mut fields = Vec::new(alloc);
-    fields.push((owned_text(alloc, "a")?, owned_text(alloc, "u8")?))?;
-    fields.push((owned_text(alloc, "b")?, owned_text(alloc, "u16")?))?;
-    Ok(Definition::Struct {
-        fields: Fields::NamedFields(fields),
-    })
-}
-
 // Fields of one type that hold different values: were two of them exchanged both ways, no row would show it.
 #[test]
 fn each_field_is_where_its_bytes_are(rt: HostRuntime) -> Result<(), Fail> {
@@ -116,19 +82,18 @@ fn each_field_is_where_its_bytes_are(rt: HostRuntime) -> Result<(), Fail> {
     check(are_structs(alloc)?, "structs", 0)?;
     check(is_enum(alloc)?, "enum", 0)?;
     check(are_ranges(alloc)?, "ranges", 0)?;
-    check_value(alloc, "map", map(alloc)?, b"\x01\0\0\0\x01\x0a")?;
+    // An entry whose key and value differ.
+    let mut map = BTreeMap::new(alloc);
+    map.insert(1u8, 10u8)?;
+    check_value(alloc, "map", map, b"\x01\0\0\0\x01\x0a")?;
     check_value(alloc, "tuple", (1u8, 2u8, 3u8, 4u8), b"\x01\x02\x03\x04")?;
     check_value(alloc, "Ok", Ok::<u8, u8>(7), b"\x01\x07")?;
     check_value(alloc, "Err", Err::<u8, u8>(7), b"\0\x07")?;
+    let range = LengthRange { start: 1, end: 2 };
     let bytes = b"\x01\0\0\0\0\0\0\0\x02\0\0\0\0\0\0\0";
-    check_value(
-        alloc,
-        "range of lengths",
-        LengthRange { start: 1, end: 2 },
-        bytes,
-    )?;
-    let bytes = b"\x04\0\x02\0\0\0\x01\0\0\0a\x02\0\0\0u8\x01\0\0\0b\x03\0\0\0u16";
-    check_value(alloc, "definition", struct_of_two(alloc)?, bytes)
+    check_value(alloc, "range of lengths", range, bytes)?;
+    let bytes = b"\0\x02\0\0\0\x01\0\0\0a\x02\0\0\0u8\x01\0\0\0b\x03\0\0\0u16";
+    check_value(alloc, "fields", named_fields(alloc)?, bytes)
 }
 
 #[test]
@@ -148,43 +113,26 @@ fn example() -> Ipv6Addr {
     Ipv6Addr::new(0x2001, 0xdb8, 0, 0, 0, 0, 0, 1)
 }
 
-fn addresses(alloc: Global) -> Result<Vec<IpAddr>, Fail> {
-    let mut addresses = Vec::new(alloc);
-    addresses.push(IpAddr::V4(Ipv4Addr::new(192, 168, 0, 1)))?;
-    addresses.push(IpAddr::V6(example()))?;
-    Ok(addresses)
-}
-
 #[test]
 fn addresses_and_identifiers_are_written_in_order(rt: HostRuntime) -> Result<(), Fail> {
     let alloc = rt.alloc();
     let home = Ipv4Addr::new(192, 168, 0, 1);
-    check_value(alloc, "version 4", home, b"\xc0\xa8\0\x01")?;
-    check_value(
-        alloc,
-        "port",
-        SocketAddrV4::new(home, 80),
-        b"\xc0\xa8\0\x01\x50\0",
-    )?;
-    let bytes = b"\x02\0\0\0\0\xc0\xa8\0\x01\x01\x20\x01\x0d\xb8\0\0\0\0\0\0\0\0\0\0\0\x01";
-    check_value(alloc, "addresses", addresses(alloc)?, bytes)?;
-    check_value(alloc, "version 6", example(), &bytes[10..])?;
+    let mut all = Vec::new(alloc);
+    all.push(IpAddr::V4(home))?;
+    all.push(IpAddr::V6(example()))?;
+    let bytes =
+        b"\xc0\xa8\0\x01\xc0\xa8\0\x01\x50\0\x02\0\0\0\0\xc0\xa8\0\x01\x01\x20\x01\x0d\xb8\0\0\0\0\0\0\0\0\0\0\0\x01";
+    let addresses = (home, SocketAddrV4::new(home, 80), all);
+    check_value(alloc, "addresses", addresses, bytes)?;
+    check_value(alloc, "version 6", example(), &bytes[20..])?;
     let bytes = b"\xa1\xa2\xa3\xa4\xb1\xb2\xc1\xc2\xd1\xd2\xd3\xd4\xd5\xd6\xd7\xd8";
     check_value(alloc, "identifier", Uuid::from_bytes(*bytes), bytes)?;
     // A flow label and a scope aren't written, and are 0 when they are read.
     let bytes = b"\x20\x01\x0d\xb8\0\0\0\0\0\0\0\0\0\0\0\x01\x50\0";
-    check_value(
-        alloc,
-        "address and port",
-        SocketAddrV6::new(example(), 80, 0, 0),
-        bytes,
-    )?;
-    check_written(
-        alloc,
-        "flow and scope",
-        &SocketAddrV6::new(example(), 80, 7, 9),
-        bytes,
-    )
+    let read = SocketAddrV6::new(example(), 80, 0, 0);
+    check_value(alloc, "address and port", read, bytes)?;
+    let written = SocketAddrV6::new(example(), 80, 7, 9);
+    check_written(alloc, "flow and scope", &written, bytes)
 }
 
 /// The parts of texts, and how often they are repeated.
@@ -225,12 +173,8 @@ fn borrowed_values_are_written(rt: HostRuntime) -> Result<(), Fail> {
         tag: owned_text(alloc, "hello")?,
         value: 42,
     };
-    check_written(
-        alloc,
-        "struct",
-        &tagged,
-        b"\x05\0\0\0hello\x2a\0\0\0\0\0\0\0",
-    )
+    let bytes = b"\x05\0\0\0hello\x2a\0\0\0\0\0\0\0";
+    check_written(alloc, "struct", &tagged, bytes)
 }
 
 fn are_shared(alloc: Global) -> Result<bool, Fail> {
@@ -293,10 +237,6 @@ pub(crate) fn wrapped(alloc: Global) -> Result<VecDeque<u8>, Fail> {
 #[test]
 fn a_queue_that_wraps_is_written_as_its_list(rt: HostRuntime) -> Result<(), Fail> {
     let alloc = rt.alloc();
-    check_written(
-        alloc,
-        "queue",
-        &wrapped(alloc)?,
-        b"\x04\0\0\0\x03\x04\x05\x06",
-    )
+    let bytes = b"\x04\0\0\0\x03\x04\x05\x06";
+    check_written(alloc, "queue", &wrapped(alloc)?, bytes)
 }

@@ -1,9 +1,10 @@
 // Errors: their kinds, their texts, what is printed of them, and what an allocation failure becomes.
-use super::support::{check, check_text, owned_text};
-use borsh::io::{Error, ErrorKind, Text};
+use super::support::{check, check_text, is_kind_alone, owned_text};
+use borsh::io::{Error, ErrorKind, Result as IoResult, Text};
 use borsh::schema::{SchemaBuildError, SchemaContainerValidateError, SchemaMaxSerializedSizeError};
 use borsh::schema_container_of;
 use std::alloc::{AllocError, Global};
+use std::fmt::Display;
 use std::test::Fail;
 
 /// The kinds in their order, with the text of an error that has none of its own.
@@ -47,25 +48,19 @@ fn a_kind_has_a_text_and_a_place(rt: HostRuntime) -> Result<(), Fail> {
     Ok(())
 }
 
-fn is_fixed_text_shown(alloc: Global) -> Result<bool, Fail> {
-    let error = Error::new(ErrorKind::InvalidData, "fixed");
-    let is_shown = error.to_string(alloc)?.as_str() == "fixed";
-    Ok(is_shown && matches!(error.into_inner(), Some(Text::Fixed("fixed"))))
-}
-
-fn is_owned_text_kept(alloc: Global) -> Result<bool, Fail> {
-    let error = Error::other(owned_text(alloc, "owned")?);
-    let is_other = error.kind() == ErrorKind::Other && error.get_ref() == Some("owned");
-    match error.into_inner() {
-        Some(Text::Owned(text)) => Ok(is_other && text.as_str() == "owned"),
-        _ => Ok(false),
-    }
-}
-
 #[test]
 fn an_error_shows_its_own_text(rt: HostRuntime) -> Result<(), Fail> {
-    check(is_fixed_text_shown(rt.alloc())?, "fixed", 0)?;
-    check(is_owned_text_kept(rt.alloc())?, "owned", 0)
+    let alloc = rt.alloc();
+    let error = Error::new(ErrorKind::InvalidData, "fixed");
+    check_text(error.to_string(alloc)?.as_str(), "fixed")?;
+    let is_kept = matches!(error.into_inner(), Some(Text::Fixed("fixed")));
+    check(is_kept, "fixed", 0)?;
+    let error = Error::other(owned_text(alloc, "owned")?);
+    check(error.kind() == ErrorKind::Other, "other", 0)?;
+    match error.into_inner() {
+        Some(Text::Owned(text)) => check_text(text.as_str(), "owned"),
+        _ => check(false, "owned", 0),
+    }
 }
 
 /// The error of an allocation that is too large.
@@ -74,17 +69,11 @@ fn refusal(alloc: Global) -> Result<AllocError, Fail> {
     Ok(refused.err().ok_or("granted")?)
 }
 
-fn has_a_kind_and_no_text(refused: AllocError) -> bool {
-    let error = Error::from(refused);
-    error.kind() == ErrorKind::OutOfMemory
-        && error.get_ref().is_none()
-        && error.message() == "out of memory"
-}
-
 #[test]
 fn an_allocation_failure_has_a_kind_and_no_text(rt: HostRuntime) -> Result<(), Fail> {
     let alloc = rt.alloc();
-    check(has_a_kind_and_no_text(refusal(alloc)?), "io", 0)?;
+    let failed: IoResult<()> = Err(Error::from(refusal(alloc)?));
+    check(is_kind_alone(&failed, ErrorKind::OutOfMemory), "io", 0)?;
     let build = SchemaBuildError::from(refusal(alloc)?);
     check(build == SchemaBuildError::OutOfMemory, "build", 0)?;
     let rule = SchemaContainerValidateError::from(refusal(alloc)?);
@@ -93,16 +82,8 @@ fn an_allocation_failure_has_a_kind_and_no_text(rt: HostRuntime) -> Result<(), F
     check(size == SchemaMaxSerializedSizeError::OutOfMemory, "size", 0)
 }
 
-fn check_rule(alloc: Global, rule: SchemaContainerValidateError, shown: &str) -> Result<(), Fail> {
-    check_text(format!(in alloc; "{rule}")?.as_str(), shown)
-}
-
-fn check_size(alloc: Global, size: SchemaMaxSerializedSizeError, shown: &str) -> Result<(), Fail> {
-    check_text(format!(in alloc; "{size}")?.as_str(), shown)
-}
-
-fn check_build(alloc: Global, error: SchemaBuildError, shown: &str) -> Result<(), Fail> {
-    check_text(format!(in alloc; "{error}")?.as_str(), shown)
+fn check_shown<T: Display>(alloc: Global, error: &T, shown: &str) -> Result<(), Fail> {
+    check_text(error.to_string(alloc)?.as_str(), shown)
 }
 
 #[test]
@@ -114,29 +95,26 @@ fn errors_of_schemas_are_shown(rt: HostRuntime) -> Result<(), Fail> {
     let none = "`A` has no definition";
     let two = "`A` has two different definitions";
     let full = "out of memory";
-    check_build(alloc, SchemaBuildError::Redefinition(a()?), two)?;
-    check_build(alloc, SchemaBuildError::OutOfMemory, full)?;
-    check_rule(
-        alloc,
-        Rule::ZSTSequence(a()?),
-        "the elements of the sequence `A` have no bytes",
-    )?;
+    check_shown(alloc, &SchemaBuildError::Redefinition(a()?), two)?;
+    check_shown(alloc, &SchemaBuildError::OutOfMemory, full)?;
+    let empty = "the elements of the sequence `A` have no bytes";
+    check_shown(alloc, &Rule::ZSTSequence(a()?), empty)?;
     let wide = "the length or tag of `A` is wider than eight bytes";
-    check_rule(alloc, Rule::TagTooWide(a()?), wide)?;
+    check_shown(alloc, &Rule::TagTooWide(a()?), wide)?;
     let narrow = "the greatest length of `A` doesn't fit its length prefix";
-    check_rule(alloc, Rule::TagTooNarrow(a()?), narrow)?;
+    check_shown(alloc, &Rule::TagTooNarrow(a()?), narrow)?;
     let odd = "the length prefix of `A` is three, five, six or seven bytes wide";
-    check_rule(alloc, Rule::TagNotPowerOfTwo(a()?), odd)?;
-    check_rule(alloc, Rule::MissingDefinition(a()?), none)?;
+    check_shown(alloc, &Rule::TagNotPowerOfTwo(a()?), odd)?;
+    check_shown(alloc, &Rule::MissingDefinition(a()?), none)?;
     let empty = "the least length of `A` is above the greatest";
-    check_rule(alloc, Rule::EmptyLengthRange(a()?), empty)?;
-    check_rule(alloc, Rule::OutOfMemory, full)?;
+    check_shown(alloc, &Rule::EmptyLengthRange(a()?), empty)?;
+    check_shown(alloc, &Rule::OutOfMemory, full)?;
     let large = "the greatest size is above 18446744073709551615 bytes";
-    check_size(alloc, Size::Overflow, large)?;
-    check_size(alloc, Size::Recursive, "a definition contains itself")?;
-    check_size(alloc, Size::MissingDefinition(a()?), none)?;
-    check_size(alloc, Size::OutOfMemory, full)?;
-    check_size(alloc, Size::Redefinition(a()?), two)
+    check_shown(alloc, &Size::Overflow, large)?;
+    check_shown(alloc, &Size::Recursive, "a definition contains itself")?;
+    check_shown(alloc, &Size::MissingDefinition(a()?), none)?;
+    check_shown(alloc, &Size::OutOfMemory, full)?;
+    check_shown(alloc, &Size::Redefinition(a()?), two)
 }
 
 #[test]
@@ -146,10 +124,8 @@ fn debug_names_the_parts(rt: HostRuntime) -> Result<(), Fail> {
     let shown = "BorshSchemaContainer { declaration: \"u8\", definitions: {\"u8\": Primitive(1)} }";
     check_text(format!(in alloc; "{container:?}")?.as_str(), shown)?;
     let clash = SchemaBuildError::Redefinition(owned_text(alloc, "A")?);
-    check_text(
-        format!(in alloc; "{clash:?}")?.as_str(),
-        "Redefinition(\"A\")",
-    )?;
+    let shown = "Redefinition(\"A\")";
+    check_text(format!(in alloc; "{clash:?}")?.as_str(), shown)?;
     let rule = SchemaContainerValidateError::TagTooWide(owned_text(alloc, "A")?);
     check_text(format!(in alloc; "{rule:?}")?.as_str(), "TagTooWide(\"A\")")?;
     let size = SchemaMaxSerializedSizeError::Recursive;

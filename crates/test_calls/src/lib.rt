@@ -13,6 +13,8 @@ mod containers;
 #[cfg(test)]
 mod errors;
 #[cfg(test)]
+mod floats;
+#[cfg(test)]
 mod generated;
 #[cfg(test)]
 mod hints;
@@ -22,6 +24,8 @@ mod inserted;
 mod keys;
 #[cfg(test)]
 mod members;
+#[cfg(test)]
+mod pointers;
 #[cfg(test)]
 mod readers;
 #[cfg(test)]

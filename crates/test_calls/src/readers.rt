@@ -7,7 +7,7 @@ use std::alloc::Global;
 use std::collections::{BTreeMap, BTreeSet};
 use std::ops::Range;
 use std::test::Fail;
-use test_devices::{Course, Failure, TestReader};
+use test_devices::{ABORTED, Course, Failure, TestReader};
 
 type Parts = (i32, String, u64);
 
@@ -30,7 +30,7 @@ fn readers_give_all_at_once_or_pieces(rt: HostRuntime) -> Result<(), Fail> {
 /// A failure, and the error that a reader's failure becomes.
 const FAILURES: [(Failure, ErrorKind, &str); 2] = [
     // The reader's own error is returned, but a false end of the input is taken for the end.
-    (Failure::TimedOut, ErrorKind::TimedOut, "too slow"),
+    (Failure::Aborted, ErrorKind::ConnectionAborted, ABORTED),
     (Failure::End, ErrorKind::InvalidData, SHORT),
 ];
 
@@ -51,11 +51,8 @@ fn check_failing_reader(
     let is_rest = reader.rest().len().saturating_add(number) == 8;
     let mut one = [0u8; 1];
     reader.read_exact(&mut one)?;
-    check(
-        is_rest && TWELVE.get(number) == Some(&one[0]),
-        "next byte",
-        number,
-    )
+    let is_right = is_rest && TWELVE.get(number) == Some(&one[0]);
+    check(is_right, "next byte", number)
 }
 
 #[test]
@@ -105,13 +102,10 @@ fn read_failing_behind(alloc: Global, failure: Failure) -> IoResult<u8> {
 
 #[test]
 fn after_the_value_the_end_is_looked_for(rt: HostRuntime) -> Result<(), Fail> {
-    let slow = read_failing_behind(rt.alloc(), Failure::TimedOut);
-    check(is_invalid(&slow, LONG), "failure behind the value", 0)?;
-    check(
-        read_failing_behind(rt.alloc(), Failure::End)? == 7,
-        "end behind the value",
-        0,
-    )
+    let aborted = read_failing_behind(rt.alloc(), Failure::Aborted);
+    check(is_invalid(&aborted, LONG), "failure behind the value", 0)?;
+    let is_right = read_failing_behind(rt.alloc(), Failure::End)? == 7;
+    check(is_right, "end behind the value", 0)
 }
 
 /// Whether reading is refused with this text, and takes none of the bytes.

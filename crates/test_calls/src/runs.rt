@@ -4,7 +4,7 @@ use borsh::io::{ErrorKind, Result as IoResult};
 use borsh_check_lines::{Answerer, finish, run, run_counted};
 use std::alloc::Global;
 use std::test::Fail;
-use test_devices::{Course, Failure, TestReader, TestWriter, courses};
+use test_devices::{ABORTED, Course, Failure, TestReader, TestWriter, courses};
 
 /// Lines of every command, and lines that are none, with their answers.
 const ROWS: [(&str, &str); 23] = [
@@ -39,7 +39,7 @@ const ROWS: [(&str, &str); 23] = [
     ("read unit -", "ok -"),
 ];
 
-const REPORT_OF_SLOW: &[u8] = b"borsh_check: too slow\n";
+const REPORT_OF_ABORTED: &[u8] = b"borsh_check: I don't like to run\n";
 
 const REPORT_OF_FULL: &[u8] = b"borsh_check: failed to write whole buffer\n";
 
@@ -72,13 +72,8 @@ fn ended_with(alloc: Global, outcome: &IoResult<()>, status: u8, report: &[u8]) 
 }
 
 /// Whether the lines, read and written so, have these answers, all of them are read, and the run ends well.
-fn is_answered(
-    alloc: Global,
-    input: &[u8],
-    output: &[u8],
-    reading: Course,
-    writing: Course,
-) -> bool {
+fn is_answered(alloc: Global, input: &[u8], output: &[u8], courses: (Course, Course)) -> bool {
+    let (reading, writing) = courses;
     let mut reader = TestReader::new(input, reading);
     let mut writer = TestWriter::new(Vec::new(alloc), usize::MAX, writing);
     let outcome = run(alloc, &mut reader, &mut writer);
@@ -92,22 +87,12 @@ fn lines_are_answered_however_their_bytes_come_and_go(rt: HostRuntime) -> Result
     let input = input.as_slice();
     let output = answers(alloc, ROWS.len())?;
     let output = output.as_slice();
+    let smooth = Course::smooth();
     for course in courses() {
-        check(
-            is_answered(alloc, input, output, course, Course::smooth()),
-            "read",
-            0,
-        )?;
-        check(
-            is_answered(alloc, input, output, Course::smooth(), course),
-            "written",
-            0,
-        )?;
-        check(
-            is_answered(alloc, input, output, course, course),
-            "read and written",
-            0,
-        )?;
+        for pair in [(course, smooth), (smooth, course), (course, course)] {
+            let is_right = is_answered(alloc, input, output, pair);
+            check(is_right, "read and written", 0)?;
+        }
     }
     Ok(())
 }
@@ -132,46 +117,32 @@ const COUNTED: [(&str, &str, u64); 4] = [
 #[test]
 fn answered_lines_are_counted(rt: HostRuntime) -> Result<(), Fail> {
     for &(input, written, count) in &COUNTED {
-        check(
-            is_counted(rt.alloc(), input, written, count)?,
-            input,
-            count as usize,
-        )?;
+        let is_right = is_counted(rt.alloc(), input, written, count)?;
+        check(is_right, input, count as usize)?;
     }
     Ok(())
 }
 
-/// Whether a writer with room for so many bytes has exactly these, and the error is reported.
-fn is_full_writer(alloc: Global, input: &[u8], output: &[u8], room: usize, course: Course) -> bool {
-    let mut reader = TestReader::new(input, Course::smooth());
-    let mut writer = TestWriter::new(Vec::new(alloc), room, course);
-    let outcome = run(alloc, &mut reader, &mut writer);
-    let is_full = is_error(&outcome, ErrorKind::WriteZero, FULL);
-    let taken = writer.taken();
-    is_full
-        && ended_with(alloc, &outcome, 1, REPORT_OF_FULL)
-        && taken.len() == room
-        && output.starts_with(taken)
-}
-
-/// Whether a writer of single bytes that fails after so many has exactly these, and the error is reported.
-fn is_failed_writer(
+/// Whether a writer that goes so, or is full, has exactly so many bytes of the answers at the end, and the error is reported.
+fn has_beginning(
     alloc: Global,
     input: &[u8],
     output: &[u8],
-    write: u32,
+    len: usize,
+    room: usize,
     course: Course,
 ) -> bool {
     let mut reader = TestReader::new(input, Course::smooth());
-    let failing = course.failing(write, Failure::TimedOut);
-    let mut writer = TestWriter::new(Vec::new(alloc), usize::MAX, failing);
+    let mut writer = TestWriter::new(Vec::new(alloc), room, course);
     let outcome = run(alloc, &mut reader, &mut writer);
-    let is_slow = is_error(&outcome, ErrorKind::TimedOut, "too slow") && writer.faults() == 1;
+    let is_told = if room == len {
+        is_error(&outcome, ErrorKind::WriteZero, FULL)
+            && ended_with(alloc, &outcome, 1, REPORT_OF_FULL)
+    } else {
+        is_reported(alloc, &outcome, Failure::Aborted) && writer.faults() == 1
+    };
     let taken = writer.taken();
-    is_slow
-        && ended_with(alloc, &outcome, 1, REPORT_OF_SLOW)
-        && taken.len() == write as usize
-        && output.starts_with(taken)
+    is_told && taken.len() == len && output.starts_with(taken)
 }
 
 #[test]
@@ -183,17 +154,16 @@ fn a_writer_that_fails_or_is_full_has_the_first_bytes(rt: HostRuntime) -> Result
     let output = output.as_slice();
     for course in courses() {
         for room in 0..output.len() {
-            check(
-                is_full_writer(alloc, input, output, room, course),
-                "full writer",
-                room,
-            )?;
+            let is_right = has_beginning(alloc, input, output, room, room, course);
+            check(is_right, "full writer", room)?;
         }
-        // Behind the last byte it is the flush that fails.
-        for write in 0..=u32::try_from(output.len())? {
-            let is_right = !course.is_by_bytes()
-                || is_failed_writer(alloc, input, output, write, course);
-            check(is_right, "failed write", write as usize)?;
+        if course.is_by_bytes() {
+            // Behind the last byte it is the flush that fails.
+            for len in 0..=output.len() {
+                let failing = course.failing(u32::try_from(len)?, Failure::Aborted);
+                let is_right = has_beginning(alloc, input, output, len, usize::MAX, failing);
+                check(is_right, "failed write", len)?;
+            }
         }
     }
     Ok(())
@@ -202,9 +172,9 @@ fn a_writer_that_fails_or_is_full_has_the_first_bytes(rt: HostRuntime) -> Result
 /// Whether a run that failed so has the error, and reports it. A false end of the input is no end here.
 fn is_reported(alloc: Global, outcome: &IoResult<()>, failure: Failure) -> bool {
     match failure {
-        Failure::TimedOut => {
-            is_error(outcome, ErrorKind::TimedOut, "too slow")
-                && ended_with(alloc, outcome, 1, REPORT_OF_SLOW)
+        Failure::Aborted => {
+            is_error(outcome, ErrorKind::ConnectionAborted, ABORTED)
+                && ended_with(alloc, outcome, 1, REPORT_OF_ABORTED)
         }
         Failure::End => is_error(outcome, ErrorKind::UnexpectedEof, "the device says so"),
     }
@@ -250,7 +220,7 @@ fn a_failing_reader_leaves_the_answers_to_the_lines_before(rt: HostRuntime) -> R
     let input = input.as_slice();
     let mut count = 0usize;
     for course in courses() {
-        for failure in [Failure::TimedOut, Failure::End] {
+        for failure in [Failure::Aborted, Failure::End] {
             for read in 0..=u32::try_from(input.len())? {
                 let failing = course.failing(read, failure);
                 let is_made = check_failing_reader(rt.alloc(), input, failing, failure)?;
@@ -259,9 +229,6 @@ fn a_failing_reader_leaves_the_answers_to_the_lines_before(rt: HostRuntime) -> R
         }
     }
     // Two courses of single bytes, and so one read for each byte and one for the end, twice each.
-    check(
-        count > input.len().saturating_add(1).saturating_mul(4),
-        "failed reads",
-        count,
-    )
+    let is_right = count > input.len().saturating_add(1).saturating_mul(4);
+    check(is_right, "failed reads", count)
 }

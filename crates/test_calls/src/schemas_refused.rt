@@ -1,7 +1,6 @@
 // Calls of containers, of maps of definitions and of types' schemas: each request for memory is refused in turn.
-use super::containers::are_left;
 use super::shapes::{container, named_fields, numbered, of_each_kind, tuples, unnamed_fields};
-use super::support::owned_text;
+use super::support::{check, owned_text};
 use super::sweeps::{Round, sweep};
 use borsh::schema::{
     BorshSchema, BorshSchemaContainer, Definition, Expansions, Fields, LengthRange,
@@ -37,6 +36,9 @@ fn copies_of_definitions_are_equal(rt: HostRuntime) -> Result<(), Fail> {
     for (_, definition) in of_each_kind(alloc)?.iter() {
         is_copied(rt, definition)?;
     }
+    let chain = tuples(alloc, 2, 1)?;
+    let are_others = chain.get("L1") != chain.get("L2");
+    check(are_others, "tuples of other names", 0)?;
     is_copied(rt, &named_fields(alloc)?)?;
     is_copied(rt, &unnamed_fields(alloc)?)?;
     is_copied(rt, &Fields::Empty)
@@ -131,10 +133,8 @@ fn is_known(
         refusal.begin(alloc);
         let done = add_definition(name, Definition::Primitive(size), &mut definitions);
         let refused = refusal.end(alloc);
-        Ok(Round {
-            refused,
-            right: !refused && done == *answer && definitions == *before,
-        })
+        let right = !refused && done == *answer && definitions == *before;
+        Ok(Round { refused, right })
     })
 }
 
@@ -177,20 +177,16 @@ fn is_built<T: BorshSchema>(
         let answer = container.is_of_type::<T>(alloc);
         let refused = refusal.end(alloc);
         let is_failure = answer == Err(SchemaBuildError::OutOfMemory);
-        Ok(Round {
-            refused,
-            right: answer == Ok(true) || refused && is_failure,
-        })
+        let right = answer == Ok(true) || refused && is_failure;
+        Ok(Round { refused, right })
     })?;
     sweep(rt, "max_serialized_size of a type", name, |refusal| {
         refusal.begin(alloc);
         let answer = max_serialized_size::<T>(alloc);
         let refused = refusal.end(alloc);
         let is_failure = answer == Err(SchemaMaxSerializedSizeError::OutOfMemory);
-        Ok(Round {
-            refused,
-            right: answer == size || refused && is_failure,
-        })
+        let right = answer == size || refused && is_failure;
+        Ok(Round { refused, right })
     })
 }
 
@@ -257,6 +253,14 @@ fn schemas_of_types_are_built(rt: HostRuntime) -> Result<(), Fail> {
     has_schema::<Vec<([u8; 0], [u8; 0])>>(rt, "Vec<([u8; 0], [u8; 0])>")
 }
 
+/// Whether `u8` is as it was, and nothing was added but perhaps `(A, A)` and `A`.
+fn are_left(definitions: &BTreeMap<String, Definition>) -> bool {
+    definitions.get("u8") == Some(&Definition::Primitive(1))
+        && definitions
+            .keys()
+            .all(|name| matches!(name.as_str(), "u8" | "(A, A)" | "A"))
+}
+
 #[test]
 fn two_types_of_one_name_have_no_schema(rt: HostRuntime) -> Result<(), Fail> {
     let alloc = rt.alloc();
@@ -282,10 +286,8 @@ fn two_types_of_one_name_have_no_schema(rt: HostRuntime) -> Result<(), Fail> {
             Ok(()) => false,
             Err(e) => e == clash || refused && e == SchemaBuildError::OutOfMemory,
         };
-        Ok(Round {
-            refused,
-            right: right && are_left(&definitions),
-        })
+        let right = right && are_left(&definitions);
+        Ok(Round { refused, right })
     })
 }
 
@@ -300,10 +302,8 @@ fn is_judged(rt: HostRuntime, container: &BorshSchemaContainer) -> Result<(), Fa
         refusal.begin(alloc);
         let answer = container.validate(alloc);
         let refused = refusal.end(alloc);
-        Ok(Round {
-            refused,
-            right: answer == right_answer || refused && answer == failure,
-        })
+        let right = answer == right_answer || refused && answer == failure;
+        Ok(Round { refused, right })
     })?;
     sweep(rt, "validate_counted", "", |refusal| {
         let mut counts = Expansions {
@@ -315,10 +315,8 @@ fn is_judged(rt: HostRuntime, container: &BorshSchemaContainer) -> Result<(), Fa
         let answer = container.validate_counted(alloc, &mut counts);
         let refused = refusal.end(alloc);
         let is_few = counts.size == 7 && counts.zero <= definitions && counts.rules <= definitions;
-        Ok(Round {
-            refused,
-            right: is_few && (answer == right_answer || refused && answer == failure),
-        })
+        let right = is_few && (answer == right_answer || refused && answer == failure);
+        Ok(Round { refused, right })
     })
 }
 
@@ -332,10 +330,8 @@ fn is_sized(rt: HostRuntime, container: &BorshSchemaContainer) -> Result<(), Fai
         refusal.begin(alloc);
         let answer = container.max_serialized_size(alloc);
         let refused = refusal.end(alloc);
-        Ok(Round {
-            refused,
-            right: answer == right_answer || refused && answer == failure,
-        })
+        let right = answer == right_answer || refused && answer == failure;
+        Ok(Round { refused, right })
     })?;
     sweep(rt, "max_serialized_size_counted", "", |refusal| {
         let mut counts = Expansions {
@@ -347,10 +343,8 @@ fn is_sized(rt: HostRuntime, container: &BorshSchemaContainer) -> Result<(), Fai
         let answer = container.max_serialized_size_counted(alloc, &mut counts);
         let refused = refusal.end(alloc);
         let is_few = counts.size <= definitions && counts.zero == 7 && counts.rules == 7;
-        Ok(Round {
-            refused,
-            right: is_few && (answer == right_answer || refused && answer == failure),
-        })
+        let right = is_few && (answer == right_answer || refused && answer == failure);
+        Ok(Round { refused, right })
     })
 }
 

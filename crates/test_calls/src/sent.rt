@@ -101,23 +101,14 @@ type Clashing = (ShortA, LongA);
 fn two_types_of_one_name_have_no_schema(rt: HostRuntime) -> Result<(), Fail> {
     let alloc = rt.alloc();
     let clash = SchemaBuildError::Redefinition(owned_text(alloc, "A")?);
-    check(
-        schema_container_of::<Clashing>(alloc) == Err(clash),
-        "the container",
-        0,
-    )?;
+    let is_right = schema_container_of::<Clashing>(alloc) == Err(clash);
+    check(is_right, "the container", 0)?;
     let clash = SchemaMaxSerializedSizeError::Redefinition(owned_text(alloc, "A")?);
-    check(
-        max_serialized_size::<Clashing>(alloc) == Err(clash),
-        "the size",
-        0,
-    )?;
+    let is_right = max_serialized_size::<Clashing>(alloc) == Err(clash);
+    check(is_right, "the size", 0)?;
     let pair = (ShortA(1), LongA(2));
-    check(
-        is_invalid(&try_to_vec_with_schema(alloc, &pair), CLASH),
-        "a value that is sent",
-        0,
-    )?;
+    let is_right = is_invalid(&try_to_vec_with_schema(alloc, &pair), CLASH);
+    check(is_right, "a value that is sent", 0)?;
     sweep(rt, "try_to_vec_with_schema, refused", "(A, A)", |refusal| {
         refusal.begin(alloc);
         let made = try_to_vec_with_schema(alloc, &pair);

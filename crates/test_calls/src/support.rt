@@ -49,6 +49,14 @@ pub(crate) fn is_invalid<T>(outcome: &IoResult<T>, text: &str) -> bool {
     is_error(outcome, ErrorKind::InvalidData, text)
 }
 
+/// Whether the outcome is an error of this kind without a text of its own.
+pub(crate) fn is_kind_alone<T>(outcome: &IoResult<T>, kind: ErrorKind) -> bool {
+    match outcome {
+        Ok(_) => false,
+        Err(e) => e.kind() == kind && e.get_ref().is_none() && e.message() == kind.as_str(),
+    }
+}
+
 /// Whether the value is encoded as these bytes.
 pub(crate) fn is_written<T: BorshSerialize>(
     alloc: Global,

@@ -2,6 +2,7 @@
 //
 // `rt ci` runs these tests over an ordinary heap, which refuses none, so that each call is made with ample memory.
 // `.ci/refused` runs them over the heap of `.ci/heap.c`, which does as it is told.
+use super::support::is_kind_alone;
 use borsh::io::{ErrorKind, Result as IoResult};
 use borsh::{BorshSerialize, to_vec};
 use std::alloc::Global;
@@ -79,10 +80,7 @@ pub(crate) fn asks_for_none<F: FnOnce() -> bool>(
 
 /// Whether the outcome is an allocation failure, without a text of its own.
 pub(crate) fn is_out_of_memory<T>(outcome: &IoResult<T>) -> bool {
-    match outcome {
-        Ok(_) => false,
-        Err(e) => e.kind() == ErrorKind::OutOfMemory && e.get_ref().is_none(),
-    }
+    is_kind_alone(outcome, ErrorKind::OutOfMemory)
 }
 
 /// The round of a call that encodes a value: these bytes, or an allocation failure.

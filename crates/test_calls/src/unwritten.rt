@@ -1,8 +1,8 @@
 // Values without an encoding: none of them is written, and what a writer has stays as it was.
-use super::support::is_invalid;
+use super::support::{check, is_invalid, is_kind_alone};
 use super::sweeps::{Round, asks_for_none, is_out_of_memory, sweep};
 use borsh::error::ERROR_ZST_FORBIDDEN;
-use borsh::io::Result as IoResult;
+use borsh::io::{ErrorKind, Result as IoResult};
 use borsh::{BorshSerialize, object_length, to_vec, to_writer};
 use borsh_samples::{MyEnum, OneOrZero};
 use std::alloc::Global;
@@ -17,7 +17,7 @@ pub(crate) fn judge_refused<T: Drop>(made: IoResult<T>, refused: bool, text: &st
 }
 
 /// The value is refused with this text by `to_vec`, each request for memory refused in turn.
-fn is_no_vector<T: BorshSerialize>(
+pub(crate) fn is_no_vector<T: BorshSerialize>(
     rt: HostRuntime,
     name: &str,
     value: &T,
@@ -33,7 +33,7 @@ fn is_no_vector<T: BorshSerialize>(
 }
 
 /// The same of `to_writer` and `object_length`, which need no memory to refuse it: a vector keeps what it has, and gets nothing.
-fn is_never_written<T: BorshSerialize>(
+pub(crate) fn is_never_written<T: BorshSerialize>(
     rt: HostRuntime,
     name: &str,
     value: &T,
@@ -110,4 +110,16 @@ fn elements_without_bytes_are_refused(rt: HostRuntime) -> Result<(), Fail> {
 fn a_variant_without_an_encoding_is_refused(rt: HostRuntime) -> Result<(), Fail> {
     let many = OneOrZero(MyEnum::Many(Vec::from_slice(rt.alloc(), &[1u8])?));
     is_never_written(rt, "OneOrZero", &many, "MyEnum::Many not allowed here")
+}
+
+#[test]
+fn more_elements_than_a_count_can_say_are_refused(rt: HostRuntime) -> Result<(), Fail> {
+    let alloc = rt.alloc();
+    let units = [(); 4294967296];
+    let units = units.as_slice();
+    let mut out = Vec::from_slice(alloc, b"front")?;
+    let is_refused = is_kind_alone(&to_writer(alloc, &mut out, &units), ErrorKind::InvalidData)
+        && is_kind_alone(&object_length(alloc, &units), ErrorKind::InvalidData);
+    let is_kept = out.as_slice() == b"front".as_slice();
+    check(is_refused && is_kept, "units", units.len())
 }

@@ -30,10 +30,8 @@ fn writes<T: BorshSerialize>(
         let length = object_length(alloc, value);
         let refused = refusal.end(alloc);
         let is_failure = refused && is_out_of_memory(&length);
-        Ok(Round {
-            refused,
-            right: is_failure || matches!(length, Ok(n) if n == bytes.len()),
-        })
+        let right = is_failure || matches!(length, Ok(n) if n == bytes.len());
+        Ok(Round { refused, right })
     })?;
     sweep(rt, "serialize", name, |refusal| {
         let mut out = Vec::from_slice(alloc, b"front")?;
@@ -52,12 +50,8 @@ fn writes<T: BorshSerialize>(
 #[test]
 fn values_that_no_bytes_make_are_written(rt: HostRuntime) -> Result<(), Fail> {
     let alloc = rt.alloc();
-    writes(
-        rt,
-        "VecDeque<u8>",
-        &wrapped(alloc)?,
-        b"\x04\0\0\0\x03\x04\x05\x06",
-    )?;
+    let bytes = b"\x04\0\0\0\x03\x04\x05\x06";
+    writes(rt, "VecDeque<u8>", &wrapped(alloc)?, bytes)?;
     let mut map = HashMap::with_hasher(alloc, RandomState::new(&rt)?);
     for (key, value) in [(3u8, 30u8), (1, 10)] {
         map.insert(key, value)?;
@@ -79,48 +73,24 @@ const ANNOUNCED: &[u8] = b"\xff\xff\xff\xff\x01\0\0\0a";
 /// The refusal of a truth value.
 const TWO: &str = "Invalid bool representation: 2";
 
-/// Each call of a value, by the name of what is counted, with what it decodes or encodes, and the text of its refusal, or none.
-/// Other values go through these calls as rows of `test_rows`.
-const CALLS: [(How, &str, &[u8], &str); 14] = [
-    (How::ToVec, "to_vec", MAP, ""),
-    (How::ObjectLength, "object_length", MAP, ""),
-    (How::Serialize, "serialize", MAP, ""),
-    (How::ToWriter, "to_writer", MAP, ""),
-    (How::FromSlice, "from_slice", MAP, ""),
-    (How::FromSliceUnordered, "from_slice_unordered", MAP, ""),
-    (How::Deserialize, "deserialize", MAP, ""),
-    (How::FromReader, "from_reader", MAP, ""),
-    (How::FromSlice, "from_slice of refused bytes", REFUSED, TWO),
-    (
-        How::FromSliceUnordered,
-        "from_slice_unordered of refused bytes",
-        REFUSED,
-        TWO,
-    ),
-    (
-        How::Deserialize,
-        "deserialize of refused bytes",
-        REFUSED,
-        TWO,
-    ),
-    (
-        How::FromReader,
-        "from_reader of refused bytes",
-        REFUSED,
-        TWO,
-    ),
-    (
-        How::FromSlice,
-        "from_slice of announced elements",
-        ANNOUNCED,
-        SHORT,
-    ),
-    (
-        How::FromReader,
-        "from_reader of announced elements",
-        ANNOUNCED,
-        SHORT,
-    ),
+/// The calls of a value, by the name of what is counted. Other values go through them as rows of `test_rows`.
+const CALLS: [(How, &str); 8] = [
+    (How::FromSlice, "from_slice"),
+    (How::FromReader, "from_reader"),
+    (How::FromSliceUnordered, "from_slice_unordered"),
+    (How::Deserialize, "deserialize"),
+    (How::ToVec, "to_vec"),
+    (How::ObjectLength, "object_length"),
+    (How::Serialize, "serialize"),
+    (How::ToWriter, "to_writer"),
+];
+
+/// What is decoded or encoded, by how many of these calls, what is said of it behind their name, and the text of its refusal, or
+/// none.
+const ROUNDS: [(&[u8], usize, &str, &str); 3] = [
+    (MAP, 8, "", ""),
+    (REFUSED, 4, " of refused bytes", TWO),
+    (ANNOUNCED, 2, " of announced elements", SHORT),
 ];
 
 /// The error of a call that is refused; of any other, the error or the one that is made of what it returned.
@@ -144,34 +114,31 @@ fn outcome(report: Report, how: How) -> IoResult<()> {
 #[test]
 fn each_call_of_a_value_is_refused_memory(rt: HostRuntime) -> Result<(), Fail> {
     let alloc = rt.alloc();
-    for &(how, call, bytes, text) in &CALLS {
-        sweep(rt, call, "HashMap<String, Vec<bool>>", |refusal| {
-            let call = Call {
-                refusal,
-                ..Call::new(how, bytes)
-            };
-            let report = call_at::<HashMap<String, Vec<bool>>>(alloc, &call)?;
-            let refused = report.was_refused;
-            let made = outcome(report, how);
-            let is_answer = made.is_ok() && text.is_empty() || is_invalid(&made, text);
-            Ok(Round {
-                refused,
-                right: is_answer || refused && is_out_of_memory(&made),
-            })
-        })?;
+    for (bytes, calls, of, text) in ROUNDS {
+        for &(how, call) in CALLS.iter().take(calls) {
+            let name = format!(in alloc; "{call}{of}")?;
+            sweep(rt, name.as_str(), "HashMap<String, Vec<bool>>", |refusal| {
+                let call = Call {
+                    refusal,
+                    ..Call::new(how, bytes)
+                };
+                let report = call_at::<HashMap<String, Vec<bool>>>(alloc, &call)?;
+                let refused = report.was_refused;
+                let made = outcome(report, how);
+                let is_answer = made.is_ok() && text.is_empty() || is_invalid(&made, text);
+                let right = is_answer || refused && is_out_of_memory(&made);
+                Ok(Round { refused, right })
+            })?;
+        }
     }
-    sweep(
-        rt,
-        "deserialize_reader of refused bytes",
-        "Vec<bool>",
-        |refusal| {
-            let mut reader = TestReader::new(b"\x01\0\0\0\x02", Course::smooth().in_pieces(1));
-            refusal.begin(alloc);
-            let made = Vec::<bool>::deserialize_reader(alloc, &mut reader);
-            let refused = refusal.end(alloc);
-            Ok(judge_refused(made, refused, TWO))
-        },
-    )
+    let call = "deserialize_reader of refused bytes";
+    sweep(rt, call, "Vec<bool>", |refusal| {
+        let mut reader = TestReader::new(b"\x01\0\0\0\x02", Course::smooth().in_pieces(1));
+        refusal.begin(alloc);
+        let made = Vec::<bool>::deserialize_reader(alloc, &mut reader);
+        let refused = refusal.end(alloc);
+        Ok(judge_refused(made, refused, TWO))
+    })
 }
 
 // A vector begins with room for a kilobyte.
@@ -181,9 +148,6 @@ fn a_short_value_takes_little_memory(rt: HostRuntime) -> Result<(), Fail> {
     most.begin(rt.alloc());
     let made = to_vec(rt.alloc(), &12u64);
     let is_much = most.end(rt.alloc());
-    check(
-        made?.as_slice() == TWELVE.as_slice() && !is_much,
-        "memory of to_vec",
-        1024,
-    )
+    let is_right = made?.as_slice() == TWELVE.as_slice() && !is_much;
+    check(is_right, "memory of to_vec", 1024)
 }

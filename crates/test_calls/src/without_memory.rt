@@ -80,7 +80,7 @@ fn readers_and_writers(rt: HostRuntime) -> Result<(), Fail> {
         is_error(&done, ErrorKind::WriteZero, FULL) && space == [12, 0, 0, 0, 0, 0, 0]
     })?;
     asks_for_none(alloc, "a fault behind a value", || {
-        let course = Course::smooth().failing(1, Failure::TimedOut);
+        let course = Course::smooth().failing(1, Failure::Aborted);
         let made: IoResult<u8> = from_reader(alloc, &mut TestReader::new(&[7], course));
         is_invalid(&made, LONG)
     })?;
@@ -151,7 +151,7 @@ fn is_changed(container: &mut BorshSchemaContainer, same: &BorshSchemaContainer)
     if let Some(definition) = container.get_mut_definition("u8") {
         *definition = Definition::Primitive(2);
     }
-    *container != *same
+    *container != *same && container.get_mut_definition("u16").is_none()
 }
 
 /// Removes `u8` twice: whether its definition, of two bytes, is returned once, and none is left.

@@ -86,15 +86,11 @@ pub fn call_at<T: BorshSerialize + BorshDeserialize>(
     call: &Call<'_>,
 ) -> Result<Report, Fault> {
     match call.how {
-        How::FromSlice
-        | How::FromSliceUnordered
-        | How::Deserialize
-        | How::FromReader
-        | How::FromUnorderedReader => decode::<T>(alloc, call),
         How::ToVec | How::ObjectLength | How::Serialize | How::ToWriter | How::ToSlice => {
             encode::<T>(alloc, call)
         }
         How::Schema => Err(Fault::Check("no schema", 0)),
+        _ => decode::<T>(alloc, call),
     }
 }
 

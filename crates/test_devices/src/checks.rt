@@ -99,24 +99,13 @@ impl Checks {
 
 impl fmt::Display for Checks {
     fn fmt<W: fmt::Write>(&self, f: &mut fmt::Formatter<W>) -> fmt::Result {
-        let Checks {
-            decoded,
-            beginnings,
-            failed_reads,
-            encoded,
-            full,
-            failed_writes,
-            without_memory,
-            ..
-        } = self;
-        write!(
-            f,
-            "decoded {decoded}, beginnings {beginnings}, failed reads {failed_reads}, "
-        )?;
-        write!(
-            f,
-            "encoded {encoded}, full {full}, failed writes {failed_writes}, "
-        )?;
+        let (decoded, beginnings) = (self.decoded, self.beginnings);
+        write!(f, "decoded {decoded}, beginnings {beginnings}, ")?;
+        let (failed_reads, encoded) = (self.failed_reads, self.encoded);
+        write!(f, "failed reads {failed_reads}, encoded {encoded}, ")?;
+        let (full, failed_writes) = (self.full, self.failed_writes);
+        write!(f, "full {full}, failed writes {failed_writes}, ")?;
+        let without_memory = self.without_memory;
         write!(f, "without memory {without_memory}")
     }
 }

@@ -5,11 +5,14 @@ ghost use Rattle.borsh.specs.Stream.{CountedUp};
 
 use borsh::io::{Error, ErrorKind, Result};
 
+/// The text of the error of a device that fails as [`Failure::Aborted`].
+pub const ABORTED: &str = "I don't like to run";
+
 /// How a call fails.
 #[derive(Clone, Copy)]
 pub enum Failure {
-    /// `TimedOut`, "too slow".
-    TimedOut,
+    /// `ConnectionAborted`, with a text of its own.
+    Aborted,
     /// `UnexpectedEof`, "the device says so": a failure, though its kind is that of the end of the input.
     End,
 }
@@ -25,7 +28,6 @@ pub struct Course {
     failure: Option<(u32, Failure)>,
     faults: u64,
     calls: u64,
-    successes: u32,
 }
 
 impl Course {
@@ -41,7 +43,6 @@ impl Course {
             failure: None,
             faults: 0,
             calls: 0,
-            successes: 0,
         }
     }
 
@@ -88,11 +89,6 @@ impl Course {
         self.calls
     }
 
-    /// How many calls neither failed nor were interrupted.
-    pub fn successes(&self) -> u32 {
-        self.successes
-    }
-
     /// How many calls failed.
     pub fn faults(&self) -> u64
         ensures { result ≡ self.now.faults }
@@ -117,27 +113,15 @@ impl Course {
             Some((0, failure)) => {
                 self.failure = None;
                 self.faults = self.faults.saturating_add(1);
-                Err(match failure {
-                    Failure::TimedOut => Error::new(ErrorKind::TimedOut, "too slow"),
+                return Err(match failure {
+                    Failure::Aborted => Error::new(ErrorKind::ConnectionAborted, ABORTED),
                     Failure::End => Error::new(ErrorKind::UnexpectedEof, "the device says so"),
-                })
+                });
             }
-            Some((after, failure)) => {
-                self.failure = Some((after - 1, failure));
-                Ok(self.succeed())
-            }
-            None => Ok(self.succeed()),
+            Some((after, failure)) => self.failure = Some((after - 1, failure)),
+            None => {}
         }
-    }
-
-    /// Counts a call that succeeds: the greatest number of bytes that it may take or give.
-    fn succeed(&mut self) -> usize
-        ensures some { 0 < result }
-        ensures interruptions { self.new.interruptions ≡ self.old.interruptions }
-        ensures faults { self.new.faults ≡ self.old.faults }
-    {
-        self.successes = self.successes.saturating_add(1);
-        self.piece.max(1)
+        Ok(self.piece.max(1))
     }
 }
 

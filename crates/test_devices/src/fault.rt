@@ -10,6 +10,8 @@ pub enum Fault {
     Check(&'static str, usize),
     /// A call that has to succeed returned an error of this kind.
     Error(ErrorKind),
+    /// It is no row.
+    NoRow,
     /// There is no such type here.
     UnknownType,
     OutOfMemory,

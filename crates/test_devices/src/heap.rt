@@ -11,6 +11,10 @@ const ONE_ABOVE: usize = 4 << 60;
 
 const SUM_ABOVE: usize = 5 << 60;
 
+const NOTE_BLOCKS: usize = 6 << 60;
+
+const ARE_OTHER: usize = 7 << 60;
+
 /// Which requests for memory are refused, counted from 1.
 #[derive(Clone, Copy, Debug, PartialEq, Eq)]
 pub enum Refusal {
@@ -51,6 +55,16 @@ impl Refusal {
         Refusal::One(0).begin(alloc);
         was_refused
     }
+}
+
+/// Notes how many blocks of memory there are.
+pub fn note_blocks(alloc: Global) {
+    let _granted = is_granted(alloc, NOTE_BLOCKS);
+}
+
+/// Whether there are more or fewer blocks than were noted: one was never freed, or one twice.
+pub fn are_other_blocks(alloc: Global) -> bool {
+    is_granted(alloc, ARE_OTHER)
 }
 
 fn is_granted(alloc: Global, order: usize) -> bool {

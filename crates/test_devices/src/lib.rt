@@ -13,14 +13,16 @@ pub mod heap;
 mod reader;
 mod reading;
 mod rows;
+mod sections;
 mod sweeps;
 mod writer;
 mod writing;
 
 pub use calls::{Call, How, Report, Subject, call_at, call_with_schema};
 pub use checks::{CALLS, Checks};
-pub use course::{Course, Failure, courses};
+pub use course::{ABORTED, Course, Failure, courses};
 pub use fault::Fault;
 pub use reader::TestReader;
 pub use rows::{AnyOrder, Heap, Memory, judge_refused, judge_unordered, judge_value};
+pub use sections::{Section, sections_of};
 pub use writer::TestWriter;

@@ -31,11 +31,6 @@ impl<'a> TestReader<'a> {
         self.course.calls()
     }
 
-    /// How many calls of `read` neither failed nor were interrupted.
-    pub fn successes(&self) -> u32 {
-        self.course.successes()
-    }
-
     /// How many calls of `read` failed.
     pub fn faults(&self) -> u64
         ensures { result ≡ self.now.course.faults }

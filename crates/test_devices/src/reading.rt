@@ -1,7 +1,7 @@
 // What is checked of bytes that are decoded.
 use super::calls::{Call, How, Report, Subject};
 use super::checks::Checks;
-use super::course::{Course, Failure, courses, courses_of};
+use super::course::{ABORTED, Failure, courses, courses_of};
 use super::fault::{Fault, check};
 use super::reader::TestReader;
 use borsh::io::{Error, ErrorKind, Read};
@@ -58,11 +58,8 @@ pub(crate) fn check_decoded<S: Subject>(
 ) -> Result<(), Fault> {
     for how in FROM_SLICES {
         let report = subject.call(alloc, &Call::new(how, bytes))?;
-        check(
-            is_value(&report, encoding),
-            "decoded from a slice",
-            bytes.len(),
-        )?;
+        let is_right = is_value(&report, encoding);
+        check(is_right, "decoded from a slice", bytes.len())?;
         checks.decoded = checks.decoded.saturating_add(1);
     }
     let mut longer = Vec::from_slice(alloc, bytes)?;
@@ -86,20 +83,11 @@ pub(crate) fn check_unordered<S: Subject>(
     checks: &mut Checks,
 ) -> Result<(), Fault> {
     let report = subject.call(alloc, &Call::new(How::FromSliceUnordered, bytes))?;
-    check(
-        is_value(&report, encoding),
-        "decoded in any order",
-        bytes.len(),
-    )?;
+    let is_right = is_value(&report, encoding);
+    check(is_right, "decoded in any order", bytes.len())?;
     checks.decoded = checks.decoded.saturating_add(1);
-    check_readers(
-        alloc,
-        subject,
-        How::FromUnorderedReader,
-        bytes,
-        encoding,
-        checks,
-    )
+    let how = How::FromUnorderedReader;
+    check_readers(alloc, subject, how, bytes, encoding, checks)
 }
 
 /// Checks that the bytes are decoded from readers of every kind.
@@ -170,21 +158,13 @@ pub(crate) fn check_failing_readers<S: Subject>(
 ) -> Result<(), Fault> {
     for course in courses() {
         for read in places(alloc, bytes.len().saturating_add(1))? {
-            for failure in [Failure::TimedOut, Failure::End] {
+            for failure in [Failure::Aborted, Failure::End] {
                 let call = Call {
                     course: course.failing(u32::try_from(read)?, failure),
                     ..Call::new(reader, bytes)
                 };
                 let report = subject.call(alloc, &call)?;
-                check_failed(
-                    &report,
-                    course,
-                    read,
-                    failure,
-                    bytes.len(),
-                    encoding,
-                    checks,
-                )?;
+                check_failed(&report, &call, read, failure, encoding, checks)?;
             }
         }
     }
@@ -194,13 +174,13 @@ pub(crate) fn check_failing_readers<S: Subject>(
 /// Checks the report of a call whose reader may have failed at this read.
 fn check_failed(
     report: &Report,
-    course: Course,
+    call: &Call<'_>,
     read: usize,
     failure: Failure,
-    len: usize,
     encoding: &[u8],
     checks: &mut Checks,
 ) -> Result<(), Fault> {
+    let (course, len) = (call.course, call.bytes.len());
     if report.faults == 0 {
         // Reads of more than one byte are over before that one.
         check(!course.is_by_bytes(), "a read that doesn't fail", read)?;
@@ -210,11 +190,8 @@ fn check_failed(
     let is_answer = is_answer_to(failure, report, left == 0, encoding);
     check(is_answer && report.faults == 1, "failed read", read)?;
     let is_next = left.saturating_add(read) == len;
-    check(
-        is_next || !course.is_by_bytes() && left <= len,
-        "bytes taken before a failed read",
-        read,
-    )?;
+    let is_right = is_next || !course.is_by_bytes() && left <= len;
+    check(is_right, "bytes taken before a failed read", read)?;
     checks.failed_reads = checks.failed_reads.saturating_add(1);
     Ok(())
 }
@@ -224,8 +201,8 @@ fn check_failed(
 /// other error means that there may be more bytes.
 fn is_answer_to(failure: Failure, report: &Report, is_at_end: bool, encoding: &[u8]) -> bool {
     match (failure, is_at_end) {
-        (Failure::TimedOut, false) => is_error(&report.error, ErrorKind::TimedOut, "too slow"),
-        (Failure::TimedOut, true) => {
+        (Failure::Aborted, false) => is_error(&report.error, ErrorKind::ConnectionAborted, ABORTED),
+        (Failure::Aborted, true) => {
             is_error(&report.error, ErrorKind::InvalidData, "Not all bytes read")
         }
         (Failure::End, false) => is_error(&report.error, ErrorKind::InvalidData, SHORT),
@@ -257,11 +234,8 @@ pub(crate) fn check_refused<S: Subject>(
             };
             let report = subject.call(alloc, &call)?;
             let is_right = is_error(&report.error, ErrorKind::InvalidData, text);
-            check(
-                is_right && report.faults == 0,
-                "refused from a reader",
-                bytes.len(),
-            )?;
+            let is_right = is_right && report.faults == 0;
+            check(is_right, "refused from a reader", bytes.len())?;
             checks.decoded = checks.decoded.saturating_add(1);
         }
     }

@@ -6,10 +6,7 @@ use super::reading::{
     check_beginnings, check_decoded, check_exact_reads, check_failing_readers, check_refused,
     check_unordered,
 };
-use super::sweeps::{
-    check_memory_of_decoding, check_memory_of_encoding, check_without_memory, sweep_decoding,
-    sweep_encoding, sweep_refused, sweep_unordered,
-};
+use super::sweeps::{DECODING, ENCODING, check_memory, check_without_memory, sweep_all};
 use super::writing::{check_encoded, check_failing_writers, check_full};
 use std::alloc::Global;
 
@@ -54,24 +51,22 @@ pub fn judge_value<S: Subject>(
     let mut checks = Checks::NONE;
     check_decoded(alloc, subject, bytes, encoding, &mut checks)?;
     check_exact_reads(alloc, bytes)?;
-    check_beginnings(alloc, subject, &SLICES, How::FromReader, bytes, &mut checks)?;
-    check_failing_readers(
-        alloc,
-        subject,
-        How::FromReader,
-        bytes,
-        encoding,
-        &mut checks,
-    )?;
+    let reader = How::FromReader;
+    check_beginnings(alloc, subject, &SLICES, reader, bytes, &mut checks)?;
+    check_failing_readers(alloc, subject, reader, bytes, encoding, &mut checks)?;
     check_encoded(alloc, subject, encoding, &mut checks)?;
     if bytes == encoding {
         check_full(alloc, subject, bytes, &mut checks)?;
         check_failing_writers(alloc, subject, bytes, &mut checks)?;
     }
     if heap == Heap::TakesOrders {
-        sweep_decoding(alloc, subject, bytes, encoding, &mut checks)?;
-        sweep_encoding(alloc, subject, encoding, &mut checks)?;
-        check_memory_of_encoding(alloc, subject, encoding)?;
+        let value = AnyOrder::Value(encoding);
+        sweep_all(alloc, subject, &DECODING, bytes, value, &mut checks)?;
+        sweep_all(alloc, subject, &ENCODING, encoding, value, &mut checks)?;
+        // A vector begins with room for a kilobyte, and the entries of a hashed map are sorted in another one.
+        let most = u32::try_from(encoding.len())?.saturating_mul(16);
+        let most = most.saturating_add(1024);
+        check_memory(alloc, subject, &ENCODING, encoding, most)?;
         check_without_memory(alloc, subject, bytes, memory, &mut checks)?;
     }
     Ok(checks)
@@ -96,10 +91,11 @@ pub fn judge_refused<S: Subject>(
     };
     check_refused(alloc, subject, slices, &READERS, bytes, text, &mut checks)?;
     if heap == Heap::TakesOrders {
-        sweep_refused(alloc, subject, slices, bytes, text, &mut checks)?;
-        sweep_refused(alloc, subject, &READERS, bytes, text, &mut checks)?;
+        let refused = AnyOrder::Refused(text);
+        sweep_all(alloc, subject, slices, bytes, refused, &mut checks)?;
+        sweep_all(alloc, subject, &READERS, bytes, refused, &mut checks)?;
         if let Some(most) = most {
-            check_memory_of_decoding(alloc, subject, bytes, most)?;
+            check_memory(alloc, subject, &DECODING, bytes, most)?;
         }
     }
     Ok(checks)
@@ -142,9 +138,11 @@ pub fn judge_unordered<S: Subject>(
         }
     }
     if heap == Heap::TakesOrders {
-        sweep_refused(alloc, subject, &strict, bytes, text, &mut checks)?;
-        sweep_refused(alloc, subject, &readers, bytes, text, &mut checks)?;
-        sweep_unordered(alloc, subject, bytes, unordered, &mut checks)?;
+        let strict = [How::FromSlice, How::Deserialize, How::FromReader];
+        let refused = AnyOrder::Refused(text);
+        sweep_all(alloc, subject, &strict, bytes, refused, &mut checks)?;
+        let free = [How::FromSliceUnordered, How::FromUnorderedReader];
+        sweep_all(alloc, subject, &free, bytes, unordered, &mut checks)?;
     }
     Ok(checks)
 }

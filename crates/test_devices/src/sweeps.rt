@@ -13,10 +13,15 @@ use std::alloc::Global;
 const MOST: u32 = 100000;
 
 /// The calls that encode.
-const ENCODING: [How; 4] = [How::ToVec, How::ObjectLength, How::Serialize, How::ToWriter];
+pub(crate) const ENCODING: [How; 4] = [
+    How::ToVec,
+    How::ObjectLength,
+    How::Serialize,
+    How::ToWriter,
+];
 
 /// The calls that decode.
-const DECODING: [How; 5] = [
+pub(crate) const DECODING: [How; 5] = [
     How::FromSlice,
     How::FromSliceUnordered,
     How::Deserialize,
@@ -24,78 +29,18 @@ const DECODING: [How; 5] = [
     How::FromUnorderedReader,
 ];
 
-/// Refuses each request for memory in turn, alone and with all later ones, in the calls that encode the value with this
-/// encoding. Each returns what it has to, or an allocation failure; then a beginning of the encoding was written.
-pub(crate) fn sweep_encoding<S: Subject>(
-    alloc: Global,
-    subject: &S,
-    bytes: &[u8],
-    checks: &mut Checks,
-) -> Result<(), Fault> {
-    for how in ENCODING {
-        sweep(
-            alloc,
-            subject,
-            Call::new(how, bytes),
-            AnyOrder::Value(bytes),
-            checks,
-        )?;
-    }
-    Ok(())
-}
-
-/// The same in the calls that decode the bytes to the value with this encoding. After an allocation failure a tail of the
-/// bytes is left.
-pub(crate) fn sweep_decoding<S: Subject>(
-    alloc: Global,
-    subject: &S,
-    bytes: &[u8],
-    encoding: &[u8],
-    checks: &mut Checks,
-) -> Result<(), Fault> {
-    for how in DECODING {
-        sweep(
-            alloc,
-            subject,
-            Call::new(how, bytes),
-            AnyOrder::Value(encoding),
-            checks,
-        )?;
-    }
-    Ok(())
-}
-
-/// The same in the calls that take keys in any order.
-pub(crate) fn sweep_unordered<S: Subject>(
-    alloc: Global,
-    subject: &S,
-    bytes: &[u8],
-    unordered: AnyOrder<'_>,
-    checks: &mut Checks,
-) -> Result<(), Fault> {
-    for how in [How::FromSliceUnordered, How::FromUnorderedReader] {
-        sweep(alloc, subject, Call::new(how, bytes), unordered, checks)?;
-    }
-    Ok(())
-}
-
-/// The same in calls that refuse the bytes with this text.
-pub(crate) fn sweep_refused<S: Subject>(
+/// Refuses each request for memory in turn, alone and with all later ones, in these calls. Each returns what it has to, or an
+/// allocation failure; then a beginning of the encoding was written, or a tail of the bytes is left.
+pub(crate) fn sweep_all<S: Subject>(
     alloc: Global,
     subject: &S,
     calls: &[How],
     bytes: &[u8],
-    text: &str,
+    expected: AnyOrder<'_>,
     checks: &mut Checks,
 ) -> Result<(), Fault> {
-    for how in calls {
-        sweep(
-            alloc,
-            subject,
-            Call::new(*how, bytes),
-            AnyOrder::Refused(text),
-            checks,
-        )?;
+    for &how in calls {
+        sweep(alloc, subject, Call::new(how, bytes), expected, checks)?;
     }
     Ok(())
 }
@@ -207,40 +152,15 @@ pub(crate) fn check_without_memory<S: Subject>(
         };
         let report = subject.call(alloc, &call)?;
         let is_right = report.error.is_none() && is_complete(&report, how, bytes);
-        check(
-            is_right && !report.was_refused,
-            "a call without memory",
-            bytes.len(),
-        )?;
+        let is_right = is_right && !report.was_refused;
+        check(is_right, "a call without memory", bytes.len())?;
         checks.without_memory = checks.without_memory.saturating_add(1);
     }
     Ok(())
 }
 
-/// Checks that no call that encodes asks for much more memory than the encoding takes.
-pub(crate) fn check_memory_of_encoding<S: Subject>(
-    alloc: Global,
-    subject: &S,
-    bytes: &[u8],
-) -> Result<(), Fault> {
-    // A vector begins with room for a kilobyte, and the entries of a hashed map are sorted in another one.
-    let most = u32::try_from(bytes.len())?
-        .saturating_mul(16)
-        .saturating_add(1024);
-    check_memory(alloc, subject, &ENCODING, bytes, most)
-}
-
-/// Checks that no call that decodes the bytes has a request for more than `most` bytes, or for more than twice that in all.
-pub(crate) fn check_memory_of_decoding<S: Subject>(
-    alloc: Global,
-    subject: &S,
-    bytes: &[u8],
-    most: u32,
-) -> Result<(), Fault> {
-    check_memory(alloc, subject, &DECODING, bytes, most)
-}
-
-fn check_memory<S: Subject>(
+/// Checks that none of the calls has a request for more than `most` bytes, or for more than twice that in all.
+pub(crate) fn check_memory<S: Subject>(
     alloc: Global,
     subject: &S,
     calls: &[How],

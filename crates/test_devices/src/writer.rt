@@ -33,11 +33,6 @@ impl TestWriter {
         self.course.calls()
     }
 
-    /// How many calls of `write` and `flush` neither failed nor were interrupted.
-    pub fn successes(&self) -> u32 {
-        self.course.successes()
-    }
-
     /// How many calls of `write` and `flush` failed.
     pub fn faults(&self) -> u64
         ensures { result ≡ self.now.course.faults }

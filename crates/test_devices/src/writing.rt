@@ -1,7 +1,7 @@
 // What is checked of a value that is encoded.
 use super::calls::{Call, How, Report, Subject};
 use super::checks::Checks;
-use super::course::{Failure, courses, courses_of};
+use super::course::{ABORTED, Failure, courses, courses_of};
 use super::fault::{Fault, check};
 use super::reading::{is_error, places};
 use borsh::io::ErrorKind;
@@ -17,11 +17,8 @@ pub(crate) fn check_encoded<S: Subject>(
 ) -> Result<(), Fault> {
     for how in [How::ToVec, How::Serialize] {
         let report = subject.call(alloc, &Call::new(how, bytes))?;
-        check(
-            is_written(&report, bytes),
-            "encoded into a vector",
-            bytes.len(),
-        )?;
+        let is_right = is_written(&report, bytes);
+        check(is_right, "encoded into a vector", bytes.len())?;
         checks.encoded = checks.encoded.saturating_add(1);
     }
     let report = subject.call(alloc, &Call::new(How::ObjectLength, bytes))?;
@@ -46,11 +43,8 @@ pub(crate) fn check_encoded<S: Subject>(
             ..Call::new(How::ToWriter, bytes)
         };
         let report = subject.call(alloc, &call)?;
-        check(
-            is_written(&report, bytes),
-            "encoded into a writer",
-            bytes.len(),
-        )?;
+        let is_right = is_written(&report, bytes);
+        check(is_right, "encoded into a writer", bytes.len())?;
         let is_counted = !course.is_by_bytes() || report.calls >= bytes.len() as u64;
         check(is_counted, "calls of a writer", bytes.len())?;
         checks.encoded = checks.encoded.saturating_add(1);
@@ -112,7 +106,7 @@ pub(crate) fn check_failing_writers<S: Subject>(
     for course in courses() {
         for write in places(alloc, bytes.len())? {
             let call = Call {
-                course: course.failing(u32::try_from(write)?, Failure::TimedOut),
+                course: course.failing(u32::try_from(write)?, Failure::Aborted),
                 ..Call::new(How::ToWriter, bytes)
             };
             let report = subject.call(alloc, &call)?;
@@ -123,14 +117,11 @@ pub(crate) fn check_failing_writers<S: Subject>(
                 check(is_right, "a write that doesn't fail", write)?;
                 continue;
             }
-            let is_answer = is_error(&report.error, ErrorKind::TimedOut, "too slow");
+            let is_answer = is_error(&report.error, ErrorKind::ConnectionAborted, ABORTED);
             check(is_answer && report.faults == 1, "failed write", write)?;
             let is_expected = taken.len() == write || !course.is_by_bytes();
-            check(
-                is_expected && bytes.starts_with(taken),
-                "bytes of a failed write",
-                write,
-            )?;
+            let is_right = is_expected && bytes.starts_with(taken);
+            check(is_right, "bytes of a failed write", write)?;
             checks.failed_writes = checks.failed_writes.saturating_add(1);
         }
     }

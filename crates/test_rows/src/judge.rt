@@ -1,6 +1,6 @@
 // Judges a row.
 use super::names::Named;
-use super::row::{Row, bytes_of, is_answer};
+use super::row::{bytes_of, first_of, is_answer};
 use borsh_check_lines::answer;
 use std::alloc::{AllocError, Global};
 use std::str;
@@ -10,43 +10,44 @@ use test_devices::{
     AnyOrder, Call, Checks, Heap, How, Memory, Subject, judge_refused, judge_unordered, judge_value,
 };
 
-/// Checks what the row says, and returns how many checks were made.
-pub fn judge(alloc: Global, heap: Heap, row: Row<'_>) -> Result<Checks, Fault> {
-    match row {
-        Row::Read {
-            name,
-            digits,
-            answer,
-            memory,
-        } => judge_read(alloc, heap, &Named { name }, digits, answer, memory),
-        Row::Canon {
-            name,
-            digits,
-            answer,
-            strict,
-        } => judge_canon(alloc, heap, &Named { name }, digits, answer, strict),
-        Row::Schema { name, answer } => judge_schema(alloc, heap, &Named { name }, answer),
-        Row::Container {
-            question,
-            digits,
-            answers,
-        } => {
-            let bytes = bytes_in(alloc, digits)?;
+/// Checks what a row says, and returns how many checks were made. Its columns are
+///
+/// - `read` TYPE HEX, and `ok HEX`, the encoding of the value, or `error TEXT`; then for which calls the type needs no memory,
+///   `free` or `free to encode`, or how much a refusal may ask for, `at most N`
+/// - `canon` TYPE HEX, and `ok HEX` or `error TEXT`: the same where keys may come in any order; then the answer where they have
+///   to ascend, if it is another one: `error TEXT`
+/// - `schema` TYPE, and the greatest size, `-` for none, a space, and the encoding of the container
+/// - `check` HEX, `size` HEX, `counts` HEX: a question about a container, and the answers that are right
+/// - `line` LINE: a line of the program `borsh_check`, and the answers that are right
+pub fn judge(alloc: Global, heap: Heap, row: &str) -> Result<Checks, Fault> {
+    let (kind, columns) = first_of(row)?;
+    let (first, columns) = first_of(columns)?;
+    let named = Named { name: first };
+    match kind {
+        "read" => {
+            let (digits, columns) = first_of(columns)?;
+            let (answer, memory) = columns.split_once('\t').unwrap_or((columns, ""));
+            judge_read(alloc, heap, &named, digits, answer, memory)
+        }
+        "canon" => {
+            let (digits, columns) = first_of(columns)?;
+            let (answer, strict) = columns.split_once('\t').unwrap_or((columns, columns));
+            judge_canon(alloc, heap, &named, digits, answer, strict)
+        }
+        "schema" => judge_schema(alloc, heap, &named, columns),
+        "line" => judge_line(alloc, heap, first, columns),
+        "check" | "size" | "counts" => {
+            let bytes = bytes_of(alloc, first)?;
             let line = if bytes.is_empty() {
-                format!(in alloc; "{question} -")?
+                format!(in alloc; "{kind} -")?
             } else {
                 let digits = hex::encode(alloc, bytes.as_slice())?;
-                format!(in alloc; "{question} {digits}")?
+                format!(in alloc; "{kind} {digits}")?
             };
-            judge_line(alloc, heap, line.as_str(), answers)
+            judge_line(alloc, heap, line.as_str(), columns)
         }
-        Row::Line { line, answers } => judge_line(alloc, heap, line, answers),
+        _ => Err(Fault::NoRow),
     }
-}
-
-/// The bytes that a column says.
-fn bytes_in(alloc: Global, column: &str) -> Result<Vec<u8>, Fault> {
-    bytes_of(alloc, column)?.ok_or(Fault::Check("digits", column.len()))
 }
 
 fn judge_read(
@@ -57,25 +58,19 @@ fn judge_read(
     answer: &str,
     memory: &str,
 ) -> Result<Checks, Fault> {
-    let bytes = bytes_in(alloc, digits)?;
+    let bytes = bytes_of(alloc, digits)?;
+    let bytes = bytes.as_slice();
     match answer.split_once(' ') {
         Some(("ok", again)) => {
-            let encoding = bytes_in(alloc, again)?;
-            let memory = memory_of(memory)?;
-            judge_value(
-                alloc,
-                heap,
-                named,
-                bytes.as_slice(),
-                encoding.as_slice(),
-                memory,
-            )
+            let encoding = bytes_of(alloc, again)?;
+            let (encoding, memory) = (encoding.as_slice(), memory_of(memory)?);
+            judge_value(alloc, heap, named, bytes, encoding, memory)
         }
         Some(("error", text)) => {
             let most = most_of(memory)?;
-            judge_refused(alloc, heap, named, bytes.as_slice(), text, most)
+            judge_refused(alloc, heap, named, bytes, text, most)
         }
-        _ => Err(Fault::Check("answer", 0)),
+        _ => Err(Fault::NoRow),
     }
 }
 
@@ -84,7 +79,7 @@ fn memory_of(column: &str) -> Result<Memory, Fault> {
         "" => Ok(Memory::Taken),
         "free to encode" => Ok(Memory::FreeToEncode),
         "free" => Ok(Memory::Free),
-        _ => Err(Fault::Check("memory", 0)),
+        _ => Err(Fault::NoRow),
     }
 }
 
@@ -93,13 +88,8 @@ fn most_of(column: &str) -> Result<Option<u32>, Fault> {
     if column.is_empty() {
         return Ok(None);
     }
-    match column.strip_prefix("at most ") {
-        Some(number) => match number.parse::<u32>() {
-            Ok(most) => Ok(Some(most)),
-            Err(_) => Err(Fault::Check("memory", 0)),
-        },
-        None => Err(Fault::Check("memory", 0)),
-    }
+    let number = column.strip_prefix("at most ").ok_or(Fault::NoRow)?;
+    Ok(Some(number.parse::<u32>().ok().ok_or(Fault::NoRow)?))
 }
 
 fn judge_canon(
@@ -113,13 +103,11 @@ fn judge_canon(
     if answer == strict {
         return judge_read(alloc, heap, named, digits, answer, "");
     }
-    let bytes = bytes_in(alloc, digits)?;
-    let Some(text) = strict.strip_prefix("error ") else {
-        return Err(Fault::Check("answer", 0));
-    };
+    let bytes = bytes_of(alloc, digits)?;
+    let text = strict.strip_prefix("error ").ok_or(Fault::NoRow)?;
     match answer.split_once(' ') {
         Some(("ok", again)) => {
-            let encoding = bytes_in(alloc, again)?;
+            let encoding = bytes_of(alloc, again)?;
             let unordered = AnyOrder::Value(encoding.as_slice());
             judge_unordered(alloc, heap, named, bytes.as_slice(), unordered, text)
         }
@@ -127,7 +115,7 @@ fn judge_canon(
             let unordered = AnyOrder::Refused(other);
             judge_unordered(alloc, heap, named, bytes.as_slice(), unordered, text)
         }
-        _ => Err(Fault::Check("answer", 0)),
+        _ => Err(Fault::NoRow),
     }
 }
 
@@ -140,10 +128,8 @@ fn judge_schema(
     answer: &str,
 ) -> Result<Checks, Fault> {
     let mut checks = Checks::NONE;
-    let Some((size, digits)) = answer.split_once(' ') else {
-        return Err(Fault::Check("answer", 0));
-    };
-    let container = bytes_in(alloc, digits)?;
+    let (size, digits) = answer.split_once(' ').ok_or(Fault::NoRow)?;
+    let container = bytes_of(alloc, digits)?;
     check_schema(alloc, named, Refusal::None, size, container.as_slice())?;
     if heap == Heap::Ordinary {
         return Ok(checks);
@@ -200,11 +186,8 @@ fn judge_line(alloc: Global, heap: Heap, line: &str, answers: &str) -> Result<Ch
         refusal.begin(alloc);
         let answered = answer(alloc, line.as_bytes());
         let was_refused = refusal.end(alloc);
-        check(
-            is_right(&answered, was_refused, answers),
-            "answer",
-            n as usize,
-        )?;
+        let holds = is_right(&answered, was_refused, answers);
+        check(holds, "answer", n as usize)?;
         if !was_refused {
             break;
         }

@@ -1,8 +1,7 @@
 //! Judges the rows of the suite: encodings, what is refused, schemas, containers, and lines of the program.
 //!
-//! The rows stand in the files of `data/`. Lines that begin with `#` are the heading of the rows below them, and its first line
-//! is their section's name. With the argument `--refuse`, over the heap of `.ci/heap.c`, each request for memory is refused in
-//! turn too. What isn't as its row says is printed, and for each section how many rows are as they say.
+//! The rows stand in the files of `data/`. With the argument `--refuse`, over the heap of `.ci/heap.c`, each request for memory is
+//! refused in turn too, and each block of memory is freed once.
 #![tactic(auto)]
 
 mod generated_types;
@@ -11,9 +10,11 @@ mod names;
 mod row;
 
 use judge::judge;
-use row::Row;
+use std::alloc::Global;
 use std::{env, fs, io};
-use test_devices::{CALLS, Checks, Heap};
+use test_devices::fault::check;
+use test_devices::heap::{are_other_blocks, note_blocks};
+use test_devices::{CALLS, Checks, Fault, Heap, Section, sections_of};
 
 /// The files of `data/`.
 const FILES: &[&str] = &[
@@ -35,81 +36,29 @@ const FILES: &[&str] = &[
     "replay.tsv",
 ];
 
-/// A section whose rows are being judged.
-#[derive(Clone, Copy)]
-struct Section<'a> {
-    name: &'a str,
-    rows: u64,
-    right: u64,
+/// Judges a row, which frees each block of memory once.
+fn judge_row(alloc: Global, heap: Heap, row: &str, checks: &mut Checks) -> Result<(), Fault> {
+    note_blocks(alloc);
+    checks.add(judge(alloc, heap, row)?);
+    check(!are_other_blocks(alloc), "blocks of memory", 0)
 }
 
-impl<'a> Section<'a> {
-    fn new(name: &'a str) -> Section<'a> {
-        Section {
-            name,
-            rows: 0,
-            right: 0,
-        }
-    }
-
-    /// Judges a row, and prints it if it isn't as it says.
-    fn judge_row(
-        &mut self,
-        rt: &(impl Print + AllocGlobal),
-        heap: Heap,
-        text: &str,
-        checks: &mut Checks,
-    ) -> io::Result<()> {
-        self.rows = self.rows.saturating_add(1);
-        let Some(row) = Row::from_text(text) else {
-            return rt.println(format_args!("{text}\n    is no row"));
-        };
-        match judge(rt.alloc(), heap, row) {
-            Ok(made) => {
-                checks.add(made);
-                self.right = self.right.saturating_add(1);
-                Ok(())
-            }
-            Err(fault) => rt.println(format_args!("{text}\n    {fault:?}")),
-        }
-    }
-
-    /// Prints how many rows there are, and how many of them are as they say.
-    fn print(&self, rt: &impl Print) -> io::Result<()> {
-        let Section { name, rows, right } = self;
-        if *rows == 0 {
-            return Ok(());
-        }
-        rt.println(format_args!("  {name}: {right} of {rows}"))
-    }
-}
-
-/// Judges the rows of a file, and prints the counts of each section.
-fn judge_file(
+/// Prints the rows that aren't as they say, with why, and how many there are and are as they say.
+fn judge_section(
     rt: &(impl Print + AllocGlobal),
     heap: Heap,
-    text: &str,
+    section: &Section<'_>,
     checks: &mut Checks,
 ) -> io::Result<()> {
-    let mut section = Section::new("");
-    let mut in_heading = false;
-    for line in text.lines() {
-        match line.strip_prefix("# ") {
-            Some(_) if in_heading => {}
-            Some(name) => {
-                section.print(rt)?;
-                section = Section::new(name);
-                in_heading = true;
-            }
-            None => {
-                in_heading = false;
-                if !line.is_empty() {
-                    section.judge_row(rt, heap, line, checks)?;
-                }
-            }
+    let mut right = 0usize;
+    for &row in section.rows.iter() {
+        match judge_row(rt.alloc(), heap, row, checks) {
+            Ok(()) => right = right.saturating_add(1),
+            Err(fault) => rt.println(format_args!("{row}\n    {fault:?}"))?,
         }
     }
-    section.print(rt)
+    let (name, rows) = (section.name, section.rows.len());
+    rt.println(format_args!("  {name}: {right} of {rows}"))
 }
 
 fn main(rt: HostRuntime) -> io::Result<()> {
@@ -122,7 +71,9 @@ fn main(rt: HostRuntime) -> io::Result<()> {
     for &file in FILES {
         let text = fs::read_to_string(&rt, file)?;
         println!(rt; "{file}")?;
-        judge_file(&rt, heap, text.as_str(), &mut checks)?;
+        for section in sections_of(rt.alloc(), text.as_str())?.iter() {
+            judge_section(&rt, heap, section, &mut checks)?;
+        }
     }
     println!(rt; "{checks}")?;
     if heap == Heap::Ordinary {

@@ -25,16 +25,8 @@ impl<'a> Root<'a> {
         if json.starts_with("! ") {
             return self.judge_refused(bytes, json);
         }
-        self.judge_member(bytes)?;
-        expect(
-            self.alloc,
-            "check_strict",
-            self.strict(bytes)?.as_str(),
-            "taken",
-        )?;
+        self.judge_written(bytes, "taken", json)?;
         self.judge_lengths(bytes)?;
-        let written = self.json(bytes, Style::COMPACT)?;
-        expect(self.alloc, "JSON", written.as_str(), json)?;
         self.judge_read(json, bytes)?;
         let lines = self.json(bytes, Style::PRETTY)?;
         self.judge_read(lines.as_str(), bytes)?;
@@ -46,39 +38,24 @@ impl<'a> Root<'a> {
         let alloc = self.alloc;
         expect(alloc, "is_member", self.member(bytes)?.as_str(), wanted)?;
         expect(alloc, "decode", self.nodes(bytes)?.as_str(), wanted)?;
-        let written = self.json(bytes, Style::COMPACT)?;
-        expect(alloc, "to_json", written.as_str(), wanted)?;
-        expect(alloc, "check_strict", self.strict(bytes)?.as_str(), wanted)?;
+        self.expect_answers(bytes, wanted, wanted)?;
         match rows_of(alloc, self.name, self.map, bytes) {
             Ok(_) => check(alloc, false, "rows_of", "rows"),
             Err(error) => expect(alloc, "rows_of", told(alloc, &error)?.as_str(), wanted),
         }
     }
 
-    /// That the bytes are a value, which has no JSON for this reason, but is taken by the type.
-    pub fn judge_without_json(&self, bytes: &[u8], wanted: &str) -> Result<(), Wrong> {
+    /// That the bytes are a value, which the type takes or refuses so, and which has this JSON, or after `! ` why none.
+    pub fn judge_written(&self, bytes: &[u8], strict: &str, json: &str) -> Result<(), Wrong> {
         self.judge_member(bytes)?;
-        expect(
-            self.alloc,
-            "check_strict",
-            self.strict(bytes)?.as_str(),
-            "taken",
-        )?;
-        let written = self.json(bytes, Style::COMPACT)?;
-        expect(self.alloc, "JSON", written.as_str(), wanted)
+        self.expect_answers(bytes, strict, json)
     }
 
-    /// That the bytes are a value by the definitions, which the type refuses for this reason.
-    pub fn judge_untaken(&self, bytes: &[u8], wanted: &str) -> Result<(), Wrong> {
-        self.judge_member(bytes)?;
-        expect(
-            self.alloc,
-            "check_strict",
-            self.strict(bytes)?.as_str(),
-            wanted,
-        )?;
+    fn expect_answers(&self, bytes: &[u8], strict: &str, json: &str) -> Result<(), Wrong> {
+        let alloc = self.alloc;
+        expect(alloc, "check_strict", self.strict(bytes)?.as_str(), strict)?;
         let written = self.json(bytes, Style::COMPACT)?;
-        expect(self.alloc, "JSON", written.as_str(), wanted)
+        expect(alloc, "to_json", written.as_str(), json)
     }
 
     /// That the bytes are a value with this JSON where numbers of 64 bits are texts.
@@ -87,7 +64,12 @@ impl<'a> Root<'a> {
             long_numbers: LongNumbers::Quoted,
             ..Style::COMPACT
         };
-        expect(self.alloc, "JSON", self.json(bytes, style)?.as_str(), json)?;
+        expect(
+            self.alloc,
+            "to_json",
+            self.json(bytes, style)?.as_str(),
+            json,
+        )?;
         self.judge_read(json, bytes)
     }
 
@@ -158,12 +140,7 @@ impl<'a> Root<'a> {
         let mut longer = Vec::from_slice(self.alloc, bytes)?;
         longer.push(0)?;
         let is_value = self.has(longer.as_slice())?;
-        check(
-            self.alloc,
-            !is_value,
-            "is_member",
-            "a longer one is a value",
-        )
+        check(self.alloc, !is_value, "is_member", "a longer value")
     }
 
     /// Whether the bytes are a value.
@@ -174,19 +151,10 @@ impl<'a> Root<'a> {
 
     /// That the JSON is read as these bytes.
     pub fn judge_read(&self, json: &str, bytes: &[u8]) -> Result<(), Wrong> {
-        match from_json(self.alloc, self.name, self.map, json) {
-            Ok(read) => check(
-                self.alloc,
-                read.as_slice() == bytes,
-                "from_json",
-                "other bytes",
-            ),
-            Err(error) => check(
-                self.alloc,
-                false,
-                "from_json",
-                told(self.alloc, &error)?.as_str(),
-            ),
+        let alloc = self.alloc;
+        match from_json(alloc, self.name, self.map, json) {
+            Ok(read) => check(alloc, read.as_slice() == bytes, "from_json", "bytes"),
+            Err(error) => check(alloc, false, "from_json", told(alloc, &error)?.as_str()),
         }
     }
 
@@ -206,7 +174,7 @@ impl<'a> Root<'a> {
     }
 
     /// The JSON of the bytes, or why there is none.
-    pub fn json(&self, bytes: &[u8], style: Style) -> Result<String, Wrong> {
+    fn json(&self, bytes: &[u8], style: Style) -> Result<String, Wrong> {
         match to_json(self.alloc, self.name, self.map, bytes, style) {
             Ok(json) => Ok(json),
             Err(error) => told(self.alloc, &error),
@@ -239,12 +207,8 @@ impl<'a> Root<'a> {
         let Decoded::Nodes(nodes) = decode(alloc, self.name, self.map, bytes)? else {
             return check(alloc, false, "decode", "no nodes");
         };
-        check(
-            alloc,
-            nodes.len() == wanted.len(),
-            "nodes",
-            "another number",
-        )?;
+        let are_all = nodes.len() == wanted.len();
+        check(alloc, are_all, "nodes", "another number")?;
         let mut paths = Paths::new(alloc, self.name);
         for (node, wanted) in nodes.iter().zip(wanted) {
             paths.enter(node)?;

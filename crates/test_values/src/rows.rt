@@ -18,7 +18,8 @@ use std::alloc::Global;
 /// - `nodes` ROOT HEX NODE..: the nodes of a value
 /// - `ambiguous` ROOT NAME: which definition is ambiguous, `-` for none
 /// - `random` COUNT ROOT..: random values come back from their JSON
-/// - `type` WORD: the definitions of the type of a word of `borsh_check`, in place of those before, and random values
+/// - `type` WORD [untold]: the definitions of the type of a word of `borsh_check` or of this name, in place of those before, and
+///   random values; with `untold` where names don't tell the order of its keys
 pub fn judge_row(alloc: Global, map: &mut Definitions, row: &str) -> Result<(), Wrong> {
     let columns: Vec<&str> = row.split('\t').collect(alloc)?;
     let kind = column(columns.as_slice(), 0)?;
@@ -28,7 +29,7 @@ pub fn judge_row(alloc: Global, map: &mut Definitions, row: &str) -> Result<(), 
         return Ok(());
     }
     match kind {
-        "type" => *map = judge_type(alloc, name)?,
+        "type" => *map = judge_type(alloc, name, columns)?,
         "random" => {
             let count = name.parse::<u64>()?;
             for &name in columns {
@@ -44,30 +45,25 @@ fn judge_root(root: &Root<'_>, kind: &str, columns: &[&str]) -> Result<(), Wrong
     let alloc = root.alloc;
     let first = column(columns, 0)?;
     let others = columns.get(1..).unwrap_or(&[]);
+    let text = text_of(alloc, others)?;
+    let text = text.as_str();
     match kind {
-        "value" => root.judge(
-            bytes_of(alloc, first)?.as_slice(),
-            text_of(alloc, others)?.as_str(),
-        ),
-        "nojson" => root.judge_without_json(
-            bytes_of(alloc, first)?.as_slice(),
-            text_of(alloc, others)?.as_str(),
-        ),
-        "refused" => root.judge_untaken(
-            bytes_of(alloc, first)?.as_slice(),
-            text_of(alloc, others)?.as_str(),
-        ),
-        "quoted" => root.judge_quoted(
-            bytes_of(alloc, first)?.as_slice(),
-            text_of(alloc, others)?.as_str(),
-        ),
-        "text" => root.judge_text(text_of(alloc, others)?.as_str(), first),
-        "member" => root.judge_member(bytes_of(alloc, first)?.as_slice()),
-        "nodes" => root.judge_nodes(bytes_of(alloc, first)?.as_slice(), others),
+        "text" => return root.judge_text(text, first),
         "ambiguous" => {
             let found = find_ambiguous(alloc, root.name, root.map)?.unwrap_or("-");
-            expect(alloc, "find_ambiguous", found, first)
+            return expect(alloc, "find_ambiguous", found, first);
         }
+        _ => {}
+    }
+    let bytes = bytes_of(alloc, first)?;
+    let bytes = bytes.as_slice();
+    match kind {
+        "value" => root.judge(bytes, text),
+        "nojson" => root.judge_written(bytes, "taken", text),
+        "refused" => root.judge_written(bytes, text, text),
+        "quoted" => root.judge_quoted(bytes, text),
+        "member" => root.judge_member(bytes),
+        "nodes" => root.judge_nodes(bytes, others),
         _ => Err(Wrong::NoRow),
     }
 }

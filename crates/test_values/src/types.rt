@@ -1,5 +1,6 @@
-// The types of the program's words, and random values of each.
+// The types of the program's words and of `example_generated`, and random values of each.
 use super::definitions::Definitions;
+use super::generated::asked;
 use super::judge::{Root, digits_of};
 use super::random::member_of;
 use super::wrong::{Wrong, check};
@@ -25,33 +26,42 @@ pub fn judge_random(root: &Root<'_>, count: u64) -> Result<(), Wrong> {
 }
 
 /// Judges random values of a word's type by its container, whose definitions are returned.
-pub fn judge_type(alloc: Global, word: &str) -> Result<Definitions, Wrong> {
-    let line = format!(in alloc; "schema {word}")?;
-    let Ok(container) = hex::decode(alloc, answer(alloc, line.as_bytes())?.as_slice()) else {
+pub fn judge_type(alloc: Global, word: &str, columns: &[&str]) -> Result<Definitions, Wrong> {
+    let digits = answer_of(alloc, word, None)?;
+    let Ok(container) = hex::decode(alloc, digits.as_str()) else {
         return Err(Wrong::NoRow);
     };
     let Ok((name, map)) = from_slice::<(String, Definitions)>(alloc, container.as_slice()) else {
         return Err(Wrong::NoRow);
     };
-    judge_values(
-        word,
-        &Root {
-            alloc,
-            map: &map,
-            name: name.as_str(),
-        },
-    )?;
+    let root = Root {
+        alloc,
+        map: &map,
+        name: name.as_str(),
+    };
+    let is_clear = find_ambiguous(alloc, root.name, &map)?.is_none();
+    check(alloc, is_clear, "find_ambiguous", "a name")?;
+    let mut state = SEED;
+    for _ in 0..ROUNDS {
+        let bytes = member_of(&root, &mut state)?;
+        judge_typed(word, &root, bytes.as_slice())?;
+        judge_strict(word, &root, bytes.as_slice(), columns.is_empty())?;
+    }
     Ok(map)
 }
 
-fn judge_values(word: &str, root: &Root<'_>) -> Result<(), Wrong> {
-    let is_clear = find_ambiguous(root.alloc, root.name, root.map)?.is_none();
-    check(root.alloc, is_clear, "find_ambiguous", "a name")?;
-    let mut state = SEED;
-    for _ in 0..ROUNDS {
-        judge_typed(word, root, member_of(root, &mut state)?.as_slice())?;
-    }
-    Ok(())
+/// That the type decodes what `check_strict` takes, and nothing else; or, where names don't tell the order of its keys, only that
+/// it decodes nothing else.
+fn judge_strict(word: &str, root: &Root<'_>, bytes: &[u8], is_told: bool) -> Result<(), Wrong> {
+    let is_taken = root.strict(bytes)?.as_str() == "taken";
+    let is_read = is_read(word, root.alloc, bytes)?;
+    let is_right = is_read == is_taken || is_taken && !is_told;
+    check(
+        root.alloc,
+        is_right,
+        "check_strict",
+        "the type says otherwise",
+    )
 }
 
 /// That the bytes are a value; and that neither a beginning of them nor they with one byte more are one or are decoded by the
@@ -60,13 +70,6 @@ fn judge_typed(word: &str, root: &Root<'_>, bytes: &[u8]) -> Result<(), Wrong> {
     root.judge_member(bytes)?;
     root.judge_json(bytes)?;
     root.judge_rows(bytes)?;
-    let is_taken = root.strict(bytes)?.as_str() == "taken";
-    check(
-        root.alloc,
-        is_read(word, root.alloc, bytes)? == is_taken,
-        "check_strict",
-        "the type says otherwise",
-    )?;
     for end in 0..bytes.len() {
         check_refused(word, root, &bytes[..end])?;
     }
@@ -95,7 +98,23 @@ fn check_refused(word: &str, root: &Root<'_>, bytes: &[u8]) -> Result<(), Wrong>
 
 /// Whether the type of a word decodes the bytes.
 fn is_read(word: &str, alloc: Global, bytes: &[u8]) -> Result<bool, Wrong> {
-    let digits = digits_of(alloc, bytes)?;
-    let line = format!(in alloc; "read {word} {digits}")?;
-    Ok(answer(alloc, line.as_bytes())?.starts_with(b"ok"))
+    Ok(answer_of(alloc, word, Some(bytes))?.starts_with("ok"))
+}
+
+/// The digits of the container of a type of `example_generated`, or of a word's type; or of bytes, `ok` if it decodes them.
+fn answer_of(alloc: Global, word: &str, bytes: Option<&[u8]>) -> Result<String, Wrong> {
+    if let Some(answer) = asked(alloc, word, bytes)? {
+        return Ok(answer);
+    }
+    let line = match bytes {
+        Some(bytes) => {
+            let digits = digits_of(alloc, bytes)?;
+            format!(in alloc; "read {word} {digits}")?
+        }
+        None => format!(in alloc; "schema {word}")?,
+    };
+    match String::from_utf8(answer(alloc, line.as_bytes())?) {
+        Ok(answer) => Ok(answer),
+        Err(_) => Err(Wrong::NoRow),
+    }
 }

@@ -118,8 +118,8 @@ passed_none false e = refl
 abbrev pub Respects : {A : Type 0} → (A → Bool) → Codec A → Type 0
 Respects {A = A} test c = (a b : A) → c.equivalent a b → test a ≡ test b
 
-pub filtered-lawful : {A : Type 0} (test : A → Bool) {c : Codec A} → Respects test c → Lawful A c → Lawful A (filtered test c)
-filtered-lawful test {c = c} respects l = record {
+pub filtered-lawful : {A : Type 0} (texts : Bool) (test : A → Bool) {c : Codec A} → Respects test c → Lawful A c → Lawful A (filtered texts test c)
+filtered-lawful texts test {c = c} respects l = record {
   equivalent_encoding = λ a b s. ap (λ t. cond t (c.encoding a) None) (respects a b s) ∙ ap (λ o. cond (test b) o None) (l.equivalent_encoding a b s);
   prefix_free = λ m x z a b p q. l.prefix_free m x z a b p.decodes q.decodes;
   empty = λ m x a e p. l.empty m x a e p.decodes;

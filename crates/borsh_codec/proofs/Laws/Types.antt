@@ -1,7 +1,8 @@
 -- The laws of the types that are put together from several shapes.
-use Rattle.std.specs.Prelude.{ℕ, List, Bool, Option, Result, ◌⊎◌}
+use Rattle.std.specs.Prelude.{ℕ, List, Bool, true, false, Option, Result, ◌⊎◌}
 use Rattle.std.proofs.Common.{arith, refl, ap}
 use Rattle.std.specs.Str.{is_utf8}
+use lib.Ieee.{Float, Format, binary32, binary64, to_bits}
 use Rattle.std.specs.declared.net.ipv4_addr.Ipv4Addr.{Ipv4Addr}
 use Rattle.std.specs.declared.net.ipv6_addr.Ipv6Addr.{Ipv6Addr}
 use Rattle.std.specs.declared.net.ip_addr.IpAddr.{IpAddr}
@@ -12,6 +13,7 @@ use Rattle.std.specs.Net.Addr.{ipv4_octets, ipv6_octets}
 use Rattle.borsh_codec.specs.Codec.{Codec, Lawful}
 use Rattle.borsh_codec.specs.Shapes.{unsigned, never, length_prefixed}
 use Rattle.borsh_codec.specs.Types.Sums.{two_variants, bool_view, bool, option_view, option, result_view, result_of}
+use Rattle.borsh_codec.specs.Types.Floats.{is_number, float, float32, float64}
 use Rattle.borsh_codec.specs.Types.Texts.{text}
 use Rattle.borsh_codec.specs.Types.Addresses.{octets, ipv4, ipv6, ip_view, ip, socket_v4_view, socket_v4, socket_v6_view, socket_v6, socket_view, socket}
 use Rattle.borsh_codec.proofs.Laws.Exact.{contramap-lawful, unit-lawful, never-lawful, Respects, filtered-lawful}
@@ -38,7 +40,19 @@ pub utf8_respects : Respects is_utf8 (length_prefixed (unsigned 1))
 utf8_respects xs ys s = ap is_utf8 (all_equal xs ys s)
 
 pub text-lawful : Lawful (List ℕ) text
-text-lawful = filtered-lawful is_utf8 utf8_respects (length_prefixed-lawful (unsigned-lawful 1))
+text-lawful = filtered-lawful true is_utf8 utf8_respects (length_prefixed-lawful (unsigned-lawful 1))
+
+pub number_respects : (f : Format) (n : ℕ) → Respects (is_number f) (unsigned n)
+number_respects f n a b e = ap (is_number f) e
+
+pub float-lawful : (f : Format) (n : ℕ) → Lawful Float (float f n)
+float-lawful f n = contramap-lawful (to_bits f) (filtered-lawful false (is_number f) (number_respects f n) (unsigned-lawful n))
+
+pub float32-lawful : Lawful Float float32
+float32-lawful = float-lawful binary32 4
+
+pub float64-lawful : Lawful Float float64
+float64-lawful = float-lawful binary64 8
 
 pub octets-lawful : (n : ℕ) → Lawful (List ℕ) (octets n)
 octets-lawful n = array-lawful n (unsigned-lawful 1)

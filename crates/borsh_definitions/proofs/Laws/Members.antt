@@ -8,7 +8,9 @@ use Rattle.borsh_codec.specs.Maps.{sorted_by_key, ascends, btree_entries, hash_e
 use Rattle.std.specs.declared.cmp.Ordering.{Ordering}
 use Rattle.std.specs.Map.{keys_of}
 use Rattle.borsh_codec.specs.Types.Sums.{bool}
+use Rattle.borsh_codec.specs.Types.Floats.{is_number, float}
 use Rattle.borsh_codec.specs.Types.Texts.{text}
+use lib.Ieee.{Float, Format, to_bits}
 use Rattle.std.specs.Str.{is_utf8}
 use Rattle.borsh_codec.proofs.Laws.Exact.{allowed_some, passed_some}
 use Rattle.borsh_codec.proofs.Laws.Lists.{some_same, joined_some}
@@ -87,11 +89,14 @@ module _ {C : List ℕ → Option Shape} where
   pub describes_unit : {m : List ℕ} → C m ≡ Some (primitive 0) → Describes ⊤ C unit m
   describes_unit h = record { member = λ a x e. nil_member x h (some_same [] x e) }
 
+  pub describes_filtered : {A : Type 0} {m : List ℕ} (texts : Bool) (test : A → Bool) {c : Codec A} → Describes A C c m → Describes A C (filtered texts test c) m
+  describes_filtered texts test {c = c} d = record { member = λ a x e. d.member a x (passed_some (test a) (c.encoding a) x e).is }
+
+  pub describes_float : {m : List ℕ} (f : Format) (n : ℕ) → C m ≡ Some (primitive n) → Describes Float C (float f n) m
+  describes_float f n h = describes_contramap (to_bits f) (describes_filtered false (is_number f) (describes_number n h))
+
   pub describes_refused_if : {A : Type 0} {m : List ℕ} (refused : Bool) {c : Codec A} → Describes A C c m → Describes A C (refused_if refused c) m
   describes_refused_if refused {c = c} d = record { member = λ a x e. d.member a x (allowed_some refused (c.encoding a) x e).is }
-
-  pub describes_filtered : {A : Type 0} {m : List ℕ} (test : A → Bool) {c : Codec A} → Describes A C c m → Describes A C (filtered test c) m
-  describes_filtered test {c = c} d = record { member = λ a x e. d.member a x (passed_some (test a) (c.encoding a) x e).is }
 
   pub describes_stored : {A : Type 0} {m : List ℕ} {c : Codec A} → Describes A C c m → Describes A C (allocated c) m
   describes_stored d = record { member = d.member }
@@ -180,7 +185,7 @@ module _ {C : List ℕ → Option Shape} where
 
   -- a text, which is a list of bytes
   pub describes_text : {m n : List ℕ} → C n ≡ Some (sequence 4 0 4294967295 m) → C m ≡ Some (primitive 1) → Describes (List ℕ) C text n
-  describes_text h b = describes_filtered is_utf8 (describes_counted h (describes_number 1 b))
+  describes_text h b = describes_filtered true is_utf8 (describes_counted h (describes_number 1 b))
 
   -- ---- entries of maps
 

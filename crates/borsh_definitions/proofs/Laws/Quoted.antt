@@ -5,13 +5,15 @@ use Rattle.std.specs.declared.cmp.Ordering.{Ordering}
 use Rattle.borsh_codec.specs.Shapes.{contramap, unsigned, signed, unit, pair, array, length_prefixed, list, allocated}
 use Rattle.borsh_codec.specs.Maps.{unit_entries, btree_map, btree_set, hash_map, hash_set}
 use Rattle.borsh_codec.specs.Types.Sums.{bool, option_view, option, result_view, result_of}
+use Rattle.borsh_codec.specs.Types.Floats.{float32, float64}
 use Rattle.borsh_codec.specs.Types.Texts.{text}
+use lib.Ieee.{Float, binary32, binary64}
 use Rattle.borsh_walks.specs.Container.{product, first_variant, later_variant}
 use Rattle.borsh_definitions.specs.Described.{NamedDefinition, shape, list as list_definition, named, unnamed, DefinitionTree, none, defined, both}
 use Rattle.borsh_definitions.specs.Language.{DescribedCodec, DescribedFields}
 use Rattle.borsh_definitions.specs.Names.{applied, applied_to_two, array_name, beside}
 use Rattle.borsh_definitions.specs.Types.{primitive_definitions, list_definitions, text_definitions, unit_definitions, option_of, range_of, result_of as result_definition, map_definitions, named_struct, unnamed_struct, tuple_definitions}
-use Rattle.borsh_definitions.proofs.Laws.Members.{describes_contramap, describes_number, describes_signed, describes_unit, describes_bool, describes_text, describes_stored, describes_counted, describes_elements, describes_row, describes_refused_if, describes_ordered, describes_sorted, describes_parts, describes_choice, choice_more, choice_none, all_none, all_one, all_more, all_contramap}
+use Rattle.borsh_definitions.proofs.Laws.Members.{describes_contramap, describes_number, describes_signed, describes_float, describes_unit, describes_bool, describes_text, describes_stored, describes_counted, describes_elements, describes_row, describes_refused_if, describes_ordered, describes_sorted, describes_parts, describes_choice, choice_more, choice_none, all_none, all_one, all_more, all_contramap}
 
 -- ---- one value
 
@@ -20,6 +22,12 @@ number_described name n = record { codec = unsigned n; describes = λ C h. descr
 
 abbrev pub signed_described : (name : List ℕ) (n : ℕ) → DescribedCodec ℤ name (primitive_definitions name n)
 signed_described name n = record { codec = signed n; describes = λ C h. describes_signed n h.0 }
+
+abbrev pub float32_described : DescribedCodec Float (codes "f32") (primitive_definitions (codes "f32") 4)
+float32_described = record { codec = float32; describes = λ C h. describes_float binary32 4 h.0 }
+
+abbrev pub float64_described : DescribedCodec Float (codes "f64") (primitive_definitions (codes "f64") 8)
+float64_described = record { codec = float64; describes = λ C h. describes_float binary64 8 h.0 }
 
 abbrev pub bool_described : DescribedCodec Bool (codes "bool") (primitive_definitions (codes "bool") 1)
 bool_described = record { codec = bool; describes = λ C h. describes_bool h.0 }

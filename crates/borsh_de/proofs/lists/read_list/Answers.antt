@@ -1,12 +1,11 @@
-use Rattle.std.proofs.Common.{sym}
 use Rattle.borsh_codec.specs.Shapes.{length_prefixed}
-use Rattle.borsh_codec.proofs.DecodeViews.{as_refused, as_allowed}
+use Rattle.borsh_codec.proofs.DecodeViews.{as_exit, as_refused, as_allowed}
 use Rattle.borsh_de.proofs.lists.read_list.Goals as goal
 
-pub returns-then-encodes_empty : goal.returns-then-encodes_empty
-returns-then-encodes_empty g c =
+pub returns-in_err-refuse_empty : goal.returns-in_err-refuse_empty
+returns-in_err-refuse_empty g c =
     let t = g.T.BorshType.codec in
-    as_refused t.is_zero_width (length_prefixed t) (sym c.if-encodes_empty.ensures) c.new.ensures.kind
+    as_exit _ c.from_residual.ensures.1 (as_refused t.is_zero_width (length_prefixed t) c.in_err-refuse_empty.ensures.0 c.in_err-refuse_empty.ensures.1)
 
 pub returns : goal.returns
-returns g c = as_allowed g.T.BorshType.codec.is_zero_width (sym c.if-encodes_empty.ensures) c.read_counted.ensures
+returns g c = as_allowed g.T.BorshType.codec.is_zero_width c.in_ok-refuse_empty.ensures c.read_counted.ensures

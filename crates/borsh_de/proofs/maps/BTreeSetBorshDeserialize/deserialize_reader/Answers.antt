@@ -13,7 +13,7 @@ returns-in_err-read g c =
 pub returns : goal.returns
 returns g c =
     let codec = g.K.BorshType.codec in
-    let made = c.in_ok-tree_set.field-0 in
-    let values = set_values g.met.K.Ord.total c.in_ok-read.read.items made.keys c.in_ok-tree_set.ensures.0 in
-    let up = subst (IsStrictlySortedBy g.K.Ord.cmp) (sym (keys-bare_entries made.keys)) c.in_ok-tree_set.ensures.1 in
+    let made = c.in_ok-collected.field-0 in
+    let values = set_values g.met.K.Ord.total c.in_ok-read.read.items made.keys (c.in_ok-collected.ensures tt).0 in
+    let up = subst (IsStrictlySortedBy g.K.Ord.cmp) (sym (keys-bare_entries made.keys)) (c.in_ok-collected.ensures tt).1 in
     decodes_as (made_ok (λ s. unit_entries s.keys) (λ h. h) c.in_ok-read.ensures (reads_ordered codec.is_zero_width (unit_entries made.keys) values up c.in_ok-read.ensures.ok))

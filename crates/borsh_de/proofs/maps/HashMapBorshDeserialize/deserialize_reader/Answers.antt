@@ -10,6 +10,6 @@ returns-in_err-read g c =
 pub returns : goal.returns
 returns g c =
     let codec = g.K.BorshType.codec in
-    let made = c.in_ok-hash_map.field-0 in
-    let values = last_values_from_eq g.K.PartialEq.eq g.K.Ord.cmp g.met.K.Ord.matches_eq c.in_ok-read.read.items made.entries c.in_ok-hash_map.ensures.0 in
+    let made = c.in_ok-collected.field-0 in
+    let values = last_values_from_eq g.K.PartialEq.eq g.K.Ord.cmp g.met.K.Ord.matches_eq c.in_ok-read.read.items made.entries (c.in_ok-collected.ensures tt).0 in
     decodes_as (made_ok (λ m. m.entries) (λ h. h) c.in_ok-read.ensures (reads_sorted codec.is_zero_width g.V.BorshType.codec.equivalent made.entries values c.in_ok-read.ensures.ok))

@@ -12,7 +12,7 @@ returns-in_err-read g c =
 pub returns : goal.returns
 returns g c =
     let codec = g.K.BorshType.codec in
-    let made = c.in_ok-hash_set.field-0 in
-    let members = members_from_eq g.K.PartialEq.eq g.K.Ord.cmp g.met.K.Ord.matches_eq c.in_ok-read.read.items made.keys c.in_ok-hash_set.ensures.0 in
+    let made = c.in_ok-collected.field-0 in
+    let members = members_from_eq g.K.PartialEq.eq g.K.Ord.cmp g.met.K.Ord.matches_eq c.in_ok-read.read.items made.keys (c.in_ok-collected.ensures tt).0 in
     let values = set_values g.met.K.Ord.total c.in_ok-read.read.items made.keys members in
     decodes_as (made_ok (λ s. unit_entries s.keys) (λ h. h) c.in_ok-read.ensures (reads_sorted codec.is_zero_width (λ v w. ⊤) (unit_entries made.keys) values c.in_ok-read.ensures.ok))

@@ -10,5 +10,5 @@ returns-in_err-read g c =
 pub returns : goal.returns
 returns g c =
     let codec = g.K.BorshType.codec in
-    let made = c.in_ok-index_map.field-0 in
-    decodes_as (made_ok (λ m. m.entries) (λ h. h) c.in_ok-read.ensures (reads_inserted codec.is_zero_width made.entries c.in_ok-index_map.ensures c.in_ok-read.ensures.ok))
+    let made = c.in_ok-collected.field-0 in
+    decodes_as (made_ok (λ m. m.entries) (λ h. h) c.in_ok-read.ensures (reads_inserted codec.is_zero_width made.entries (c.in_ok-collected.ensures tt).0 c.in_ok-read.ensures.ok))

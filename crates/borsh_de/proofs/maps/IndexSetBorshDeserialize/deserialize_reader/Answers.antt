@@ -11,7 +11,7 @@ returns-in_err-read g c =
 pub returns : goal.returns
 returns g c =
     let codec = g.K.BorshType.codec in
-    let made = c.in_ok-index_set.field-0 in
+    let made = c.in_ok-collected.field-0 in
     let read = reads_bare codec codec.is_zero_width _ c.in_ok-read.ensures.ok in
-    let gathers = gathered_bare g.K.PartialEq.eq c.in_ok-read.read.items made.keys c.in_ok-index_set.ensures in
+    let gathers = gathered_bare g.K.PartialEq.eq c.in_ok-read.read.items made.keys (c.in_ok-collected.ensures tt).0 in
     decodes_as (made_ok (λ s. unit_entries s.keys) (λ h. h) c.in_ok-read.ensures (reads_inserted codec.is_zero_width (unit_entries made.keys) gathers read))

@@ -1,14 +1,15 @@
-use Rattle.std.proofs.Common.{sym}
 use Rattle.borsh_codec.specs.Shapes.{length_prefixed}
-use Rattle.borsh_codec.proofs.WriteOutcomes.{writes_refused_if, writes_allowed_if}
+use Rattle.borsh_codec.proofs.WriteOutcomes.{writes_allowed_if}
+use Rattle.borsh_ser.proofs.Items.{writes_first, refused_exit}
 use Rattle.borsh_ser.proofs.linked.LinkedListBorshSerialize.serialize.Goals as goal
 
-pub returns-then-encodes_empty : goal.returns-then-encodes_empty
-returns-then-encodes_empty g c =
+pub returns-in_err-refuse_empty : goal.returns-in_err-refuse_empty
+returns-in_err-refuse_empty g c =
     let t = g.T.BorshType.codec in
-    writes_refused_if g.met.W.Write.lawful t.is_zero_width (length_prefixed t) c.args.self.now _ (sym c.if-encodes_empty.ensures) c.new.ensures.kind
+    refused_exit g.met.W.Write.lawful t.is_zero_width (length_prefixed t) c.args.self.now _ _ c.from_residual.ensures.1 c.in_err-refuse_empty.ensures
 
 pub returns : goal.returns
 returns g c =
     let t = g.T.BorshType.codec in
-    writes_allowed_if t.is_zero_width (length_prefixed t) c.args.self.now (sym c.if-encodes_empty.ensures) c.write_linked_counted.ensures
+    writes_allowed_if t.is_zero_width (length_prefixed t) c.args.self.now c.in_ok-refuse_empty.ensures
+    (writes_first (λ r. r.now) t _ c.args.self.now c.iter.ensures.rest c.len.ensures.value c.write_items.ensures)

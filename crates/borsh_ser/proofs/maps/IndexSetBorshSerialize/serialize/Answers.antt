@@ -1,14 +1,16 @@
-use Rattle.std.proofs.Common.{sym}
 use Rattle.borsh_codec.specs.Maps.{index_entries, key_only, unit_entries}
-use Rattle.borsh_codec.proofs.WriteOutcomes.{writes_refused_if, writes_allowed_if}
+use Rattle.borsh_codec.proofs.WriteOutcomes.{writes_is, writes_allowed_if}
+use Rattle.borsh_codec.proofs.WriteMaps.{index_set_written}
+use Rattle.borsh_ser.proofs.Items.{writes_first, refused_exit}
 use Rattle.borsh_ser.proofs.maps.IndexSetBorshSerialize.serialize.Goals as goal
 
-pub returns-then-encodes_empty : goal.returns-then-encodes_empty
-returns-then-encodes_empty g c =
+pub returns-in_err-refuse_empty : goal.returns-in_err-refuse_empty
+returns-in_err-refuse_empty g c =
     let k = g.K.BorshType.codec in
-    writes_refused_if g.met.W.Write.lawful k.is_zero_width (index_entries g.K.PartialEq.eq (key_only k)) (unit_entries c.args.self.now.keys) _ (sym c.if-encodes_empty.ensures) c.new.ensures.kind
+    refused_exit g.met.W.Write.lawful k.is_zero_width (index_entries g.K.PartialEq.eq (key_only k)) (unit_entries c.args.self.now.keys) _ _ c.from_residual.ensures.1 c.in_err-refuse_empty.ensures
 
 pub returns : goal.returns
 returns g c =
     let k = g.K.BorshType.codec in
-    writes_allowed_if k.is_zero_width (index_entries g.K.PartialEq.eq (key_only k)) (unit_entries c.args.self.now.keys) (sym c.if-encodes_empty.ensures) c.write_index_set.ensures
+    writes_allowed_if k.is_zero_width (index_entries g.K.PartialEq.eq (key_only k)) (unit_entries c.args.self.now.keys) c.in_ok-refuse_empty.ensures
+    (writes_is (index_set_written k g.K.PartialEq.eq c.args.self.now.keys c.len.ensures.unique) (writes_first (λ r. r.now) k _ c.args.self.now.keys c.iter.ensures.rest c.len.ensures.len c.write_items.ensures))
