@@ -3,7 +3,8 @@
 
 A fenced block with a path behind its language quotes that file: its lines stand there one after another, but for lines `..`, where
 others are left out. White space at the beginning of a line and the mark of a doc comment count for nothing. Other blocks are `text`,
-which is no code; `console`, on the pages whose commands the gate runs (.ci/pages.py, .ci/console.py); and the README's program.
+which is no code; `console`, on the pages whose commands the gate runs (.ci/pages.py, .ci/console.py); the README's program; and those of
+the bindings' pages, which the bindings' tests run.
 """
 import pathlib
 import re
@@ -43,13 +44,17 @@ RUN = {
     "docs/TUTORIAL.md": ("console",),
     "docs/TOOL.md": ("console",),
     "docs/CALLING.md": ("console",),
+    "bindings/c/README.md": ("c",),
+    "bindings/python/README.md": ("python",),
+    "bindings/js/README.md": ("js",),
+    "bindings/rust/README.md": ("rust",),
 }
 
 
 def pages():
     found = [TOP / name for name in (*WORDS, *BESIDE)] + list((TOP / "docs").glob("*.md"))
-    for folder in ("bindings", "suite", "."):
-        found += (TOP / folder).glob("*.md")
+    for pattern in ("bindings/*/*.md", "suite/*.md", "*.md"):
+        found += TOP.glob(pattern)
     return sorted({page for page in found if page.exists()})
 
 

@@ -285,6 +285,8 @@ fn main() {
     row(21, "(u32, u64, bool, u8), one value", (7u32, 8u64, true, 9u8));
     row(23, "IndexMap<u64, u64>", (0..many).map(|n| (n, n)).collect::<IndexMap<_, _>>());
     row(24, "Vec<Uuid>", (0..many).map(|n| Uuid::from_u128(u128::from(n))).collect::<Vec<_>>());
+    row(25, "Vec<f32>", (0..many).map(|n| n as f32 / 3.0).collect::<Vec<_>>());
+    row(26, "Vec<f64>", (0..many).map(|n| n as f64 / 3.0).collect::<Vec<_>>());
     refusals();
     lines();
 

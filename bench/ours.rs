@@ -104,6 +104,8 @@ pub extern "C" fn ours(
         22 => work::<BorshSchemaContainer>(alloc, action, bytes, rounds),
         23 => work::<IndexMap<u64, u64>>(alloc, action, bytes, rounds),
         24 => work::<Vec<Uuid>>(alloc, action, bytes, rounds),
+        25 => work::<Vec<f32>>(alloc, action, bytes, rounds),
+        26 => work::<Vec<f64>>(alloc, action, bytes, rounds),
         _ => 0,
     }
 }

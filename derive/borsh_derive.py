@@ -287,7 +287,7 @@ def refuse_fields(marked, place):
     for group in marked.groups():
         encoded = group.encoded()
         most = WRITTEN if marked.variants is None else WRITTEN - 1
-        most = TUPLE if marked.is_only_encoded() else most
+        most = TUPLE if marked.is_only_encoded() or marked.lifetimes() else most
         if len(encoded) > most:
             reason = 'more than %d fields: put some of them into a struct of their own, whose bytes are the same'
             raise Refusal(encoded[most].line, reason % most)

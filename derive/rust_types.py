@@ -51,7 +51,7 @@ class Constant:
 
 
 # what can't be the type of a field, by its first token
-BORROWS = 'the lifetime `%s` of an enum: a value that borrows is never decoded, so hold the values themselves'
+BORROWS = 'the lifetime `%s` of an enum is not taken: hold the values themselves'
 FUNCTION = 'a function pointer has no encoding: hold an enum of the functions that it may be, or write `// skip` above'
 NOT_DECODED = {
     '*': 'a raw pointer has no encoding: hold the value itself, or a `Box` or an `Rc` of it',
@@ -69,14 +69,13 @@ SHARED = 'hold the value itself, or an `Arc` of it'
 INSIDE = "the contents can change behind the proof's back: hold the value itself"
 NO_ENCODING = {
     'char': 'hold its number, as a `u32`, or a `String`',
-    'str': 'write `String`, or `BoxedStr` for `Box<str>`, `RcStr` for `Rc<str>` and `ArcStr` for `Arc<str>`',
+    'str': 'write `String`, or `BoxedStr` for `Box<str>`, `RcStr` for `Rc<str>`, `ArcStr` for `Arc<str>` and `CowStr` for `Cow<str>`',
     'Mutex': SHARED,
     'RwLock': SHARED,
     'Cell': INSIDE,
     'RefCell': INSIDE,
     'OnceCell': INSIDE,
     'Weak': 'hold an index of the value, or an `Rc` of it',
-    'Cow': 'write `CowStr` for `Cow<str>` and `CowSlice<..>` for `Cow<[..]>`, or hold the value itself',
     'BinaryHeap': 'write `Vec<..>`',
     'NonZeroIsize': 'write `NonZeroI64`',
     'Duration': 'hold its seconds and nanoseconds, as a `u64` and a `u32`',
@@ -148,7 +147,8 @@ def parse_array(reader):
     element = parse_type(reader)
     if not reader.skip(';'):
         reason = ('a slice without a length has no place in a field: write `Vec<..>` or `[..; N]`, or `BoxedSlice<..>` '
-                  'for `Box<[..]>`, `RcSlice<..>` for `Rc<[..]>` and `ArcSlice<..>` for `Arc<[..]>`')
+                  'for `Box<[..]>`, `RcSlice<..>` for `Rc<[..]>`, `ArcSlice<..>` for `Arc<[..]>` and `CowSlice<..>` for '
+                  '`Cow<[..]>`')
         raise Refusal(line, reason)
     length = reader.until(']')
     reader.take(']')
@@ -190,7 +190,10 @@ def parse_argument(reader):
 
 # types of the library whose values lie in memory of their own
 HELD = ('Box', 'Rc', 'Arc', 'Vec', 'VecDeque', 'LinkedList', 'BTreeMap', 'BTreeSet', 'HashMap', 'HashSet', 'IndexMap',
-        'IndexSet', 'BoxedSlice', 'RcSlice', 'ArcSlice', 'PhantomData')
+        'IndexSet', 'BoxedSlice', 'RcSlice', 'ArcSlice', 'CowSlice', 'PhantomData')
+
+# types that are decoded as owned, whatever lifetime they have
+COWS = ('Cow', 'CowStr', 'CowSlice')
 
 
 # types whose encodings are never empty, whatever their arguments are
@@ -247,7 +250,7 @@ def names_on_the_heap(tree):
 
 # types whose encodings may have any length
 GROWING = {'String', 'BoxedStr', 'RcStr', 'ArcStr', 'Vec', 'VecDeque', 'LinkedList', 'BTreeMap', 'BTreeSet', 'HashMap',
-           'HashSet', 'IndexMap', 'IndexSet', 'BoxedSlice', 'RcSlice', 'ArcSlice', 'Bytes', 'BytesMut'}
+           'HashSet', 'IndexMap', 'IndexSet', 'BoxedSlice', 'RcSlice', 'ArcSlice', 'CowStr', 'CowSlice', 'Bytes', 'BytesMut'}
 
 
 def grows(tree):
@@ -311,8 +314,33 @@ def without_encoding(tree):
 
 
 def borrows(tree):
-    """Whether a type has a reference, or a lifetime other than `'static`, but in a `PhantomData`."""
-    return any(name.startswith("'") for name in heads(tree, phantom=False))
+    """Whether a type has a reference, or a lifetime other than `'static`, but in a `PhantomData` or of a `Cow`."""
+    if isinstance(tree, Path):
+        name, arguments = tree.segments[-1]
+        if name in COWS:
+            return any(borrows(argument) for argument in arguments if not is_lifetime(argument))
+        return name != 'PhantomData' and any(borrows(argument) for argument in arguments)
+    if isinstance(tree, Tuple):
+        return any(borrows(item) for item in tree.items)
+    if isinstance(tree, Array):
+        return borrows(tree.element)
+    return isinstance(tree, Reference) or is_lifetime(tree)
+
+
+def holds_two_lifetimes(tree):
+    """Whether a type names a lifetime and holds another type that does, as `CowSlice<'a, CowStr<'a>>`."""
+    if isinstance(tree, Path):
+        arguments = tree.segments[-1][1]
+        inner = [argument for argument in arguments if not is_lifetime(argument)]
+        named = len(inner) < len(arguments) and any(name.startswith("'") for argument in inner for name in heads(argument))
+        return named or any(holds_two_lifetimes(argument) for argument in inner)
+    if isinstance(tree, Tuple):
+        return any(holds_two_lifetimes(item) for item in tree.items)
+    return isinstance(tree, Array) and holds_two_lifetimes(tree.element)
+
+
+def is_lifetime(tree):
+    return isinstance(tree, Constant) and tree.text.startswith("'") and tree.text != "'static"
 
 
 def heads(tree, phantom=True):
@@ -340,7 +368,7 @@ def heads(tree, phantom=True):
             visit(node.type)
         elif isinstance(node, Slice):
             visit(node.element)
-        elif isinstance(node, Constant) and node.text.startswith("'") and node.text != "'static":
+        elif is_lifetime(node):
             add(node.text)
 
     def add(name):

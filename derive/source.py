@@ -4,7 +4,7 @@ import re
 
 from marks import mark_above, mark_of, options_of, refuse_almost_marks, refuse_macros, refuse_stray_marks
 from refusal import Refusal
-from rust_types import BORROWS, borrows, heads, joined, parse_type
+from rust_types import BORROWS, borrows, heads, holds_two_lifetimes, joined, parse_type
 from tokens import tokens_of
 
 # what a key is compared by
@@ -85,8 +85,12 @@ class Marked:
         return [parameter for parameter in self.parameters if parameter.is_type and parameter.name in names]
 
     def is_only_encoded(self):
-        """Whether it has a reference, or a type with a lifetime: such a value is never decoded."""
+        """Whether it has a reference, or a type with a lifetime that is no `Cow`: such a value is never decoded."""
         return any(borrows(field.type) for group in self.groups() for field in group.encoded())
+
+    def lifetimes(self):
+        """Its parameters that are lifetimes."""
+        return [parameter.name for parameter in self.parameters if parameter.name.startswith("'")]
 
     def heads(self):
         """The names from elsewhere that its encoded fields and its bounds are made of."""
@@ -427,6 +431,7 @@ def instead_of(name, text, what):
 def check_options_of(marked):
     try:
         check_only_encoded(marked)
+        check_lifetimes(marked)
         check_key(marked)
         check_schema(marked)
     except Refusal as refusal:
@@ -441,6 +446,26 @@ def check_only_encoded(marked):
         raise Refusal(marked.line, 'an enum with references is not taken: hold the values themselves, or write a struct')
     if len(marked.options) > 1:
         reason = 'a struct with references is only encoded, so it has no schema and is no key: write `// derive: borsh`'
+        raise Refusal(marked.line, reason)
+
+
+def check_lifetimes(marked):
+    """A struct that is decoded and has a lifetime has no other parameter and no schema, and no `Cow` holds the lifetime twice."""
+    if marked.is_only_encoded() or not marked.lifetimes():
+        return
+    others = [parameter.name for parameter in marked.parameters if not parameter.constant][1:]
+    if others:
+        reason = ('a struct with the lifetime `%s` and the parameter `%s` is not decoded, since the borrow checker covers no type '
+                  'argument with two lifetimes: hold the values themselves, or write `&%s ..` for what is only encoded')
+        raise Refusal(marked.line, reason % (marked.parameters[0].name, others[0], marked.lifetimes()[0]))
+    for field in marked.fields.encoded():
+        if holds_two_lifetimes(field.type):
+            reason = ('a `Cow` of what borrows is not taken, since the borrow checker covers no type argument with two lifetimes: '
+                      'hold owned values within, or a `Vec` of it')
+            raise Refusal(field.line, reason)
+    if 'schema' in marked.options:
+        reason = ('a schema of a struct with a lifetime is not written, since its methods don\'t get the clauses of their trait: '
+                  'hold the values themselves, or implement `BorshSchema` by hand')
         raise Refusal(marked.line, reason)
 
 

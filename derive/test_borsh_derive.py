@@ -70,6 +70,12 @@ class Taken(Cases):
         self.assertIn("impl BorshType for Note {", self.written('// derive: borsh\npub struct Note(pub &\'static [u8]);\n', 'types_note'))
         self.assertIn('read_parts', self.written('// derive: borsh\npub struct Note(pub CowStr<\'static>);\n', 'types_note'))
         self.assertIn('read_parts', self.written('// derive: borsh\npub struct Note<\'a>(pub u8, pub PhantomData<&\'a u8>);\n', 'types_note'))
+        for field in ('CowStr<\'a>', 'Cow<\'a, u16>', 'Vec<CowStr<\'a>>', 'Option<CowSlice<\'a, u8>>, pub CowStr<\'a>'):
+            text = self.written('// derive: borsh\npub struct Note<\'a>(pub f64, pub %s);\n' % field, 'types_note')
+            for row in ("type Parts = Fields<'a>;", "fn deserialize_reader<R: Read>(alloc: Global, reader: &mut R) -> Result<Note<'a>> {", 'read_parts'):
+                self.assertIn(row, text)
+        self.assertNotIn('fn put', self.written('// derive: borsh\npub struct Note<\'a>(pub f64, pub CowStr<\'a>);\n', 'types_note'))
+        self.assertIn('fn put', self.written('// derive: borsh\npub struct Note<\'a>(pub f64, pub Cow<\'a, u8>);\n', 'types_note'))
         self.refused('// derive: borsh\npub struct A<\'a>(%s);\n' % ', '.join(['pub &\'a str'] * 13), 2, 'more than 12 fields')
         self.refused('// derive: borsh, schema\npub struct A<\'a>(pub &\'a str);\n', 2, 'only encoded, so it has no schema and is no key')
 

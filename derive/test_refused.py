@@ -110,6 +110,18 @@ class Refused(Cases):
         self.assertEqual(status, 1)
         self.assertIn('src/types_a.rt:1: no type is marked for this file any more', said)
 
+    def test_lifetimes_of_values_that_are_decoded(self):
+        for parameters in ('T', "'b"):
+            self.one("pub struct A<'a, %s>(pub CowStr<'a>, pub Cow<'a, %s>);\n" % (parameters, 'T' if parameters == 'T' else 'u8'), 2,
+                     "`A`: a struct with the lifetime `'a` and the parameter `%s` is not decoded" % parameters)
+        for field in ("CowSlice<'a, CowStr<'a>>", "Option<Cow<'a, Vec<CowStr<'a>>>>"):
+            self.one("pub struct A<'a> {\n    pub a: u8,\n    pub b: %s,\n}\n" % field, 4, '`A`: a `Cow` of what borrows is not taken')
+        self.refused("// derive: borsh, schema\npub struct A<'a>(pub CowStr<'a>);\n", 2, '`A`: a schema of a struct with a lifetime is not written')
+        self.one("pub struct A<'a>(%s);\n" % ', '.join(["pub CowStr<'a>"] * 13), 2, 'more than 12 fields')
+        self.one("pub enum A<'a> {\n    B(CowStr<'a>),\n}\n", 2, "the lifetime `'a` of an enum is not taken")
+        self.one("pub struct A<'a>(pub Cow<'a, str>);\n", 2, '`CowStr` for `Cow<str>`')
+        self.one("pub struct A<'a>(pub Cow<'a, [u8]>);\n", 2, '`CowSlice<..>` for `Cow<[..]>`')
+
     def test_fields(self):
         self.one('pub enum A<\'a> {\n    B(&\'a str),\n}\n', 2, 'the lifetime `\'a` of an enum')
         self.one('pub enum A {\n    B(&\'static str),\n}\n', 2, 'an enum with references is not taken')

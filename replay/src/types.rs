@@ -17,6 +17,7 @@ use std::num::{
 };
 use std::ops::{Range, RangeFrom, RangeFull, RangeInclusive, RangeTo, RangeToInclusive};
 use std::rc::Rc;
+use std::sync::Arc;
 use uuid::Uuid;
 
 /// The bounds of a length, here a type of its own.
@@ -125,7 +126,7 @@ pub static WORDS: [Word; 42] = words! {
 };
 
 /// Further types of the rows.
-static TYPES: [Type; 74] = types! {
+static TYPES: [Type; 88] = types! {
     described u16,
     described usize,
     described i8,
@@ -186,6 +187,12 @@ static TYPES: [Type; 74] = types! {
     described ([u8; 1], [i8; 1], [u32; 1], [u64; 1], [u128; 1], [[u8; 32]; 1], [(); 1]),
     described ([u8; 3], [i8; 3], [u32; 3], [u64; 3], [u128; 3], [[u8; 32]; 3], [(); 3]),
     described ([u8; 65], [i8; 65], [u32; 65], [u64; 65], [u128; 65], [[u8; 32]; 65], [(); 65]),
+    described ([u8; 2], [i8; 2], [u32; 2], [u64; 2], [u128; 2], [[u8; 32]; 2], [(); 2]),
+    described ([u8; 4], [i8; 4], [u32; 4], [u64; 4], [u128; 4], [[u8; 32]; 4], [(); 4]),
+    described ([u8; 8], [i8; 8], [u32; 8], [u64; 8], [u128; 8], [[u8; 32]; 8], [(); 8]),
+    described ([u8; 16], [i8; 16], [u32; 16], [u64; 16], [u128; 16], [[u8; 32]; 16], [(); 16]),
+    described ([u8; 32], [i8; 32], [u32; 32], [u64; 32], [u128; 32], [[u8; 32]; 32], [(); 32]),
+    described ([u8; 64], [i8; 64], [u32; 64], [u64; 64], [u128; 64], [[u8; 32]; 64], [(); 64]),
     described ([u8; 2], [bool; 2]),
     described ([u8; 8], [u16; 3], [Option<u8>; 3], [[u8; 2]; 2], [u128; 2], [String; 2]),
     described [String; 3],
@@ -197,6 +204,14 @@ static TYPES: [Type; 74] = types! {
     described Fields,
     described Definition,
     described (BorshSchemaContainer, u8),
+    described f32,
+    described f64,
+    described Vec<f32>,
+    described (i32, String, f64),
+    described ([f32; 0], [f32; 1], [f32; 2], [f32; 3], [f32; 4], [f32; 8], [f32; 16], [f32; 32], [f32; 64], [f32; 65]),
+    described Arc<str>,
+    described (Arc<u8>, Arc<[i32]>),
+    described (BTreeSet<Arc<str>>, HashMap<Cow<u16>, f32>),
     described Vec<[u64; 100]>,
     described ([[[u64; 9]; 10]; 32], (u64, (u8, bool), String), NonZeroU16, Box<Rc<Vec<u8>>>, Rc<i32>, PhantomData<Vec<u8>>),
     described (Vec<Vec<()>>, Vec<Range<()>>, Vec<RangeFull>, [(); 300]),

@@ -1,5 +1,5 @@
 -- Outcomes of reads that follow one another, over the whole answer of a call.
-use Rattle.std.proofs.Common.{◌≡◌, ◌∙◌, ℕ, [], ◌∷◌, arith, Bool, true, false, length, List, Some, Result, Ok, Err, IfErr, inl, true≢false, refl, sym, ap, subst}
+use Rattle.std.proofs.Common.{◌≡◌, ◌∙◌, ℕ, [], ◌∷◌, arith, Bool, true, false, length, List, Option, Some, Result, Ok, Err, IfErr, inl, true≢false, refl, sym, ap, subst}
 use Rattle.std.specs.Result.{IsErrAnd, IfOk}
 use Rattle.std.proofs.lemmas.Result.{err_from_is_err_and, IfOk-weaker, IfErr-weaker}
 use Rattle.borsh_io.specs.declared.error.Error.{Error}
@@ -13,7 +13,7 @@ use Rattle.borsh_codec.specs.Untouched.{Untouched}
 use Rattle.borsh_codec.specs.Reading.{TakesPrefix, NoPrefix, Decoded, NotDecoded, DecodedAll, NotDecodedAll, ReadFails, WhyNotDecoded, Decodes, DecodesAfterTag, DecodesReader, DecodesAll, IsReEncodable, any_byte}
 use Rattle.borsh_codec.proofs.ReadParts.{reads_contramap, denied_contramap, denied_value, denied_pair_first, denied_pair_second, denied_no_tag, reads_exact, denied_exact, reads_pair, reads_stored, denied_stored, reads_allowed, denied_allowed, denied_refused, reads_tag, denied_tag}
 use Rattle.borsh_codec.proofs.ReadSteps.{took_weaker, refused_map, denied_memory}
-use Rattle.borsh_codec.proofs.ReadWhole.{whole_refused, denied_all, whole_of_all, not_whole_of_all}
+use Rattle.borsh_codec.proofs.ReadWhole.{whole_refused, whole_of_all, not_whole_of_all}
 
 -- the outcome at the exit of a `?`
 pub decodes_exit : {A R : Type 0} {c : Codec A} {state : R → ReaderState} {a b : R} (e : Error) {r : Result A Error} → IsErrAnd r (λ y. y ≡ e) → Decodes c state a b (Err e) → Decodes c state a b r
@@ -98,14 +98,14 @@ byte_not_decoded r = denied_exact (λ b. Some (b ∷ [])) 1 false byte_long r
 pub byte_took : {s t : ReaderState} {b : ℕ} → Decoded ℕ any_byte s t b → TakesPrefix (λ x. x ≡ b ∷ []) s t
 byte_took {b = b} r = took_weaker (λ x e. (let f : b ∷ [] ≡ x = cc in sym f)) r.took
 
-no_byte : (s : ReaderState) → NoPrefix (IsDecodable any_byte s.strict_order) s → NoPrefix (λ x. length x ≡ 1) s
-no_byte s none [] rest e l = absurd (omega (arith, l))
-no_byte s none (b ∷ []) rest e l = none (b ∷ []) rest e (b, refl)
-no_byte s none (b ∷ c ∷ xs) rest e l = absurd (omega (arith, l))
+no_byte : (m : Bool) (o : Option (List ℕ)) → NoPrefix (IsDecodable any_byte m) o → NoPrefix (λ x. length x ≡ 1) o
+no_byte m o none [] rest e l = absurd (omega (arith, l))
+no_byte m o none (b ∷ []) rest e l = none (b ∷ []) rest e (b, refl)
+no_byte m o none (b ∷ c ∷ xs) rest e l = absurd (omega (arith, l))
 
 -- there is no tag, and so no value of a type that isn't empty
 pub decodes_no_byte : {A R : Type 0} {c : Codec A} {state : R → ReaderState} {a b : R} → Lawful A c → c.is_zero_width ≡ false → c.refuses ≡ false → (e : Error) {r : Result A Error} → IsErrAnd r (λ y. y ≡ e) → Decodes any_byte state a b (Err e) → Decodes c state a b r
-decodes_no_byte {state = state} {a = a} l full n e is f = decodes_exit e is (decodes_err n (denied_no_tag l full (refused_map (λ h. h) (λ h. h) (no_byte (state a)) f.err.refused)))
+decodes_no_byte {state = state} {a = a} l full n e is f = decodes_exit e is (decodes_err n (denied_no_tag l full (refused_map (λ h. h) (λ h. h) (no_byte (state a).strict_order) f.err.refused)))
 
 -- ---- a value after a tag
 
@@ -116,21 +116,6 @@ decodes_tagged {r = r} l full n t q = record {
   err = IfErr-weaker r _ _ (λ e p. denied_tag l full (byte_took t.ok) p) q.err;
   untouched = λ h. absurd (true≢false (sym h ∙ n));
 }
-
--- ---- all that a reader has
-
--- no value was decoded
-pub decodes_reader_exit : {A R : Type 0} {c : Codec A} {state : R → ReaderState} {a b : R} (e : Error) {r : Result A Error} → IsErrAnd r (λ y. y ≡ e) → Decodes c state a b (Err e) → DecodesReader c state a b r
-decodes_reader_exit {c = c} {state = state} {a = a} {b = b} e {r = r} is f =
-    let p = err_from_is_err_and r is in
-    subst (DecodesReader c state a b) (sym (p.1 ∙ ap (λ y. Err y) p.2)) (record { ok = tt; err = denied_all f.err; untouched = f.untouched })
-
--- a value was decoded, and what follows it is no end
-pub decodes_reader_err : {A R : Type 0} {c : Codec A} {state : R → ReaderState} {a b d : R} {v : A} {e : Error} → Decodes c state a b (Ok v) → NotDecodedAll A c (state a) (state d) (error_kind e) → DecodesReader c state a d (Err e)
-decodes_reader_err d f = record { ok = tt; err = f; untouched = λ h. absurd (never_ok d h) }
-
-pub decodes_reader_ok : {A R : Type 0} {c : Codec A} {state : R → ReaderState} {a b d : R} {v : A} → Decodes c state a b (Ok v) → DecodedAll A c (state a) (state d) v → DecodesReader c state a d (Ok v)
-decodes_reader_ok d f = record { ok = f; err = tt; untouched = λ h. absurd (never_ok d h) }
 
 -- ---- all of the bytes
 
@@ -165,10 +150,26 @@ module _ {A : Type 0} {c : Codec A} (l : Lawful A c) where
   pub decodes_all_ok : {R : Type 0} {state : R → ReaderState} {a b : R} {v : A} {strict : Bool} {xs : List ℕ} → Decodes c state a b (Ok v) → c.decodes strict xs v → DecodesAll c strict xs (Ok v)
   decodes_all_ok {v = v} {strict = strict} {xs = xs} d f = decodes_all strict xs (Ok v) f tt (λ h. absurd (never_ok d h))
 
-  -- all that a reader had, whose bytes are known and which doesn't fail
-  pub decodes_all_of : {R : Type 0} {state : R → ReaderState} {a b : R} (xs : List ℕ) (r : Result A Error) → (state a).bytes ≡ Some xs → (state a).faults ≡ 0 → (state b).faults ≡ 0 → DecodesReader c state a b r → DecodesAll c (state a).strict_order xs r
-  decodes_all_of {state = state} {a = a} xs r told sound still d =
-      decodes_all (state a).strict_order xs r
-      (IfOk-weaker r _ _ (λ v p. whole_of_all xs told sound still p) d.ok)
-      (IfErr-weaker r _ _ (λ e p. not_whole_of_all xs told sound still p) d.err)
-      (λ h. (d.untouched h).kind)
+  -- ---- all that a reader has
+
+  decodes_reader : {R : Type 0} {state : R → ReaderState} {a b : R} (r : Result A Error) → IfOk r (λ v. DecodedAll A c (state a) (state b) v) → IfErr r (λ e. NotDecodedAll A c (state a) (state b) (error_kind e)) → (c.refuses ≡ true → Untouched a b r) → DecodesReader c state a b r
+  decodes_reader {state = state} {a = a} {b = b} r p q u = record {
+    ok = p;
+    err = q;
+    whole = λ xs told calm. decodes_all (state a).strict_order xs r
+        (IfOk-weaker r _ _ (λ v h. whole_of_all xs told calm h) p) (IfErr-weaker r _ _ (λ e h. not_whole_of_all xs told calm h) q) (λ h. (u h).kind);
+    untouched = u;
+  }
+
+  -- no value was decoded
+  pub decodes_reader_exit : {R : Type 0} {state : R → ReaderState} {a b : R} (e : Error) {r : Result A Error} → IsErrAnd r (λ y. y ≡ e) → Decodes c state a b (Err e) → DecodesReader c state a b r
+  decodes_reader_exit {state = state} {a = a} {b = b} e {r = r} is f =
+      let p = err_from_is_err_and r is in
+      subst (DecodesReader c state a b) (sym (p.1 ∙ ap (λ y. Err y) p.2)) (decodes_reader (Err e) tt (inl f.err) f.untouched)
+
+  -- a value was decoded, and what follows it is no end
+  pub decodes_reader_err : {R : Type 0} {state : R → ReaderState} {a b d : R} {v : A} {e : Error} → Decodes c state a b (Ok v) → NotDecodedAll A c (state a) (state d) (error_kind e) → DecodesReader c state a d (Err e)
+  decodes_reader_err {e = e} d f = decodes_reader (Err e) tt f (λ h. absurd (never_ok d h))
+
+  pub decodes_reader_ok : {R : Type 0} {state : R → ReaderState} {a b d : R} {v : A} → Decodes c state a b (Ok v) → DecodedAll A c (state a) (state d) v → DecodesReader c state a d (Ok v)
+  decodes_reader_ok {v = v} d f = decodes_reader (Ok v) f tt (λ h. absurd (never_ok d h))

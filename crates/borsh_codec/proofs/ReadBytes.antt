@@ -1,5 +1,5 @@
 -- Bytes that are read at once, as numbers of one byte.
-use Rattle.std.proofs.Common.{◌≡◌, ℕ, suc, ◌+◌, ◌<◌, ◌≤◌, Bool, false, List, [], ◌∷◌, ◌++◌, length, get_or, take, drop, Some, refl, sym, ◌∙◌, ap, subst, append_assoc, length-append, arith, true≢false, inl, inr}
+use Rattle.std.proofs.Common.{◌≡◌, ℕ, suc, ◌+◌, ◌<◌, ◌≤◌, Bool, false, List, [], ◌∷◌, ◌++◌, length, get_or, take, drop, Option, Some, refl, sym, ◌∙◌, ap, subst, append_assoc, length-append, arith, true≢false, inl, inr}
 use Rattle.std.proofs.lemmas.List.{take-append-drop, length-take-le}
 use Rattle.borsh_io.specs.declared.error.ErrorKind.{ErrorKind}
 use Rattle.borsh_io.specs.Stream.{ReaderState}
@@ -28,8 +28,8 @@ reads_bytes {n = n} {s = s} {bytes = bytes} e fit p = record {
 }
 
 -- fewer bytes than k are no row of more bytes
-no_more : (k : ℕ) (s : ReaderState) → NoPrefix (λ x. length x ≡ k) s → NoPrefix (λ x. k ≤ length x) s
-no_more k s none front rest e h =
+no_more : (k : ℕ) (o : Option (List ℕ)) → NoPrefix (λ x. length x ≡ k) o → NoPrefix (λ x. k ≤ length x) o
+no_more k o none front rest e h =
     none (take k front) (drop k front ++ rest) (e ∙ ap Some (ap (λ z. z ++ rest) (sym (take-append-drop k front)) ∙ append_assoc (take k front) (drop k front) rest)) (length-take-le k front h)
 
 row_past : (m : Bool) (n k : ℕ) (start : List ℕ) → length start + k ≤ n → (f r front rest : List ℕ) → f ≡ start → IsDecodable (allocated_array n (unsigned 1)) m front → f ++ r ≡ front ++ rest → Past (λ x. k ≤ length x) r rest
@@ -44,7 +44,7 @@ row_past m n k start h f r front rest p w e =
 -- of n bytes some were taken, and the next k are refused
 pub denied_bytes : {n k : ℕ} {s t u : ReaderState} {start : List ℕ} {kind : ErrorKind} → length start + k ≤ n → TakesPrefix (λ x. x ≡ start) s t → ReadFails false false (λ x. length x ≡ k) t u kind → NotDecoded (List ℕ) (allocated_array n (unsigned 1)) s u kind
 denied_bytes {n = n} {k = k} {s = s} {t = t} {start = start} h p r = record {
-  refused = refused_after (λ e. absurd (true≢false (sym e))) (λ e. e) p (row_past s.strict_order n k start h) (refused_map (λ e. e) (λ e. e) (no_more k t) r);
+  refused = refused_after (λ e. absurd (true≢false (sym e))) (λ e. e) p (row_past s.strict_order n k start h) (refused_map (λ e. e) (λ e. e) (no_more k) r);
 }
 
 -- ---- a row of bytes that is read where it lies
@@ -53,4 +53,4 @@ pub reads_byte_row : {n : ℕ} {s t : ReaderState} {bytes : List ℕ} → length
 reads_byte_row e fit p = record { took = (reads_bytes e fit p).took }
 
 pub denied_byte_row : {n : ℕ} {s t : ReaderState} {kind : ErrorKind} → ReadFails false false (λ x. length x ≡ n) s t kind → NotDecoded (List ℕ) (array n (unsigned 1)) s t kind
-denied_byte_row {s = s} r = record { refused = refused_map (λ e. e) (λ e. e) (λ none front rest e w. none front rest e (length-in_order s.strict_order front w.0 w.1.parts ∙ w.1.long)) r }
+denied_byte_row {s = s} r = record { refused = refused_map (λ e. e) (λ e. e) (λ o none front rest e w. none front rest e (length-in_order s.strict_order front w.0 w.1.parts ∙ w.1.long)) r }

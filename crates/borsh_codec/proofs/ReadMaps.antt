@@ -31,7 +31,7 @@ reads_as d {s = s} w f r = record { took = took_weaker (f s.strict_order) r.took
 
 -- what one meaning doesn't read, another one doesn't either
 pub denied_as : {A B : Type 0} {c : Codec A} (d : Codec B) {s t : ReaderState} {k : ErrorKind} → (c.decoding_allocates ≡ true → d.decoding_allocates ≡ true) → (c.texts_allocate ≡ true → d.texts_allocate ≡ true) → ((m : Bool) (x : List ℕ) → IsDecodable d m x → IsDecodable c m x) → NotDecoded A c s t k → NotDecoded B d s t k
-denied_as d {s = s} g i f r = record { refused = refused_map g i (λ none front rest e h. none front rest e (f s.strict_order front h)) r.refused }
+denied_as d {s = s} g i f r = record { refused = refused_map g i (λ o none front rest e h. none front rest e (f s.strict_order front h)) r.refused }
 
 module _ {K V : Type 0} {cmp : K → K → Ordering} {item : Codec (K × V)} (refused : Bool) where
   -- ---- the order
@@ -48,7 +48,7 @@ module _ {K V : Type 0} {cmp : K → K → Ordering} {item : Codec (K × V)} (re
       → NotDecoded (List (K × V)) (refused_if refused (entries cmp item)) s t k
   denied_order {S = S} {s = s} {t = t} {es = es} laws keyed is told p = record { refused = refused_here is p.took none }
     where
-      none : NoPrefix (IsDecodable (refused_if refused (entries cmp item)) s.strict_order) s
+      none : NoPrefix (IsDecodable (refused_if refused (entries cmp item)) s.strict_order) s.bytes
       none front rest e h =
           let o = told_after s.bytes t.bytes (front ++ rest) p.took.front e p.took.takes.bytes in
           let z = (counted_fronts laws s.strict_order p.took.front o.0 front rest es h.0 p.took.holds.decodes h.1.decodes.bytes (sym o.2)).1 in

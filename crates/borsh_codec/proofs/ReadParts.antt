@@ -20,12 +20,12 @@ pub reads_of : {A B : Type 0} (view : B → A) {c : Codec A} {s t : ReaderState}
 reads_of view r = record { took = r.took }
 
 pub denied_contramap : {A B : Type 0} (view : B → A) {c : Codec A} {s t : ReaderState} {k : ErrorKind} → NotDecoded A c s t k → NotDecoded B (contramap view c) s t k
-denied_contramap view r = record { refused = refused_map (λ e. e) (λ e. e) (λ none front rest e p. none front rest e (view p.0, p.1)) r.refused }
+denied_contramap view r = record { refused = refused_map (λ e. e) (λ e. e) (λ o none front rest e p. none front rest e (view p.0, p.1)) r.refused }
 
 -- where each value is the view of one, what refuses the one refuses the other
 pub denied_of : {A B : Type 0} (view : B → A) (make : A → B) {c : Codec A} {s t : ReaderState} {k : ErrorKind} → ((a : A) → view (make a) ≡ a) → NotDecoded B (contramap view c) s t k → NotDecoded A c s t k
 denied_of view make {c = c} {s = s} back r = record {
-  refused = refused_map (λ e. e) (λ e. e) (λ none front rest e p. none front rest e (make p.0, subst (λ a. c.decodes s.strict_order front a) (sym (back p.0)) p.1)) r.refused;
+  refused = refused_map (λ e. e) (λ e. e) (λ o none front rest e p. none front rest e (make p.0, subst (λ a. c.decodes s.strict_order front a) (sym (back p.0)) p.1)) r.refused;
 }
 
 -- a value was read that is the view of none
@@ -44,7 +44,7 @@ reads_exact f b e p = record { took = took_weaker (λ x h. e ∙ ap Some (sym h)
 
 -- encodings have a length, and there are fewer bytes
 pub denied_exact : {A : Type 0} (f : A → Option (List ℕ)) (n : ℕ) (b : Bool) {s t : ReaderState} {k : ErrorKind} → ((a : A) (x : List ℕ) → f a ≡ Some x → length x ≡ n) → ReadFails false false (λ x. length x ≡ n) s t k → NotDecoded A (by_encoding f b) s t k
-denied_exact f n b sized r = record { refused = refused_map (λ e. e) (λ e. e) (λ none front rest e p. none front rest e (sized p.0 front p.1)) r }
+denied_exact f n b sized r = record { refused = refused_map (λ e. e) (λ e. e) (λ o none front rest e p. none front rest e (sized p.0 front p.1)) r }
 
 pub reads_unit : (s : ReaderState) → Decoded ⊤ unit s s tt
 reads_unit s = record { took = took_nothing s refl }
@@ -55,7 +55,7 @@ pub reads_allowed : {A : Type 0} (refused : Bool) {c : Codec A} {s t : ReaderSta
 reads_allowed refused e r = record { took = took_weaker (λ x p. record { allowed = e; decodes = p }) r.took }
 
 pub denied_allowed : {A : Type 0} (refused : Bool) {c : Codec A} {s t : ReaderState} {k : ErrorKind} → NotDecoded A c s t k → NotDecoded A (refused_if refused c) s t k
-denied_allowed refused r = record { refused = refused_map (λ e. e) (λ e. e) (λ none front rest e p. none front rest e (p.0, p.1.decodes)) r.refused }
+denied_allowed refused r = record { refused = refused_map (λ e. e) (λ e. e) (λ o none front rest e p. none front rest e (p.0, p.1.decodes)) r.refused }
 
 -- all values are refused, and nothing was read
 pub denied_refused : {A : Type 0} (refused : Bool) (c : Codec A) (s : ReaderState) {k : ErrorKind} → refused ≡ true → IsInvalidData c.texts_allocate k → NotDecoded A (refused_if refused c) s s k
@@ -67,7 +67,7 @@ pub reads_passed : {A : Type 0} (texts : Bool) (test : A → Bool) {c : Codec A}
 reads_passed texts test e r = record { took = took_weaker (λ x p. record { passed = e; decodes = p }) r.took }
 
 pub denied_passed : {A : Type 0} (texts : Bool) (test : A → Bool) {c : Codec A} {s t : ReaderState} {k : ErrorKind} → NotDecoded A c s t k → NotDecoded A (filtered texts test c) s t k
-denied_passed texts test {c = c} r = record { refused = refused_map (λ e. e) (or_right texts c.texts_allocate) (λ none front rest e p. none front rest e (p.0, p.1.decodes)) r.refused }
+denied_passed texts test {c = c} r = record { refused = refused_map (λ e. e) (or_right texts c.texts_allocate) (λ o none front rest e p. none front rest e (p.0, p.1.decodes)) r.refused }
 
 -- a value was read that doesn't pass
 pub denied_failed : {A : Type 0} (texts : Bool) (test : A → Bool) {c : Codec A} {s t : ReaderState} {v : A} {k : ErrorKind} → Respects test c → Lawful A c → Decoded A c s t v → IsInvalidData (texts || c.texts_allocate) k → (test v ≡ true → ⊥) → NotDecoded A (filtered texts test c) s t k
@@ -85,7 +85,7 @@ pub reads_stored : {A : Type 0} {c : Codec A} {s t : ReaderState} {v : A} → De
 reads_stored r = record { took = r.took }
 
 pub denied_stored : {A : Type 0} {c : Codec A} {s t : ReaderState} {k : ErrorKind} → NotDecoded A c s t k → NotDecoded A (allocated c) s t k
-denied_stored r = record { refused = refused_map (λ e. refl) (λ e. e) (λ none. none) r.refused }
+denied_stored r = record { refused = refused_map (λ e. refl) (λ e. e) (λ o none. none) r.refused }
 
 -- ---- two parts in order
 
@@ -95,7 +95,7 @@ reads_pair {s = s} p q = record { took = took_then p.took (reads_at s p.took.tak
 pub denied_pair_first : {A B : Type 0} {a : Codec A} (b : Codec B) {s t : ReaderState} {k : ErrorKind} → NotDecoded A a s t k → NotDecoded (A × B) (pair a b) s t k
 denied_pair_first {a = a} b r = record {
   refused = refused_map (or_left a.decoding_allocates b.decoding_allocates) (or_left a.texts_allocate b.texts_allocate)
-      (λ none front rest e p. none p.1.first (p.1.second ++ rest) (e ∙ ap Some (ap (λ z. z ++ rest) p.1.whole ∙ append_assoc p.1.first p.1.second rest)) (p.0.0, p.1.left))
+      (λ o none front rest e p. none p.1.first (p.1.second ++ rest) (e ∙ ap Some (ap (λ z. z ++ rest) p.1.whole ∙ append_assoc p.1.first p.1.second rest)) (p.0.0, p.1.left))
       r.refused;
 }
 
@@ -133,19 +133,19 @@ denied_tag {c = c} {j = j} {s = s} {t = t} {u = u} {k = k} l full p r =
     let r' = subst (λ m. ReadFails c.decoding_allocates c.texts_allocate (λ x. IsDecodable c m (j ∷ x)) t u k) p.takes.strict_order r.refused in
     record { refused = refused_after (λ e. e) (λ e. e) p (tag_past l full s.strict_order j) r' }
 
-no_tag : {A : Type 0} {c : Codec A} → Lawful A c → c.is_zero_width ≡ false → (s : ReaderState) → NoPrefix (λ x. length x ≡ 1) s → NoPrefix (IsDecodable c s.strict_order) s
-no_tag l full s none [] rest e w = l.non_empty s.strict_order w.0 full w.1
-no_tag l full s none (b ∷ front) rest e w = none (b ∷ []) (front ++ rest) e refl
+no_tag : {A : Type 0} {c : Codec A} → Lawful A c → c.is_zero_width ≡ false → (m : Bool) (o : Option (List ℕ)) → NoPrefix (λ x. length x ≡ 1) o → NoPrefix (IsDecodable c m) o
+no_tag l full m o none [] rest e w = l.non_empty m w.0 full w.1
+no_tag l full m o none (b ∷ front) rest e w = none (b ∷ []) (front ++ rest) e refl
 
 -- there is no tag
 pub denied_no_tag : {A : Type 0} {c : Codec A} {s t : ReaderState} {k : ErrorKind} → Lawful A c → c.is_zero_width ≡ false → ReadFails false false (λ x. length x ≡ 1) s t k → NotDecoded A c s t k
-denied_no_tag {s = s} l full r = record { refused = refused_map (λ e. absurd (true≢false (sym e))) (λ e. absurd (true≢false (sym e))) (no_tag l full s) r }
+denied_no_tag {s = s} l full r = record { refused = refused_map (λ e. absurd (true≢false (sym e))) (λ e. absurd (true≢false (sym e))) (no_tag l full s.strict_order) r }
 
 pub behind_contramap : {A B : Type 0} (view : B → A) {c : Codec A} {j : ℕ} {s t : ReaderState} {v : B} → DecodedAfterTag j A c s t (view v) → DecodedAfterTag j B (contramap view c) s t v
 behind_contramap view r = record { took = r.took }
 
 pub denied_behind_contramap : {A B : Type 0} (view : B → A) {c : Codec A} {j : ℕ} {s t : ReaderState} {k : ErrorKind} → NotDecodedAfterTag j A c s t k → NotDecodedAfterTag j B (contramap view c) s t k
-denied_behind_contramap view r = record { refused = refused_map (λ e. e) (λ e. e) (λ none front rest e p. none front rest e (view p.0, p.1)) r.refused }
+denied_behind_contramap view r = record { refused = refused_map (λ e. e) (λ e. e) (λ o none front rest e p. none front rest e (view p.0, p.1)) r.refused }
 
 -- the tag is that of the first variant
 pub reads_here : {A B : Type 0} (j : ℕ) {a : Codec A} (b : Codec B) {s t : ReaderState} {v : A} → Decoded A a s t v → DecodedAfterTag j (A ⊎ B) (variant j a b) s t (inl v)
@@ -161,7 +161,7 @@ here j a b avoids m x (inr w) p = absurd (avoids m x w p)
 
 pub denied_here : {A B : Type 0} (j : ℕ) {a : Codec A} (b : Codec B) {s t : ReaderState} {k : ErrorKind} → Avoids j b → NotDecoded A a s t k → NotDecodedAfterTag j (A ⊎ B) (variant j a b) s t k
 denied_here j {a = a} b {s = s} avoids r = record {
-  refused = refused_map (or_left a.decoding_allocates b.decoding_allocates) (λ e. refl) (λ none front rest e p. none front rest e (here j a b avoids s.strict_order front p.0 p.1)) r.refused;
+  refused = refused_map (or_left a.decoding_allocates b.decoding_allocates) (λ e. refl) (λ o none front rest e p. none front rest e (here j a b avoids s.strict_order front p.0 p.1)) r.refused;
 }
 
 there : {A B : Type 0} (j k : ℕ) (a : Codec A) (b : Codec B) → (j ≡ k → ⊥) → (m : Bool) (x : List ℕ) (v : A ⊎ B) → (variant k a b).decodes m (j ∷ x) v → IsDecodable b m (j ∷ x)
@@ -170,7 +170,7 @@ there j k a b apart m x (inr w) p = (w, p)
 
 pub denied_there : {A B : Type 0} (j k : ℕ) (a : Codec A) {b : Codec B} {s t : ReaderState} {kind : ErrorKind} → (j ≡ k → ⊥) → NotDecodedAfterTag j B b s t kind → NotDecodedAfterTag j (A ⊎ B) (variant k a b) s t kind
 denied_there j k a {b = b} {s = s} apart r = record {
-  refused = refused_map (or_right a.decoding_allocates b.decoding_allocates) (λ e. refl) (λ none front rest e p. none front rest e (there j k a b apart s.strict_order front p.0 p.1)) r.refused;
+  refused = refused_map (or_right a.decoding_allocates b.decoding_allocates) (λ e. refl) (λ o none front rest e p. none front rest e (there j k a b apart s.strict_order front p.0 p.1)) r.refused;
 }
 
 -- the tag is that of no variant

@@ -1,5 +1,5 @@
 -- Elements that are read one after another, and behind a count.
-use Rattle.std.proofs.Common.{◌≡◌, ℕ, ◌<◌, Bool, true, List, [], ◌∷◌, ◌++◌, length, Some, refl, sym, ◌∙◌, ap, subst, append-nil, append_assoc, arith, true≢false}
+use Rattle.std.proofs.Common.{◌≡◌, ℕ, ◌<◌, Bool, true, List, [], ◌∷◌, ◌++◌, length, Option, Some, refl, sym, ◌∙◌, ap, subst, append-nil, append_assoc, arith, true≢false}
 use Rattle.borsh_io.specs.declared.error.ErrorKind.{ErrorKind}
 use Rattle.borsh_io.specs.Stream.{ReaderState}
 use Rattle.borsh_codec.specs.Codec.{Codec, IsDecodable, Lawful}
@@ -57,8 +57,8 @@ pub record Begins (A : Type 0) (c : Codec A) (m : Bool) (x : List ℕ) : Type 0 
   pub whole : x ≡ front ++ rest
   pub decodes : IsDecodable c m front
 
-no_begin : {A : Type 0} {c : Codec A} (s : ReaderState) → NoPrefix (IsDecodable c s.strict_order) s → NoPrefix (Begins A c s.strict_order) s
-no_begin s none front rest e b = none b.front (b.rest ++ rest) (e ∙ ap Some (ap (λ z. z ++ rest) b.whole ∙ append_assoc b.front b.rest rest)) b.decodes
+no_begin : {A : Type 0} {c : Codec A} (m : Bool) (o : Option (List ℕ)) → NoPrefix (IsDecodable c m) o → NoPrefix (Begins A c m) o
+no_begin m o none front rest e b = none b.front (b.rest ++ rest) (e ∙ ap Some (ap (λ z. z ++ rest) b.whole ∙ append_assoc b.front b.rest rest)) b.decodes
 
 row_past : {A : Type 0} {c : Codec A} → Lawful A c → (m : Bool) (n : ℕ) (xs : List A) → length xs < n → (f r front rest : List ℕ) → DecodesEach (c.decodes m) f xs → IsDecodable (array n c) m front → f ++ r ≡ front ++ rest → Past (Begins A c m) r rest
 row_past l m n xs h f r front rest p w e =
@@ -66,7 +66,7 @@ row_past l m n xs h f r front rest p w e =
     record { more = g.0 ++ g.1; whole = g.2 ∙ sym (append_assoc g.0 g.1 rest); holds = record { front = g.0; rest = g.1; whole = refl; decodes = g.3 } }
 
 next : {A : Type 0} {c : Codec A} (s t u : ReaderState) {k : ErrorKind} → t.strict_order ≡ s.strict_order → NotDecoded A c t u k → ReadFails c.decoding_allocates c.texts_allocate (Begins A c s.strict_order) t u k
-next {A = A} {c = c} s t u {k = k} e r = subst (λ m. ReadFails c.decoding_allocates c.texts_allocate (Begins A c m) t u k) e (refused_map (λ m. m) (λ m. m) (no_begin t) r.refused)
+next {A = A} {c = c} s t u {k = k} e r = subst (λ m. ReadFails c.decoding_allocates c.texts_allocate (Begins A c m) t u k) e (refused_map (λ m. m) (λ m. m) (no_begin t.strict_order) r.refused)
 
 -- fewer elements than n were read, and the next is refused
 pub denied_row : {A : Type 0} {c : Codec A} {n : ℕ} {s t u : ReaderState} {xs : List A} {k : ErrorKind} → Lawful A c → RowSoFar A c s t xs → length xs < n → NotDecoded A c t u k → NotDecoded (List A) (array n c) s u k
@@ -77,7 +77,7 @@ denied_listed {n = n} {s = s} {t = t} {u = u} {xs = xs} l p h r = record { refus
 
 -- what a row is read as, is read into memory too
 pub denied_row_listed : {A : Type 0} {c : Codec A} {n : ℕ} {s t : ReaderState} {k : ErrorKind} → NotDecoded (List A) (array n c) s t k → NotDecoded (List A) (allocated_array n c) s t k
-denied_row_listed r = record { refused = refused_map (λ e. refl) (λ e. e) (λ none. none) r.refused }
+denied_row_listed r = record { refused = refused_map (λ e. refl) (λ e. e) (λ o none. none) r.refused }
 
 -- ---- a count and that many elements
 
@@ -89,7 +89,7 @@ reads_counted {c = c} {n = n} {s = s} {t = t} {u = u} {xs = xs} p q =
 
 pub denied_count : {A : Type 0} (c : Codec A) {s t : ReaderState} {k : ErrorKind} → NotDecoded ℕ (unsigned 4) s t k → NotDecoded (List A) (length_prefixed c) s t k
 denied_count c r = record {
-  refused = refused_map (λ e. refl) (λ e. absurd (true≢false (sym e))) (λ none front rest e w. (let i = w.1 in none i.first (i.second ++ rest) (e ∙ ap Some (ap (λ z. z ++ rest) i.whole ∙ append_assoc i.first i.second rest)) (length w.0, i.left))) r.refused;
+  refused = refused_map (λ e. refl) (λ e. absurd (true≢false (sym e))) (λ o none front rest e w. (let i = w.1 in none i.first (i.second ++ rest) (e ∙ ap Some (ap (λ z. z ++ rest) i.whole ∙ append_assoc i.first i.second rest)) (length w.0, i.left))) r.refused;
 }
 
 counted_past : {A : Type 0} {c : Codec A} → (m : Bool) (n : ℕ) (f r front rest : List ℕ) → unsigned_encoding 4 n ≡ Some f → IsDecodable (length_prefixed c) m front → f ++ r ≡ front ++ rest → Past (IsDecodable (allocated_array n c) m) r rest

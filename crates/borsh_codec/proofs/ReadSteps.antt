@@ -1,17 +1,18 @@
 -- Reads that follow one another, and refusals behind them.
-use Rattle.std.proofs.Common.{◌≡◌, ◌≢◌, ℕ, ◌+◌, ◌<◌, ◌≤◌, Bool, true, false, List, [], ◌∷◌, ◌++◌, length, Option, Some, None, IfSome, ◌⊎◌, refl, sym, ◌∙◌, ap, subst, inl, inr, append-nil, append_assoc, arith, le_refl}
+use Rattle.std.proofs.Common.{◌≡◌, ◌≢◌, ℕ, ◌+◌, ◌<◌, ◌≤◌, Bool, true, false, List, [], ◌∷◌, ◌++◌, length, Option, Some, None, IfSome, ◌⊎◌, refl, sym, ◌∙◌, ap, subst, inl, inr, append-nil, append_assoc, arith, le_refl, length-append}
 use Rattle.std.specs.Bool.{⊤}
 use Rattle.std.specs.Io.KnownBytes.{Consumes}
 use Rattle.std.proofs.KnownBytes.{Consumes-trans}
+use Rattle.std.proofs.lemmas.List.{append_cancel_right}
 use Rattle.borsh_io.specs.declared.error.ErrorKind.{ErrorKind}
 use Rattle.borsh_io.specs.declared.error.ErrorKind.TheVariants.{InvalidData, OutOfMemory, Interrupted, UnexpectedEof}
-use Rattle.borsh_io.specs.Stream.{ReaderState, ConsumedSome, ReadExactFailure}
+use Rattle.borsh_io.specs.Stream.{ReaderState, ConsumedSome, TookFewerThan, ReadExactFailure}
 use Rattle.borsh_io.proofs.ReadLaws.{Takes-none, Takes-trans}
 use Rattle.borsh_io.proofs.WriteLaws.{Rose-after}
 use Rattle.borsh_codec.specs.Codec.{Codec, IsDecodable}
 use Rattle.borsh_codec.specs.Shapes.{SplitsInto}
 use Rattle.borsh_codec.proofs.Laws.Lists.{some_same}
-use Rattle.borsh_codec.specs.Reading.{TakesPrefix, NoPrefix, IsInvalidData, ReadFailure, ReadFails, Decoded, NotDecoded}
+use Rattle.borsh_codec.specs.Reading.{TakesPrefix, NoPrefix, NoneTaken, IsInvalidData, ReadFailure, ReadFails, Decoded, NotDecoded}
 use Rattle.borsh_codec.specs.Reading.ReadFailure.{malformed, no_memory, reader_failed}
 
 -- ---- what was taken
@@ -57,12 +58,12 @@ invalid_map : {k : ErrorKind} {c d : Bool} → (c ≡ true → d ≡ true) → I
 invalid_map h (inl r) = inl r
 invalid_map h (inr r) = inr (r.0, h r.1)
 
-pub why_map : {k : ErrorKind} {a b c d : Bool} {P Q : List ℕ → Type 0} {s t : ReaderState} → (a ≡ true → b ≡ true) → (c ≡ true → d ≡ true) → (NoPrefix P s → NoPrefix Q s) → ReadFailure a c P s t k → ReadFailure b d Q s t k
-why_map f h g (malformed r e n) = malformed (invalid_map h r) e (g n)
+pub why_map : {k : ErrorKind} {a b c d : Bool} {P Q : List ℕ → Type 0} {s t : ReaderState} → (a ≡ true → b ≡ true) → (c ≡ true → d ≡ true) → ((o : Option (List ℕ)) → NoPrefix P o → NoPrefix Q o) → ReadFailure a c P s t k → ReadFailure b d Q s t k
+why_map {s = s} f h g (malformed r e n) = malformed (invalid_map h r) e (g s.bytes n)
 why_map f h g (no_memory r e m) = no_memory r e (f m)
-why_map f h g (reader_failed r) = reader_failed r
+why_map f h g (reader_failed r n) = reader_failed r (λ taken left e w. g (Some taken) (n taken left e w))
 
-pub refused_map : {k : ErrorKind} {a b c d : Bool} {P Q : List ℕ → Type 0} {s t : ReaderState} → (a ≡ true → b ≡ true) → (c ≡ true → d ≡ true) → (NoPrefix P s → NoPrefix Q s) → ReadFails a c P s t k → ReadFails b d Q s t k
+pub refused_map : {k : ErrorKind} {a b c d : Bool} {P Q : List ℕ → Type 0} {s t : ReaderState} → (a ≡ true → b ≡ true) → (c ≡ true → d ≡ true) → ((o : Option (List ℕ)) → NoPrefix P o → NoPrefix Q o) → ReadFails a c P s t k → ReadFails b d Q s t k
 refused_map f h g r = record { tail = r.tail; retried = r.retried; why = why_map f h g r.why }
 
 -- of the list r a front with Q is what makes the rest
@@ -75,33 +76,48 @@ pub record Past (Q : List ℕ → Type 0) (r rest : List ℕ) : Type 0 where
 abbrev pub GoesOn : (P Q W : List ℕ → Type 0) → Type 0
 GoesOn P Q W = (f r front rest : List ℕ) → P f → W front → f ++ r ≡ front ++ rest → Past Q r rest
 
-pub no_front_after : {P Q W : List ℕ → Type 0} {s t : ReaderState} → TakesPrefix P s t → GoesOn P Q W → NoPrefix Q t → NoPrefix W s
+pub no_front_after : {P Q W : List ℕ → Type 0} {s t : ReaderState} → TakesPrefix P s t → GoesOn P Q W → NoPrefix Q t.bytes → NoPrefix W s.bytes
 no_front_after {s = s} {t = t} p past none front rest e w =
     let l = told_after s.bytes t.bytes (front ++ rest) p.front e p.takes.bytes in
     let a = past p.front l.0 front rest p.holds w (sym l.2) in
     none a.more rest (l.1 ∙ ap Some a.whole) a.holds
 
-why_after : {k : ErrorKind} {a b c d : Bool} {P Q W : List ℕ → Type 0} {s t u : ReaderState} → (a ≡ true → b ≡ true) → (c ≡ true → d ≡ true) → TakesPrefix P s t → GoesOn P Q W → ReadFailure a c Q t u k → ReadFailure b d W s u k
-why_after m h p past (malformed r e n) = malformed (invalid_map h r) (e ∙ p.takes.faults) (no_front_after p past n)
-why_after m h p past (no_memory r e x) = no_memory r (e ∙ p.takes.faults) (m x)
-why_after m h p past (reader_failed r) = reader_failed (Rose-after p.takes.faults r)
+-- where nothing that was taken later has Q, nothing that was taken altogether has W
+none_taken_after : {P Q W : List ℕ → Type 0} {s t u : ReaderState} → TakesPrefix P s t → ConsumedSome t u → GoesOn P Q W → NoneTaken Q t u → NoneTaken W s u
+none_taken_after {s = s} {t = t} {u = u} p r past none taken left e f front rest g w =
+    let l = told_after s.bytes t.bytes (taken ++ left) p.front e p.takes.bytes in
+    let m = told_after t.bytes u.bytes l.0 r.front l.1 r.bytes in
+    let same : m.0 ≡ left = some_same m.0 left (sym m.1 ∙ f) in
+    let later : l.0 ≡ r.front ++ left = m.2 ∙ ap (λ z. r.front ++ z) same in
+    let all : taken ≡ p.front ++ r.front = append_cancel_right taken (p.front ++ r.front) left (l.2 ∙ ap (λ z. p.front ++ z) later ∙ sym (append_assoc p.front r.front left)) in
+    let a = past p.front r.front front rest p.holds w (sym all ∙ some_same taken (front ++ rest) g) in
+    none r.front left (l.1 ∙ ap Some later) f a.more rest (ap Some a.whole) a.holds
+
+why_after : {k : ErrorKind} {a b c d : Bool} {P Q W : List ℕ → Type 0} {s t u : ReaderState} → (a ≡ true → b ≡ true) → (c ≡ true → d ≡ true) → TakesPrefix P s t → ConsumedSome t u → GoesOn P Q W → ReadFailure a c Q t u k → ReadFailure b d W s u k
+why_after m h p tail past (malformed r e n) = malformed (invalid_map h r) (e ∙ p.takes.faults) (no_front_after p past n)
+why_after m h p tail past (no_memory r e x) = no_memory r (e ∙ p.takes.faults) (m x)
+why_after m h p tail past (reader_failed r n) = reader_failed (Rose-after p.takes.faults r) (none_taken_after p tail past n)
 
 -- a refusal behind what was taken
 pub refused_after : {k : ErrorKind} {a b c d : Bool} {P Q W : List ℕ → Type 0} {s t u : ReaderState} → (a ≡ true → b ≡ true) → (c ≡ true → d ≡ true) → TakesPrefix P s t → GoesOn P Q W → ReadFails a c Q t u k → ReadFails b d W s u k
-refused_after m h p past r = record { tail = tail_after p r.tail; retried = r.retried; why = why_after m h p past r.why }
+refused_after m h p past r = record { tail = tail_after p r.tail; retried = r.retried; why = why_after m h p r.tail past r.why }
 
 -- what was taken shows that the bytes are wrong
-pub refused_here : {k : ErrorKind} {a b : Bool} {P W : List ℕ → Type 0} {s t : ReaderState} → IsInvalidData b k → TakesPrefix P s t → NoPrefix W s → ReadFails a b W s t k
+pub refused_here : {k : ErrorKind} {a b : Bool} {P W : List ℕ → Type 0} {s t : ReaderState} → IsInvalidData b k → TakesPrefix P s t → NoPrefix W s.bytes → ReadFails a b W s t k
 refused_here {k = k} r p none = record { tail = tail_of p; retried = λ e. elim r [ inl f ↦ cc (e, f) | inr f ↦ cc (e, f.0) ]; why = malformed r p.takes.faults none }
 
 -- an allocation failed
 pub refused_memory : {k : ErrorKind} {a b : Bool} {P W : List ℕ → Type 0} {s t : ReaderState} → k ≡ OutOfMemory → TakesPrefix P s t → a ≡ true → ReadFails a b W s t k
 refused_memory {k = k} r p m = record { tail = tail_of p; retried = λ e. cc (e, r); why = no_memory r p.takes.faults m }
 
+-- fewer than n bytes have no prefix of n
+too_few : (n : ℕ) (s t : ReaderState) → TookFewerThan s t n → NoneTaken (λ x. length x ≡ n) s t
+too_few n s t fewer taken left e f front rest g w = omega (arith, fewer taken left e f, w, ap length (some_same taken (front ++ rest) g), length-append front rest)
+
 -- a buffer of n bytes could not be filled
 pub refused_short : {k : ErrorKind} {s t : ReaderState} (n : ℕ) → ConsumedSome s t → k ≢ Interrupted → ReadExactFailure s t n k → k ≢ UnexpectedEof → ReadFails false false (λ x. length x ≡ n) s t k
 refused_short n tail retried (inl c) other = absurd (other c.0)
-refused_short n tail retried (inr c) other = record { tail = tail; retried = retried; why = reader_failed c }
+refused_short {s = s} {t = t} n tail retried (inr c) other = record { tail = tail; retried = retried; why = reader_failed c.0 (too_few n s t c.1) }
 
 short-front : (s : ReaderState) (n : ℕ) (o : Option (List ℕ)) → IfSome o (λ xs. length xs < n) → (front rest : List ℕ) → o ≡ Some (front ++ rest) → length front ≡ n → ⊥
 short-front s n None h front rest e w = cc
@@ -110,7 +126,7 @@ short-front s n (Some xs) h front rest e w = let f : xs ≡ front ++ rest = cc i
 -- the input ended, or the reader says so
 pub refused_end : {k : ErrorKind} {s t : ReaderState} (n : ℕ) → ConsumedSome s t → ReadExactFailure s t n UnexpectedEof → k ≡ InvalidData → ReadFails false false (λ x. length x ≡ n) s t k
 refused_end {k = k} {s = s} n tail (inl c) is = record { tail = tail; retried = λ e. cc (e, is); why = malformed (inl is) c.2 (short-front s n s.bytes c.1) }
-refused_end {k = k} n tail (inr c) is = record { tail = tail; retried = λ e. cc (e, is); why = reader_failed c }
+refused_end {k = k} {s = s} {t = t} n tail (inr c) is = record { tail = tail; retried = λ e. cc (e, is); why = reader_failed c.0 (too_few n s t c.1) }
 
 -- ---- values
 

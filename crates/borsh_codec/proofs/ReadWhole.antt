@@ -12,7 +12,7 @@ use Rattle.borsh_codec.proofs.Laws.Lists.{nil_of_length, nil_parts}
 use Rattle.borsh_codec.specs.Reading.{NoPrefix, ReadFailure, Decoded, NotDecoded, WhyNotDecoded, DecodedAll, IsWhole, NotDecodedAll}
 use Rattle.borsh_codec.specs.Reading.ReadFailure.{malformed, no_memory, reader_failed}
 use Rattle.borsh_codec.specs.Reading.WhyNotDecoded.{malformed as not_reading, no_memory as not_memory}
-use Rattle.borsh_codec.proofs.ReadSteps.{told_after, tail_after, refused_map}
+use Rattle.borsh_codec.proofs.ReadSteps.{told_after}
 
 -- ---- a slice
 
@@ -27,13 +27,13 @@ pub not_whole : {A : Type 0} {c : Codec A} {xs : List ℕ} (ys : List ℕ) {v : 
 not_whole {c = c} ys {v = v} l more r w =
     more (l.prefix_free true r.took.front ys v w.0 r.took.holds (subst (λ z. c.decodes true z w.0) r.took.takes.bytes w.1))
 
-no_fault : CountedUp 0 0 → ⊥
+pub no_fault : CountedUp 0 0 → ⊥
 no_fault r = let one : 0 ≡ 0 + 1 = r.0 (omega arith) in omega arith
 
 not_whole_why : {A : Type 0} {c : Codec A} {xs ys : List ℕ} {k : ErrorKind} → ReadFailure c.decoding_allocates c.texts_allocate (IsDecodable c true) (slice_state xs) (slice_state ys) k → WhyNotDecoded c true xs k
 not_whole_why {xs = xs} (malformed r e none) = not_reading r (λ w. none xs [] (ap Some (sym (append-nil xs))) w)
 not_whole_why (no_memory r e m) = not_memory r m
-not_whole_why (reader_failed r) = absurd (no_fault r)
+not_whole_why (reader_failed r n) = absurd (no_fault r)
 
 pub whole_denied : {A : Type 0} {c : Codec A} (xs ys : List ℕ) {k : ErrorKind} → NotDecoded A c (slice_state xs) (slice_state ys) k → WhyNotDecoded c true xs k
 whole_denied xs ys r = not_whole_why r.refused.why
@@ -46,21 +46,18 @@ more_when b ys e f n = let z : length ys ≡ 0 = ap length n in true≢false (sy
 
 -- ---- a reader
 
--- what a value is denied by, all of the bytes are denied by
-pub denied_all : {A : Type 0} {c : Codec A} {s t : ReaderState} {k : ErrorKind} → NotDecoded A c s t k → NotDecodedAll A c s t k
-denied_all r = record { refused = refused_map (λ e. e) (λ e. e) (λ none front rest e w. none front rest e w.decodes) r.refused }
-
 -- a byte is left behind the value
 pub denied_more : {A : Type 0} {c : Codec A} {s t u : ReaderState} {v : A} {b : List ℕ} {k : ErrorKind} → Lawful A c → Decoded A c s t v → Consumed t u b → length b ≡ 1 → k ≡ InvalidData → NotDecodedAll A c s u k
-denied_more {A = A} {c = c} {s = s} {t = t} {u = u} {v = v} {b = b} l p q one is = record {
-  refused = record {
-    tail = tail_after p.took (record { front = b; bytes = q.bytes; interruptions = q.interruptions; reads_left = q.reads_left; strict_order = q.strict_order });
-    retried = λ e. cc (e, is);
-    why = malformed (inl is) (q.faults ∙ p.took.takes.faults) none;
-  };
-}
+denied_more {A = A} {c = c} {s = s} {t = t} {u = u} {v = v} {b = b} l p q one is = inr (record {
+  value = v;
+  mid = t;
+  decoded = p;
+  tail = record { front = b; bytes = q.bytes; interruptions = q.interruptions; reads_left = q.reads_left; strict_order = q.strict_order };
+  invalid = is;
+  why = inl (q.faults ∙ p.took.takes.faults, none);
+})
   where
-    none : NoPrefix (IsWhole A c s) s
+    none : NoPrefix (IsWhole A c s) s.bytes
     none front rest e w =
         let f : s.bytes ≡ Some front = w.all in
         let o = told_after s.bytes t.bytes front p.took.front f p.took.takes.bytes in
@@ -70,9 +67,7 @@ denied_more {A = A} {c = c} {s = s} {t = t} {u = u} {v = v} {b = b} l p q one is
 
 -- the reader failed behind the value
 pub denied_failed : {A : Type 0} {c : Codec A} {s t u : ReaderState} {v : A} {k : ErrorKind} → Decoded A c s t v → ConsumedSome t u → CountedUp t.faults u.faults → k ≡ InvalidData → NotDecodedAll A c s u k
-denied_failed p tail r is = record {
-  refused = record { tail = tail_after p.took tail; retried = λ e. cc (e, is); why = reader_failed (Rose-after p.took.takes.faults r) };
-}
+denied_failed {t = t} {v = v} p tail r is = inr (record { value = v; mid = t; decoded = p; tail = tail; invalid = is; why = inr (Rose-after p.took.takes.faults r) })
 
 -- the reader ends behind the value, or failed
 module _ {A : Type 0} {c : Codec A} {s t u : ReaderState} {v : A} (p : Decoded A c s t v) (tail : ConsumedSome t u) where
@@ -116,25 +111,26 @@ module _ {A : Type 0} {c : Codec A} {s t u : ReaderState} {v : A} (p : Decoded A
     whole = whole s.bytes refl x.1;
     ended = at_end s.bytes refl x.1;
   })
-  reads_all (inr r) = inr (record { mid = t; decoded = p; tail = tail; failed = Rose-after p.took.takes.faults r })
+  reads_all (inr r) = inr (record { mid = t; decoded = p; tail = tail; failed = Rose-after p.took.takes.faults r.0 })
 
--- ---- a reader whose bytes are known and that never fails
+-- ---- a reader whose bytes are known, and of which no fault was counted
 
-never : (m n : ℕ) → m ≡ 0 → n ≡ 0 → CountedUp m n → ⊥
-never m n e f r = no_fault (subst (λ k. CountedUp 0 k) f (subst (λ k. CountedUp k n) e r))
-
-module _ {A : Type 0} {c : Codec A} {s t : ReaderState} (xs : List ℕ) (told : s.bytes ≡ Some xs) (sound : s.faults ≡ 0) (still : t.faults ≡ 0) where
+module _ {A : Type 0} {c : Codec A} {s t : ReaderState} (xs : List ℕ) (told : s.bytes ≡ Some xs) (calm : CountedUp s.faults t.faults → ⊥) where
   pub whole_of_all : {v : A} → DecodedAll A c s t v → c.decodes s.strict_order xs v
   whole_of_all {v = v} (inl r) = subst (λ o. IfSome o (λ ys. c.decodes s.strict_order ys v)) told r.whole
-  whole_of_all (inr r) = absurd (never s.faults t.faults sound still r.failed)
+  whole_of_all (inr r) = absurd (calm r.failed)
 
-  why : {k : ErrorKind} → ReadFailure c.decoding_allocates c.texts_allocate (IsWhole A c s) s t k → WhyNotDecoded c s.strict_order xs k
-  why (malformed r e none) = not_reading r (λ w. none xs [] (told ∙ ap Some (sym (append-nil xs))) (record { decodes = w; all = told }))
+  why : {k : ErrorKind} → ReadFailure c.decoding_allocates c.texts_allocate (IsDecodable c s.strict_order) s t k → WhyNotDecoded c s.strict_order xs k
+  why (malformed r e none) = not_reading r (none xs [] (told ∙ ap Some (sym (append-nil xs))))
   why (no_memory r e m) = not_memory r m
-  why (reader_failed r) = absurd (never s.faults t.faults sound still r)
+  why (reader_failed r n) = absurd (calm r)
 
   pub not_whole_of_all : {k : ErrorKind} → NotDecodedAll A c s t k → WhyNotDecoded c s.strict_order xs k
-  not_whole_of_all r = why r.refused.why
+  not_whole_of_all (inl r) = why r.refused.why
+  not_whole_of_all (inr r) = elim r.why [
+    | inl h ↦ not_reading (inl r.invalid) (λ w. h.1 xs [] (told ∙ ap Some (sym (append-nil xs))) (record { decodes = w; all = told }))
+    | inr f ↦ absurd (calm f)
+  ]
 
 -- ---- what a call over all of the bytes must return
 

@@ -17,9 +17,13 @@ pub record TakesPrefix (P : List ℕ → Type 0) (old new : ReaderState) : Type 
   pub takes : Consumed old new front
   pub holds : P front
 
--- no prefix of the bytes to come has P, if the reader knows these bytes
-abbrev pub NoPrefix : (List ℕ → Type 0) → ReaderState → Type 0
-NoPrefix P s = (front rest : List ℕ) → s.bytes ≡ Some (front ++ rest) → P front → ⊥
+-- no prefix of the bytes has P, if they are known
+abbrev pub NoPrefix : (List ℕ → Type 0) → Option (List ℕ) → Type 0
+NoPrefix P bytes = (front rest : List ℕ) → bytes ≡ Some (front ++ rest) → P front → ⊥
+
+-- no prefix of what was taken has P, if the reader knows its bytes
+abbrev pub NoneTaken : (List ℕ → Type 0) → ReaderState → ReaderState → Type 0
+NoneTaken P old new = (taken left : List ℕ) → old.bytes ≡ Some (taken ++ left) → new.bytes ≡ Some left → NoPrefix P (Some taken)
 
 -- the kind is `InvalidData`, or `OutOfMemory` where the text of the error has to be allocated
 abbrev pub IsInvalidData : (text : Bool) → ErrorKind → Type 0
@@ -28,11 +32,11 @@ IsInvalidData text kind = (kind ≡ InvalidData) ⊎ ((kind ≡ OutOfMemory) × 
 -- why a call that needs a prefix with P failed with an error of this kind
 pub data ReadFailure (memory text : Bool) (P : List ℕ → Type 0) (old new : ReaderState) (kind : ErrorKind) : Type 0 where
   -- the bytes to come are wrong
-  malformed : IsInvalidData text kind → new.faults ≡ old.faults → NoPrefix P old → ReadFailure memory text P old new kind
+  malformed : IsInvalidData text kind → new.faults ≡ old.faults → NoPrefix P old.bytes → ReadFailure memory text P old new kind
   -- an allocation for the value failed
   no_memory : kind ≡ OutOfMemory → new.faults ≡ old.faults → memory ≡ true → ReadFailure memory text P old new kind
-  -- the reader failed
-  reader_failed : CountedUp old.faults new.faults → ReadFailure memory text P old new kind
+  -- the reader failed, and what it had given until then has no such prefix
+  reader_failed : CountedUp old.faults new.faults → NoneTaken P old new → ReadFailure memory text P old new kind
 
 -- a call that needs a prefix with P failed: a tail of the bytes to come is left
 pub record ReadFails (memory text : Bool) (P : List ℕ → Type 0) (old new : ReaderState) (kind : ErrorKind) : Type 0 where
@@ -85,9 +89,18 @@ pub record IsWhole (A : Type 0) (c : Codec A) (s : ReaderState) (x : List ℕ) :
   pub decodes : IsDecodable c s.strict_order x
   pub all : s.bytes ≡ Some x
 
--- all of the bytes to come were to be decoded as a value, and were not
-pub record NotDecodedAll (A : Type 0) (c : Codec A) (old new : ReaderState) (kind : ErrorKind) : Type 0 where
-  pub refused : ReadFails c.decoding_allocates c.texts_allocate (IsWhole A c old) old new kind
+-- a value was decoded, and then either bytes were left or the reader failed
+pub record DecodedInPart (A : Type 0) (c : Codec A) (old new : ReaderState) (kind : ErrorKind) : Type 0 where
+  pub value : A
+  pub mid : ReaderState
+  pub decoded : Decoded A c old mid value
+  pub tail : ConsumedSome mid new
+  pub invalid : kind ≡ InvalidData
+  pub why : ((new.faults ≡ old.faults) × NoPrefix (IsWhole A c old) old.bytes) ⊎ CountedUp old.faults new.faults
+
+-- all of the bytes to come were to be decoded as a value, and were not: none was decoded, or the bytes behind it were not seen to end
+abbrev pub NotDecodedAll : (A : Type 0) → Codec A → ReaderState → ReaderState → ErrorKind → Type 0
+NotDecodedAll A c old new kind = NotDecoded A c old new kind ⊎ DecodedInPart A c old new kind
 
 -- ---- the outcome of a call
 
@@ -125,15 +138,6 @@ pub record DecodesAtOnce {A R : Type 0} (n : ℕ) (c : Codec A) (state : R → R
   pub ok : IfOk result (λ o. MatchOption o (new ≡ old) (λ v. Decoded (List A) (allocated_array n c) (state old) (state new) v.items))
   pub err : IfErr result (λ e. NotDecoded (List A) (allocated_array n c) (state old) (state new) (error_kind e))
 
--- the outcome of a call that is to decode all that a reader has
-pub record DecodesReader {A R : Type 0} (c : Codec A) (state : R → ReaderState) (old new : R) (result : Result A Error) : Type 0 where
-  -- `Ok`: the bytes to come decoded to the value, and none is left; or the reader failed after the value
-  pub ok : IfOk result (λ v. DecodedAll A c (state old) (state new) v)
-  -- `Err`: a tail of the bytes to come is left, and the kind of the error says why there is no value
-  pub err : IfErr result (λ e. NotDecodedAll A c (state old) (state new) (error_kind e))
-  -- a type that refuses all values does so before anything is read
-  pub untouched : c.refuses ≡ true → Untouched old new result
-
 -- the value has an encoding, and all that decodes from it in strict mode is this value
 pub record IsReEncodable {A : Type 0} (c : Codec A) (v : A) : Type 0 where
   pub bytes : List ℕ
@@ -155,6 +159,17 @@ pub record DecodesAll {A : Type 0} (c : Codec A) (strict : Bool) (bytes : List �
   pub re_encodable : IfOk result (IsReEncodable c)
   -- a type that refuses all values returns `InvalidData`
   pub refused : c.refuses ≡ true → IsErrAnd result (λ e. error_kind e ≡ InvalidData)
+
+-- the outcome of a call that is to decode all that a reader has
+pub record DecodesReader {A R : Type 0} (c : Codec A) (state : R → ReaderState) (old new : R) (result : Result A Error) : Type 0 where
+  -- `Ok`: the bytes to come decoded to the value, and none is left; or the reader failed after the value
+  pub ok : IfOk result (λ v. DecodedAll A c (state old) (state new) v)
+  -- `Err`: a tail of the bytes to come is left, and the kind of the error says why there is no value
+  pub err : IfErr result (λ e. NotDecodedAll A c (state old) (state new) (error_kind e))
+  -- where the reader knows its bytes and counts no fault, the result is that of decoding all of these bytes
+  pub whole : (bytes : List ℕ) → (state old).bytes ≡ Some bytes → (CountedUp (state old).faults (state new).faults → ⊥) → DecodesAll c (state old).strict_order bytes result
+  -- a type that refuses all values does so before anything is read
+  pub untouched : c.refuses ≡ true → Untouched old new result
 
 -- one byte, whichever it is
 abbrev pub any_byte : Codec ℕ

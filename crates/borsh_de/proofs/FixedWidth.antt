@@ -1,5 +1,5 @@
 -- Types of which every so many bytes are an encoding.
-use Rattle.std.proofs.Common.{◌≡◌, ℕ, zero, suc, ◌+◌, ◌*◌, ◌-◌, ◌^◌, ◌<◌, ◌≤◌, Bool, true, false, List, [], ◌∷◌, ◌++◌, length, get_or, take, drop, replicate, Some, inl, inr, refl, sym, ◌∙◌, ap, subst, append_assoc, arith, length-append, true≢false}
+use Rattle.std.proofs.Common.{◌≡◌, ℕ, zero, suc, ◌+◌, ◌*◌, ◌-◌, ◌^◌, ◌<◌, ◌≤◌, Bool, true, false, List, [], ◌∷◌, ◌++◌, length, get_or, take, drop, replicate, Option, Some, inl, inr, refl, sym, ◌∙◌, ap, subst, append_assoc, arith, length-append, true≢false}
 use Rattle.std.proofs.lemmas.List.{take-append-drop, length-take-le, length-drop, length-replicate}
 use Rattle.std.proofs.Math.Nat.{mul-le-mul_right, mul_comm}
 use Rattle.std.specs.Int.{Width, byte_worth, sum_through}
@@ -231,15 +231,15 @@ row_many {c = c} {s = s} {bytes = bytes} {xs = xs} ys f p q e = record {
 }
 
 -- fewer bytes than k are no front with more bytes
-no_more : (k : ℕ) (s : ReaderState) → NoPrefix (λ x. length x ≡ k) s → NoPrefix (λ x. k ≤ length x) s
-no_more k s none front rest e h =
+no_more : (k : ℕ) (o : Option (List ℕ)) → NoPrefix (λ x. length x ≡ k) o → NoPrefix (λ x. k ≤ length x) o
+no_more k o none front rest e h =
     none (take k front) (drop k front ++ rest) (e ∙ ap Some (ap (λ z. z ++ rest) (sym (take-append-drop k front)) ∙ append_assoc (take k front) (drop k front) rest)) (length-take-le k front h)
 
 -- of `len` elements some were read, and the bytes of the next n are refused
 room_refused : {A : Type 0} {c : Codec A} {memory text : Bool} {w len k : ℕ} {s t u : ReaderState} {xs : List A} {kind : ErrorKind} (n : ℕ) → k ≡ n * w → IsFixedWidth c w → RowSoFar A c s t xs → length xs + n ≤ len → ReadFails false false (λ x. length x ≡ k) t u kind
     → ReadFails memory text (IsDecodable (array len c) s.strict_order) s u kind
 room_refused {c = c} {w = w} {len = len} {k = k} {s = s} {t = t} {xs = xs} n is f p h r =
-    refused_after (λ e. absurd (true≢false (sym e))) (λ e. absurd (true≢false (sym e))) p.took past (refused_map (λ e. e) (λ e. e) (no_more k t) r)
+    refused_after (λ e. absurd (true≢false (sym e))) (λ e. absurd (true≢false (sym e))) p.took past (refused_map (λ e. e) (λ e. e) (no_more k) r)
   where
     past : (g q front rest : List ℕ) → DecodesEach (c.decodes s.strict_order) g xs → IsDecodable (array len c) s.strict_order front → g ++ q ≡ front ++ rest → Past (λ x. k ≤ length x) q rest
     past g q front rest a b e =

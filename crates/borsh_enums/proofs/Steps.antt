@@ -1,5 +1,5 @@
 -- Outcomes of reads behind a tag, for the variants of an enum as a tree.
-use Rattle.std.proofs.Common.{◌≡◌, ◌∙◌, ℕ, Bool, true, false, List, [], ◌∷◌, ◌++◌, Result, Ok, Err, refl, sym, ap, subst, true≢false}
+use Rattle.std.proofs.Common.{◌≡◌, ◌∙◌, ℕ, Bool, true, false, List, [], ◌∷◌, ◌++◌, Option, Result, Ok, Err, refl, sym, ap, subst, true≢false}
 use Rattle.std.specs.Result.{IsErrAnd}
 use Rattle.std.proofs.lemmas.Result.{IfOk-weaker, IfErr-weaker}
 use Rattle.borsh_io.specs.declared.error.Error.{Error}
@@ -37,7 +37,7 @@ module _ {A B R : Type 0} {i j : Tags} {a : Codec A} {b : Codec B} (l : Variants
       let k = fork_distinct i j d in
       variant_exit e is (record {
         refused = refused_map (or_left a.decoding_allocates b.decoding_allocates) (λ x. refl)
-            (λ none front rest x p. none front rest x (left_of a b t (r.avoids t (apart_has t i j k.between h)) (state s).strict_order front p)) (f k.left).err.refused;
+            (λ o none front rest x p. none front rest x (left_of a b t (r.avoids t (apart_has t i j k.between h)) (state s).strict_order front p)) (f k.left).err.refused;
       })
 
   pub right_exit : has t i ≡ false → (e : Error) {z : Result (Fork A B) Error} → IsErrAnd z (λ y. y ≡ e) → (distinct j ≡ true → DecodesAfterTag t b state s u (Err e)) → DecodesAfterTag t (fork a b) state s u z
@@ -45,7 +45,7 @@ module _ {A B R : Type 0} {i j : Tags} {a : Codec A} {b : Codec B} (l : Variants
       let k = fork_distinct i j d in
       variant_exit e is (record {
         refused = refused_map (or_right a.decoding_allocates b.decoding_allocates) (λ x. refl)
-            (λ none front rest x p. none front rest x (right_of a b t (l.avoids t h) (state s).strict_order front p)) (f k.right).err.refused;
+            (λ o none front rest x p. none front rest x (right_of a b t (l.avoids t h) (state s).strict_order front p)) (f k.right).err.refused;
       })
 
 -- ---- an enum
@@ -70,14 +70,14 @@ denied_tag c {j = j} {s = s} {t = t} {u = u} {k = k} full p r =
     let r' = subst (λ m. ReadFails c.decoding_allocates c.texts_allocate (λ x. IsDecodable c m (j ∷ x)) t u k) p.takes.strict_order r.refused in
     record { refused = refused_after (λ e. e) (λ e. e) p (tag_past c full s.strict_order j) r' }
 
-no_tag : {A : Type 0} (c : Codec A) → NonEmpty c → (s : ReaderState) → NoPrefix (IsDecodable any_byte s.strict_order) s → NoPrefix (IsDecodable c s.strict_order) s
-no_tag c full s none [] rest e w = full s.strict_order w.0 w.1
-no_tag c full s none (b ∷ front) rest e w = none (b ∷ []) (front ++ rest) e (b, refl)
+no_tag : {A : Type 0} (c : Codec A) → NonEmpty c → (m : Bool) (o : Option (List ℕ)) → NoPrefix (IsDecodable any_byte m) o → NoPrefix (IsDecodable c m) o
+no_tag c full m o none [] rest e w = full m w.0 w.1
+no_tag c full m o none (b ∷ front) rest e w = none (b ∷ []) (front ++ rest) e (b, refl)
 
 module _ {A R : Type 0} (c : Codec A) {state : R → ReaderState} {a b : R} (full : NonEmpty c) (n : c.refuses ≡ false) where
   -- there is no tag
   pub enum_no_tag : (e : Error) {r : Result A Error} → IsErrAnd r (λ y. y ≡ e) → Decodes any_byte state a b (Err e) → Decodes c state a b r
-  enum_no_tag e is f = decodes_exit e is (decodes_err n (record { refused = refused_map (λ h. absurd (true≢false (sym h))) (λ h. absurd (true≢false (sym h))) (no_tag c full (state a)) f.err.refused }))
+  enum_no_tag e is f = decodes_exit e is (decodes_err n (record { refused = refused_map (λ h. absurd (true≢false (sym h))) (λ h. absurd (true≢false (sym h))) (no_tag c full (state a).strict_order) f.err.refused }))
 
   -- there is one, and what is behind it was read or refused
   pub enum_tagged : {d : R} {j : ℕ} {r : Result A Error} → Decodes any_byte state a b (Ok j) → DecodesAfterTag j c state b d r → Decodes c state a d r

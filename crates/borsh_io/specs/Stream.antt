@@ -1,5 +1,5 @@
 -- The state of a reader, and what a read does to it.
-use Rattle.std.specs.Prelude.{◌≡◌, ◌≢◌, ℕ, ◌+◌, ◌-◌, ◌^◌, ◌<◌, ◌≤◌, ◌⊎◌, Bool, List, length, take, Option, Some, IfSome, Result, IfOk, OnOk, IfErr, OnErr, true, false}
+use Rattle.std.specs.Prelude.{◌≡◌, ◌≢◌, ℕ, ◌+◌, ◌-◌, ◌^◌, ◌<◌, ◌≤◌, ◌⊎◌, Bool, List, ◌++◌, length, take, Option, Some, IfSome, MatchOption, Result, IfOk, OnOk, IfErr, OnErr, true, false}
 use Rattle.std.specs.Io.KnownBytes.{Consumes, Keeps, IsAtEnd}
 use Rattle.borsh_io.specs.declared.error.Error.{Error}
 use Rattle.borsh_io.specs.declared.error.ErrorKind.{ErrorKind}
@@ -67,14 +67,19 @@ pub record ConsumedSome (before after : ReaderState) : Type 0 where
 abbrev pub HasFewerThan : ReaderState → ℕ → Type 0
 HasFewerThan s n = IfSome s.bytes (λ xs. length xs < n)
 
--- no more than n bytes are to come, where the reader knows them
+-- the reader knows the bytes to come, and there are no more than n
 abbrev pub HasAtMost : ReaderState → ℕ → Type 0
-HasAtMost s n = IfSome s.bytes (λ xs. length xs ≤ n)
+HasAtMost s n = MatchOption s.bytes ⊥ (λ xs. length xs ≤ n)
 
--- why n bytes could not be read, by an error of this kind: fewer were to come, or the reader failed
+-- fewer than n bytes were taken, where the reader knows them
+abbrev pub TookFewerThan : ReaderState → ReaderState → ℕ → Type 0
+TookFewerThan before after n = (taken left : List ℕ) → before.bytes ≡ Some (taken ++ left) → after.bytes ≡ Some left → length taken < n
+
+-- why n bytes could not be read, by an error of this kind: fewer were to come, or the reader failed before the last of them
 abbrev pub ReadExactFailure : ReaderState → ReaderState → ℕ → ErrorKind → Type 0
 ReadExactFailure before after n kind =
-    ((kind ≡ UnexpectedEof) × HasFewerThan before n × (after.faults ≡ before.faults)) ⊎ CountedUp before.faults after.faults
+    ((kind ≡ UnexpectedEof) × HasFewerThan before n × (after.faults ≡ before.faults))
+    ⊎ (CountedUp before.faults after.faults × TookFewerThan before after n)
 
 -- the state of a reader over bytes in memory, which never fails and is never interrupted
 abbrev pub slice_state : List ℕ → ReaderState

@@ -38,10 +38,10 @@ pub trait Read {
     fn strict_order(&self) -> bool
         ensures { result ≡ (stream self.now).strict_order };
 
-    /// How many bytes are left at most, if the reader knows: a slice returns its length. So a list that
-    /// announces more bytes than there are is refused before memory is allocated for it, and any other
-    /// list of bytes is read into memory of its own size. `None`: there may be any number. Left open:
-    /// `None`, of any reader but a slice; any answer of one that doesn't know its bytes.
+    /// How many bytes are left at most, if the reader knows which they are: a slice returns its length. So a
+    /// list that announces more bytes than there are is refused before memory is allocated for it, and any
+    /// other list of bytes is read into memory of its own size. `None`: there may be any number. Left open:
+    /// `None`, of any reader but a slice.
     ///
     /// ```
     /// let input = b"\x07\x00".as_slice();

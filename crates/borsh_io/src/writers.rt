@@ -81,7 +81,11 @@ impl Write for &mut [u8] {
     }
 
     #[inline]
-    fn flush(&mut self) -> Result<()> {
+    fn flush(&mut self) -> Result<()>
+        ensures outcome { Flushes (overwriting (λ s. s.now)) self.old self.new result }
+        ensures succeeds { IsOk result }
+        ensures unchanged { self.new ≡ self.old }
+    {
         Ok(())
     }
 

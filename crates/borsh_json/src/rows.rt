@@ -10,8 +10,10 @@ use crate::kinds::Kind;
 use borsh_values::{Decoded, Node, Path, Paths, count_of, decode, elements_of, variant_of};
 use borsh_walks::Definition;
 use json::MAX_DEPTH;
+use ryu::{Buffer, Float};
 use std::alloc::{AllocError, Global};
 use std::collections::BTreeMap;
+use std::num::{f32_from_bits_with_nan, f64_from_bits_with_nan};
 use std::str;
 
 /// What some of the bytes of a value are: the count of a list, with its elements if these are primitives; the tag of an
@@ -95,6 +97,17 @@ fn value_of<'a>(
 ) -> Result<String, AllocError> {
     match definitions.kind(node.name, node.definition)? {
         Kind::Number(number) => number.decimal(alloc, node.bytes),
+        Kind::Bytes(_) => match (node.name, node.bytes) {
+            ("f32", [a, b, c, d]) => {
+                let bits = u32::from_le_bytes([*a, *b, *c, *d]);
+                shortest(alloc, f32_from_bits_with_nan(bits))
+            }
+            ("f64", [a, b, c, d, e, f, g, h]) => {
+                let bits = u64::from_le_bytes([*a, *b, *c, *d, *e, *f, *g, *h]);
+                shortest(alloc, f64_from_bits_with_nan(bits))
+            }
+            _ => Ok(String::new(alloc)),
+        },
         Kind::Bool => match node.bytes {
             [0] => String::from_str(alloc, "false"),
             [1] => String::from_str(alloc, "true"),
@@ -114,6 +127,14 @@ fn value_of<'a>(
         },
         _ => Ok(String::new(alloc)),
     }
+}
+
+/// The shortest text that reads back as the float, `inf` or `-inf`; a NaN, which no value of a float's type is, is no number.
+fn shortest<F: Float>(alloc: Global, value: F) -> Result<String, AllocError> {
+    if !value.is_number() {
+        return String::from_str(alloc, "not a number");
+    }
+    String::from_str(alloc, Buffer::new().format(value))
 }
 
 /// The name of the variant of an enum; of other nodes nothing.

@@ -30,7 +30,7 @@ pub reads_narrow : {tag : ℕ} {s t : ReaderState} {v : MyEnum} → (tag ≡ 2 �
 reads_narrow {tag = tag} {s = s} {v = v} other r = record { took = took_weaker (λ x p. narrower s.strict_order tag x v other p) r.took }
 
 pub denied_narrow : {tag : ℕ} {s t : ReaderState} {k : ErrorKind} → NotDecodedAfterTag tag MyEnum my_enum s t k → NotDecodedAfterTag tag OneOrZero one_or_zero s t k
-denied_narrow {tag = tag} {s = s} r = record { refused = refused_map (λ e. e) (λ e. e) (λ none front rest e p. none front rest e (p.0.0, wider s.strict_order (tag ∷ front) p.0.0 p.1)) r.refused }
+denied_narrow {tag = tag} {s = s} r = record { refused = refused_map (λ e. e) (λ e. e) (λ o none front rest e p. none front rest e (p.0.0, wider s.strict_order (tag ∷ front) p.0.0 p.1)) r.refused }
 
 pub denied_many : {tag : ℕ} (s : ReaderState) {k : ErrorKind} → tag ≡ 2 → IsInvalidData one_or_zero.texts_allocate k → NotDecodedAfterTag tag OneOrZero one_or_zero s s k
 denied_many s e r = rw e (record { refused = refused_here {P = λ _. ⊤} r (took_nothing s tt) (λ front rest f p. none_many s.strict_order front p.0.0 p.1) })

@@ -99,13 +99,8 @@ pub fn put_four<A: BorshSerialize, B: BorshSerialize, C: BorshSerialize, D: Bors
     d: &D,
     room: &mut [u8],
 ) -> Option<usize>
-    ensures { Puts ((pair A.codec (pair B.codec (pair C.codec D.codec))).encoding (
-      a.now,
-      (
-        b.now,
-        (c.now, d.now),
-      ),
-    )) room.old room.new result }
+    ensures { Puts ((pair A.codec (pair B.codec (pair C.codec D.codec))).encoding
+        (a.now, (b.now, (c.now, d.now)))) room.old room.new result }
 {
     let first = a.put(room)?;
     let second = put_three(b, c, d, &mut room[first..])?;
@@ -181,22 +176,9 @@ pub fn put_eight<
     H: BorshSerialize,
 >(a: &A, b: &B, c: &C, d: &D, e: &E, f: &F, g: &G, h: &H, room: &mut [u8]) -> Option<usize>
     ensures { Puts ((pair A.codec (pair B.codec (pair C.codec (pair D.codec (pair E.codec (pair
-        F.codec (pair G.codec H.codec))))))).encoding (
-          a.now,
-          (
-            b.now,
-            (
-              c.now,
-              (
-                d.now,
-                (
-                  e.now,
-                  (f.now, (g.now, h.now)),
-                ),
-              ),
-            ),
-          ),
-        )) room.old room.new result }
+        F.codec (pair G.codec H.codec))))))).encoding
+        (a.now, (b.now, (c.now, (d.now, (e.now, (f.now, (g.now, h.now)))))))) room.old room.new
+        result }
 {
     let first = a.put(room)?;
     let second = put_seven(b, c, d, e, f, g, h, &mut room[first..])?;
@@ -217,19 +199,9 @@ pub fn put_nine<
     I: BorshSerialize,
 >(a: &A, b: &B, c: &C, d: &D, e: &E, f: &F, g: &G, h: &H, i: &I, room: &mut [u8]) -> Option<usize>
     ensures { Puts ((pair A.codec (pair B.codec (pair C.codec (pair D.codec (pair E.codec (pair
-        F.codec (pair G.codec (pair H.codec I.codec)))))))).encoding (
-          a.now,
-          (
-            b.now,
-            (
-              c.now,
-              (
-                d.now,
-                (e.now, (f.now, (g.now, (h.now, i.now)))),
-              ),
-            ),
-          ),
-        )) room.old room.new result }
+        F.codec (pair G.codec (pair H.codec I.codec)))))))).encoding
+        (a.now, (b.now, (c.now, (d.now, (e.now, (f.now, (g.now, (h.now, i.now))))))))) room.old
+        room.new result }
 {
     let first = a.put(room)?;
     let second = put_eight(b, c, d, e, f, g, h, i, &mut room[first..])?;
@@ -263,14 +235,9 @@ pub fn put_ten<
     room: &mut [u8],
 ) -> Option<usize>
     ensures { Puts ((pair A.codec (pair B.codec (pair C.codec (pair D.codec (pair E.codec (pair
-        F.codec (pair G.codec (pair H.codec (pair I.codec J.codec))))))))).encoding (
-          a.now,
-          (
-            b.now,
-            (c.now, (d.now, (e.now, (f.now, (g.now, (h.now, (i.now, j.now))))))),
-          ),
-        )) room.old room.new
-        result }
+        F.codec (pair G.codec (pair H.codec (pair I.codec J.codec))))))))).encoding
+        (a.now, (b.now, (c.now, (d.now, (e.now, (f.now, (g.now, (h.now, (i.now, j.now))))))))))
+        room.old room.new result }
 {
     let first = a.put(room)?;
     let second = put_nine(b, c, d, e, f, g, h, i, j, &mut room[first..])?;
@@ -306,37 +273,9 @@ pub fn put_eleven<
     room: &mut [u8],
 ) -> Option<usize>
     ensures { Puts ((pair A.codec (pair B.codec (pair C.codec (pair D.codec (pair E.codec (pair
-        F.codec (pair G.codec (pair H.codec (pair I.codec (pair J.codec K.codec)))))))))).encoding (
-          a.now,
-          (
-            b.now,
-            (
-              c.now,
-              (
-                d.now,
-                (
-                  e.now,
-                  (
-                    f.now,
-                    (
-                      g.now,
-                      (
-                        h.now,
-                        (
-                          i.now,
-                          (
-                            j.now,
-                            k.now,
-                          ),
-                        ),
-                      ),
-                    ),
-                  ),
-                ),
-              ),
-            ),
-          ),
-        )) room.old room.new result }
+        F.codec (pair G.codec (pair H.codec (pair I.codec (pair J.codec K.codec)))))))))).encoding
+        (a.now, (b.now, (c.now, (d.now, (e.now, (f.now, (g.now, (h.now, (i.now, (j.now, k.now)))))))))))
+        room.old room.new result }
 {
     let first = a.put(room)?;
     let second = put_ten(b, c, d, e, f, g, h, i, j, k, &mut room[first..])?;
@@ -375,31 +314,9 @@ pub fn put_twelve<
 ) -> Option<usize>
     ensures { Puts ((pair A.codec (pair B.codec (pair C.codec (pair D.codec (pair E.codec (pair
         F.codec (pair G.codec (pair H.codec (pair I.codec (pair J.codec (pair K.codec
-        L.codec))))))))))).encoding (
-          a.now,
-          (
-            b.now,
-            (
-              c.now,
-              (
-                d.now,
-                (
-                  e.now,
-                  (
-                    f.now,
-                    (
-                      g.now,
-                      (
-                        h.now,
-                        (i.now, (j.now, (k.now, l.now))),
-                      ),
-                    ),
-                  ),
-                ),
-              ),
-            ),
-          ),
-        )) room.old room.new result }
+        L.codec))))))))))).encoding
+        (a.now, (b.now, (c.now, (d.now, (e.now, (f.now, (g.now, (h.now, (i.now, (j.now, (k.now, l.now))))))))))))
+        room.old room.new result }
 {
     let first = a.put(room)?;
     let second = put_eleven(b, c, d, e, f, g, h, i, j, k, l, &mut room[first..])?;

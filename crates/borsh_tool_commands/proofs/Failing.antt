@@ -82,7 +82,7 @@ not_in_front bytes left kind (misread k e none) other is =
     let s = is.0 in
     none is.2.front is.1 (ap Some is.2.whole) ((s.root, s.definitions), root_and_map-lawful.round_trip true (s.root, s.definitions) is.2.front is.2.is)
 not_in_front bytes left kind (no_room k e a) other is = absurd (other k)
-not_in_front bytes left kind (reader_failed r) other is = absurd (no_fault r)
+not_in_front bytes left kind (reader_failed r n) other is = absurd (no_fault r)
 
 -- no container is in front of the bytes, where the error is no failed allocation
 pub none_in_front : (bytes left : List ℕ) (kind : ErrorKind) → NotDecoded (String Global × BTreeMap (String Global) Definition) root_and_map (slice_state bytes) (slice_state left) kind → (kind ≡ NoRoom → ⊥) → BeginsWithContainer bytes → ⊥

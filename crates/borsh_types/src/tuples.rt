@@ -109,22 +109,7 @@ impl<A: BorshType, B: BorshType, C: BorshType, D: BorshType, E: BorshType, F: Bo
         (contramap-lawful (λ t. (t.0, (t.1, (t.2, (t.3, (t.4, t.5)))))))
         ⟦<(A, (B, (C, (D, (E, F))))) as BorshType>⟧.lawful_if };
 
-    ghost premises = { (
-      A.premises,
-      (
-        B.premises,
-        (
-          C.premises,
-          (
-            D.premises,
-            (
-              E.premises,
-              F.premises,
-            ),
-          ),
-        ),
-      ),
-    ) };
+    ghost premises = { (A.premises, (B.premises, (C.premises, (D.premises, (E.premises, F.premises))))) };
 
     fn encodes_empty() -> bool {
         <(A, (B, C, D, E, F))>::encodes_empty()
@@ -152,25 +137,7 @@ impl<
         (contramap-lawful (λ t. (t.0, (t.1, (t.2, (t.3, (t.4, (t.5, t.6))))))))
         ⟦<(A, (B, (C, (D, (E, (F, G)))))) as BorshType>⟧.lawful_if };
 
-    ghost premises = { (
-      A.premises,
-      (
-        B.premises,
-        (
-          C.premises,
-          (
-            D.premises,
-            (
-              E.premises,
-              (
-                F.premises,
-                G.premises,
-              ),
-            ),
-          ),
-        ),
-      ),
-    ) };
+    ghost premises = { (A.premises, (B.premises, (C.premises, (D.premises, (E.premises, (F.premises, G.premises)))))) };
 
     fn encodes_empty() -> bool {
         <(A, (B, C, D, E, F, G))>::encodes_empty()
@@ -201,22 +168,7 @@ impl<
 
     ghost premises = { (
       A.premises,
-      (
-        B.premises,
-        (
-          C.premises,
-          (
-            D.premises,
-            (
-              E.premises,
-              (
-                F.premises,
-                (G.premises, H.premises),
-              ),
-            ),
-          ),
-        ),
-      ),
+      (B.premises, (C.premises, (D.premises, (E.premises, (F.premises, (G.premises, H.premises)))))),
     ) };
 
     fn encodes_empty() -> bool {
@@ -249,22 +201,7 @@ impl<
 
     ghost premises = { (
       A.premises,
-      (
-        B.premises,
-        (
-          C.premises,
-          (
-            D.premises,
-            (
-              E.premises,
-              (
-                F.premises,
-                (G.premises, (H.premises, I.premises)),
-              ),
-            ),
-          ),
-        ),
-      ),
+      (B.premises, (C.premises, (D.premises, (E.premises, (F.premises, (G.premises, (H.premises, I.premises))))))),
     ) };
 
     fn encodes_empty() -> bool {
@@ -300,19 +237,7 @@ impl<
       A.premises,
       (
         B.premises,
-        (
-          C.premises,
-          (
-            D.premises,
-            (
-              E.premises,
-              (
-                F.premises,
-                (G.premises, (H.premises, (I.premises, J.premises))),
-              ),
-            ),
-          ),
-        ),
+        (C.premises, (D.premises, (E.premises, (F.premises, (G.premises, (H.premises, (I.premises, J.premises))))))),
       ),
     ) };
 
@@ -352,16 +277,7 @@ impl<
         B.premises,
         (
           C.premises,
-          (
-            D.premises,
-            (
-              E.premises,
-              (
-                F.premises,
-                (G.premises, (H.premises, (I.premises, (J.premises, K.premises)))),
-              ),
-            ),
-          ),
+          (D.premises, (E.premises, (F.premises, (G.premises, (H.premises, (I.premises, (J.premises, K.premises))))))),
         ),
       ),
     ) };
@@ -407,10 +323,7 @@ impl<
             D.premises,
             (
               E.premises,
-              (
-                F.premises,
-                (G.premises, (H.premises, (I.premises, (J.premises, (K.premises, L.premises))))),
-              ),
+              (F.premises, (G.premises, (H.premises, (I.premises, (J.premises, (K.premises, L.premises)))))),
             ),
           ),
         ),

@@ -1,10 +1,9 @@
 -- Variants found one after another.
-use Rattle.std.proofs.Common.{◌≡◌, ℕ, suc, zero, ◌+◌, ◌<◌, ◌≤◌, List, [], ◌∷◌, ◌++◌, length, take, map, get_or, Some, refl, sym, ◌∙◌, ap, arith, add-one, ◌⊎◌, inl, inr}
+use Rattle.std.proofs.Common.{◌≡◌, ℕ, suc, zero, ◌+◌, ◌<◌, ◌≤◌, List, [], ◌∷◌, ◌++◌, length, take, map, get_or, Some, refl, sym, ◌∙◌, ap, subst, arith, add-one, ◌⊎◌, inl, inr}
 use Rattle.std.specs.Prelude.{ℤ, pos, negsuc, slice_get, option_map, string_bytes, String}
 use Rattle.std.specs.Global.{Global}
 use Rattle.std.proofs.lemmas.Option.{slice_get_read, slice_get-map}
 use Rattle.std.proofs.lemmas.List.{length-map}
-use Rattle.std.specs.Borrow.{Bor}
 use Rattle.borsh_walks.specs.Container.{IsListedVariant, first_variant, later_variant, tag}
 use Rattle.borsh_values.specs.Unambiguous.{DistinctTags, no_tags, more_tags}
 use Rattle.borsh_values.specs.Steps.{FoundAs, more_found}
@@ -46,17 +45,34 @@ pub distinct_left : (w : ℕ) (xs ys : List (ℤ × List ℕ)) → DistinctTags 
 distinct_left w [] ys b = no_tags
 distinct_left w (x ∷ xs) ys (more_tags g b) = more_tags (λ k p a. g k p (listed_left xs ys a)) (distinct_left w xs ys b)
 
+get_left : {v : ℤ × List ℕ} (xs ys : List (ℤ × List ℕ)) (i : ℕ) → slice_get xs i ≡ Some v → slice_get (xs ++ ys) i ≡ Some v
+get_left [] ys i e = cc
+get_left (x ∷ xs) ys zero e = e
+get_left (x ∷ xs) ys (suc i) e = get_left xs ys i e
+
+get_last : (v : ℤ × List ℕ) (xs : List (ℤ × List ℕ)) (i : ℕ) → length xs ≡ i → slice_get (xs ++ v ∷ []) i ≡ Some v
+get_last v [] zero h = refl
+get_last v [] (suc i) h = absurd (omega arith)
+get_last v (x ∷ xs) zero h = absurd (omega arith)
+get_last v (x ∷ xs) (suc i) h = get_last v xs i (omega arith)
+
+pub listed_at : (vs : List (ℤ × List ℕ)) (i : ℕ) (k : ℤ) (q : List ℕ) → slice_get vs i ≡ Some (k, q) → IsListedVariant k q vs
+listed_at [] i k q e = cc
+listed_at (v ∷ vs) zero k q e = let h : (k, q) ≡ v = cc in subst (λ u. IsListedVariant k q (u ∷ vs)) h first_variant
+listed_at (v ∷ vs) (suc i) k q e = later_variant (listed_at vs i k q e)
+
 -- a variant with the tag
-pub found_more : (vs : List (ℤ × List ℕ)) (t : List ℕ) (f : Found) (k : ℤ) (p : Bor (List ℕ)) → FoundAs vs t f → tag (length t) k ≡ t → FoundAs (vs ++ (k, p.now) ∷ []) t (more_found f p)
-found_more vs t Nothing k p h e = (
+pub found_more : (vs : List (ℤ × List ℕ)) (t : List ℕ) (f : Found) (i : ℕ) (k : ℤ) (p : List ℕ) → length vs ≡ i → FoundAs vs t f → tag (length t) k ≡ t → FoundAs (vs ++ (k, p) ∷ []) t (more_found f i)
+found_more vs t Nothing i k p l h e = (
   k,
-  listed_last vs,
+  p,
+  get_last (k, p) vs i l,
   e,
-  (λ j q a b. elim (listed_append vs ((k, p.now) ∷ []) a) [ inl c ↦ absurd (h.0 j q c b) | inr c ↦ only_last c ]),
-  λ z. ap (λ l. l ++ (k, p.now) ∷ []) (h.1 z),
+  (λ j q a b. elim (listed_append vs ((k, p) ∷ []) a) [ inl c ↦ absurd (h.0 j q c b) | inr c ↦ only_last c ]),
+  λ z. ap (λ l. l ++ (k, p) ∷ []) (h.1 z),
 )
-found_more vs t (One q) k p h e = λ a. twice (length t) k p.now vs t h.1 h.2 e a
-found_more vs t Several k p h e = λ a. h (distinct_left (length t) vs ((k, p.now) ∷ []) a)
+found_more vs t (One o) i k p l h e = λ a. twice (length t) k p vs t (listed_at vs o h.0 h.1 h.2) h.3 e a
+found_more vs t Several i k p l h e = λ a. h (distinct_left (length t) vs ((k, p) ∷ []) a)
 
 other_tag : {j : ℤ} {q : List ℕ} {k : ℤ} {p t : List ℕ} → IsListedVariant j q ((k, p) ∷ []) → tag (length t) j ≡ t → tag (length t) k ≡ t
 other_tag first_variant e = e
@@ -70,9 +86,10 @@ found_same vs t Nothing k p h off = (
 )
 found_same vs t (One r) k p h off = (
   h.0,
-  listed_left vs ((k, p) ∷ []) h.1,
-  h.2,
-  (λ j q a b. elim (listed_append vs ((k, p) ∷ []) a) [ inl c ↦ h.3 j q c b | inr c ↦ absurd (off (other_tag {q = q} {p = p} c b)) ]),
+  h.1,
+  get_left vs ((k, p) ∷ []) r h.2,
+  h.3,
+  (λ j q a b. elim (listed_append vs ((k, p) ∷ []) a) [ inl c ↦ h.4 j q c b | inr c ↦ absurd (off (other_tag {q = q} {p = p} c b)) ]),
   λ z. absurd (off (no_tag t k z)),
 )
 found_same vs t Several k p h off = λ a. h (distinct_left (length t) vs ((k, p) ∷ []) a)

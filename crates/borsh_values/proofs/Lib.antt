@@ -1,4 +1,3 @@
-pub mod Places
 pub mod PrefixFree
 pub mod Packed
 pub mod Bytes
@@ -14,9 +13,14 @@ pub mod Valid
 pub mod KeyLaws
 pub mod DistinctLaws
 pub mod TableLaws
-pub mod Reach
 pub mod NodesLaws
 pub mod Listing
 pub mod SameNodes
 pub mod ValueLaws
 pub mod Offsets
+pub mod LayoutLaws
+pub mod Building
+pub mod Places
+pub mod Going
+pub mod FreeLaws
+pub mod FreeWalk

@@ -1,7 +1,6 @@
 -- Tables of tags, made of one variant after another.
 use Rattle.std.proofs.Common.{◌≡◌, ℕ, suc, zero, ◌<◌, List, [], ◌∷◌, ◌++◌, length, refl, sym, ◌∙◌, ap, subst, arith, inl, inr}
 use Rattle.std.specs.Prelude.{ℤ, slice_get, Option, Some, None}
-use Rattle.std.specs.Borrow.{Bor}
 use Rattle.std.specs.BTreeMap.{BTreeMap}
 use Rattle.std.proofs.lemmas.Bool.{cases_eq}
 use Rattle.borsh_walks.specs.Container.{Shape, choice, IsListedVariant, first_variant, later_variant, tag}
@@ -121,11 +120,11 @@ module _ {vs : List (ℤ × List ℕ)} (t : List ℕ) {T : ℕ → Option AtKey}
     pub table_within : slice_get vs i ≡ None → ⊥
     table_within none = let r = s.right n (AtOne i) at in let e = r.2 in cc
 
-    pub table_one : (k : ℤ) (p : Bor (List ℕ)) → slice_get vs i ≡ Some (k, p.now) → tag (length t) k ≡ t → FoundAs vs t (One p)
+    pub table_one : (k : ℤ) (p : List ℕ) → slice_get vs i ≡ Some (k, p) → tag (length t) k ≡ t → FoundAs vs t (One i)
     table_one k p e g =
         let r = s.right n (AtOne i) at in
-        let same : r.1 ≡ p.now = ap second_at (sym r.2 ∙ e) in
-        (k, listed_at vs i e, g, (λ j q a b. r.4 j q a (key_there j q a b) ∙ same), λ z. absurd (some_byte t some z))
+        let same : r.1 ≡ p = ap second_at (sym r.2 ∙ e) in
+        (k, p, e, g, (λ j q a b. r.4 j q a (key_there j q a b) ∙ same), λ z. absurd (some_byte t some z))
 
     pub table_other : (k : ℤ) (p : List ℕ) → slice_get vs i ≡ Some (k, p) → (tag (length t) k ≡ t → ⊥) → FoundAs vs t Nothing
     table_other k p e off =

@@ -1,19 +1,22 @@
 -- What an opened definition takes.
 use Rattle.std.proofs.Common.{◌≡◌, ℕ, suc, zero, ◌+◌, ◌-◌, ◌*◌, ◌<◌, ◌≤◌, ◌^◌, List, [], ◌∷◌, ◌++◌, length, take, drop, replicate, Some, refl, sym, ◌∙◌, ap, subst, arith, append_assoc, length-append, length-drop, append-nil, take-add, drop-drop, ◌⊎◌, inl, inr}
-use Rattle.std.specs.Prelude.{Option, All, ℤ, pos, negsuc}
-use Rattle.borsh_walks.specs.Container.{Shape, primitive, sequence, product, choice, IsIn, first, later, IsListedVariant, low_bytes, tag, variant_names, Member, of_primitive, of_sequence, of_parts, of_choice, Members, no_members, more_members, IsZeroSize, zeroed}
+use Rattle.std.specs.Prelude.{Option, None, All, ℤ, pos, negsuc, slice_get}
+use Rattle.borsh_walks.specs.Container.{Shape, primitive, sequence, product, choice, IsIn, first, later, IsListedVariant, low_bytes, tag, variant_names, references, Member, of_primitive, of_sequence, of_parts, of_choice, Members, no_members, more_members, IsZeroSize, zeroed}
 use Rattle.std.proofs.Math.Nat.{suc-mul}
 use Rattle.std.proofs.lemmas.List.Elements.{All-take, All-drop}
 use Rattle.borsh_walks.proofs.Names.{among_one}
 use Rattle.borsh_walks.proofs.Laws.{length-tag, among-replicate, variant-listed}
 use Rattle.borsh_values.specs.Unambiguous.{DistinctTags}
-use Rattle.std.specs.Borrow.{Bor}
 use Rattle.borsh_values.specs.declared.tags.Found.TheVariants.{Nothing, One}
+use Rattle.borsh_values.specs.Layouts.{name_at, shape_at, parts_in, IsPlaceOf}
+use Rattle.borsh_values.specs.declared.frames.Rest.TheVariants.{Copies, Parts}
+use Rattle.borsh_values.specs.declared.layout.Named.{Named}
 use Rattle.borsh_values.specs.declared.frames.Opened.{Opened}
 use Rattle.borsh_values.specs.declared.frames.Opened.TheVariants.{Undecided, Refused, Taken}
 use Rattle.borsh_values.specs.Nodes.{packed_size, OpensElements}
 use Rattle.borsh_values.specs.Faults.{BeginsWith}
 use Rattle.borsh_values.specs.Steps.{remaining, required_by, OnlyEmpty, AllOnlyEmpty, Takes, FoundAs, TakesElements, OpensAs}
+use Rattle.borsh_values.proofs.FoundLaws.{listed_at}
 use Rattle.borsh_values.proofs.Packed.{packed_is, copies_of, copies_are}
 use Rattle.borsh_values.proofs.PrefixFree.{same_front, one_count, member_as}
 use Rattle.borsh_values.proofs.Required.{members_head, only_empty_members}
@@ -271,21 +274,23 @@ module _ (C : List ℕ → Option Shape) (w lo hi k n : ℕ) (e : List ℕ) (pac
       absurd (omega (arith, a, s, l, short))
 
 -- what was taken of k elements
-elements_opened : (C : List ℕ → Option Shape) (w lo hi k : ℕ) (e bytes : List ℕ) → hi < lo + 256 ^ w → lo ≤ k → k ≤ hi → w ≤ length bytes → tag w (pos k) ≡ take w bytes → All (λ b. b < 256) bytes → (m : ℕ) → packed_size (C e) ≡ m → (a : Opened) → TakesElements m e k w (length bytes) a → OpensAs C (sequence w lo hi e) bytes a
-elements_opened C w lo hi k e bytes u low high within t small zero p Undecided h = absurd h
-elements_opened C w lo hi k e bytes u low high within t small (suc n) p Undecided h = absurd h
-elements_opened C w lo hi k e bytes u low high within t small zero p (Refused r) h = let f = h.1 in absurd (omega (arith, f, within))
-elements_opened C w lo hi k e bytes u low high within t small (suc n) p (Refused r) h = (h.0, λ x c m. no_packed C w lo hi k n e p u low high h.1 t c m)
-elements_opened C w lo hi k e bytes u low high within t small zero p (Taken n r) h =
+elements_opened : (C : List ℕ → Option Shape) (ns : List Named) (w lo hi k at : ℕ) (bytes : List ℕ) → hi < lo + 256 ^ w → lo ≤ k → k ≤ hi → w ≤ length bytes → tag w (pos k) ≡ take w bytes → All (λ b. b < 256) bytes → (m : ℕ) → packed_size (C (name_at ns at)) ≡ m → (a : Opened) → TakesElements ns m at k w (length bytes) a → OpensAs C ns (sequence w lo hi (name_at ns at)) bytes a
+elements_opened C ns w lo hi k at bytes u low high within t small zero p Undecided h = absurd h
+elements_opened C ns w lo hi k at bytes u low high within t small (suc n) p Undecided h = absurd h
+elements_opened C ns w lo hi k at bytes u low high within t small zero p (Refused r) h = let f = h.1 in absurd (omega (arith, f, within))
+elements_opened C ns w lo hi k at bytes u low high within t small (suc n) p (Refused r) h = (h.0, λ x c m. no_packed C w lo hi k n (name_at ns at) p u low high h.1 t c m)
+elements_opened C ns w lo hi k at bytes u low high within t small zero p (Taken n r) h =
+    let e = name_at ns at in
     let a = takes_sequence C w lo hi k e bytes p u low high within t in
-    (subst (λ i. Takes C (sequence w lo hi e) bytes i (remaining r)) (sym h.0) (subst (λ ns. Takes C (sequence w lo hi e) bytes w ns) (sym h.1) a), h.2)
-elements_opened C w lo hi k e bytes u low high within t small (suc i) p (Taken n r) h =
+    (subst (λ i. Takes C (sequence w lo hi e) bytes i (remaining ns r)) (sym h.0) (subst (λ qs. Takes C (sequence w lo hi e) bytes w qs) (sym h.1) a), h.2, h.3)
+elements_opened C ns w lo hi k at bytes u low high within t small (suc i) p (Taken n r) h =
+    let e = name_at ns at in
     let f : w + k * suc i ≤ length bytes = (let a = h.0 in let b = h.1 in omega (arith, a, b)) in
     let a = takes_packed C w lo hi k i e p u low high bytes f small t in
-    (subst (λ i. Takes C (sequence w lo hi e) bytes i (remaining r)) (sym h.0) (subst (λ ns. Takes C (sequence w lo hi e) bytes (w + k * suc i) ns) (sym h.2) a), h.3)
+    (subst (λ i. Takes C (sequence w lo hi e) bytes i (remaining ns r)) (sym h.0) (subst (λ qs. Takes C (sequence w lo hi e) bytes (w + k * suc i) qs) (sym h.2) a), h.3, h.4)
 
-pub opened_at : (C : List ℕ → Option Shape) (w lo hi k size : ℕ) (e bytes : List ℕ) → size ≡ w → hi < lo + 256 ^ w → lo ≤ k → k ≤ hi → w ≤ length bytes → tag w (pos k) ≡ take w bytes → All (λ b. b < 256) bytes → (a : Opened) → TakesElements (packed_size (C e)) e k size (length bytes) a → OpensAs C (sequence w lo hi e) bytes a
-opened_at C w lo hi k size e bytes z u low high within t small a h = elements_opened C w lo hi k e bytes u low high within t small (packed_size (C e)) refl a (subst (λ i. TakesElements (packed_size (C e)) e k i (length bytes) a) z h)
+pub opened_at : (C : List ℕ → Option Shape) (ns : List Named) (w lo hi k size at : ℕ) (bytes : List ℕ) → size ≡ w → hi < lo + 256 ^ w → lo ≤ k → k ≤ hi → w ≤ length bytes → tag w (pos k) ≡ take w bytes → All (λ b. b < 256) bytes → (a : Opened) → TakesElements ns (packed_size (C (name_at ns at))) at k size (length bytes) a → OpensAs C ns (sequence w lo hi (name_at ns at)) bytes a
+opened_at C ns w lo hi k size at bytes z u low high within t small a h = elements_opened C ns w lo hi k at bytes u low high within t small (packed_size (C (name_at ns at))) refl a (subst (λ i. TakesElements ns (packed_size (C (name_at ns at))) at k i (length bytes) a) z h)
 
 in_variants : {k : ℤ} {p q : List ℕ} {vs : List (ℤ × List ℕ)} → IsListedVariant k p vs → IsIn q (p ∷ []) → IsIn q (variant_names vs)
 in_variants listed first = variant-listed listed
@@ -311,15 +316,15 @@ one_of_none zero lo hi z h = omega (arith, h)
 one_of_none (suc w) lo hi z h = absurd (omega arith)
 
 -- a sequence of one length, which isn't encoded
-pub array_opened : (C : List ℕ → Option Shape) (w lo hi : ℕ) (e bytes : List ℕ) → w ≡ 0 → lo ≡ hi → All (λ b. b < 256) bytes → (a : Opened) → TakesElements (packed_size (C e)) e lo 0 (length bytes) a → OpensAs C (sequence w lo hi e) bytes a
-array_opened C w lo hi e bytes z h small a t = opened_at C w lo hi lo 0 e bytes (sym z) (one_of_none w lo hi z h) (omega arith) (omega (arith, h)) (omega (arith, z)) (no_width w lo bytes z) small a t
+pub array_opened : (C : List ℕ → Option Shape) (ns : List Named) (w lo hi at : ℕ) (bytes : List ℕ) → w ≡ 0 → lo ≡ hi → All (λ b. b < 256) bytes → (a : Opened) → TakesElements ns (packed_size (C (name_at ns at))) at lo 0 (length bytes) a → OpensAs C ns (sequence w lo hi (name_at ns at)) bytes a
+array_opened C ns w lo hi at bytes z h small a t = opened_at C ns w lo hi lo 0 at bytes (sym z) (one_of_none w lo hi z h) (omega arith) (omega (arith, h)) (omega (arith, z)) (no_width w lo bytes z) small a t
 
 written_at : (w size k : ℕ) (bytes : List ℕ) → size ≡ w → size ≤ length bytes → low_bytes (length (take size bytes)) k ≡ take size bytes → tag w (pos k) ≡ take w bytes
 written_at w size k bytes z within t = ap (λ i. low_bytes i k) (sym z) ∙ ap (λ i. low_bytes i k) (sym (length_take size bytes within)) ∙ t ∙ ap (λ i. take i bytes) z
 
 -- a sequence whose count was read
-pub list_opened : (C : List ℕ → Option Shape) (w lo hi k size : ℕ) (e bytes : List ℕ) → hi < 256 ^ w → size ≡ w → lo ≤ k → k ≤ hi → size ≤ length bytes → low_bytes (length (take size bytes)) k ≡ take size bytes → All (λ b. b < 256) bytes → (a : Opened) → TakesElements (packed_size (C e)) e k size (length bytes) a → OpensAs C (sequence w lo hi e) bytes a
-list_opened C w lo hi k size e bytes fits z low high within t small a h = opened_at C w lo hi k size e bytes z (omega arith) low high (omega (arith, z)) (written_at w size k bytes z within t) small a h
+pub list_opened : (C : List ℕ → Option Shape) (ns : List Named) (w lo hi k size at : ℕ) (bytes : List ℕ) → hi < 256 ^ w → size ≡ w → lo ≤ k → k ≤ hi → size ≤ length bytes → low_bytes (length (take size bytes)) k ≡ take size bytes → All (λ b. b < 256) bytes → (a : Opened) → TakesElements ns (packed_size (C (name_at ns at))) at k size (length bytes) a → OpensAs C ns (sequence w lo hi (name_at ns at)) bytes a
+list_opened C ns w lo hi k size at bytes fits z low high within t small a h = opened_at C ns w lo hi k size at bytes z (omega arith) low high (omega (arith, z)) (written_at w size k bytes z within t) small a h
 
 pub small_at : (w size k : ℕ) (bytes : List ℕ) → size ≡ w → size ≤ length bytes → k < 256 ^ length (take size bytes) → k < 256 ^ w
 small_at w size k bytes z within h = subst (λ i. k < 256 ^ i) (length_take size bytes within ∙ z) h
@@ -335,16 +340,31 @@ no_front : (w : ℕ) (bytes : List ℕ) → w ≡ 0 → take w bytes ≡ []
 no_front zero bytes z = refl
 no_front (suc w) bytes z = absurd (omega arith)
 
+names_at : (vs : List (ℤ × List ℕ)) (i : ℕ) (k : ℤ) (q : List ℕ) → slice_get vs i ≡ Some (k, q) → slice_get (variant_names vs) i ≡ Some q
+names_at [] i k q e = cc
+names_at (v ∷ vs) zero k q e = let h : v ≡ (k, q) = cc in ap (λ v. Some v.1) h
+names_at (v ∷ vs) (suc i) k q e = names_at vs i k q e
+
+pub found_there : (vs : List (ℤ × List ℕ)) (t : List ℕ) (i : ℕ) → FoundAs vs t (One i) → slice_get (variant_names vs) i ≡ None → ⊥
+found_there vs t i f none = let n = names_at vs i f.0 f.1 f.2 in cc
+
+-- the only variant with a tag
+abbrev OneVariant : List (ℤ × List ℕ) → List ℕ → ℤ → List ℕ → Type 0
+OneVariant vs t k p = IsListedVariant k p vs × (tag (length t) k ≡ t) × ((j : ℤ) (q : List ℕ) → IsListedVariant j q vs → tag (length t) j ≡ t → q ≡ p) × (t ≡ [] → vs ≡ (k, p) ∷ [])
+
 -- what was found by the front of the bytes
-pub found_choice : (C : List ℕ → Option Shape) (w size : ℕ) (p : Bor (List ℕ)) (bytes : List ℕ) (vs : List (ℤ × List ℕ)) → size ≡ w → size ≤ length bytes → FoundAs vs (take size bytes) (One p) → Takes C (choice w vs) bytes size (p.now ∷ [])
-found_choice C w size p bytes vs z within f =
+pub found_choice : (C : List ℕ → Option Shape) (w size i : ℕ) (p bytes : List ℕ) (vs : List (ℤ × List ℕ)) → size ≡ w → size ≤ length bytes → FoundAs vs (take size bytes) (One i) → slice_get (variant_names vs) i ≡ Some p → Takes C (choice w vs) bytes size (p ∷ [])
+found_choice C w size i p bytes vs z within g at =
+    let same : g.1 ≡ p = (let n = names_at vs i g.0 g.1 g.2 in cc) in
+    let f : OneVariant vs (take size bytes) g.0 p = subst (λ q. OneVariant vs (take size bytes) g.0 q) same (listed_at vs i g.0 g.1 g.2, g.3, g.4, g.5) in
+    let k0 = g.0 in
     let l : length (take size bytes) ≡ w = length_take size bytes within ∙ z in
     let t : take size bytes ≡ take w bytes = ap (λ i. take i bytes) z in
-    let k : tag w f.0 ≡ take w bytes = ap (λ i. tag i f.0) (sym l) ∙ f.2 ∙ t in
-    subst (λ i. Takes C (choice w vs) bytes i (p.now ∷ [])) (sym z) (takes_choice C w f.0 p.now bytes vs f.1
-    (λ j q a b. f.3 j q a (ap (λ i. tag i j) l ∙ b ∙ k ∙ sym t))
-    (λ zero_is q a. single_needs w f.0 p.now vs (f.4 (t ∙ no_front w bytes zero_is)) zero_is q a)
-    (λ zero_is. f.4 (t ∙ no_front w bytes zero_is))
+    let k : tag w k0 ≡ take w bytes = ap (λ i. tag i k0) (sym l) ∙ f.1 ∙ t in
+    subst (λ i. Takes C (choice w vs) bytes i (p ∷ [])) (sym z) (takes_choice C w k0 p bytes vs f.0
+    (λ j q a b. f.2 j q a (ap (λ i. tag i j) l ∙ b ∙ k ∙ sym t))
+    (λ zero_is q a. single_needs w k0 p vs (f.3 (t ∙ no_front w bytes zero_is)) zero_is q a)
+    (λ zero_is. f.3 (t ∙ no_front w bytes zero_is))
     (omega arith) k)
 
 pub found_none_choice : (w size : ℕ) (bytes : List ℕ) (vs : List (ℤ × List ℕ)) → size ≡ w → size ≤ length bytes → FoundAs vs (take size bytes) Nothing → (C : List ℕ → Option Shape) (x : List ℕ) → C x ≡ Some (choice w vs) → BeginsWith C x bytes → ⊥
@@ -355,3 +375,30 @@ found_none_choice w size bytes vs z within f C x c m =
 
 pub several_ambiguous : (w size : ℕ) (bytes : List ℕ) (vs : List (ℤ × List ℕ)) → size ≡ w → size ≤ length bytes → (DistinctTags (length (take size bytes)) vs → ⊥) → DistinctTags w vs → ⊥
 several_ambiguous w size bytes vs z within f t = f (subst (λ i. DistinctTags i vs) (sym (length_take size bytes within ∙ z)) t)
+
+-- ---- what is opened at a place
+module _ (C : List ℕ → Option Shape) (ns : List Named) (at : ℕ) (low : at < length ns) where
+  pub opens_primitive : (n size : ℕ) (s : Shape) (bytes : List ℕ) → s ≡ primitive n → size ≡ n → size ≤ length bytes → All (λ b. b < 256) bytes → OpensAs C ns s bytes (Taken size (Copies at 0))
+  opens_primitive n size s bytes e z long small = (
+    subst (λ s. Takes C s bytes size []) (sym e) (subst (λ i. Takes C (primitive i) bytes size []) z (takes_primitive C size bytes long (All-take (λ b. b < 256) size bytes small) (λ k d h. absurd (omega arith)))),
+    omega arith,
+    low,
+  )
+
+  pub opens_product : (ps : List (List ℕ)) (s : Shape) (bytes : List ℕ) → s ≡ product ps → shape_at ns at ≡ Some s → OpensAs C ns s bytes (Taken 0 (Parts at 0))
+  opens_product ps s bytes e h =
+      let q : shape_at ns at ≡ Some (product ps) = h ∙ ap (λ s. Some s) e in
+      let t : Takes C (product ps) bytes 0 (parts_in (shape_at ns at)) = subst (λ o. Takes C (product ps) bytes 0 (parts_in o)) (sym q) (takes_parts C ps bytes) in
+      let l : length (parts_in (shape_at ns at)) ≡ length (references s) = ap (λ o. length (parts_in o)) h in
+      (subst (λ s. Takes C s bytes 0 (parts_in (shape_at ns at))) (sym e) t, omega (arith, l), low)
+
+  pub opens_sequence : (w lo hi part : ℕ) (el : List ℕ) (s : Shape) (bytes : List ℕ) (o : Opened) → s ≡ sequence w lo hi el → shape_at ns at ≡ Some s → IsPlaceOf ns at 0 (Some part) → OpensAs C ns (sequence w lo hi (name_at ns part)) bytes o → OpensAs C ns s bytes o
+  opens_sequence w lo hi part el s bytes o e h p k =
+      let a : Some el ≡ Some (name_at ns part) = ap (λ s. slice_get (parts_in s) 0) (ap (λ s. Some s) (sym e) ∙ sym h) ∙ p.1 in
+      let n : el ≡ name_at ns part = cc in
+      subst (λ d. OpensAs C ns d bytes o) (sym e) (subst (λ x. OpensAs C ns (sequence w lo hi x) bytes o) (sym n) k)
+
+  pub no_element : (w lo hi : ℕ) (el : List ℕ) (s : Shape) → s ≡ sequence w lo hi el → shape_at ns at ≡ Some s → IsPlaceOf ns at 0 None → ⊥
+  no_element w lo hi el s e h p =
+      let a : Some el ≡ None = ap (λ s. slice_get (parts_in s) 0) (ap (λ s. Some s) (sym e) ∙ sym h) ∙ p in
+      cc

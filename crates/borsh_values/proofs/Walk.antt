@@ -5,6 +5,8 @@ use Rattle.borsh_walks.specs.Container.{Shape, IsIn, IsDefined, first, later, Me
 use Rattle.borsh_walks.specs.SizeAnswer.{Distinct, distinct_none, distinct_more}
 use Rattle.borsh_values.specs.Faults.{BeginsWith}
 use Rattle.borsh_values.specs.Steps.{remaining, pending, required_by, OnlyEmpty, AllOnlyEmpty, Takes}
+use Rattle.borsh_values.specs.Layouts.{name_at}
+use Rattle.borsh_values.specs.declared.layout.Named.{Named}
 use Rattle.borsh_values.specs.declared.frames.Frame.{Frame}
 use Rattle.borsh_values.specs.declared.frames.Rest.{Rest}
 use Rattle.borsh_values.specs.declared.members.Mark.{Mark}
@@ -14,40 +16,40 @@ use Rattle.borsh_walks.proofs.Tables.{Updated}
 use Rattle.borsh_values.proofs.Required.{not_required, members_head, pass, unpass, only_empty_copies, whole, unwhole}
 
 abbrev pub with_rest : Frame → Rest → Frame
-with_rest f r = record { name = f.name; start = f.start; rest = r }
+with_rest f r = record { at = f.at; start = f.start; rest = r }
 
 -- the name is open since o bytes were left
-abbrev pub On : List ℕ → ℕ → List Frame → Type 0
-On x o [] = ⊥
-On x o (f ∷ fs) = ((f.name.now ≡ x) × (f.start ≡ o)) ⊎ On x o fs
+abbrev pub On : List Named → List ℕ → ℕ → List Frame → Type 0
+On ns x o [] = ⊥
+On ns x o (f ∷ fs) = ((name_at ns f.at ≡ x) × (f.start ≡ o)) ⊎ On ns x o fs
 
-module _ (C : List ℕ → Option Shape) where
+module _ (C : List ℕ → Option Shape) (ns : List Named) where
   -- of a frame that has taken no byte
   pub record Top (o : ℕ) (f : Frame) : Type 0 where
     pub low : o ≤ f.start
-    pub only_empty : f.start ≡ o → AllOnlyEmpty C (remaining f.rest) → OnlyEmpty C f.name.now
-    pub needs : f.start ≡ o → (d : Shape) × (C f.name.now ≡ Some d) × ((p : List ℕ) → IsIn p (remaining f.rest) → IsIn p (required_by d))
+    pub only_empty : f.start ≡ o → AllOnlyEmpty C (remaining ns f.rest) → OnlyEmpty C (name_at ns f.at)
+    pub needs : f.start ≡ o → (d : Shape) × (C (name_at ns f.at) ≡ Some d) × ((p : List ℕ) → IsIn p (remaining ns f.rest) → IsIn p (required_by d))
 
   -- the same, above the open name y, that was opened with s bytes left
   pub record Link (o : ℕ) (f : Frame) (y : List ℕ) (s : ℕ) : Type 0 where
     pub low : o ≤ f.start
     pub same : f.start ≡ o → s ≡ o
-    pub only_empty : f.start ≡ o → OnlyEmpty C y → AllOnlyEmpty C (remaining f.rest) → OnlyEmpty C f.name.now
-    pub needs : f.start ≡ o → (d : Shape) × (C f.name.now ≡ Some d) × IsIn y (required_by d) × ((p : List ℕ) → IsIn p (remaining f.rest) → IsIn p (required_by d))
+    pub only_empty : f.start ≡ o → OnlyEmpty C y → AllOnlyEmpty C (remaining ns f.rest) → OnlyEmpty C (name_at ns f.at)
+    pub needs : f.start ≡ o → (d : Shape) × (C (name_at ns f.at) ≡ Some d) × IsIn y (required_by d) × ((p : List ℕ) → IsIn p (remaining ns f.rest) → IsIn p (required_by d))
 
   abbrev pub Chain : ℕ → List Frame → List ℕ → ℕ → Type 0
   Chain o [] y s = ⊤
-  Chain o (f ∷ fs) y s = Link o f y s × Chain o fs f.name.now f.start
+  Chain o (f ∷ fs) y s = Link o f y s × Chain o fs (name_at ns f.at) f.start
 
   pub record Walk (root bytes : List ℕ) (T : List ℕ → Option Mark) (fs : List Frame) (f : Frame) (rest : List ℕ) (L : List (List ℕ)) : Type 0 where
-    pub forth : Member C root bytes → Members C (pending (f ∷ fs)) rest
-    pub back : Members C (pending (f ∷ fs)) rest → Member C root bytes
-    pub reached : (x : List ℕ) → IsIn x (pending (f ∷ fs)) → Reached C root x
+    pub forth : Member C root bytes → Members C (pending ns (f ∷ fs)) rest
+    pub back : Members C (pending ns (f ∷ fs)) rest → Member C root bytes
+    pub reached : (x : List ℕ) → IsIn x (pending ns (f ∷ fs)) → Reached C root x
     pub empty : (x : List ℕ) → T x ≡ Some Empty → OnlyEmpty C x
-    pub here : (x : List ℕ) → T x ≡ Some (Open (length rest)) → On x (length rest) (f ∷ fs)
+    pub here : (x : List ℕ) → T x ≡ Some (Open (length rest)) → On ns x (length rest) (f ∷ fs)
     pub past : (x : List ℕ) (n : ℕ) → T x ≡ Some (Open n) → length rest ≤ n
     pub top : Top (length rest) f
-    pub chain : Chain (length rest) fs f.name.now f.start
+    pub chain : Chain (length rest) fs (name_at ns f.at) f.start
     pub distinct : Distinct L
     pub defined : (x : List ℕ) → IsIn x L → IsDefined C x
     pub marked : (x : List ℕ) → IsIn x L → (T x ≡ Some Empty) ⊎ (T x ≡ Some (Open (length rest)))
@@ -64,11 +66,11 @@ module _ (C : List ℕ → Option Shape) where
   from_root : {root x : List ℕ} (ps : List (List ℕ)) → ps ≡ root ∷ [] → IsIn x (ps ++ []) → Reached C root x
   from_root {root} {x} ps e a = subst (λ y. Reached C root y) (sym (among_one (subst (λ l. IsIn x (l ++ [])) e a))) stays
 
-  pub walk_start : {root bytes : List ℕ} {T : List ℕ → Option Mark} (f : Frame) → ((x : List ℕ) → T x ≡ None) → length bytes < f.start → remaining f.rest ≡ root ∷ [] → Walk root bytes T [] f bytes []
+  pub walk_start : {root bytes : List ℕ} {T : List ℕ → Option Mark} (f : Frame) → ((x : List ℕ) → T x ≡ None) → length bytes < f.start → remaining ns f.rest ≡ root ∷ [] → Walk root bytes T [] f bytes []
   walk_start {root} {bytes} f none low e = record {
-    forth = all_of (remaining f.rest) e;
-    back = of_all (remaining f.rest) e;
-    reached = λ x a. from_root (remaining f.rest) e a;
+    forth = all_of (remaining ns f.rest) e;
+    back = of_all (remaining ns f.rest) e;
+    reached = λ x a. from_root (remaining ns f.rest) e a;
     empty = λ x h. let n = none x in cc;
     here = λ x h. let n = none x in cc;
     past = λ x k h. let n = none x in cc;
@@ -80,10 +82,10 @@ module _ (C : List ℕ → Option Shape) where
   }
 
   -- copies of a name that is known to be empty are passed over
-  pub walk_skip : {root bytes rest p : List ℕ} {T : List ℕ → Option Mark} {fs : List Frame} {f : Frame} {L : List (List ℕ)} (k : ℕ) (r : Rest) → Walk root bytes T fs f rest L → T p ≡ Some Empty → remaining f.rest ≡ replicate (suc k) p ++ remaining r → Walk root bytes T fs (with_rest f r) rest L
+  pub walk_skip : {root bytes rest p : List ℕ} {T : List ℕ → Option Mark} {fs : List Frame} {f : Frame} {L : List (List ℕ)} (k : ℕ) (r : Rest) → Walk root bytes T fs f rest L → T p ≡ Some Empty → remaining ns f.rest ≡ replicate (suc k) p ++ remaining ns r → Walk root bytes T fs (with_rest f r) rest L
   walk_skip {root} {bytes} {rest} {p} {T} {fs} {f} {L} k r w t e =
       let h = w.empty p t in
-      let same : pending (f ∷ fs) ≡ replicate (suc k) p ++ (remaining r ++ pending fs) = ap (λ l. l ++ pending fs) e ∙ append_assoc (replicate (suc k) p) (remaining r) (pending fs) in
+      let same : pending ns (f ∷ fs) ≡ replicate (suc k) p ++ (remaining ns r ++ pending ns fs) = ap (λ l. l ++ pending ns fs) e ∙ append_assoc (replicate (suc k) p) (remaining ns r) (pending ns fs) in
       record {
         forth = λ m. pass C (suc k) h (subst (λ l. Members C l rest) same (w.forth m));
         back = λ m. w.back (subst (λ l. Members C l rest) (sym same) (unpass C (suc k) h m));
@@ -93,7 +95,7 @@ module _ (C : List ℕ → Option Shape) where
         past = w.past;
         top = record {
           low = w.top.low;
-          only_empty = λ s a. w.top.only_empty s (subst (λ l. AllOnlyEmpty C l) (sym e) (only_empty_copies C (remaining r) (suc k) h a));
+          only_empty = λ s a. w.top.only_empty s (subst (λ l. AllOnlyEmpty C l) (sym e) (only_empty_copies C (remaining ns r) (suc k) h a));
           needs = λ s. let n = w.top.needs s in (n.0, n.1, λ q a. n.2 q (subst (λ l. IsIn q l) (sym e) (among_right (replicate (suc k) p) a)));
         };
         chain = w.chain;
@@ -102,7 +104,7 @@ module _ (C : List ℕ → Option Shape) where
         marked = w.marked;
       }
     where
-      on_with : {x : List ℕ} {o : ℕ} (f : Frame) (r : Rest) (fs : List Frame) → On x o (f ∷ fs) → On x o (with_rest f r ∷ fs)
+      on_with : {x : List ℕ} {o : ℕ} (f : Frame) (r : Rest) (fs : List Frame) → On ns x o (f ∷ fs) → On ns x o (with_rest f r ∷ fs)
       on_with f r fs (inl h) = inl h
       on_with f r fs (inr h) = inr h
 
@@ -117,9 +119,9 @@ module _ (C : List ℕ → Option Shape) where
   undefined_none e (of_choice p listed m) = cc
 
   -- the last name is passed: a frame above follows
-  pub walk_up : {root bytes rest : List ℕ} {T : List ℕ → Option Mark} {fs : List Frame} {f h : Frame} {L : List (List ℕ)} → Walk root bytes T (h ∷ fs) f rest L → remaining f.rest ≡ [] → (f.start ≡ length rest → ⊥) → Walk root bytes T fs h rest L
+  pub walk_up : {root bytes rest : List ℕ} {T : List ℕ → Option Mark} {fs : List Frame} {f h : Frame} {L : List (List ℕ)} → Walk root bytes T (h ∷ fs) f rest L → remaining ns f.rest ≡ [] → (f.start ≡ length rest → ⊥) → Walk root bytes T fs h rest L
   walk_up {root} {bytes} {rest} {T} {fs} {f} {h} {L} w e far =
-      let same : pending (f ∷ h ∷ fs) ≡ pending (h ∷ fs) = ap (λ l. l ++ pending (h ∷ fs)) e in
+      let same : pending ns (f ∷ h ∷ fs) ≡ pending ns (h ∷ fs) = ap (λ l. l ++ pending ns (h ∷ fs)) e in
       record {
         forth = λ m. subst (λ l. Members C l rest) same (w.forth m);
         back = λ m. w.back (subst (λ l. Members C l rest) (sym same) m);
@@ -135,20 +137,20 @@ module _ (C : List ℕ → Option Shape) where
       }
 
   -- and has turned out to be empty
-  pub walk_up_empty : {root bytes rest : List ℕ} {T U : List ℕ → Option Mark} {fs : List Frame} {f h : Frame} {L : List (List ℕ)} → Walk root bytes T (h ∷ fs) f rest L → remaining f.rest ≡ [] → f.start ≡ length rest → Updated T U f.name.now Empty → Walk root bytes U fs h rest L
+  pub walk_up_empty : {root bytes rest : List ℕ} {T U : List ℕ → Option Mark} {fs : List Frame} {f h : Frame} {L : List (List ℕ)} → Walk root bytes T (h ∷ fs) f rest L → remaining ns f.rest ≡ [] → f.start ≡ length rest → Updated T U (name_at ns f.at) Empty → Walk root bytes U fs h rest L
   walk_up_empty {root} {bytes} {rest} {T} {U} {fs} {f} {h} {L} w e at u =
-      let same : pending (f ∷ h ∷ fs) ≡ pending (h ∷ fs) = ap (λ l. l ++ pending (h ∷ fs)) e in
-      let is : OnlyEmpty C f.name.now = w.top.only_empty at (subst (λ l. AllOnlyEmpty C l) (sym e) tt) in
+      let same : pending ns (f ∷ h ∷ fs) ≡ pending ns (h ∷ fs) = ap (λ l. l ++ pending ns (h ∷ fs)) e in
+      let is : OnlyEmpty C (name_at ns f.at) = w.top.only_empty at (subst (λ l. AllOnlyEmpty C l) (sym e) tt) in
       record {
         forth = λ m. subst (λ l. Members C l rest) same (w.forth m);
         back = λ m. w.back (subst (λ l. Members C l rest) (sym same) m);
         reached = λ x a. w.reached x (subst (λ l. IsIn x l) (sym same) a);
-        empty = λ x q. elim (name_cases x f.name.now) [ inl k ↦ subst (λ y. OnlyEmpty C y) (sym k) is | inr k ↦ w.empty x (sym (u.others x k) ∙ q) ];
-        here = λ x q. elim (name_cases x f.name.now) [
+        empty = λ x q. elim (name_cases x (name_at ns f.at)) [ inl k ↦ subst (λ y. OnlyEmpty C y) (sym k) is | inr k ↦ w.empty x (sym (u.others x k) ∙ q) ];
+        here = λ x q. elim (name_cases x (name_at ns f.at)) [
           | inl k ↦ (let a = u.here in let b = ap U k in cc)
           | inr k ↦ elim (w.here x (sym (u.others x k) ∙ q)) [ inl j ↦ absurd (k (sym j.0)) | inr j ↦ j ]
         ];
-        past = λ x n q. elim (name_cases x f.name.now) [ inl k ↦ (let a = u.here in let b = ap U k in cc) | inr k ↦ w.past x n (sym (u.others x k) ∙ q) ];
+        past = λ x n q. elim (name_cases x (name_at ns f.at)) [ inl k ↦ (let a = u.here in let b = ap U k in cc) | inr k ↦ w.past x n (sym (u.others x k) ∙ q) ];
         top = record {
           low = w.chain.0.low;
           only_empty = λ s a. w.chain.0.only_empty s is a;
@@ -170,18 +172,18 @@ module _ (C : List ℕ → Option Shape) where
           go (name_cases x p)
 
   -- all names are passed
-  pub walk_end : {root bytes rest : List ℕ} {T : List ℕ → Option Mark} {f : Frame} {L : List (List ℕ)} → Walk root bytes T [] f rest L → remaining f.rest ≡ [] → (Member C root bytes → rest ≡ []) × (rest ≡ [] → Member C root bytes)
+  pub walk_end : {root bytes rest : List ℕ} {T : List ℕ → Option Mark} {f : Frame} {L : List (List ℕ)} → Walk root bytes T [] f rest L → remaining ns f.rest ≡ [] → (Member C root bytes → rest ≡ []) × (rest ≡ [] → Member C root bytes)
   walk_end {rest = rest} {f = f} w e =
-      let same : pending (f ∷ []) ≡ [] = ap (λ l. l ++ []) e in
+      let same : pending ns (f ∷ []) ≡ [] = ap (λ l. l ++ []) e in
       ((λ m. nothing (subst (λ l. Members C l rest) same (w.forth m))), λ h. w.back (subst (λ l. Members C l rest) (sym same) (subst (λ b. Members C [] b) (sym h) no_members)))
     where
       nothing : {bs : List ℕ} → Members C [] bs → bs ≡ []
       nothing no_members = refl
 
   -- the next name is opened: what is kept of the members
-  module _ {root bytes rest p : List ℕ} {T : List ℕ → Option Mark} {fs : List Frame} {f : Frame} {L : List (List ℕ)} (w : Walk root bytes T fs f rest L) (r : Rest) (e : remaining f.rest ≡ p ∷ remaining r) where
-    next_is : pending (f ∷ fs) ≡ p ∷ (remaining r ++ pending fs)
-    next_is = ap (λ l. l ++ pending fs) e
+  module _ {root bytes rest p : List ℕ} {T : List ℕ → Option Mark} {fs : List Frame} {f : Frame} {L : List (List ℕ)} (w : Walk root bytes T fs f rest L) (r : Rest) (e : remaining ns f.rest ≡ p ∷ remaining ns r) where
+    next_is : pending ns (f ∷ fs) ≡ p ∷ (remaining ns r ++ pending ns fs)
+    next_is = ap (λ l. l ++ pending ns fs) e
 
     above : {o s : ℕ} → (f.start ≡ o → s ≡ o) → Top o f → Link o (with_rest f r) p s
     above same t = record {
@@ -194,24 +196,24 @@ module _ (C : List ℕ → Option Shape) where
     next_reached : Reached C root p
     next_reached = w.reached p (subst (λ l. IsIn p l) (sym next_is) first)
 
-    reached_more : {d : Shape} (g : Frame) → C p ≡ Some d → ((q : List ℕ) → IsIn q (remaining g.rest) → IsIn q (references d)) → (x : List ℕ) → IsIn x (pending (g ∷ with_rest f r ∷ fs)) → Reached C root x
+    reached_more : {d : Shape} (g : Frame) → C p ≡ Some d → ((q : List ℕ) → IsIn q (remaining ns g.rest) → IsIn q (references d)) → (x : List ℕ) → IsIn x (pending ns (g ∷ with_rest f r ∷ fs)) → Reached C root x
     reached_more {d} g c mentioned x a =
-        let go : IsIn x (remaining g.rest) ⊎ IsIn x (remaining r ++ pending fs) → Reached C root x = elim [
+        let go : IsIn x (remaining ns g.rest) ⊎ IsIn x (remaining ns r ++ pending ns fs) → Reached C root x = elim [
           | inl b ↦ onward d next_reached c (mentioned x b)
           | inr b ↦ w.reached x (subst (λ l. IsIn x l) (sym next_is) (later b))
         ] in
-        go (among_append (remaining g.rest) (remaining r ++ pending fs) a)
+        go (among_append (remaining ns g.rest) (remaining ns r ++ pending ns fs) a)
 
     pub part_reached : Reached C root p
     part_reached = next_reached
 
     -- without a byte
-    pub walk_still : {U : List ℕ → Option Mark} {d : Shape} {n : ℕ} (g : Frame) → n ≡ 0 → C p ≡ Some d → Takes C d rest n (remaining g.rest) → (T p ≡ Some Empty → ⊥) → (T p ≡ Some (Open (length rest)) → ⊥) → Updated T U p (Open (length rest)) → g.name.now ≡ p → g.start ≡ length rest → Walk root bytes U (with_rest f r ∷ fs) g rest (p ∷ L)
+    pub walk_still : {U : List ℕ → Option Mark} {d : Shape} {n : ℕ} (g : Frame) → n ≡ 0 → C p ≡ Some d → Takes C d rest n (remaining ns g.rest) → (T p ≡ Some Empty → ⊥) → (T p ≡ Some (Open (length rest)) → ⊥) → Updated T U p (Open (length rest)) → name_at ns g.at ≡ p → g.start ≡ length rest → Walk root bytes U (with_rest f r ∷ fs) g rest (p ∷ L)
     walk_still {U} {d} {n} g zero_is c t not_empty not_open u name start =
         let at : drop n rest ≡ rest = ap (λ i. drop i rest) zero_is in
         record {
-          forth = λ m. subst (λ b. Members C (remaining g.rest ++ (remaining r ++ pending fs)) b) at (t.forth p (remaining r ++ pending fs) c (subst (λ l. Members C l rest) next_is (w.forth m)));
-          back = λ m. w.back (subst (λ l. Members C l rest) (sym next_is) (t.back p (remaining r ++ pending fs) c (subst (λ b. Members C (remaining g.rest ++ (remaining r ++ pending fs)) b) (sym at) m)));
+          forth = λ m. subst (λ b. Members C (remaining ns g.rest ++ (remaining ns r ++ pending ns fs)) b) at (t.forth p (remaining ns r ++ pending ns fs) c (subst (λ l. Members C l rest) next_is (w.forth m)));
+          back = λ m. w.back (subst (λ l. Members C l rest) (sym next_is) (t.back p (remaining ns r ++ pending ns fs) c (subst (λ b. Members C (remaining ns g.rest ++ (remaining ns r ++ pending ns fs)) b) (sym at) m)));
           reached = reached_more g c t.mentioned;
           empty = λ x h. elim (name_cases x p) [ inl q ↦ (let a = u.here in let b = ap U q in cc) | inr q ↦ w.empty x (sym (u.others x q) ∙ h) ];
           here = λ x h. elim (name_cases x p) [ inl q ↦ inl (name ∙ sym q, start) | inr q ↦ inr (on_with f r fs (w.here x (sym (u.others x q) ∙ h))) ];
@@ -227,7 +229,7 @@ module _ (C : List ℕ → Option Shape) where
           marked = λ x a. also_marked u w.marked x a;
         }
       where
-        on_with : {x : List ℕ} {o : ℕ} (f : Frame) (r : Rest) (fs : List Frame) → On x o (f ∷ fs) → On x o (with_rest f r ∷ fs)
+        on_with : {x : List ℕ} {o : ℕ} (f : Frame) (r : Rest) (fs : List Frame) → On ns x o (f ∷ fs) → On ns x o (with_rest f r ∷ fs)
         on_with f r fs (inl h) = inl h
         on_with f r fs (inr h) = inr h
 
@@ -242,18 +244,18 @@ module _ (C : List ℕ → Option Shape) where
             go (f x a) (name_cases x p)
 
     -- with some bytes: no frame has taken none since
-    pub walk_on : {d : Shape} {n : ℕ} (g : Frame) → 0 < n → C p ≡ Some d → Takes C d rest n (remaining g.rest) → g.name.now ≡ p → g.start ≡ length rest → Walk root bytes T (with_rest f r ∷ fs) g (drop n rest) []
+    pub walk_on : {d : Shape} {n : ℕ} (g : Frame) → 0 < n → C p ≡ Some d → Takes C d rest n (remaining ns g.rest) → name_at ns g.at ≡ p → g.start ≡ length rest → Walk root bytes T (with_rest f r ∷ fs) g (drop n rest) []
     walk_on {d} {n} g more c t name start =
         let less : length (drop n rest) < length rest = (let i = t.within in let k = length-drop n rest in omega (arith, i, k)) in
         record {
-          forth = λ m. t.forth p (remaining r ++ pending fs) c (subst (λ l. Members C l rest) next_is (w.forth m));
-          back = λ m. w.back (subst (λ l. Members C l rest) (sym next_is) (t.back p (remaining r ++ pending fs) c m));
+          forth = λ m. t.forth p (remaining ns r ++ pending ns fs) c (subst (λ l. Members C l rest) next_is (w.forth m));
+          back = λ m. w.back (subst (λ l. Members C l rest) (sym next_is) (t.back p (remaining ns r ++ pending ns fs) c m));
           reached = reached_more g c t.mentioned;
           empty = w.empty;
           here = λ x h. let k = w.past x (length (drop n rest)) h in absurd (omega (arith, k, less));
           past = λ x k h. let i = w.past x k h in omega (arith, i, less);
           top = start_top (length (drop n rest)) g (omega (arith, start, less));
-          chain = (far_link (with_rest f r) _ _ (let k = w.top.low in omega (arith, k, less)), far_chain fs f.name.now f.start less w.chain);
+          chain = (far_link (with_rest f r) _ _ (let k = w.top.low in omega (arith, k, less)), far_chain fs (name_at ns f.at) f.start less w.chain);
           distinct = distinct_none;
           defined = λ x a. elim a [ ];
           marked = λ x a. elim a [ ];
@@ -264,7 +266,7 @@ module _ (C : List ℕ → Option Shape) where
 
         far_chain : {o u : ℕ} (fs : List Frame) (y : List ℕ) (s : ℕ) → u < o → Chain o fs y s → Chain u fs y s
         far_chain [] y s h c = tt
-        far_chain (f ∷ fs) y s h c = (far_link f y s (let k = c.0.low in omega (arith, k)), far_chain fs f.name.now f.start h c.1)
+        far_chain (f ∷ fs) y s h c = (far_link f y s (let k = c.0.low in omega (arith, k)), far_chain fs (name_at ns f.at) f.start h c.1)
 
     -- ---- answers
     -- where no member of the next name begins, the bytes are no member
@@ -275,10 +277,10 @@ module _ (C : List ℕ → Option Shape) where
     leads_back h m =
         let l = on_leads (length rest) fs f w.chain (w.here p h) in
         let n = w.top.needs l.0 in
-        not_required C m.2 (f.name.now, n.0, l.1, n.1, n.2 p (subst (λ l. IsIn p l) (sym e) first))
+        not_required C m.2 (name_at ns f.at, n.0, l.1, n.1, n.2 p (subst (λ l. IsIn p l) (sym e) first))
       where
-        on_leads : {x : List ℕ} (o : ℕ) (fs : List Frame) (f : Frame) → Chain o fs f.name.now f.start → On x o (f ∷ fs) → (f.start ≡ o) × Reaches C required_by x f.name.now
-        on_leads o fs f c (inl h) = (h.1, subst (λ y. Reaches C required_by y f.name.now) h.0 stays)
+        on_leads : {x : List ℕ} (o : ℕ) (fs : List Frame) (f : Frame) → Chain o fs (name_at ns f.at) f.start → On ns x o (f ∷ fs) → (f.start ≡ o) × Reaches C required_by x (name_at ns f.at)
+        on_leads o fs f c (inl h) = (h.1, subst (λ y. Reaches C required_by y (name_at ns f.at)) h.0 stays)
         on_leads o [] f c (inr h) = absurd h
         on_leads o (g ∷ fs) f c (inr h) =
             let l = on_leads o fs g c.1 h in

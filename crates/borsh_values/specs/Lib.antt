@@ -9,3 +9,6 @@ pub mod Decoding
 pub mod Encoded
 pub mod Steps
 pub mod TagTables
+pub mod Layouts
+pub mod Free
+pub mod Passing

@@ -1,8 +1,6 @@
 -- What `is_member` answers.
-use Rattle.std.specs.Prelude.{◌≡◌, ◌⊎◌, ⊤, ℕ, suc, ◌-◌, ◌*◌, List, [], length, Option, Some, None, MatchOption, Result, IfOk, String}
-use Rattle.std.specs.Borrow.{Bor}
-use Rattle.std.specs.BTreeMap.{BTreeMap, btree_map_len, get_by_text}
-use Rattle.borsh_walks.specs.Definitions.{definitions_in}
+use Rattle.std.specs.Prelude.{◌≡◌, ⊤, ℕ, suc, ◌-◌, ◌*◌, List, [], length, Option, Some, Result, IfOk, String}
+use Rattle.std.specs.BTreeMap.{BTreeMap, btree_map_len}
 use Rattle.borsh_walks.specs.declared.definition.Definition.{Definition}
 use Rattle.borsh_walks.specs.Container.{Shape, Member, Reached, IsValid}
 use Rattle.borsh_walks.specs.RulesAnswer.{KeepsWidths}
@@ -19,10 +17,6 @@ IsUndecided C root x = (d : Shape) × Reached C root x × (C x ≡ Some d) × (U
 -- a name that is reached, and whose definition is ambiguous
 abbrev pub IsAmbiguousName : (List ℕ → Option Shape) → List ℕ → List ℕ → Type 0
 IsAmbiguousName C root x = (d : Shape) × Reached C root x × (C x ≡ Some d) × (UnambiguousShape d → ⊥)
-
--- the definition of a name without a mark; None where it has a mark or no definition
-abbrev pub IsUnseen : {A M : Type 0} → BTreeMap (String A) Definition → (List ℕ → Option M) → List ℕ → Option (Bor Definition) → Type 0
-IsUnseen m T x found = MatchOption found ((T x ≡ None → ⊥) ⊎ (definitions_in m x ≡ None)) (λ d. (T x ≡ None) × (get_by_text m x ≡ Some d.now))
 
 -- where no name is left to read, the bytes that are left decide, of so many
 abbrev pub IsAnswerAtEnd : List ℕ → ℕ → List ℕ → Membership → Type 0

@@ -1,13 +1,14 @@
 -- What the loop over the bytes of a value works on.
-use Rattle.std.specs.Prelude.{◌≡◌, ℕ, Bool, true, false, suc, zero, ◌+◌, ◌*◌, ◌≤◌, ◌<◌, ◌^◌, List, [], ◌∷◌, ◌++◌, length, take, drop, replicate, ℤ, Option, Some, ⊤}
-use Rattle.std.specs.Borrow.{Bor}
+use Rattle.std.specs.Prelude.{◌≡◌, ℕ, Bool, true, false, suc, zero, ◌+◌, ◌*◌, ◌≤◌, ◌<◌, ◌^◌, List, [], ◌∷◌, ◌++◌, length, take, drop, replicate, ℤ, Option, Some, None, get_or, slice_get, ⊤}
 use Rattle.borsh_walks.specs.Container.{Shape, primitive, sequence, product, choice, IsIn, IsListedVariant, tag, Member, Members, references, IsZeroSize}
-use Rattle.borsh_walks.specs.Definitions.{shape_of}
 use Rattle.borsh_walks.specs.RulesAnswer.{KeepsWidths, IsWidth}
 use Rattle.borsh_values.specs.Unambiguous.{DistinctTags, UnambiguousShape}
 use Rattle.borsh_values.specs.Nodes.{Opens}
 use Rattle.borsh_values.specs.Faults.{BeginsWith}
 use Rattle.borsh_values.specs.declared.faults.Reason.TheVariants.{BytesLeft}
+use Rattle.borsh_values.specs.Layouts.{name_at, shape_at, parts_in}
+use Rattle.borsh_values.specs.declared.layout.Named.{Named}
+use Rattle.borsh_values.specs.declared.frames.Step.{Step}
 use Rattle.borsh_values.specs.declared.frames.Rest.{Rest}
 use Rattle.borsh_values.specs.declared.frames.Rest.TheVariants.{Copies, Parts}
 use Rattle.borsh_values.specs.declared.frames.Frame.{Frame}
@@ -20,26 +21,54 @@ use Rattle.borsh_values.specs.declared.members.Mark.TheVariants.{Empty as Marked
 use Rattle.borsh_values.specs.declared.members.Known.{Known}
 use Rattle.borsh_values.specs.declared.members.Known.TheVariants.{Empty, Recursive, New}
 
--- the names that are still to be read
-abbrev pub remaining : Rest → List (List ℕ)
-remaining (Copies e k) = replicate k e.now
-remaining (Parts d i) = drop i (references (shape_of d.now))
+-- the names that are still to be read, of those of a layout
+abbrev pub remaining : List Named → Rest → List (List ℕ)
+remaining ns (Copies at k) = replicate k (name_at ns at)
+remaining ns (Parts at i) = drop i (parts_in (shape_at ns at))
 
 -- at most how many steps of the loop are left at the frame without opening a name
-abbrev pub step_count : Rest → ℕ
-step_count (Copies e zero) = 1
-step_count (Copies e (suc k)) = 2
-step_count (Parts d i) = suc (length (drop i (references (shape_of d.now))))
+abbrev pub step_count : List Named → Rest → ℕ
+step_count ns (Copies at zero) = 1
+step_count ns (Copies at (suc k)) = 2
+step_count ns (Parts at i) = suc (length (drop i (parts_in (shape_at ns at))))
 
 -- after one part of a definition fewer steps are left
-abbrev pub StepsOn : Rest → Rest → Type 0
-StepsOn (Copies e k) r = ⊤
-StepsOn (Parts d i) r = step_count r < step_count (Parts d i)
+abbrev pub StepsOn : List Named → Rest → Rest → Type 0
+StepsOn ns (Copies at k) r = ⊤
+StepsOn ns (Parts at i) r = step_count ns r < step_count ns (Parts at i)
+
+-- the place is one of the layout
+abbrev pub Fits : List Named → Rest → Type 0
+Fits ns (Copies at k) = at < length ns
+Fits ns (Parts at i) = at < length ns
+
+-- the next name, and what follows it
+pub record GoesOn (ns : List Named) (r : Rest) (s : Step) : Type 0 where
+  pub within : s.at < length ns
+  pub fits : Fits ns s.others
+  pub parts : remaining ns r ≡ name_at ns s.at ∷ remaining ns s.others
+  pub moves : StepsOn ns r s.others
+  pub steps : step_count ns s.others ≤ step_count ns r
+
+-- what follows all copies of the next name
+abbrev pub past_copies : Rest → Step → Rest
+past_copies (Copies at k) s = Copies s.at 0
+past_copies (Parts at i) s = s.others
 
 -- the names that are still to be read, those of the last frame first
-abbrev pub pending : List Frame → List (List ℕ)
-pending [] = []
-pending (f ∷ fs) = remaining f.rest ++ pending fs
+abbrev pub pending : List Named → List Frame → List (List ℕ)
+pending ns [] = []
+pending ns (f ∷ fs) = remaining ns f.rest ++ pending ns fs
+
+-- each frame has places of the layout
+abbrev pub AllFit : List Named → List Frame → Type 0
+AllFit ns [] = ⊤
+AllFit ns (f ∷ fs) = (f.at < length ns) × Fits ns f.rest × AllFit ns fs
+
+-- the mark at a place, if there is one
+abbrev pub mark_at : List (Option Mark) → Option ℕ → Option Mark
+mark_at ms None = None
+mark_at ms (Some i) = get_or ms i None
 
 -- names without which a definition that takes no byte has no member
 abbrev pub required_by : Shape → List (List ℕ)
@@ -79,28 +108,28 @@ pub record Takes (C : List ℕ → Option Shape) (d : Shape) (bytes : List ℕ) 
   pub needs : n ≡ 0 → (p : List ℕ) → IsIn p ns → IsIn p (required_by d)
 
 -- what an opened definition takes from the bytes, or that no member begins here, or that the definition is ambiguous or breaks a rule of widths
-abbrev pub OpensAs : (List ℕ → Option Shape) → Shape → List ℕ → Opened → Type 0
-OpensAs C d bytes Undecided = UnambiguousShape d → KeepsWidths d → ⊥
-OpensAs C d bytes (Refused r) = (r ≡ BytesLeft → ⊥) × ((x : List ℕ) → C x ≡ Some d → BeginsWith C x bytes → ⊥)
-OpensAs C d bytes (Taken n r) = Takes C d bytes n (remaining r) × (step_count r ≤ 2 + length (references d))
+abbrev pub OpensAs : (List ℕ → Option Shape) → List Named → Shape → List ℕ → Opened → Type 0
+OpensAs C ns d bytes Undecided = UnambiguousShape d → KeepsWidths d → ⊥
+OpensAs C ns d bytes (Refused r) = (r ≡ BytesLeft → ⊥) × ((x : List ℕ) → C x ≡ Some d → BeginsWith C x bytes → ⊥)
+OpensAs C ns d bytes (Taken n r) = Takes C d bytes n (remaining ns r) × (step_count ns r ≤ 2 + length (references d)) × Fits ns r
 
--- what k elements e of a sequence take behind w bytes of all, where each has m bytes that are listed with it
-abbrev pub TakesElements : ℕ → List ℕ → ℕ → ℕ → ℕ → Opened → Type 0
-TakesElements m e k w all Undecided = ⊥
-TakesElements m e k w all (Refused r) = (r ≡ BytesLeft → ⊥) × (all < w + k * m)
-TakesElements zero e k w all (Taken n r) = (n ≡ w) × (remaining r ≡ replicate k e) × (step_count r ≤ 3)
-TakesElements (suc m) e k w all (Taken n r) = (n ≡ w + k * suc m) × (n ≤ all) × (remaining r ≡ []) × (step_count r ≤ 3)
+-- what k elements at a place of the layout take behind w bytes of all, where each has m bytes that are listed with their sequence
+abbrev pub TakesElements : List Named → ℕ → ℕ → ℕ → ℕ → ℕ → Opened → Type 0
+TakesElements ns m e k w all Undecided = ⊥
+TakesElements ns m e k w all (Refused r) = (r ≡ BytesLeft → ⊥) × (all < w + k * m)
+TakesElements ns zero e k w all (Taken n r) = (n ≡ w) × (remaining ns r ≡ replicate k (name_at ns e)) × (step_count ns r ≤ 3) × Fits ns r
+TakesElements ns (suc m) e k w all (Taken n r) = (n ≡ w + k * suc m) × (n ≤ all) × (remaining ns r ≡ []) × (step_count ns r ≤ 3) × Fits ns r
 
 -- what was found with one variant more
-abbrev pub more_found : Found → Bor (List ℕ) → Found
-more_found Nothing p = One p
-more_found (One q) p = Several
-more_found Several p = Several
+abbrev pub more_found : Found → ℕ → Found
+more_found Nothing i = One i
+more_found (One j) i = Several
+more_found Several i = Several
 
 -- of the variants those are found whose tags are these bytes; where there is no byte, that is all of them
 abbrev pub FoundAs : List (ℤ × List ℕ) → List ℕ → Found → Type 0
 FoundAs vs t Nothing = ((j : ℤ) (q : List ℕ) → IsListedVariant j q vs → tag (length t) j ≡ t → ⊥) × (t ≡ [] → vs ≡ [])
-FoundAs vs t (One p) = (k : ℤ) × IsListedVariant k p.now vs × (tag (length t) k ≡ t) × ((j : ℤ) (q : List ℕ) → IsListedVariant j q vs → tag (length t) j ≡ t → q ≡ p.now) × (t ≡ [] → vs ≡ (k, p.now) ∷ [])
+FoundAs vs t (One i) = (k : ℤ) × (p : List ℕ) × (slice_get vs i ≡ Some (k, p)) × (tag (length t) k ≡ t) × ((j : ℤ) (q : List ℕ) → IsListedVariant j q vs → tag (length t) j ≡ t → q ≡ p) × (t ≡ [] → vs ≡ (k, p) ∷ [])
 FoundAs vs t Several = DistinctTags (length t) vs → ⊥
 
 -- what the mark of a name says where n bytes are left

@@ -1,15 +1,17 @@
 // Where bytes stop being a member, and why.
 ghost use Rattle.borsh_values.specs.Faults.{IsNoMemberAt};
+ghost use Rattle.borsh_values.specs.Layouts.{name_at};
 ghost use Rattle.std.specs.Prelude.{IfOk, ◌≤◌, length};
 
 use crate::frames::{Frame, Rest, Step};
+use crate::layout::{Layout, name_of};
 use crate::members::Membership;
 use crate::numbers::number;
+use crate::opening::definition_at;
 use crate::paths::field_step;
 use crate::tags::variant_at;
 use borsh_walks::Definition;
 use std::alloc::{AllocError, Global};
-use std::collections::BTreeMap;
 use std::fmt;
 
 /// Why no member begins at a place.
@@ -144,64 +146,50 @@ fn part_step<'a>(
 }
 
 // The step from the value of a frame to the part that was last taken from it.
-fn frame_step<'a>(
-    map: &'a BTreeMap<String, Definition>,
-    bytes: &[u8],
-    frame: &Frame<'a>,
-) -> Option<PathStep<'a>> {
+fn frame_step<'a>(layout: &Layout<'a>, bytes: &[u8], frame: &Frame) -> Option<PathStep<'a>> {
     let place = bytes.len().checked_sub(frame.start)?;
+    let definition = definition_at(&layout.names, frame.at)?;
     match frame.rest {
-        Rest::Copies(_, others) => part_step(map.get(frame.name)?, bytes, place, others),
-        Rest::Parts(definition, next) => Some(field_step(definition, next.checked_sub(1)?)),
+        Rest::Copies(_, others) => part_step(definition, bytes, place, others),
+        Rest::Parts(_, next) => Some(field_step(definition, next.checked_sub(1)?)),
     }
-}
-
-/// What was asked: whether the bytes are a member of the root, by the definitions of the map.
-#[derive(Clone, Copy)]
-pub struct Question<'a> {
-    pub alloc: Global,
-    pub root: &'a str,
-    pub map: &'a BTreeMap<String, Definition>,
-    pub bytes: &'a [u8],
 }
 
 /// That no member of the next name begins where `left` bytes are left; `frame` is the last of the open frames, and
 /// `step` leads on from it.
 pub fn no_member<'a>(
-    asked: Question<'a>,
-    open: &Vec<Frame<'a>>,
-    frame: Frame<'a>,
-    step: Step<'a>,
+    alloc: Global,
+    layout: &Layout<'a>,
+    bytes: &[u8],
+    open: &Vec<Frame>,
+    frame: Frame,
+    step: Step,
     left: usize,
     reason: Reason,
 ) -> Result<Membership<'a>, AllocError>
-    requires { left ≤ length asked.bytes.now }
-    ensures { let all = length asked.entry.bytes.now in
-        IfOk result (λ a. IsNoMemberAt all left step.entry.part.now reason a) }
+    requires { left ≤ length bytes.now }
+    ensures { let all = length bytes.now in
+        let name = name_at layout.now.names.items step.at in
+        IfOk result (λ a. IsNoMemberAt all left name reason a) }
 {
-    let Question {
-        alloc,
-        root,
-        map,
-        bytes,
-    } = asked;
     let mut steps: Vec<PathStep<'a>> = Vec::new(alloc);
     for frame in open.as_slice() {
-        if let Some(step) = frame_step(map, bytes, frame) {
+        if let Some(step) = frame_step(layout, bytes, frame) {
             steps.push(step)?;
         }
     }
     let last = Frame {
-        name: frame.name,
+        at: frame.at,
         start: frame.start,
         rest: step.others,
     };
-    if let Some(step) = frame_step(map, bytes, &last) {
+    if let Some(step) = frame_step(layout, bytes, &last) {
         steps.push(step)?;
     }
+    let root = layout.root;
     Ok(Membership::NoMember(Fault {
         offset: bytes.len() - left,
-        name: step.part,
+        name: name_of(&layout.names, step.at),
         reason,
         path: Path { root, steps },
     }))

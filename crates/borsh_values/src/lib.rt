@@ -10,7 +10,9 @@
 mod encoding;
 mod faults;
 mod frames;
+mod free;
 mod keys;
+mod layout;
 mod members;
 mod nodes;
 mod numbers;
@@ -22,6 +24,7 @@ mod unambiguous;
 
 pub use encoding::encode_value;
 pub use faults::{Fault, Path, PathStep, Reason};
+pub use layout::Layout;
 pub use members::{Decoded, Membership, decode, is_member, is_member_counted};
 pub use nodes::{Node, count_of, elements_of, encode, variant_of};
 pub use paths::Paths;

@@ -1,18 +1,22 @@
 // Whether bytes are a member of a name.
 ghost use Rattle.borsh_values.specs.Membership.{AnswersMembership, IsAnswer, IsAnswerAtEnd, most_opened};
-ghost use Rattle.borsh_values.specs.Steps.{KnownAs};
-ghost use Rattle.borsh_walks.specs.Tables.{mark_of};
+ghost use Rattle.borsh_values.specs.Free.{KnowsSizes};
+ghost use Rattle.borsh_values.specs.Passing.{PassesFree};
+ghost use Rattle.borsh_values.specs.Layouts.{IsLaidOut};
+ghost use Rattle.borsh_values.specs.Steps.{Fits, KnownAs};
 ghost use Rattle.borsh_walks.specs.Definitions.{definitions_in};
 ghost use Rattle.borsh_values.specs.Nodes.{AreOffsets, Nodes, views};
 ghost use Rattle.borsh_values.specs.Decoding.{DecodesValue, HasAtMost};
 ghost use Rattle.borsh_values.specs.declared.members.Membership.TheVariants.{Member as IsMember};
 ghost use Rattle.borsh_walks.specs.ZeroAnswer.{ZeroTable};
-ghost use Rattle.std.specs.Prelude.{IfOk, ◌+◌, ◌-◌, ◌≤◌, ◌≡◌, ◌∷◌, [], length, drop, take, true};
+ghost use Rattle.std.specs.Prelude.{IfOk, IfSome, None, Some, ◌+◌, ◌-◌, ◌<◌, ◌≤◌, ◌≡◌, ◌∷◌, [], get_or, length, drop, replicate, slice_set, take, true};
 
-use crate::faults::{Fault, Path, Question, Reason, no_member};
+use crate::faults::{Fault, Path, Reason, no_member};
 use crate::frames::{Frame, Opened, Rest, after_copies, has_parts, next_part};
+use crate::free::free_front;
+use crate::layout::{Layout, name_of};
 use crate::nodes::{Node, list_node};
-use crate::opening::open_definition;
+use crate::opening::{definition_at, open_definition};
 use crate::tag_tables::AtKey;
 use borsh_walks::Definition;
 use std::alloc::{AllocError, Global};
@@ -39,7 +43,7 @@ pub enum Mark {
     Open(usize),
 }
 
-/// What a table says of a name that is next.
+/// What the marks say of a name that is next.
 #[derive(Clone, Copy)]
 pub enum Known {
     /// Its only member is the empty one.
@@ -50,13 +54,14 @@ pub enum Known {
     New,
 }
 
-fn look_up<'a>(table: &BTreeMap<&'a str, Mark>, name: &str, left: usize) -> Known
-    ensures { KnownAs (mark_of table.now name.now) left result }
+fn look_up(marks: &Vec<Option<Mark>>, at: usize, left: usize) -> Known
+    requires { at < length marks.now.items }
+    ensures { KnownAs (get_or marks.now.items at None) left result }
 {
-    match table.get(name) {
+    match marks[at] {
         Some(Mark::Empty) => Known::Empty,
-        Some(Mark::Open(at)) => {
-            if *at == left {
+        Some(Mark::Open(start)) => {
+            if start == left {
                 Known::Recursive
             } else {
                 Known::New
@@ -64,6 +69,26 @@ fn look_up<'a>(table: &BTreeMap<&'a str, Mark>, name: &str, left: usize) -> Know
         }
         None => Known::New,
     }
+}
+
+fn set_mark(marks: &mut Vec<Option<Mark>>, at: usize, mark: Mark)
+    requires { at < length marks.old.items }
+    ensures { marks.new.items ≡ slice_set marks.old.items at (Some mark) }
+{
+    marks[at] = Some(mark);
+}
+
+// No marks for so many names.
+fn unmarked(alloc: Global, count: usize) -> Result<Vec<Option<Mark>>, AllocError>
+    ensures { IfOk result (λ v. v.items ≡ replicate count None) }
+{
+    let mut marks: Vec<Option<Mark>> = Vec::new(alloc);
+    let mut done: usize = 0;
+    while done < count {
+        marks.push(None)?;
+        done += 1;
+    }
+    Ok(marks)
 }
 
 // The first bytes.
@@ -80,6 +105,38 @@ fn after(bytes: &[u8], taken: usize) -> &[u8]
     ensures { result.now ≡ drop taken bytes.now }
 {
     &bytes[taken..]
+}
+
+// What is left of the names and of the bytes behind those that are passed at once.
+#[derive(Clone, Copy)]
+pub struct Behind<'a> {
+    pub rest: Rest,
+    pub left: &'a [u8],
+}
+
+// Passes names of free size, unless nodes are wanted.
+fn pass_free<'a>(
+    layout: &Layout<'_>,
+    wanted: bool,
+    rest: Rest,
+    left: &'a [u8],
+) -> Option<Behind<'a>>
+    requires laid_out { IsLaidOut layout.now }
+    requires free { KnowsSizes layout.now }
+    requires fits { Fits layout.now.names.items rest }
+    ensures { let C = definitions_in layout.now.map.now in
+        IfSome result (λ b. PassesFree C layout.now.names.items wanted rest left.now b) }
+{
+    if wanted {
+        return None;
+    }
+    match free_front(layout, rest, left.len()) {
+        Some(passed) => Some(Behind {
+            rest: passed.rest,
+            left: after(left, passed.taken),
+        }),
+        None => None,
+    }
 }
 
 // How many bytes come before those that are left.
@@ -162,11 +219,7 @@ pub fn is_member_counted<'a>(
     ensures risen { opened.old ≤ opened.new }
     ensures bounded_work { opened.new ≤ opened.old + most_opened bytes.now map.now }
 {
-    let mut zeros: BTreeMap<&'a str, bool> = BTreeMap::new(alloc);
-    let mut nodes: Vec<Node<'a>> = Vec::new(alloc);
-    decide(
-        alloc, root, map, bytes, false, &mut zeros, &mut nodes, opened,
-    )
+    Layout::new(alloc, root, map)?.is_member_counted(alloc, bytes, opened)
 }
 
 /// The nodes of a value, where bytes are a member.
@@ -204,22 +257,76 @@ pub fn decode<'a>(
     ensures value { DecodesValue (definitions_in map.now) root.now bytes.now result }
     ensures bounded_work { IfOk result (λ a. HasAtMost (most_opened bytes.now map.now) a) }
 {
-    let mut zeros: BTreeMap<&'a str, bool> = BTreeMap::new(alloc);
-    let mut nodes: Vec<Node<'a>> = Vec::new(alloc);
-    let mut opened = 0;
-    match decide(
-        alloc,
-        root,
-        map,
-        bytes,
-        true,
-        &mut zeros,
-        &mut nodes,
-        &mut opened,
-    )? {
-        Membership::Member => Ok(Decoded::Nodes(nodes)),
-        Membership::NoMember(fault) => Ok(Decoded::NoMember(fault)),
-        Membership::Ambiguous(name) => Ok(Decoded::Ambiguous(name)),
+    Layout::new(alloc, root, map)?.decode(alloc, bytes)
+}
+
+impl<'a> Layout<'a> {
+    /// As [`is_member`], for a layout that was made before. Left open: as there.
+    ///
+    /// ```
+    /// let layout = Layout::new(alloc, "Vec<u8>", &definitions)?;
+    /// let answer = layout.is_member(alloc, b"\x01\x00\x00\x00\x07")?;
+    /// ```
+    pub fn is_member(&self, alloc: Global, bytes: &'a [u8]) -> Result<Membership<'a>, AllocError>
+        requires laid_out { IsLaidOut self.now }
+        requires sizes { KnowsSizes self.now }
+        ensures { let C = definitions_in self.now.map.now in
+            AnswersMembership C self.now.root.now bytes.now result }
+    {
+        let mut opened = 0;
+        self.is_member_counted(alloc, bytes, &mut opened)
+    }
+
+    // As `is_member_counted`.
+    fn is_member_counted(
+        &self,
+        alloc: Global,
+        bytes: &'a [u8],
+        opened: &mut u64,
+    ) -> Result<Membership<'a>, AllocError>
+        requires laid_out { IsLaidOut self.now }
+        requires sizes { KnowsSizes self.now }
+        ensures answer { let C = definitions_in self.now.map.now in
+            AnswersMembership C self.now.root.now bytes.now result }
+        ensures risen { opened.old ≤ opened.new }
+        ensures bounded_work { opened.new ≤ opened.old + most_opened bytes.now self.now.map.now }
+    {
+        let mut zeros: BTreeMap<&'a str, bool> = BTreeMap::new(alloc);
+        let mut nodes: Vec<Node<'a>> = Vec::new(alloc);
+        decide(alloc, self, bytes, false, &mut zeros, &mut nodes, opened)
+    }
+
+    /// As [`decode`], for a layout that was made before. Left open: as there.
+    ///
+    /// ```
+    /// let layout = Layout::new(alloc, "Vec<u8>", &definitions)?;
+    /// for record in records {
+    ///     let decoded = layout.decode(alloc, record)?;
+    /// }
+    /// ```
+    pub fn decode(&self, alloc: Global, bytes: &'a [u8]) -> Result<Decoded<'a>, AllocError>
+        requires laid_out { IsLaidOut self.now }
+        requires sizes { KnowsSizes self.now }
+        ensures value { let C = definitions_in self.now.map.now in
+            DecodesValue C self.now.root.now bytes.now result }
+        ensures bounded_work { IfOk result (λ a. HasAtMost (most_opened bytes.now self.now.map.now) a) }
+    {
+        let mut zeros: BTreeMap<&'a str, bool> = BTreeMap::new(alloc);
+        let mut nodes: Vec<Node<'a>> = Vec::new(alloc);
+        let mut opened = 0;
+        match decide(
+            alloc,
+            self,
+            bytes,
+            true,
+            &mut zeros,
+            &mut nodes,
+            &mut opened,
+        )? {
+            Membership::Member => Ok(Decoded::Nodes(nodes)),
+            Membership::NoMember(fault) => Ok(Decoded::NoMember(fault)),
+            Membership::Ambiguous(name) => Ok(Decoded::Ambiguous(name)),
+        }
     }
 }
 
@@ -227,114 +334,147 @@ pub fn decode<'a>(
 // it was read; `idle` counts the names that were begun since the last byte was taken.
 fn decide<'a>(
     alloc: Global,
-    root: &'a str,
-    map: &'a BTreeMap<String, Definition>,
+    layout: &Layout<'a>,
     bytes: &'a [u8],
     wanted: bool,
     zeros: &mut BTreeMap<&'a str, bool>,
     nodes: &mut Vec<Node<'a>>,
     opened: &mut u64,
 ) -> Result<Membership<'a>, AllocError>
-    requires table { ZeroTable (definitions_in map.now) zeros.old }
+    requires laid_out { IsLaidOut layout.now }
+    requires sizes { KnowsSizes layout.now }
+    requires table { ZeroTable (definitions_in layout.now.map.now) zeros.old }
     requires empty { nodes.old.items ≡ [] }
-    ensures answer { IfOk result (λ a. IsAnswer (definitions_in map.now) root.now bytes.now a) }
+    ensures answer { let C = definitions_in layout.now.map.now in
+        IfOk result (λ a. IsAnswer C layout.now.root.now bytes.now a) }
     ensures listed { wanted ≡ true → IfOk result (λ a. a ≡ IsMember →
-        Nodes (definitions_in map.now) (root.now ∷ []) bytes.now (views nodes.new.items)) }
+        Nodes (definitions_in layout.now.map.now) (layout.now.root.now ∷ []) bytes.now (views nodes.new.items)) }
     ensures placed { wanted ≡ true → IfOk result (λ a. AreOffsets 0 nodes.new.items) }
     ensures risen { opened.old ≤ opened.new }
-    ensures bounded_work { opened.new ≤ opened.old + most_opened bytes.now map.now }
+    ensures bounded_work { opened.new ≤ opened.old + most_opened bytes.now layout.now.map.now }
     ensures few_nodes { wanted ≡ true →
-        IfOk result (λ a. length nodes.new.items ≤ most_opened bytes.now map.now) }
+        IfOk result (λ a. length nodes.new.items ≤ most_opened bytes.now layout.now.map.now) }
 {
-    let mut table: BTreeMap<&'a str, Mark> = BTreeMap::new(alloc);
+    let mut marks = unmarked(alloc, layout.names.len())?;
     let mut tags: BTreeMap<&'a str, BTreeMap<u64, AtKey>> = BTreeMap::new(alloc);
-    let mut stack: Vec<Frame<'a>> = Vec::new(alloc);
+    let mut stack: Vec<Frame> = Vec::new(alloc);
     // For the prover: the loop ends after at most so many definitions.
-    let _definitions = map.len();
-    let asked = Question {
-        alloc,
-        root,
-        map,
-        bytes,
-    };
+    let _definitions = layout.map.len();
     let mut left = bytes;
     let mut idle: usize = 0;
     let mut frame = Frame {
-        name: root,
+        at: 0,
         start: bytes.len() + 1,
-        rest: Rest::Copies(root, 1),
+        rest: Rest::Copies(0, 1),
     };
     loop {
-        match next_part(frame.rest) {
-            Some(step) => {
-                let Some(definition) = map.get(step.part) else {
-                    let why = Reason::MissingDefinition;
-                    return no_member(asked, &stack, frame, step, left.len(), why);
-                };
-                match open_definition(alloc, map, &mut tags, step.part, definition, left)? {
-                    Opened::Undecided => return Ok(Membership::Ambiguous(step.part)),
-                    Opened::Refused(why) => {
-                        return no_member(asked, &stack, frame, step, left.len(), why);
-                    }
-                    Opened::Taken(taken, rest) => {
-                        let offset = offset_of(bytes, left);
-                        let depth = stack.len();
-                        let node = Node {
-                            name: step.part,
-                            definition,
-                            bytes: front(left, taken),
-                            offset,
-                            depth,
-                        };
-                        if taken == 0 {
-                            match look_up(&table, step.part, left.len()) {
-                                Known::Empty => frame.rest = after_copies(frame.rest, step),
-                                Known::Recursive => {
-                                    let why = Reason::Recursive;
-                                    return no_member(asked, &stack, frame, step, left.len(), why);
+        match pass_free(layout, wanted, frame.rest, left) {
+            Some(behind) => {
+                frame.rest = behind.rest;
+                left = behind.left;
+                idle = 0;
+            }
+            None => match next_part(layout, frame.rest) {
+                Some(step) => {
+                    let Some(definition) = definition_at(&layout.names, step.at) else {
+                        let why = Reason::MissingDefinition;
+                        return no_member(
+                            alloc,
+                            layout,
+                            bytes,
+                            &stack,
+                            frame,
+                            step,
+                            left.len(),
+                            why,
+                        );
+                    };
+                    let name = name_of(&layout.names, step.at);
+                    match open_definition(
+                        alloc, layout, &mut tags, name, step.at, definition, left,
+                    )? {
+                        Opened::Undecided => return Ok(Membership::Ambiguous(name)),
+                        Opened::Refused(why) => {
+                            return no_member(
+                                alloc,
+                                layout,
+                                bytes,
+                                &stack,
+                                frame,
+                                step,
+                                left.len(),
+                                why,
+                            );
+                        }
+                        Opened::Taken(taken, rest) => {
+                            let offset = offset_of(bytes, left);
+                            let depth = stack.len();
+                            let node = Node {
+                                name,
+                                definition,
+                                bytes: front(left, taken),
+                                offset,
+                                depth,
+                            };
+                            if taken == 0 {
+                                match look_up(&marks, step.at, left.len()) {
+                                    Known::Empty => frame.rest = after_copies(frame.rest, step),
+                                    Known::Recursive => {
+                                        let why = Reason::Recursive;
+                                        return no_member(
+                                            alloc,
+                                            layout,
+                                            bytes,
+                                            &stack,
+                                            frame,
+                                            step,
+                                            left.len(),
+                                            why,
+                                        );
+                                    }
+                                    Known::New => {
+                                        list_node(alloc, wanted, layout.map, zeros, nodes, node)?;
+                                        count_one(opened);
+                                        frame.rest = step.others;
+                                        stack.push(frame)?;
+                                        frame = Frame {
+                                            at: step.at,
+                                            start: left.len(),
+                                            rest,
+                                        };
+                                        set_mark(&mut marks, step.at, Mark::Open(left.len()));
+                                        idle += 1;
+                                    }
                                 }
-                                Known::New => {
-                                    list_node(alloc, wanted, map, zeros, nodes, node)?;
-                                    count_one(opened);
-                                    frame.rest = step.others;
+                            } else {
+                                list_node(alloc, wanted, layout.map, zeros, nodes, node)?;
+                                count_one(opened);
+                                frame.rest = step.others;
+                                idle = 0;
+                                let start = left.len();
+                                left = after(left, taken);
+                                if has_parts(layout, rest) {
                                     stack.push(frame)?;
                                     frame = Frame {
-                                        name: step.part,
-                                        start: left.len(),
+                                        at: step.at,
+                                        start,
                                         rest,
                                     };
-                                    table.insert(step.part, Mark::Open(left.len()))?;
-                                    idle += 1;
                                 }
-                            }
-                        } else {
-                            list_node(alloc, wanted, map, zeros, nodes, node)?;
-                            count_one(opened);
-                            frame.rest = step.others;
-                            idle = 0;
-                            let start = left.len();
-                            left = after(left, taken);
-                            if has_parts(rest) {
-                                stack.push(frame)?;
-                                frame = Frame {
-                                    name: step.part,
-                                    start,
-                                    rest,
-                                };
                             }
                         }
                     }
                 }
-            }
-            None => match stack.pop() {
-                Some(above) => {
-                    if frame.start == left.len() {
-                        table.insert(frame.name, Mark::Empty)?;
+                None => match stack.pop() {
+                    Some(above) => {
+                        if frame.start == left.len() {
+                            set_mark(&mut marks, frame.at, Mark::Empty);
+                        }
+                        frame = above;
                     }
-                    frame = above;
-                }
-                None => return Ok(at_end(alloc, root, bytes, left)),
-            },
+                    None => return Ok(at_end(alloc, layout.root, bytes, left)),
+                },
+            }
         }
     }
 }

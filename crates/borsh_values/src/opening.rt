@@ -1,14 +1,16 @@
 // What the definition of a name takes from the bytes.
+ghost use Rattle.borsh_values.specs.Layouts.{IsLaidOut, name_at, shape_at};
 ghost use Rattle.borsh_values.specs.Nodes.{packed_size};
 ghost use Rattle.borsh_values.specs.Steps.{FitsWidth, OpensAs, TakesElements};
 ghost use Rattle.borsh_values.specs.TagTables.{AreTagTables, KeepsTables, TableFits};
-ghost use Rattle.borsh_walks.specs.Container.{Shape, choice, sequence};
+ghost use Rattle.borsh_walks.specs.Container.{choice, sequence};
 ghost use Rattle.borsh_walks.specs.Definitions.{definitions_in, shape_of};
 ghost use Rattle.borsh_walks.specs.Tables.{mark_of};
-ghost use Rattle.std.specs.Prelude.{◌≡◌, ◌≤◌, ℕ, IfOk, List, OnOk, Option, length, map, string_bytes};
+ghost use Rattle.std.specs.Prelude.{◌≡◌, ◌≤◌, ◌<◌, IfOk, OnOk, Some, length, map, option_map, string_bytes};
 
 use crate::faults::Reason;
-use crate::frames::{Opened, Rest};
+use crate::frames::{Opened, Rest, part_at};
+use crate::layout::{Layout, Named, named_at};
 use crate::numbers::number;
 use crate::tag_tables::{AtKey, find_variant_of};
 use crate::tags::Found;
@@ -29,29 +31,40 @@ fn fits_width(width: u8, end: u64) -> bool
     }
 }
 
-// How many bytes each element has, if they are listed with their sequence: primitives of some bytes; 0 for others.
-fn size_of_element(map: &BTreeMap<String, Definition>, element: &str) -> u64
-    ensures { result ≡ packed_size (definitions_in map.now element.now) }
+/// The definition of the name at a place, if it has one.
+pub fn definition_at<'a>(names: &Vec<Named<'a>>, at: usize) -> Option<&'a Definition>
+    ensures { option_map (λ d. shape_of d.now) result ≡ shape_at names.now.items at }
 {
-    match map.get(element) {
+    match named_at(names, at) {
+        Some(named) => named.definition,
+        None => None,
+    }
+}
+
+// How many bytes each element has, if they are listed with their sequence: primitives of some bytes; 0 for others.
+fn size_of_element(names: &Vec<Named<'_>>, element: usize) -> u64
+    ensures { result ≡ packed_size (shape_at names.now.items element) }
+{
+    match definition_at(names, element) {
         Some(Definition::Primitive(size)) => u64::from(*size),
         _ => 0,
     }
 }
 
 // What a sequence of so many elements takes, of which `taken` bytes are the count.
-fn open_elements<'a>(
-    map: &BTreeMap<String, Definition>,
-    element: &'a str,
+fn open_elements(
+    names: &Vec<Named<'_>>,
+    element: usize,
     count: u64,
     taken: usize,
     bytes: &[u8],
-) -> Opened<'a>
-    requires { taken ≤ length bytes.now }
-    ensures { let size = packed_size (definitions_in map.now element.now) in
-        TakesElements size element.now count taken (length bytes.now) result }
+) -> Opened
+    requires within { element < length names.now.items }
+    requires taken { taken ≤ length bytes.now }
+    ensures { let size = packed_size (shape_at names.now.items element) in
+        TakesElements names.now.items size element count taken (length bytes.now) result }
 {
-    let size = size_of_element(map, element);
+    let size = size_of_element(names, element);
     if size == 0 {
         return Opened::Taken(taken, Rest::Copies(element, count));
     }
@@ -67,16 +80,19 @@ fn open_elements<'a>(
     }
 }
 
-fn open_sequence<'a>(
-    map: &BTreeMap<String, Definition>,
+fn open_sequence(
+    layout: &Layout<'_>,
     width: u8,
     start: u64,
     end: u64,
-    element: &'a str,
+    element: usize,
     bytes: &[u8],
-) -> Opened<'a>
-    ensures { let d = sequence width start end element.now in
-        OpensAs (definitions_in map.now) d bytes.now result }
+) -> Opened
+    requires laid_out { IsLaidOut layout.now }
+    requires within { element < length layout.now.names.items }
+    ensures { let names = layout.now.names.items in
+        let d = sequence width start end (name_at names element) in
+        OpensAs (definitions_in layout.now.map.now) names d bytes.now result }
 {
     if width == 0 {
         if end < start {
@@ -85,7 +101,7 @@ fn open_sequence<'a>(
         if start < end {
             return Opened::Undecided;
         }
-        return open_elements(map, element, start, 0, bytes);
+        return open_elements(&layout.names, element, start, 0, bytes);
     }
     if !fits_width(width, end) {
         return Opened::Undecided;
@@ -98,21 +114,28 @@ fn open_sequence<'a>(
     if count < start || end < count {
         return Opened::Refused(Reason::Count);
     }
-    open_elements(map, element, count, size, bytes)
+    open_elements(&layout.names, element, count, size, bytes)
 }
 
 fn open_enum<'a>(
     alloc: Global,
+    layout: &Layout<'a>,
     tables: &mut BTreeMap<&'a str, BTreeMap<u64, AtKey>>,
     name: &'a str,
+    at: usize,
     width: u8,
-    variants: &'a Vec<(DiscriminantValue, VariantName, Declaration)>,
+    variants: &Vec<(DiscriminantValue, VariantName, Declaration)>,
     bytes: &[u8],
-) -> Result<Opened<'a>, AllocError>
-    requires { let vs = map (λ v. (v.0, string_bytes v.2)) variants.now.items in
+) -> Result<Opened, AllocError>
+    requires laid_out { IsLaidOut layout.now }
+    requires within { at < length layout.now.names.items }
+    requires shape { let vs = map (λ v. (v.0, string_bytes v.2)) variants.now.items in
+        shape_at layout.now.names.items at ≡ Some (choice width vs) }
+    requires table { let vs = map (λ v. (v.0, string_bytes v.2)) variants.now.items in
         TableFits width vs (mark_of tables.old name.now) }
     ensures opened { let vs = map (λ v. (v.0, string_bytes v.2)) variants.now.items in
-        (C : List ℕ → Option Shape) → IfOk result (λ o. OpensAs C (choice width vs) bytes.now o) }
+        let C = definitions_in layout.now.map.now in
+        IfOk result (λ o. OpensAs C layout.now.names.items (choice width vs) bytes.now o) }
     ensures kept { let vs = map (λ v. (v.0, string_bytes v.2)) variants.now.items in
         OnOk result (KeepsTables name.now width vs tables.old tables.new) }
 {
@@ -122,26 +145,34 @@ fn open_enum<'a>(
     }
     match find_variant_of(alloc, tables, name, width, variants, &bytes[..size])? {
         Found::Nothing => Ok(Opened::Refused(Reason::Tag)),
-        Found::One(name) => Ok(Opened::Taken(size, Rest::Copies(name, 1))),
+        Found::One(index) => match part_at(layout, at, index) {
+            Some(part) => Ok(Opened::Taken(size, Rest::Copies(part, 1))),
+            None => Ok(Opened::Undecided),
+        },
         Found::Several => Ok(Opened::Undecided),
     }
 }
 
-/// What the definition of a name takes from the front of the bytes: a primitive its bytes, a sequence its count and its
-/// elements if these are primitives of some bytes, an enum its tag, a struct and a tuple none.
+/// What the definition of the name at a place takes from the front of the bytes: a primitive its bytes, a sequence its count
+/// and its elements if these are primitives of some bytes, an enum its tag, a struct and a tuple none.
 pub fn open_definition<'a>(
     alloc: Global,
-    map: &BTreeMap<String, Definition>,
+    layout: &Layout<'a>,
     tables: &mut BTreeMap<&'a str, BTreeMap<u64, AtKey>>,
     name: &'a str,
-    definition: &'a Definition,
+    at: usize,
+    definition: &Definition,
     bytes: &[u8],
-) -> Result<Opened<'a>, AllocError>
-    requires defined { definitions_in map.now name.now ≡ Some (shape_of definition.now) }
-    requires tables { AreTagTables (definitions_in map.now) tables.old }
-    ensures opened { let C = definitions_in map.now in
-        IfOk result (λ o. OpensAs C (shape_of definition.now) bytes.now o) }
-    ensures tables { OnOk result (AreTagTables (definitions_in map.now) tables.new) }
+) -> Result<Opened, AllocError>
+    requires laid_out { IsLaidOut layout.now }
+    requires within { at < length layout.now.names.items }
+    requires shape { shape_at layout.now.names.items at ≡ Some (shape_of definition.now) }
+    requires name { name_at layout.now.names.items at ≡ name.now }
+    requires tables { AreTagTables (definitions_in layout.now.map.now) tables.old }
+    ensures opened { let C = definitions_in layout.now.map.now in
+        let d = shape_of definition.now in
+        IfOk result (λ o. OpensAs C layout.now.names.items d bytes.now o) }
+    ensures tables { OnOk result (AreTagTables (definitions_in layout.now.map.now) tables.new) }
 {
     match definition {
         Definition::Primitive(size) => {
@@ -149,27 +180,30 @@ pub fn open_definition<'a>(
             if bytes.len() < size {
                 Ok(Opened::Refused(Reason::TooShort))
             } else {
-                Ok(Opened::Taken(size, Rest::Parts(definition, 0)))
+                Ok(Opened::Taken(size, Rest::Copies(at, 0)))
             }
         }
         Definition::Tuple { .. } | Definition::Struct { .. } => {
-            Ok(Opened::Taken(0, Rest::Parts(definition, 0)))
+            Ok(Opened::Taken(0, Rest::Parts(at, 0)))
         }
         Definition::Sequence {
             length_width,
             length_range,
-            elements,
-        } => Ok(open_sequence(
-            map,
-            *length_width,
-            length_range.start,
-            length_range.end,
-            elements.as_str(),
-            bytes,
-        )),
+            ..
+        } => match part_at(layout, at, 0) {
+            Some(element) => Ok(open_sequence(
+                layout,
+                *length_width,
+                length_range.start,
+                length_range.end,
+                element,
+                bytes,
+            )),
+            None => Ok(Opened::Undecided),
+        },
         Definition::Enum {
             tag_width,
             variants,
-        } => open_enum(alloc, tables, name, *tag_width, variants, bytes),
+        } => open_enum(alloc, layout, tables, name, at, *tag_width, variants, bytes),
     }
 }

@@ -52,11 +52,11 @@ pub fn table_of(
 }
 
 /// The variants whose tag is these bytes, by the table of their enum.
-pub fn find_in_table<'a>(
+pub fn find_in_table(
     table: &BTreeMap<u64, AtKey>,
-    variants: &'a Vec<(DiscriminantValue, VariantName, Declaration)>,
+    variants: &Vec<(DiscriminantValue, VariantName, Declaration)>,
     tag: &[u8],
-) -> Found<'a>
+) -> Found
     requires table { let vs = map (λ v. (v.0, string_bytes v.2)) variants.now.items in
         IsTagTable (length tag.now) vs (at_key table.now) }
     requires some { 0 < length tag.now }
@@ -64,9 +64,9 @@ pub fn find_in_table<'a>(
 {
     match table.get(&key_of(tag)) {
         Some(AtKey::One(index)) => match variants.get(*index) {
-            Some((discriminant, _, name)) => {
+            Some((discriminant, _, _)) => {
                 if is_tag(discriminant, tag) {
-                    Found::One(name.as_str())
+                    Found::One(*index)
                 } else {
                     Found::Nothing
                 }
@@ -85,9 +85,9 @@ pub fn find_variant_of<'a>(
     tables: &mut BTreeMap<&'a str, BTreeMap<u64, AtKey>>,
     name: &'a str,
     width: u8,
-    variants: &'a Vec<(DiscriminantValue, VariantName, Declaration)>,
+    variants: &Vec<(DiscriminantValue, VariantName, Declaration)>,
     tag: &[u8],
-) -> Result<Found<'a>, AllocError>
+) -> Result<Found, AllocError>
     requires long { length tag.now ≡ width }
     requires fits { let vs = map (λ v. (v.0, string_bytes v.2)) variants.now.items in
         TableFits width vs (mark_of tables.old name.now) }

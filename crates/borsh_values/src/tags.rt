@@ -55,33 +55,34 @@ pub fn is_tag(discriminant: &i64, bytes: &[u8]) -> bool
 
 /// The variants with a tag.
 #[derive(Clone, Copy)]
-pub enum Found<'a> {
+pub enum Found {
     Nothing,
-    One(&'a str),
+    /// The one at this index, or several of one name.
+    One(usize),
     Several,
 }
 
-fn add<'a>(found: Found<'a>, name: &'a str) -> Found<'a>
-    ensures { result ≡ more_found found.entry name.entry }
+fn add(found: Found, index: usize) -> Found
+    ensures { result ≡ more_found found index }
 {
     match found {
-        Found::Nothing => Found::One(name),
+        Found::Nothing => Found::One(index),
         _ => Found::Several,
     }
 }
 
 /// The variants whose tag is these bytes.
-pub fn find_variant<'a>(
-    variants: &'a Vec<(DiscriminantValue, VariantName, Declaration)>,
+pub fn find_variant(
+    variants: &Vec<(DiscriminantValue, VariantName, Declaration)>,
     bytes: &[u8],
-) -> Found<'a>
+) -> Found
     ensures { FoundAs (map (λ v. (v.0, string_bytes v.2)) variants.now.items) bytes.now result }
 {
     let mut found = Found::Nothing;
     let mut index: usize = 0;
-    while let Some((discriminant, _, name)) = variants.get(index) {
+    while let Some((discriminant, _, _)) = variants.get(index) {
         if is_tag(discriminant, bytes) {
-            found = add(found, name.as_str());
+            found = add(found, index);
         }
         index += 1;
     }

@@ -1,12 +1,11 @@
 // Whether bytes say which value was encoded, by the definitions alone.
 ghost use Rattle.borsh_values.specs.Unambiguous.{DistinctTags, IsUnambiguous, UnambiguousShape};
-ghost use Rattle.borsh_values.specs.Membership.{IsAmbiguousName, IsUnseen};
+ghost use Rattle.borsh_values.specs.Membership.{IsAmbiguousName};
 ghost use Rattle.borsh_walks.specs.Definitions.{definitions_in, shape_of};
-ghost use Rattle.borsh_walks.specs.Tables.{mark_of};
 ghost use Rattle.std.specs.Prelude.{Decides, IfOk, MatchOption, ◌+◌, ◌^◌, ◌<◌, map, string_bytes};
 
-use crate::frames::{Frame, Rest, after_copies, next_part};
 use crate::keys::{numbers_in, tag_key};
+use crate::layout::{Layout, named_at};
 use borsh_walks::{Declaration, Definition, DiscriminantValue, VariantName};
 use std::alloc::{AllocError, Global};
 use std::collections::{BTreeMap, BTreeSet};
@@ -60,27 +59,11 @@ fn is_unambiguous_definition(alloc: Global, definition: &Definition) -> Result<b
     }
 }
 
-// The definition of a name, if it has one and wasn't seen.
-fn unseen<'a>(
-    seen: &BTreeMap<&'a str, bool>,
-    map: &'a BTreeMap<String, Definition>,
-    name: &str,
-) -> Option<&'a Definition>
-    ensures { IsUnseen map.now (mark_of seen.now) name.now result }
-{
-    if seen.contains_key(name) {
-        None
-    } else {
-        map.get(name)
-    }
-}
-
-/// A name that `root` leads to whose definition encodes two counts or two variants alike, the first that a
-/// depth-first walk finds; none if there is no such name, so that bytes are a value in at most one way.
+/// A name that `root` leads to whose definition encodes two counts or two variants alike; none if there is no such name,
+/// so that bytes are a value in at most one way.
 ///
 /// A sequence is at fault where its range has more counts than its width can encode, an enum where two variants
-/// have the same tag in its width. Each definition is looked at once. The only error is that an allocation failed.
-/// Left open: memory; which of several such names; how often a definition is looked at.
+/// have the same tag in its width. The only error is that an allocation failed. Left open: memory; which of several.
 ///
 /// ```
 /// if let Some(name) = find_ambiguous(alloc, "Event", &definitions)? {
@@ -95,37 +78,15 @@ pub fn find_ambiguous<'a>(
     ensures { IfOk result (λ found. MatchOption found (IsUnambiguous (definitions_in map.now) root.now)
         (λ name. IsAmbiguousName (definitions_in map.now) root.now name.now)) }
 {
-    let mut seen: BTreeMap<&'a str, bool> = BTreeMap::new(alloc);
-    let mut stack: Vec<Frame<'a>> = Vec::new(alloc);
-    // For the prover: the loop ends after at most so many definitions.
-    let _definitions = map.len();
-    let mut frame = Frame {
-        name: root,
-        start: 0,
-        rest: Rest::Copies(root, 1),
-    };
-    loop {
-        match next_part(frame.rest) {
-            Some(step) => match unseen(&seen, map, step.part) {
-                Some(definition) => {
-                    if !is_unambiguous_definition(alloc, definition)? {
-                        return Ok(Some(step.part));
-                    }
-                    frame.rest = step.others;
-                    stack.push(frame)?;
-                    frame = Frame {
-                        name: step.part,
-                        start: 0,
-                        rest: Rest::Parts(definition, 0),
-                    };
-                    seen.insert(step.part, true)?;
-                }
-                None => frame.rest = after_copies(frame.rest, step),
-            },
-            None => match stack.pop() {
-                Some(above) => frame = above,
-                None => return Ok(None),
-            },
+    let layout = Layout::new(alloc, root, map)?;
+    let mut at: usize = 0;
+    while let Some(named) = named_at(&layout.names, at) {
+        if let Some(definition) = named.definition
+            && !is_unambiguous_definition(alloc, definition)?
+        {
+            return Ok(Some(named.name));
         }
+        at += 1;
     }
+    Ok(None)
 }

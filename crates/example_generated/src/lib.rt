@@ -18,6 +18,7 @@ mod keys_place;
 mod keys_visits;
 pub mod library;
 mod library_library;
+mod library_offer;
 mod library_others;
 pub mod readme;
 mod readme_pair;

@@ -1,12 +1,14 @@
 // Types of the library as fields.
 use bytes::{Bytes, BytesMut};
 use indexmap::{IndexMap, IndexSet};
+use std::borrow::{Cow, CowStr};
 use std::boxed::{BoxedSlice, BoxedStr};
 use std::collections::{BTreeSet, HashSet, LinkedList, VecDeque};
 use std::net::{IpAddr, Ipv4Addr, Ipv6Addr, SocketAddr, SocketAddrV4, SocketAddrV6};
 use std::num::{NonZeroI64, NonZeroU8, NonZeroU128, NonZeroUsize};
 use std::ops::{Range, RangeFrom, RangeFull, RangeInclusive, RangeTo, RangeToInclusive};
 use std::rc::{Rc, RcSlice, RcStr};
+use std::sync::ArcStr;
 use uuid::Uuid;
 
 /// Numbers, addresses without ports, lists and sets, values on the heap, whose schema is that of what they hold, ranges, which are
@@ -54,4 +56,14 @@ pub struct Others {
     pub old: SocketAddrV4,
     pub new: SocketAddrV6,
     pub any: SocketAddr,
+}
+
+/// A float, a shared text, and what may be borrowed, which is decoded as owned.
+// derive: borsh
+#[derive(Drop)]
+pub struct Offer<'a> {
+    pub price: f64,
+    pub name: ArcStr,
+    pub text: CowStr<'a>,
+    pub marks: Vec<Cow<'a, u16>>,
 }

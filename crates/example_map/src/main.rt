@@ -42,5 +42,6 @@ fn main(rt: HostRuntime) -> Result<(), anyhow::Error> {
     container.validate(alloc)?;
     println!(rt; "schema of {}", container.declaration())?;
 
+    signing::show(&rt)?;
     own::show(&rt)
 }

@@ -2,7 +2,7 @@
 use example_generated::enums::{Level, Markers, Message, XY};
 use example_generated::generics::{B, Generic, Grid, Hashed, Held};
 use example_generated::keys::{Place, Visits};
-use example_generated::library::{Library, Others};
+use example_generated::library::{Library, Offer, Others};
 use example_generated::readme::{Pair, Request, Stock};
 use example_generated::records::{Block, Code, Marker, Panel, Session};
 use example_generated::wrappers::{Home, Known, Route};
@@ -47,6 +47,7 @@ fn group_1(alloc: Global, name: &str, call: &Call<'_>) -> Result<Report, Fault> 
 fn group_2(alloc: Global, name: &str, call: &Call<'_>) -> Result<Report, Fault> {
     match name {
         "Others" => call_at::<Others>(alloc, call),
+        "Offer" => call_at::<Offer>(alloc, call),
         "[Code; 3]" => call_at::<[Code; 3]>(alloc, call),
         "Grid<3>" => call_at::<Grid<3>>(alloc, call),
         "Vec<B<String, u64>>" => call_at::<Vec<B<String, u64>>>(alloc, call),

@@ -1,6 +1,6 @@
-use Rattle.std.proofs.Common.{refl, ap, Some}
-use Rattle.borsh_codec.proofs.DecodeOutcomes.{decodes_all_of}
+use Rattle.std.proofs.Common.{ap, Some}
+use Rattle.borsh_codec.proofs.ReadWhole.{no_fault}
 use Rattle.borsh.proofs.de.from_slice_unordered.Goals as goal
 
 pub returns : goal.returns
-returns g c = decodes_all_of g.met.T.BorshType.lawful c.args.v.now c.try_from_reader.result (ap (λ x. Some x.now) c.new.ensures) refl refl c.try_from_reader.ensures
+returns g c = c.try_from_reader.ensures.whole c.args.v.now (ap (λ x. Some x.now) c.new.ensures) no_fault

@@ -1,9 +1,20 @@
-use Rattle.std.proofs.Common.{sym}
-use Rattle.borsh_values.proofs.Places.{drop_next, drop_end}
+use Rattle.std.proofs.Common.{◌≡◌, ◌+◌, [], sym, subst}
+use Rattle.borsh_values.specs.Steps.{GoesOn, remaining}
+use Rattle.borsh_values.specs.declared.frames.Rest.TheVariants.{Parts}
+use Rattle.borsh_values.specs.declared.frames.Step.{Step}
+use Rattle.borsh_values.proofs.Places.{parts_on, parts_end, fits_parts}
 use Rattle.borsh_values.proofs.frames.next_part.Goals as goal
 
-pub returns-in-Some-clause-parts : goal.returns-in-Some-clause-parts
-returns-in-Some-clause-parts c = rw c.in-Parts.is (drop_next _ c.in-Parts.next (sym c.in-Some.ensures.part))
+pub returns-in-Some : goal.returns-in-Some
+returns-in-Some c =
+    let ns = c.args.layout.now.names.items in
+    let at = c.in-Parts.at in
+    let next = c.in-Parts.next in
+    let low = fits_parts ns c.args.rest at next c.in-Parts.is c.requires.fits in
+    let s : Step = record { at = c.in-Some.part; others = Parts at (next + 1) } in
+    subst (λ r. GoesOn ns r s) (sym c.in-Parts.is) (parts_on ns at next c.in-Some.part low c.in-Some.ensures.place)
 
-pub returns-in-None-clause-parts : goal.returns-in-None-clause-parts
-returns-in-None-clause-parts c = rw c.in-Parts.is (drop_end _ c.in-Parts.next (sym c.in-None.ensures.part))
+pub returns-in-None : goal.returns-in-None
+returns-in-None c =
+    let ns = c.args.layout.now.names.items in
+    subst (λ r. remaining ns r ≡ []) (sym c.in-Parts.is) (parts_end ns c.in-Parts.at c.in-Parts.next c.in-None.ensures.place)

@@ -1,70 +1,154 @@
-use Rattle.std.proofs.Common.{◌≡◌, ℕ, suc, ◌+◌, ◌<◌, ◌≤◌, List, [], ◌∷◌, ◌++◌, length, drop, length-drop, zero, reverse, replicate, append_assoc, refl, sym, ◌∙◌, ap, subst, arith, add-one}
-use Rattle.std.specs.Prelude.{Option}
+use Rattle.std.proofs.Common.{◌≡◌, ℕ, suc, ◌+◌, ◌-◌, ◌<◌, ◌≤◌, List, [], ◌∷◌, ◌++◌, length, drop, length-drop, zero, reverse, replicate, set, Some, None, refl, sym, ◌∙◌, ap, subst, arith, true}
+use Rattle.std.specs.Prelude.{Option, All, Bool, false}
+use Rattle.std.proofs.lemmas.List.Elements.{All-drop}
+use Rattle.borsh_values.proofs.Bytes.{small_bytes}
 use Rattle.std.specs.BTreeMap.{btree_map_len}
 use Rattle.borsh_walks.specs.Definitions.{definitions_in, shape_of}
 use Rattle.borsh_walks.specs.Container.{Shape, Member, stays}
-use Rattle.borsh_walks.specs.Tables.{mark_of}
-use Rattle.borsh_walks.proofs.Names.{names_within, found_shape, found_none}
-use Rattle.borsh_walks.proofs.Tables.{updated_by, marks_none, no_items}
+use Rattle.borsh_walks.proofs.Tables.{marks_none, no_items}
 use Rattle.borsh_walks.proofs.Spots.{last_first}
 use Rattle.borsh_values.specs.declared.frames.Frame.{Frame}
 use Rattle.borsh_values.specs.declared.frames.Rest.TheVariants.{Copies}
-use Rattle.borsh_values.specs.declared.members.Mark.TheVariants.{Empty, Open}
+use Rattle.borsh_values.specs.declared.members.Mark.TheVariants.{Open}
 use Rattle.borsh_values.specs.declared.members.Membership.{Membership}
 use Rattle.borsh_values.specs.declared.members.Membership.TheVariants.{Member as IsMember, NoMember, Ambiguous}
-use Rattle.borsh_values.specs.declared.faults.Reason.{Reason}
 use Rattle.borsh_values.specs.declared.faults.Reason.TheVariants.{MissingDefinition, Recursive}
-use Rattle.borsh_values.specs.Faults.{BeginsWith, IsNoMemberAt}
-use Rattle.borsh_values.specs.Membership.{IsAnswer, IsAnswerAtEnd}
-use Rattle.borsh_values.proofs.Answers.{suffix_start, suffix_on, some_left, at_fault, answers_no}
 use Rattle.borsh_values.specs.declared.nodes.Node.{Node}
+use Rattle.borsh_values.specs.Layouts.{name_at}
+use Rattle.borsh_values.specs.Membership.{IsAnswer, IsAnswerAtEnd}
 use Rattle.borsh_values.specs.Nodes.{AreOffsets, Nodes, nodes_none, views}
-use Rattle.borsh_values.proofs.NodesLaws.{nodes_skip}
-use Rattle.borsh_values.proofs.Listing.{list_more, all_views}
-use Rattle.borsh_values.proofs.Offsets.{total, placed_more}
 use Rattle.borsh_values.specs.Steps.{OpensAs, pending, remaining}
-use Rattle.borsh_values.proofs.Walk.{Walk, walk_start, walk_skip, walk_still, walk_on, walk_up, walk_up_empty, walk_end, undefined_none, denied, leads_back, with_rest, part_reached}
-use Rattle.borsh_values.proofs.Measure.{left, opened_still, opened_on, few_still, few_on, listed_more, left_moved, left_up, left_still, left_on, left_past, work_found, some_step}
+use Rattle.borsh_values.proofs.Answers.{suffix_start, suffix_on, some_left, at_fault, answers_no}
+use Rattle.borsh_values.proofs.Going.{Going, defined_in, going_start, skip_listed, going_skip, less_skip, going_reached, going_back, going_denied, going_missing, room, going_new, going_on, going_past, less_new, less_on, less_past, listed_on, going_pass, fewer_pass, less_pass, going_up, going_up_empty, up_listed, less_up, going_end}
+use Rattle.borsh_values.proofs.Listing.{all_views}
+use Rattle.borsh_values.proofs.Offsets.{total, placed_more}
+use Rattle.borsh_values.proofs.Places.{root_there}
+use Rattle.borsh_values.proofs.Walk.{with_rest}
+use Rattle.borsh_values.proofs.Measure.{left, opened_still, opened_on, few_still, few_on, listed_more}
 use Rattle.borsh_values.proofs.TableLaws.{tables_none}
 use Rattle.borsh_values.proofs.members.decide.Goals as goal
 
-pub loop-step-init : goal.loop-step-init
-loop-step-init c =
-    let C = definitions_in c.args.map.now in
-    let f : Frame = record { name = c.args.root; start = length c.args.bytes.now + 1; rest = Copies c.args.root 1 } in
+pub loop-behind-init : goal.loop-behind-init
+loop-behind-init c =
+    let l = c.args.layout.now in
+    let C = definitions_in l.map.now in
+    let ns = l.names.items in
+    let f : Frame = record { at = 0; start = length c.args.bytes.now + 1; rest = Copies 0 1 } in
+    let g = going_start l c.requires.laid_out c.args.bytes.now c.in_ok-marks.marks.items (c.in_ok-marks.ensures ∙ ap (λ n. replicate n None) (c.len.ensures ∙ l.names.ok.0)) in
     record {
-      names = [];
-      state = subst (λ l. Walk C c.args.root.now c.args.bytes.now (mark_of c.new-table.result) (reverse l) f c.args.bytes.now []) (sym c.new-stack.ensures.items) (walk_start C f (marks_none c.new-table.result c.new-table.ensures.empty) (omega arith) refl);
-      count = refl;
+      going = subst (λ q. Going l c.args.bytes.now c.in_ok-marks.marks.items (reverse q) f c.args.bytes.now 0) (sym c.new-stack.ensures.items) g;
       within = omega arith;
       suffix = suffix_start c.args.bytes.now;
       risen = omega arith;
       opened = omega arith;
-      few = λ _. (let e = ap (λ l. length l) c.requires.empty in omega (arith, e));
-      placed = λ _. (subst (λ l. AreOffsets 0 l) (sym c.requires.empty) tt, (let t = ap (λ l. total l) c.requires.empty in omega (arith, t)));
+      few = λ _. (let e = ap (λ q. length q) c.requires.empty in omega (arith, e));
+      placed = λ _. (subst (λ q. AreOffsets 0 q) (sym c.requires.empty) tt, (let t = ap (λ q. total q) c.requires.empty in omega (arith, t)));
       table = c.requires.table;
       tags = tables_none C c.new-tags.result (marks_none c.new-tags.result c.new-tags.ensures.empty);
-      listed = λ w es n. subst (λ l. Nodes C (c.args.root.now ∷ []) c.args.bytes.now (views l ++ es)) (sym c.requires.empty) (subst (λ l. Nodes C (c.args.root.now ∷ pending (reverse l)) c.args.bytes.now es) c.new-stack.ensures.items n);
+      listed = λ w es n. subst (λ q. Nodes C (l.root.now ∷ []) c.args.bytes.now (views q ++ es)) (sym c.requires.empty) (subst (λ x. Nodes C (x ∷ []) c.args.bytes.now es) (root_there l.map.now l.root.now ns l.parts.items c.requires.laid_out).1 (subst (λ q. Nodes C (name_at ns 0 ∷ pending ns (reverse q)) c.args.bytes.now es) c.new-stack.ensures.items n));
     }
 
-pub open_definition-requires : goal.open_definition-requires
-open_definition-requires c = record { defined = found_shape c.args.map c.args.map c.in-Some.step.part.now c.in-Some-get.definition.now refl c.in-Some-get.ensures.value; tables = c.loop-step.invariant.tags }
+-- names of free size are passed
+pub loop-behind-smaller-in-Some : goal.loop-behind-smaller-in-Some
+loop-behind-smaller-in-Some c =
+    let l = c.args.layout.now in
+    let ns = l.names.items in
+    let i = c.loop-behind.invariant in
+    let p = c.in-Some.ensures in
+    let fs = reverse c.loop-behind.stack.items in
+    let rest = c.loop-behind.left.now in
+    subst (λ b. left l.map.now ns (length b) 0 (with_rest c.loop-behind.frame c.in-Some.behind.rest ∷ fs) < left l.map.now ns (length rest) c.loop-behind.idle (c.loop-behind.frame ∷ fs)) (sym p.4)
+    (subst (λ r. left l.map.now ns (length (drop p.0.taken rest)) 0 (with_rest c.loop-behind.frame r ∷ fs) < left l.map.now ns (length rest) c.loop-behind.idle (c.loop-behind.frame ∷ fs)) (sym p.3) (less_pass l i.going p.0 p.2))
 
-pub loop-step-smaller-in-Empty : goal.loop-step-smaller-in-Empty
-loop-step-smaller-in-Empty c = left_moved c.args.map.now (length c.loop-step.left.now) c.loop-step.idle c.loop-step.frame (with_rest c.loop-step.frame c.after_copies-frame.result) (reverse c.loop-step.stack.items) c.after_copies-frame.ensures.2
+no_nodes : (w : Bool) → w ≡ false → w ≡ true → ⊥
+no_nodes w e f = cc
 
-pub loop-step-preserved-in-Empty : goal.loop-step-preserved-in-Empty
-loop-step-preserved-in-Empty c =
-    let C = definitions_in c.args.map.now in
-    let i = c.loop-step.invariant in
-    let s = c.after_copies-frame.ensures in
-    let p = c.in-Some.step.part.now in
-    let fs = reverse c.loop-step.stack.items in
-    let same : pending (c.loop-step.frame ∷ fs) ≡ replicate (suc s.0) p ++ (remaining c.after_copies-frame.result ++ pending fs) = ap (λ l. l ++ pending fs) s.1 ∙ append_assoc (replicate (suc s.0) p) (remaining c.after_copies-frame.result) (pending fs) in
+pub loop-behind-preserved-in-Some : goal.loop-behind-preserved-in-Some
+loop-behind-preserved-in-Some c =
+    let l = c.args.layout.now in
+    let ns = l.names.items in
+    let i = c.loop-behind.invariant in
+    let p = c.in-Some.ensures in
+    let fs = reverse c.loop-behind.stack.items in
+    let rest = c.loop-behind.left.now in
+    let bytes = c.args.bytes.now in
+    let D = btree_map_len l.map.now in
+    let small : All (λ b. b < 256) rest = subst (λ b. All (λ b. b < 256) b) (sym i.suffix) (All-drop (λ b. b < 256) (length bytes - length rest) bytes (small_bytes bytes (λ k. let b = c.type_inv.bytes k in omega (arith, b)))) in
+    let ends = suffix_on p.0.taken bytes rest c.in-Some.behind.left.now i.within i.suffix p.4 p.2.within in
+    let fewer : length c.in-Some.behind.left.now < length rest = subst (λ b. length b < length rest) (sym p.4) (fewer_pass l i.going p.0 p.2) in
     record {
-      names = i.names;
-      state = walk_skip C s.0 c.after_copies-frame.result i.state c.in-Empty.ensures s.1;
-      count = i.count;
+      going = subst (λ b. Going l bytes c.loop-behind.marks.items fs (with_rest c.loop-behind.frame c.in-Some.behind.rest) b 0) (sym p.4) (subst (λ r. Going l bytes c.loop-behind.marks.items fs (with_rest c.loop-behind.frame r) (drop p.0.taken rest) 0) (sym p.3) (going_pass l i.going p.0 p.2 small));
+      within = ends.0;
+      suffix = ends.1;
+      risen = i.risen;
+      opened = opened_on D (length bytes) c.args.opened.now c.loop-behind.opened c.loop-behind.opened (length c.in-Some.behind.left.now) (length rest) c.loop-behind.idle fewer i.opened (omega arith);
+      few = λ w. absurd (no_nodes c.args.wanted p.1 w);
+      placed = λ w. absurd (no_nodes c.args.wanted p.1 w);
+      table = i.table;
+      tags = i.tags;
+      listed = λ w. absurd (no_nodes c.args.wanted p.1 w);
+    }
+
+pub returns-in_default-clause-answer : goal.returns-in_default-clause-answer
+returns-in_default-clause-answer c =
+    let l = c.args.layout.now in
+    let C = definitions_in l.map.now in
+    let ns = l.names.items in
+    let i = c.loop-behind.invariant in
+    let s = c.in-Some-next_part.step in
+    let g = c.in-Some-next_part.ensures in
+    let fs = reverse c.loop-behind.stack.items in
+    let deny = going_missing l i.going s g (sym c.in_default.ensures) in
+    answers_no C l.root.now c.args.bytes.now c.loop-behind.left.now (name_at ns s.at) MissingDefinition i.suffix (going_reached l i.going s g) (λ e. cc) deny (going_denied l i.going s g deny) c.no_member.result c.no_member.ensures
+
+pub returns-in-Refused-clause-answer : goal.returns-in-Refused-clause-answer
+returns-in-Refused-clause-answer c =
+    let l = c.args.layout.now in
+    let C = definitions_in l.map.now in
+    let ns = l.names.items in
+    let i = c.loop-behind.invariant in
+    let s = c.in-Some-next_part.step in
+    let g = c.in-Some-next_part.ensures in
+    let fs = reverse c.loop-behind.stack.items in
+    let d = shape_of c.in-Some-definition_at.definition.now in
+    let o = subst (λ o. OpensAs C ns d c.loop-behind.left.now o) c.in-Refused.is c.in_ok-open_definition-in-Some-next_part.ensures.opened in
+    let deny = o.1 (name_at ns s.at) (defined_in l i.going.laid s.at g.within ∙ sym c.in-Some-definition_at.ensures) in
+    answers_no C l.root.now c.args.bytes.now c.loop-behind.left.now (name_at ns s.at) c.in-Refused.why i.suffix (going_reached l i.going s g) o.0 deny (going_denied l i.going s g deny) c.no_member-in-Refused.result c.no_member-in-Refused.ensures
+
+pub returns-in-Recursive-clause-answer : goal.returns-in-Recursive-clause-answer
+returns-in-Recursive-clause-answer c =
+    let l = c.args.layout.now in
+    let C = definitions_in l.map.now in
+    let ns = l.names.items in
+    let i = c.loop-behind.invariant in
+    let s = c.in-Some-next_part.step in
+    let g = c.in-Some-next_part.ensures in
+    let fs = reverse c.loop-behind.stack.items in
+    let deny = going_back l i.going s g c.in-Recursive.ensures in
+    answers_no C l.root.now c.args.bytes.now c.loop-behind.left.now (name_at ns s.at) Recursive i.suffix (going_reached l i.going s g) (λ e. cc) deny (going_denied l i.going s g deny) c.no_member-in-Recursive.result c.no_member-in-Recursive.ensures
+
+pub loop-behind-smaller-in-Empty : goal.loop-behind-smaller-in-Empty
+loop-behind-smaller-in-Empty c =
+    let l = c.args.layout.now in
+    let C = definitions_in l.map.now in
+    let ns = l.names.items in
+    let i = c.loop-behind.invariant in
+    let s = c.in-Some-next_part.step in
+    let g = c.in-Some-next_part.ensures in
+    let fs = reverse c.loop-behind.stack.items in
+    subst (λ t. left l.map.now ns (length c.loop-behind.left.now) c.loop-behind.idle (with_rest c.loop-behind.frame t ∷ fs) < left l.map.now ns (length c.loop-behind.left.now) c.loop-behind.idle (c.loop-behind.frame ∷ fs)) (sym c.after_copies-frame.ensures) (less_skip l i.going s g)
+
+pub loop-behind-preserved-in-Empty : goal.loop-behind-preserved-in-Empty
+loop-behind-preserved-in-Empty c =
+    let l = c.args.layout.now in
+    let C = definitions_in l.map.now in
+    let ns = l.names.items in
+    let i = c.loop-behind.invariant in
+    let s = c.in-Some-next_part.step in
+    let g = c.in-Some-next_part.ensures in
+    let fs = reverse c.loop-behind.stack.items in
+    record {
+      going = subst (λ t. Going l c.args.bytes.now c.loop-behind.marks.items fs (with_rest c.loop-behind.frame t) c.loop-behind.left.now c.loop-behind.idle) (sym c.after_copies-frame.ensures) (going_skip l i.going s g c.in-Empty.ensures);
       within = i.within;
       suffix = i.suffix;
       risen = i.risen;
@@ -72,108 +156,77 @@ loop-step-preserved-in-Empty c =
       few = i.few;
       placed = i.placed;
       table = i.table;
-      tags = c.in_ok-open_definition-in-Some.ensures.tables;
-      listed = λ w es n. i.listed w es (subst (λ l. Nodes C l c.loop-step.left.now es) (sym same) (nodes_skip C (suc s.0) (i.state.empty p c.in-Empty.ensures) n));
+      tags = c.in_ok-open_definition-in-Some-next_part.ensures.tables;
+      listed = λ w es n. i.listed w es (skip_listed l i.going s g c.in-Empty.ensures es (subst (λ t. Nodes C (pending ns (with_rest c.loop-behind.frame t ∷ fs)) c.loop-behind.left.now es) c.after_copies-frame.ensures n));
     }
-
-pub returns-in-Recursive-clause-answer : goal.returns-in-Recursive-clause-answer
-returns-in-Recursive-clause-answer c =
-    let C = definitions_in c.args.map.now in
-    let i = c.loop-step.invariant in
-    let l = part_reached C i.state c.in-Some.step.others c.in-Some.ensures.parts in
-    let deny = leads_back C i.state c.in-Some.step.others c.in-Some.ensures.parts c.in-Recursive.ensures in
-    answers_no C c.args.root.now c.args.bytes.now c.loop-step.left.now c.in-Some.step.part.now Recursive i.suffix l (λ e. cc) deny (denied C i.state c.in-Some.step.others c.in-Some.ensures.parts deny) c.no_member-in-Recursive.result c.no_member-in-Recursive.ensures
-
-pub returns-in_default-clause-answer : goal.returns-in_default-clause-answer
-returns-in_default-clause-answer c =
-    let C = definitions_in c.args.map.now in
-    let i = c.loop-step.invariant in
-    let l = part_reached C i.state c.in-Some.step.others c.in-Some.ensures.parts in
-    let none = found_none c.args.map c.args.map c.in-Some.step.part.now refl c.in_default.ensures.value in
-    let deny : BeginsWith C c.in-Some.step.part.now c.loop-step.left.now → ⊥ = λ m. undefined_none C none m.2 in
-    answers_no C c.args.root.now c.args.bytes.now c.loop-step.left.now c.in-Some.step.part.now MissingDefinition i.suffix l (λ e. cc) deny (denied C i.state c.in-Some.step.others c.in-Some.ensures.parts deny) c.no_member.result c.no_member.ensures
-
-pub returns-in-Refused-clause-answer : goal.returns-in-Refused-clause-answer
-returns-in-Refused-clause-answer c =
-    let opened_as = subst (λ o. OpensAs (definitions_in c.args.map.now) (shape_of c.in-Some-get.definition.now) c.loop-step.left.now o) c.in-Refused.is c.in_ok-open_definition-in-Some.ensures.opened in
-    let C = definitions_in c.args.map.now in
-    let i = c.loop-step.invariant in
-    let l = part_reached C i.state c.in-Some.step.others c.in-Some.ensures.parts in
-    let e = found_shape c.args.map c.args.map c.in-Some.step.part.now c.in-Some-get.definition.now refl c.in-Some-get.ensures.value in
-    let deny = opened_as.1 c.in-Some.step.part.now e in
-    answers_no C c.args.root.now c.args.bytes.now c.loop-step.left.now c.in-Some.step.part.now c.in-Refused.why i.suffix l opened_as.0 deny (denied C i.state c.in-Some.step.others c.in-Some.ensures.parts deny) c.no_member-in-Refused.result c.no_member-in-Refused.ensures
 
 pub overflow_add-idle : goal.overflow_add-idle
 overflow_add-idle c =
-    let opened_as = subst (λ o. OpensAs (definitions_in c.args.map.now) (shape_of c.in-Some-get.definition.now) c.loop-step.left.now o) c.in-Taken.is c.in_ok-open_definition-in-Some.ensures.opened in
-    let C = definitions_in c.args.map.now in
-    let i = c.loop-step.invariant in
-    let p = c.in-Some.step.part.now in
-    let e = found_shape c.args.map c.args.map p c.in-Some-get.definition.now refl c.in-Some-get.ensures.value in
-    let u = updated_by p c.loop-step.table c.insert.new.self (Open (length c.loop-step.left.now)) c.in_ok-insert-in-New.ensures.updates in
-    let g : Frame = record { name = c.in-Some.step.part; start = length c.loop-step.left.now; rest = c.in-Taken.rest } in
-    let s = walk_still C i.state c.in-Some.step.others c.in-Some.ensures.parts g c.if-taken-eq0.true e opened_as.0 c.in-New.ensures.0 c.in-New.ensures.1 u refl refl in
-    let few = names_within c.args.map.now (p ∷ i.names) s.distinct s.defined in
-    let n = i.count in
-    omega (arith, few, n)
+    let l = c.args.layout.now in
+    let C = definitions_in l.map.now in
+    let ns = l.names.items in
+    let i = c.loop-behind.invariant in
+    let s = c.in-Some-next_part.step in
+    let g = c.in-Some-next_part.ensures in
+    let fs = reverse c.loop-behind.stack.items in
+    let d = shape_of c.in-Some-definition_at.definition.now in
+    let sh = sym c.in-Some-definition_at.ensures in
+    let o = subst (λ o. OpensAs C ns d c.loop-behind.left.now o) c.in-Taken.is c.in_ok-open_definition-in-Some-next_part.ensures.opened in
+    let n = c.in-Taken.taken in
+    let r = c.in-Taken.rest in
+    let q = room l i.going s g d sh n r o c.if-taken-eq0.true c.in-New.ensures in
+    omega (arith, q)
 
-pub loop-step-smaller-in-New : goal.loop-step-smaller-in-New
-loop-step-smaller-in-New c =
-    let opened_as = subst (λ o. OpensAs (definitions_in c.args.map.now) (shape_of c.in-Some-get.definition.now) c.loop-step.left.now o) c.in-Taken.is c.in_ok-open_definition-in-Some.ensures.opened in
-    let C = definitions_in c.args.map.now in
-    let m = c.args.map.now in
-    let len = length c.loop-step.left.now in
-    let i = c.loop-step.invariant in
-    let p = c.in-Some.step.part.now in
-    let e = found_shape c.args.map c.args.map p c.in-Some-get.definition.now refl c.in-Some-get.ensures.value in
-    let u = updated_by p c.loop-step.table c.insert.new.self (Open (length c.loop-step.left.now)) c.in_ok-insert-in-New.ensures.updates in
-    let g : Frame = record { name = c.in-Some.step.part; start = length c.loop-step.left.now; rest = c.in-Taken.rest } in
-    let h : Frame = with_rest c.loop-step.frame c.in-Some.step.others in
-    let s = walk_still C i.state c.in-Some.step.others c.in-Some.ensures.parts g c.if-taken-eq0.true e opened_as.0 c.in-New.ensures.0 c.in-New.ensures.1 u refl refl in
-    let few = names_within m (p ∷ i.names) s.distinct s.defined in
-    let n = i.count in
-    let room : suc c.loop-step.idle ≤ btree_map_len m = omega (arith, few, n) in
-    let w = work_found p m.entries c.in-Some-get.definition.now (sym c.in-Some-get.ensures.value) in
-    let small = opened_as.1 in
-    let back = last_first c.loop-step.stack.items c.push.new.self.items h c.in_ok-push-in-New.ensures.items in
-    let t = left_still m len c.loop-step.idle c.loop-step.frame h g (reverse c.loop-step.stack.items) room c.in-Some.ensures.steps (omega (arith, w, small)) in
-    subst (λ l. left m len (c.loop-step.idle + 1) (g ∷ l) < left m len c.loop-step.idle (c.loop-step.frame ∷ reverse c.loop-step.stack.items)) (sym back) (subst (λ k. left m len k (g ∷ h ∷ reverse c.loop-step.stack.items) < left m len c.loop-step.idle (c.loop-step.frame ∷ reverse c.loop-step.stack.items)) (sym (add-one c.loop-step.idle)) t)
+pub loop-behind-smaller-in-New : goal.loop-behind-smaller-in-New
+loop-behind-smaller-in-New c =
+    let l = c.args.layout.now in
+    let C = definitions_in l.map.now in
+    let ns = l.names.items in
+    let i = c.loop-behind.invariant in
+    let s = c.in-Some-next_part.step in
+    let g = c.in-Some-next_part.ensures in
+    let fs = reverse c.loop-behind.stack.items in
+    let d = shape_of c.in-Some-definition_at.definition.now in
+    let sh = sym c.in-Some-definition_at.ensures in
+    let o = subst (λ o. OpensAs C ns d c.loop-behind.left.now o) c.in-Taken.is c.in_ok-open_definition-in-Some-next_part.ensures.opened in
+    let n = c.in-Taken.taken in
+    let r = c.in-Taken.rest in
+    let f : Frame = record { at = s.at; start = length c.loop-behind.left.now; rest = r } in
+    let back = last_first c.loop-behind.stack.items c.push.new.self.items (with_rest c.loop-behind.frame s.others) c.in_ok-push-in-New.ensures.items in
+    subst (λ q. left l.map.now ns (length c.loop-behind.left.now) (c.loop-behind.idle + 1) (f ∷ q) < left l.map.now ns (length c.loop-behind.left.now) c.loop-behind.idle (c.loop-behind.frame ∷ fs)) (sym back) (less_new l i.going s g d sh n r o c.if-taken-eq0.true c.in-New.ensures)
 
-pub loop-step-preserved-in-New : goal.loop-step-preserved-in-New
-loop-step-preserved-in-New c =
-    let opened_as = subst (λ o. OpensAs (definitions_in c.args.map.now) (shape_of c.in-Some-get.definition.now) c.loop-step.left.now o) c.in-Taken.is c.in_ok-open_definition-in-Some.ensures.opened in
-    let C = definitions_in c.args.map.now in
-    let i = c.loop-step.invariant in
-    let p = c.in-Some.step.part.now in
-    let e = found_shape c.args.map c.args.map p c.in-Some-get.definition.now refl c.in-Some-get.ensures.value in
-    let u = updated_by p c.loop-step.table c.insert.new.self (Open (length c.loop-step.left.now)) c.in_ok-insert-in-New.ensures.updates in
-    let g : Frame = record { name = c.in-Some.step.part; start = length c.loop-step.left.now; rest = c.in-Taken.rest } in
-    let h : Frame = with_rest c.loop-step.frame c.in-Some.step.others in
-    let s = walk_still C i.state c.in-Some.step.others c.in-Some.ensures.parts g c.if-taken-eq0.true e opened_as.0 c.in-New.ensures.0 c.in-New.ensures.1 u refl refl in
-    let back = last_first c.loop-step.stack.items c.push.new.self.items h c.in_ok-push-in-New.ensures.items in
-    let node : Node = record { name = c.in-Some.step.part; definition = c.in-Some-get.definition; bytes = c.front.result; offset = c.offset_of-offset.result; depth = c.len-depth.result } in
-    let few = names_within c.args.map.now (p ∷ i.names) s.distinct s.defined in
-    let n = i.count in
-    let room : suc c.loop-step.idle ≤ btree_map_len c.args.map.now = omega (arith, few, n) in
+pub loop-behind-preserved-in-New : goal.loop-behind-preserved-in-New
+loop-behind-preserved-in-New c =
+    let l = c.args.layout.now in
+    let C = definitions_in l.map.now in
+    let ns = l.names.items in
+    let i = c.loop-behind.invariant in
+    let s = c.in-Some-next_part.step in
+    let g = c.in-Some-next_part.ensures in
+    let fs = reverse c.loop-behind.stack.items in
+    let d = shape_of c.in-Some-definition_at.definition.now in
+    let sh = sym c.in-Some-definition_at.ensures in
+    let o = subst (λ o. OpensAs C ns d c.loop-behind.left.now o) c.in-Taken.is c.in_ok-open_definition-in-Some-next_part.ensures.opened in
+    let n = c.in-Taken.taken in
+    let r = c.in-Taken.rest in
+    let node : Node = record { name = c.name_of-name.result; definition = c.in-Some-definition_at.definition; bytes = c.front.result; offset = c.offset_of-offset.result; depth = c.len-depth.result } in
+    let f : Frame = record { at = s.at; start = length c.loop-behind.left.now; rest = r } in
+    let back = last_first c.loop-behind.stack.items c.push.new.self.items (with_rest c.loop-behind.frame s.others) c.in_ok-push-in-New.ensures.items in
+    let q = room l i.going s g d sh n r o c.if-taken-eq0.true c.in-New.ensures in
+    let D = btree_map_len l.map.now in
+    let all = length c.args.bytes.now in
+    let same : drop n c.loop-behind.left.now ≡ c.loop-behind.left.now = ap (λ k. drop k c.loop-behind.left.now) c.if-taken-eq0.true in
     record {
-      names = p ∷ i.names;
-      state = subst (λ l. Walk C c.args.root.now c.args.bytes.now (mark_of c.insert.new.self) l g c.loop-step.left.now (p ∷ i.names)) (sym back) s;
-      count = ap suc i.count ∙ sym (add-one c.loop-step.idle);
+      going = subst (λ v. Going l c.args.bytes.now v (reverse c.push.new.self.items) f c.loop-behind.left.now (c.loop-behind.idle + 1)) (sym c.set_mark.ensures) (subst (λ v. Going l c.args.bytes.now (set c.loop-behind.marks.items s.at (Some (Open (length c.loop-behind.left.now)))) v f c.loop-behind.left.now (c.loop-behind.idle + 1)) (sym back) (going_new l i.going s g d sh n r o c.if-taken-eq0.true c.in-New.ensures));
       within = i.within;
       suffix = i.suffix;
       risen = omega (arith, i.risen, c.count_one.ensures.risen);
-      opened = opened_still (btree_map_len c.args.map.now) (length c.args.bytes.now) c.args.opened.now c.loop-step.opened c.count_one.new.count (length c.loop-step.left.now) c.loop-step.idle room i.opened c.count_one.ensures.by_one;
-      few = λ w. few_still (btree_map_len c.args.map.now) (length c.args.bytes.now) (length c.loop-step.nodes.items) (length c.list_node.new.nodes.items) (length c.loop-step.left.now) c.loop-step.idle room (i.few w) (listed_more C node c.loop-step.nodes.items c.list_node.new.nodes.items (c.in_ok-list_node-in-New.ensures.listed w));
-      placed = λ w. placed_more C node c.loop-step.nodes.items c.list_node.new.nodes.items c.in-Taken.taken (length c.args.bytes.now) c.loop-step.left.now c.loop-step.left.now c.offset_of-offset.ensures c.front.ensures (sym (ap (λ k. drop k c.loop-step.left.now) c.if-taken-eq0.true)) (c.in_ok-list_node-in-New.ensures.listed w) (i.placed w);
+      opened = opened_still D all c.args.opened.now c.loop-behind.opened c.count_one.new.count (length c.loop-behind.left.now) c.loop-behind.idle q i.opened c.count_one.ensures.by_one;
+      few = λ w. few_still D all (length c.loop-behind.nodes.items) (length c.list_node.new.nodes.items) (length c.loop-behind.left.now) c.loop-behind.idle q (i.few w) (listed_more C node c.loop-behind.nodes.items c.list_node.new.nodes.items (c.in_ok-list_node-in-New.ensures.listed w));
+      placed = λ w. placed_more C node c.loop-behind.nodes.items c.list_node.new.nodes.items n all c.loop-behind.left.now c.loop-behind.left.now c.offset_of-offset.ensures c.front.ensures (sym same) (c.in_ok-list_node-in-New.ensures.listed w) (i.placed w);
       table = c.in_ok-list_node-in-New.ensures.table;
-      tags = c.in_ok-open_definition-in-Some.ensures.tables;
-      listed = λ w es n.
-          let fs = reverse c.loop-step.stack.items in
-          let same : pending (c.loop-step.frame ∷ fs) ≡ p ∷ (remaining c.in-Some.step.others ++ pending fs) = ap (λ l. l ++ pending fs) c.in-Some.ensures.parts in
-          let node : Node = record { name = c.in-Some.step.part; definition = c.in-Some-get.definition; bytes = c.front.result; offset = c.offset_of-offset.result; depth = c.len-depth.result } in
-          list_more C (λ l. Nodes C (c.args.root.now ∷ []) c.args.bytes.now l) node c.loop-step.nodes.items c.list_node.new.nodes.items c.in-Taken.taken c.loop-step.left.now (remaining c.in-Taken.rest) (remaining c.in-Some.step.others ++ pending fs) e c.front.ensures opened_as.0.opens (c.in_ok-list_node-in-New.ensures.listed w)
-          (λ fs2 m. i.listed w fs2 (subst (λ l. Nodes C l c.loop-step.left.now fs2) (sym same) m)) es
-          (subst (λ b. Nodes C (remaining c.in-Taken.rest ++ (remaining c.in-Some.step.others ++ pending fs)) b es) (sym (ap (λ k. drop k c.loop-step.left.now) c.if-taken-eq0.true)) (subst (λ l. Nodes C (remaining c.in-Taken.rest ++ pending l) c.loop-step.left.now es) back n));
+      tags = c.in_ok-open_definition-in-Some-next_part.ensures.tables;
+      listed = λ w es m. listed_on l i.going s g d sh n r o node c.loop-behind.nodes.items c.list_node.new.nodes.items c.name_of-name.ensures refl c.front.ensures (c.in_ok-list_node-in-New.ensures.listed w) (i.listed w) es (subst (λ b. Nodes C (remaining ns r ++ (remaining ns s.others ++ pending ns fs)) b es) (sym same) (subst (λ q. Nodes C (remaining ns r ++ pending ns q) c.loop-behind.left.now es) back m));
     }
 
 positive : (n : ℕ) → (n ≡ 0 → ⊥) → 0 < n
@@ -183,130 +236,175 @@ positive (suc n) f = omega arith
 less_left : (n : ℕ) (xs ys : List ℕ) → ys ≡ drop n xs → 0 < n → n ≤ length xs → length ys < length xs
 less_left n xs ys e more low = let k = length-drop n xs in let h = ap (λ l. length l) e in omega (arith, k, h)
 
-pub loop-step-smaller-then-has_parts : goal.loop-step-smaller-then-has_parts
-loop-step-smaller-then-has_parts c =
-    let opened_as = subst (λ o. OpensAs (definitions_in c.args.map.now) (shape_of c.in-Some-get.definition.now) c.loop-step.left.now o) c.in-Taken.is c.in_ok-open_definition-in-Some.ensures.opened in
-    let m = c.args.map.now in
-    let p = c.in-Some.step.part.now in
-    let g : Frame = record { name = c.in-Some.step.part; start = length c.loop-step.left.now; rest = c.in-Taken.rest } in
-    let h : Frame = with_rest c.loop-step.frame c.in-Some.step.others in
-    let w = work_found p m.entries c.in-Some-get.definition.now (sym c.in-Some-get.ensures.value) in
-    let small = opened_as.1 in
-    let back = last_first c.loop-step.stack.items c.push-then-has_parts.new.self.items h c.in_ok-push-in-Taken.ensures.items in
-    let fewer = less_left c.in-Taken.taken c.loop-step.left.now c.after-left.result.now c.after-left.ensures (positive c.in-Taken.taken c.if-taken-eq0.false) opened_as.0.within in
-    let t = left_on m (length c.after-left.result.now) (length c.loop-step.left.now) c.loop-step.idle c.loop-step.frame h g (reverse c.loop-step.stack.items) fewer c.in-Some.ensures.steps (omega (arith, w, small)) in
-    subst (λ l. left m (length c.after-left.result.now) 0 (g ∷ l) < left m (length c.loop-step.left.now) c.loop-step.idle (c.loop-step.frame ∷ reverse c.loop-step.stack.items)) (sym back) t
+pub loop-behind-smaller-then-has_parts : goal.loop-behind-smaller-then-has_parts
+loop-behind-smaller-then-has_parts c =
+    let l = c.args.layout.now in
+    let C = definitions_in l.map.now in
+    let ns = l.names.items in
+    let i = c.loop-behind.invariant in
+    let s = c.in-Some-next_part.step in
+    let g = c.in-Some-next_part.ensures in
+    let fs = reverse c.loop-behind.stack.items in
+    let d = shape_of c.in-Some-definition_at.definition.now in
+    let sh = sym c.in-Some-definition_at.ensures in
+    let o = subst (λ o. OpensAs C ns d c.loop-behind.left.now o) c.in-Taken.is c.in_ok-open_definition-in-Some-next_part.ensures.opened in
+    let n = c.in-Taken.taken in
+    let r = c.in-Taken.rest in
+    let f : Frame = record { at = s.at; start = length c.loop-behind.left.now; rest = r } in
+    let back = last_first c.loop-behind.stack.items c.push-then-has_parts.new.self.items (with_rest c.loop-behind.frame s.others) c.in_ok-push-in-Taken.ensures.items in
+    let more = positive n c.if-taken-eq0.false in
+    subst (λ b. left l.map.now ns (length b) 0 (f ∷ reverse c.push-then-has_parts.new.self.items) < left l.map.now ns (length c.loop-behind.left.now) c.loop-behind.idle (c.loop-behind.frame ∷ fs)) (sym c.after-left.ensures)
+    (subst (λ q. left l.map.now ns (length (drop n c.loop-behind.left.now)) 0 (f ∷ q) < left l.map.now ns (length c.loop-behind.left.now) c.loop-behind.idle (c.loop-behind.frame ∷ fs)) (sym back) (less_on l i.going s g d sh n r o more))
 
-pub loop-step-preserved-then-has_parts : goal.loop-step-preserved-then-has_parts
-loop-step-preserved-then-has_parts c =
-    let opened_as = subst (λ o. OpensAs (definitions_in c.args.map.now) (shape_of c.in-Some-get.definition.now) c.loop-step.left.now o) c.in-Taken.is c.in_ok-open_definition-in-Some.ensures.opened in
-    let C = definitions_in c.args.map.now in
-    let i = c.loop-step.invariant in
-    let p = c.in-Some.step.part.now in
-    let e = found_shape c.args.map c.args.map p c.in-Some-get.definition.now refl c.in-Some-get.ensures.value in
-    let g : Frame = record { name = c.in-Some.step.part; start = length c.loop-step.left.now; rest = c.in-Taken.rest } in
-    let h : Frame = with_rest c.loop-step.frame c.in-Some.step.others in
-    let ends = suffix_on c.in-Taken.taken c.args.bytes.now c.loop-step.left.now c.after-left.result.now i.within i.suffix c.after-left.ensures opened_as.0.within in
-    let s = walk_on C i.state c.in-Some.step.others c.in-Some.ensures.parts g (positive c.in-Taken.taken c.if-taken-eq0.false) e opened_as.0 refl refl in
-    let back = last_first c.loop-step.stack.items c.push-then-has_parts.new.self.items h c.in_ok-push-in-Taken.ensures.items in
-    let node : Node = record { name = c.in-Some.step.part; definition = c.in-Some-get.definition; bytes = c.front.result; offset = c.offset_of-offset.result; depth = c.len-depth.result } in
-    let fewer = less_left c.in-Taken.taken c.loop-step.left.now c.after-left.result.now c.after-left.ensures (positive c.in-Taken.taken c.if-taken-eq0.false) opened_as.0.within in
+pub loop-behind-smaller-else-has_parts : goal.loop-behind-smaller-else-has_parts
+loop-behind-smaller-else-has_parts c =
+    let l = c.args.layout.now in
+    let C = definitions_in l.map.now in
+    let ns = l.names.items in
+    let i = c.loop-behind.invariant in
+    let s = c.in-Some-next_part.step in
+    let g = c.in-Some-next_part.ensures in
+    let fs = reverse c.loop-behind.stack.items in
+    let d = shape_of c.in-Some-definition_at.definition.now in
+    let sh = sym c.in-Some-definition_at.ensures in
+    let o = subst (λ o. OpensAs C ns d c.loop-behind.left.now o) c.in-Taken.is c.in_ok-open_definition-in-Some-next_part.ensures.opened in
+    let n = c.in-Taken.taken in
+    let r = c.in-Taken.rest in
+    let more = positive n c.if-taken-eq0.false in
+    subst (λ b. left l.map.now ns (length b) 0 (with_rest c.loop-behind.frame s.others ∷ fs) < left l.map.now ns (length c.loop-behind.left.now) c.loop-behind.idle (c.loop-behind.frame ∷ fs)) (sym c.after-left.ensures) (less_past l i.going s g d sh n r o more)
+
+pub loop-behind-preserved-then-has_parts : goal.loop-behind-preserved-then-has_parts
+loop-behind-preserved-then-has_parts c =
+    let l = c.args.layout.now in
+    let C = definitions_in l.map.now in
+    let ns = l.names.items in
+    let i = c.loop-behind.invariant in
+    let s = c.in-Some-next_part.step in
+    let g = c.in-Some-next_part.ensures in
+    let fs = reverse c.loop-behind.stack.items in
+    let d = shape_of c.in-Some-definition_at.definition.now in
+    let sh = sym c.in-Some-definition_at.ensures in
+    let o = subst (λ o. OpensAs C ns d c.loop-behind.left.now o) c.in-Taken.is c.in_ok-open_definition-in-Some-next_part.ensures.opened in
+    let n = c.in-Taken.taken in
+    let r = c.in-Taken.rest in
+    let node : Node = record { name = c.name_of-name.result; definition = c.in-Some-definition_at.definition; bytes = c.front.result; offset = c.offset_of-offset.result; depth = c.len-depth.result } in
+    let more = positive n c.if-taken-eq0.false in
+    let ends = suffix_on n c.args.bytes.now c.loop-behind.left.now c.after-left.result.now i.within i.suffix c.after-left.ensures o.0.within in
+    let fewer = less_left n c.loop-behind.left.now c.after-left.result.now c.after-left.ensures more o.0.within in
+    let D = btree_map_len l.map.now in
+    let all = length c.args.bytes.now in
+    let old = c.loop-behind.nodes.items in
+    let new = c.list_node-else-taken-eq0.new.nodes.items in
+    let f : Frame = record { at = s.at; start = length c.loop-behind.left.now; rest = r } in
+    let back = last_first c.loop-behind.stack.items c.push-then-has_parts.new.self.items (with_rest c.loop-behind.frame s.others) c.in_ok-push-in-Taken.ensures.items in
     record {
-      names = [];
-      state = subst (λ l. Walk C c.args.root.now c.args.bytes.now (mark_of c.loop-step.table) l g c.after-left.result.now []) (sym back) (subst (λ b. Walk C c.args.root.now c.args.bytes.now (mark_of c.loop-step.table) (h ∷ reverse c.loop-step.stack.items) g b []) (sym c.after-left.ensures) s);
-      count = refl;
+      going = subst (λ b. Going l c.args.bytes.now c.loop-behind.marks.items (reverse c.push-then-has_parts.new.self.items) f b 0) (sym c.after-left.ensures) (subst (λ v. Going l c.args.bytes.now c.loop-behind.marks.items v f (drop n c.loop-behind.left.now) 0) (sym back) (going_on l i.going s g d sh n r o more));
       within = ends.0;
       suffix = ends.1;
       risen = omega (arith, i.risen, c.count_one-else-taken-eq0.ensures.risen);
-      opened = opened_on (btree_map_len c.args.map.now) (length c.args.bytes.now) c.args.opened.now c.loop-step.opened c.count_one-else-taken-eq0.new.count (length c.after-left.result.now) (length c.loop-step.left.now) c.loop-step.idle fewer i.opened c.count_one-else-taken-eq0.ensures.by_one;
-      few = λ w. few_on (btree_map_len c.args.map.now) (length c.args.bytes.now) (length c.loop-step.nodes.items) (length c.list_node-else-taken-eq0.new.nodes.items) (length c.after-left.result.now) (length c.loop-step.left.now) c.loop-step.idle fewer (i.few w) (listed_more C node c.loop-step.nodes.items c.list_node-else-taken-eq0.new.nodes.items (c.in_ok-list_node-in-Taken.ensures.listed w));
-      placed = λ w. placed_more C node c.loop-step.nodes.items c.list_node-else-taken-eq0.new.nodes.items c.in-Taken.taken (length c.args.bytes.now) c.loop-step.left.now c.after-left.result.now c.offset_of-offset.ensures c.front.ensures c.after-left.ensures (c.in_ok-list_node-in-Taken.ensures.listed w) (i.placed w);
+      opened = opened_on D all c.args.opened.now c.loop-behind.opened c.count_one-else-taken-eq0.new.count (length c.after-left.result.now) (length c.loop-behind.left.now) c.loop-behind.idle fewer i.opened c.count_one-else-taken-eq0.ensures.by_one;
+      few = λ w. few_on D all (length old) (length new) (length c.after-left.result.now) (length c.loop-behind.left.now) c.loop-behind.idle fewer (i.few w) (listed_more C node old new (c.in_ok-list_node-in-Taken.ensures.listed w));
+      placed = λ w. placed_more C node old new n all c.loop-behind.left.now c.after-left.result.now c.offset_of-offset.ensures c.front.ensures c.after-left.ensures (c.in_ok-list_node-in-Taken.ensures.listed w) (i.placed w);
       table = c.in_ok-list_node-in-Taken.ensures.table;
-      tags = c.in_ok-open_definition-in-Some.ensures.tables;
-      listed = λ w es n.
-          let fs = reverse c.loop-step.stack.items in
-          let same : pending (c.loop-step.frame ∷ fs) ≡ p ∷ (remaining c.in-Some.step.others ++ pending fs) = ap (λ l. l ++ pending fs) c.in-Some.ensures.parts in
-          let node : Node = record { name = c.in-Some.step.part; definition = c.in-Some-get.definition; bytes = c.front.result; offset = c.offset_of-offset.result; depth = c.len-depth.result } in
-          list_more C (λ l. Nodes C (c.args.root.now ∷ []) c.args.bytes.now l) node c.loop-step.nodes.items c.list_node-else-taken-eq0.new.nodes.items c.in-Taken.taken c.loop-step.left.now (remaining c.in-Taken.rest) (remaining c.in-Some.step.others ++ pending fs) e c.front.ensures opened_as.0.opens (c.in_ok-list_node-in-Taken.ensures.listed w)
-          (λ fs2 m. i.listed w fs2 (subst (λ l. Nodes C l c.loop-step.left.now fs2) (sym same) m)) es
-          (subst (λ b. Nodes C (remaining c.in-Taken.rest ++ (remaining c.in-Some.step.others ++ pending fs)) b es) c.after-left.ensures (subst (λ l. Nodes C (remaining c.in-Taken.rest ++ pending l) c.after-left.result.now es) back n));
+      tags = c.in_ok-open_definition-in-Some-next_part.ensures.tables;
+      listed = λ w es m. listed_on l i.going s g d sh n r o node old new c.name_of-name.ensures refl c.front.ensures (c.in_ok-list_node-in-Taken.ensures.listed w) (i.listed w) es (subst (λ b. Nodes C (remaining ns r ++ (remaining ns s.others ++ pending ns fs)) b es) c.after-left.ensures (subst (λ q. Nodes C (remaining ns r ++ pending ns q) c.after-left.result.now es) back m));
     }
 
-pub loop-step-smaller-else-has_parts : goal.loop-step-smaller-else-has_parts
-loop-step-smaller-else-has_parts c =
-    let opened_as = subst (λ o. OpensAs (definitions_in c.args.map.now) (shape_of c.in-Some-get.definition.now) c.loop-step.left.now o) c.in-Taken.is c.in_ok-open_definition-in-Some.ensures.opened in
-    let m = c.args.map.now in
-    let h : Frame = with_rest c.loop-step.frame c.in-Some.step.others in
-    let fewer = less_left c.in-Taken.taken c.loop-step.left.now c.after-left.result.now c.after-left.ensures (positive c.in-Taken.taken c.if-taken-eq0.false) opened_as.0.within in
-    left_past m (length c.after-left.result.now) (length c.loop-step.left.now) c.loop-step.idle c.loop-step.frame h (reverse c.loop-step.stack.items) fewer c.in-Some.ensures.steps
-
-pub loop-step-preserved-else-has_parts : goal.loop-step-preserved-else-has_parts
-loop-step-preserved-else-has_parts c =
-    let opened_as = subst (λ o. OpensAs (definitions_in c.args.map.now) (shape_of c.in-Some-get.definition.now) c.loop-step.left.now o) c.in-Taken.is c.in_ok-open_definition-in-Some.ensures.opened in
-    let C = definitions_in c.args.map.now in
-    let i = c.loop-step.invariant in
-    let p = c.in-Some.step.part.now in
-    let e = found_shape c.args.map c.args.map p c.in-Some-get.definition.now refl c.in-Some-get.ensures.value in
-    let g : Frame = record { name = c.in-Some.step.part; start = length c.loop-step.left.now; rest = c.in-Taken.rest } in
+pub loop-behind-preserved-else-has_parts : goal.loop-behind-preserved-else-has_parts
+loop-behind-preserved-else-has_parts c =
+    let l = c.args.layout.now in
+    let C = definitions_in l.map.now in
+    let ns = l.names.items in
+    let i = c.loop-behind.invariant in
+    let s = c.in-Some-next_part.step in
+    let g = c.in-Some-next_part.ensures in
+    let fs = reverse c.loop-behind.stack.items in
+    let d = shape_of c.in-Some-definition_at.definition.now in
+    let sh = sym c.in-Some-definition_at.ensures in
+    let o = subst (λ o. OpensAs C ns d c.loop-behind.left.now o) c.in-Taken.is c.in_ok-open_definition-in-Some-next_part.ensures.opened in
+    let n = c.in-Taken.taken in
+    let r = c.in-Taken.rest in
+    let node : Node = record { name = c.name_of-name.result; definition = c.in-Some-definition_at.definition; bytes = c.front.result; offset = c.offset_of-offset.result; depth = c.len-depth.result } in
+    let more = positive n c.if-taken-eq0.false in
+    let ends = suffix_on n c.args.bytes.now c.loop-behind.left.now c.after-left.result.now i.within i.suffix c.after-left.ensures o.0.within in
+    let fewer = less_left n c.loop-behind.left.now c.after-left.result.now c.after-left.ensures more o.0.within in
+    let D = btree_map_len l.map.now in
+    let all = length c.args.bytes.now in
+    let old = c.loop-behind.nodes.items in
+    let new = c.list_node-else-taken-eq0.new.nodes.items in
     let none = c.has_parts.ensures.none c.if-has_parts.false in
-    let ends = suffix_on c.in-Taken.taken c.args.bytes.now c.loop-step.left.now c.after-left.result.now i.within i.suffix c.after-left.ensures opened_as.0.within in
-    let s = walk_on C i.state c.in-Some.step.others c.in-Some.ensures.parts g (positive c.in-Taken.taken c.if-taken-eq0.false) e opened_as.0 refl refl in
-    let node : Node = record { name = c.in-Some.step.part; definition = c.in-Some-get.definition; bytes = c.front.result; offset = c.offset_of-offset.result; depth = c.len-depth.result } in
-    let fewer = less_left c.in-Taken.taken c.loop-step.left.now c.after-left.result.now c.after-left.ensures (positive c.in-Taken.taken c.if-taken-eq0.false) opened_as.0.within in
-    let far : g.start ≡ length (drop c.in-Taken.taken c.loop-step.left.now) → ⊥ = λ q. let k = ap (λ l. length l) c.after-left.ensures in absurd (omega (arith, q, k, fewer)) in
     record {
-      names = [];
-      state = subst (λ b. Walk C c.args.root.now c.args.bytes.now (mark_of c.loop-step.table) (reverse c.loop-step.stack.items) (with_rest c.loop-step.frame c.in-Some.step.others) b []) (sym c.after-left.ensures) (walk_up C s none far);
-      count = refl;
+      going = subst (λ b. Going l c.args.bytes.now c.loop-behind.marks.items fs (with_rest c.loop-behind.frame s.others) b 0) (sym c.after-left.ensures) (going_past l i.going s g d sh n r o more none);
       within = ends.0;
       suffix = ends.1;
       risen = omega (arith, i.risen, c.count_one-else-taken-eq0.ensures.risen);
-      opened = opened_on (btree_map_len c.args.map.now) (length c.args.bytes.now) c.args.opened.now c.loop-step.opened c.count_one-else-taken-eq0.new.count (length c.after-left.result.now) (length c.loop-step.left.now) c.loop-step.idle fewer i.opened c.count_one-else-taken-eq0.ensures.by_one;
-      few = λ w. few_on (btree_map_len c.args.map.now) (length c.args.bytes.now) (length c.loop-step.nodes.items) (length c.list_node-else-taken-eq0.new.nodes.items) (length c.after-left.result.now) (length c.loop-step.left.now) c.loop-step.idle fewer (i.few w) (listed_more C node c.loop-step.nodes.items c.list_node-else-taken-eq0.new.nodes.items (c.in_ok-list_node-in-Taken.ensures.listed w));
-      placed = λ w. placed_more C node c.loop-step.nodes.items c.list_node-else-taken-eq0.new.nodes.items c.in-Taken.taken (length c.args.bytes.now) c.loop-step.left.now c.after-left.result.now c.offset_of-offset.ensures c.front.ensures c.after-left.ensures (c.in_ok-list_node-in-Taken.ensures.listed w) (i.placed w);
+      opened = opened_on D all c.args.opened.now c.loop-behind.opened c.count_one-else-taken-eq0.new.count (length c.after-left.result.now) (length c.loop-behind.left.now) c.loop-behind.idle fewer i.opened c.count_one-else-taken-eq0.ensures.by_one;
+      few = λ w. few_on D all (length old) (length new) (length c.after-left.result.now) (length c.loop-behind.left.now) c.loop-behind.idle fewer (i.few w) (listed_more C node old new (c.in_ok-list_node-in-Taken.ensures.listed w));
+      placed = λ w. placed_more C node old new n all c.loop-behind.left.now c.after-left.result.now c.offset_of-offset.ensures c.front.ensures c.after-left.ensures (c.in_ok-list_node-in-Taken.ensures.listed w) (i.placed w);
       table = c.in_ok-list_node-in-Taken.ensures.table;
-      tags = c.in_ok-open_definition-in-Some.ensures.tables;
-      listed = λ w es n.
-          let fs = reverse c.loop-step.stack.items in
-          let same : pending (c.loop-step.frame ∷ fs) ≡ p ∷ (remaining c.in-Some.step.others ++ pending fs) = ap (λ l. l ++ pending fs) c.in-Some.ensures.parts in
-          let node : Node = record { name = c.in-Some.step.part; definition = c.in-Some-get.definition; bytes = c.front.result; offset = c.offset_of-offset.result; depth = c.len-depth.result } in
-          list_more C (λ l. Nodes C (c.args.root.now ∷ []) c.args.bytes.now l) node c.loop-step.nodes.items c.list_node-else-taken-eq0.new.nodes.items c.in-Taken.taken c.loop-step.left.now (remaining c.in-Taken.rest) (remaining c.in-Some.step.others ++ pending fs) e c.front.ensures opened_as.0.opens (c.in_ok-list_node-in-Taken.ensures.listed w)
-          (λ fs2 m. i.listed w fs2 (subst (λ l. Nodes C l c.loop-step.left.now fs2) (sym same) m)) es
-          (subst (λ b. Nodes C (remaining c.in-Taken.rest ++ (remaining c.in-Some.step.others ++ pending fs)) b es) c.after-left.ensures (subst (λ l. Nodes C (l ++ (remaining c.in-Some.step.others ++ pending fs)) c.after-left.result.now es) (sym none) n));
+      tags = c.in_ok-open_definition-in-Some-next_part.ensures.tables;
+      listed = λ w es m. listed_on l i.going s g d sh n r o node old new c.name_of-name.ensures refl c.front.ensures (c.in_ok-list_node-in-Taken.ensures.listed w) (i.listed w) es (subst (λ b. Nodes C (remaining ns r ++ (remaining ns s.others ++ pending ns fs)) b es) c.after-left.ensures (subst (λ q. Nodes C (q ++ (remaining ns s.others ++ pending ns fs)) c.after-left.result.now es) (sym none) m));
     }
 
-pub loop-step-smaller-in_ok-insert-in-Some-pop : goal.loop-step-smaller-in_ok-insert-in-Some-pop
-loop-step-smaller-in_ok-insert-in-Some-pop c =
-    let m = c.args.map.now in
-    let len = length c.loop-step.left.now in
-    let items = last_first c.pop.new.self.items c.loop-step.stack.items c.in-Some-pop.above c.in-Some-pop.ensures.items in
-    let t = left_up m len c.loop-step.idle c.loop-step.frame (c.in-Some-pop.above ∷ reverse c.pop.new.self.items) (some_step c.loop-step.frame.rest) in
-    subst (λ l. left m len c.loop-step.idle (c.in-Some-pop.above ∷ reverse c.pop.new.self.items) < left m len c.loop-step.idle (c.loop-step.frame ∷ l)) (sym items) t
+pub loop-behind-smaller-then-frame-left : goal.loop-behind-smaller-then-frame-left
+loop-behind-smaller-then-frame-left c =
+    let l = c.args.layout.now in
+    let C = definitions_in l.map.now in
+    let ns = l.names.items in
+    let i = c.loop-behind.invariant in
+    let items = last_first c.pop.new.self.items c.loop-behind.stack.items c.in-Some-pop.above c.in-Some-pop.ensures.items in
+    subst (λ q. left l.map.now ns (length c.loop-behind.left.now) c.loop-behind.idle (c.in-Some-pop.above ∷ reverse c.pop.new.self.items) < left l.map.now ns (length c.loop-behind.left.now) c.loop-behind.idle (c.loop-behind.frame ∷ q)) (sym items) (less_up l (length c.loop-behind.left.now) c.loop-behind.idle c.loop-behind.frame (c.in-Some-pop.above ∷ reverse c.pop.new.self.items))
 
-pub loop-step-preserved-in_ok-insert-in-Some-pop : goal.loop-step-preserved-in_ok-insert-in-Some-pop
-loop-step-preserved-in_ok-insert-in-Some-pop c =
-    let C = definitions_in c.args.map.now in
-    let i = c.loop-step.invariant in
-    let items = last_first c.pop.new.self.items c.loop-step.stack.items c.in-Some-pop.above c.in-Some-pop.ensures.items in
-    let s = subst (λ l. Walk C c.args.root.now c.args.bytes.now (mark_of c.loop-step.table) l c.loop-step.frame c.loop-step.left.now i.names) items i.state in
-    let u = updated_by c.loop-step.frame.name.now c.loop-step.table c.insert-then-frame-left.new.self Empty c.in_ok-insert-in-Some-pop.ensures.updates in
-    record { names = i.names; state = walk_up_empty C s c.in-None.ensures.parts c.if-frame-left.true u; count = i.count; within = i.within; suffix = i.suffix; risen = i.risen; opened = i.opened; few = i.few; placed = i.placed; table = i.table; tags = i.tags; listed = λ w es n. i.listed w es (subst (λ l. Nodes C l c.loop-step.left.now es) (sym (ap (λ l. l ++ pending (reverse c.loop-step.stack.items)) c.in-None.ensures.parts ∙ ap (λ l. pending l) items)) n) }
+pub loop-behind-preserved-then-frame-left : goal.loop-behind-preserved-then-frame-left
+loop-behind-preserved-then-frame-left c =
+    let l = c.args.layout.now in
+    let C = definitions_in l.map.now in
+    let ns = l.names.items in
+    let i = c.loop-behind.invariant in
+    let items = last_first c.pop.new.self.items c.loop-behind.stack.items c.in-Some-pop.above c.in-Some-pop.ensures.items in
+    let v = subst (λ q. Going l c.args.bytes.now c.loop-behind.marks.items q c.loop-behind.frame c.loop-behind.left.now c.loop-behind.idle) items i.going in
+    record {
+      going = subst (λ q. Going l c.args.bytes.now q (reverse c.pop.new.self.items) c.in-Some-pop.above c.loop-behind.left.now c.loop-behind.idle) (sym c.set_mark-then-frame-left.ensures) (going_up_empty l v c.in-None-next_part.ensures c.if-frame-left.true);
+      within = i.within;
+      suffix = i.suffix;
+      risen = i.risen;
+      opened = i.opened;
+      few = i.few;
+      placed = i.placed;
+      table = i.table;
+      tags = i.tags;
+      listed = λ w es n. i.listed w es (subst (λ q. Nodes C (pending ns (c.loop-behind.frame ∷ q)) c.loop-behind.left.now es) (sym items) (up_listed l (reverse c.pop.new.self.items) c.loop-behind.frame c.in-Some-pop.above c.in-None-next_part.ensures es n));
+    }
 
-pub loop-step-smaller : goal.loop-step-smaller
-loop-step-smaller c =
-    let m = c.args.map.now in
-    let len = length c.loop-step.left.now in
-    let items = last_first c.pop.new.self.items c.loop-step.stack.items c.in-Some-pop.above c.in-Some-pop.ensures.items in
-    let t = left_up m len c.loop-step.idle c.loop-step.frame (c.in-Some-pop.above ∷ reverse c.pop.new.self.items) (some_step c.loop-step.frame.rest) in
-    subst (λ l. left m len c.loop-step.idle (c.in-Some-pop.above ∷ reverse c.pop.new.self.items) < left m len c.loop-step.idle (c.loop-step.frame ∷ l)) (sym items) t
+pub loop-behind-smaller : goal.loop-behind-smaller
+loop-behind-smaller c =
+    let l = c.args.layout.now in
+    let C = definitions_in l.map.now in
+    let ns = l.names.items in
+    let i = c.loop-behind.invariant in
+    let items = last_first c.pop.new.self.items c.loop-behind.stack.items c.in-Some-pop.above c.in-Some-pop.ensures.items in
+    subst (λ q. left l.map.now ns (length c.loop-behind.left.now) c.loop-behind.idle (c.in-Some-pop.above ∷ reverse c.pop.new.self.items) < left l.map.now ns (length c.loop-behind.left.now) c.loop-behind.idle (c.loop-behind.frame ∷ q)) (sym items) (less_up l (length c.loop-behind.left.now) c.loop-behind.idle c.loop-behind.frame (c.in-Some-pop.above ∷ reverse c.pop.new.self.items))
 
-pub loop-step-preserved : goal.loop-step-preserved
-loop-step-preserved c =
-    let C = definitions_in c.args.map.now in
-    let i = c.loop-step.invariant in
-    let items = last_first c.pop.new.self.items c.loop-step.stack.items c.in-Some-pop.above c.in-Some-pop.ensures.items in
-    let s = subst (λ l. Walk C c.args.root.now c.args.bytes.now (mark_of c.loop-step.table) l c.loop-step.frame c.loop-step.left.now i.names) items i.state in
-    record { names = i.names; state = walk_up C s c.in-None.ensures.parts c.if-frame-left.false; count = i.count; within = i.within; suffix = i.suffix; risen = i.risen; opened = i.opened; few = i.few; placed = i.placed; table = i.table; tags = i.tags; listed = λ w es n. i.listed w es (subst (λ l. Nodes C l c.loop-step.left.now es) (sym (ap (λ l. l ++ pending (reverse c.loop-step.stack.items)) c.in-None.ensures.parts ∙ ap (λ l. pending l) items)) n) }
+pub loop-behind-preserved : goal.loop-behind-preserved
+loop-behind-preserved c =
+    let l = c.args.layout.now in
+    let C = definitions_in l.map.now in
+    let ns = l.names.items in
+    let i = c.loop-behind.invariant in
+    let items = last_first c.pop.new.self.items c.loop-behind.stack.items c.in-Some-pop.above c.in-Some-pop.ensures.items in
+    let v = subst (λ q. Going l c.args.bytes.now c.loop-behind.marks.items q c.loop-behind.frame c.loop-behind.left.now c.loop-behind.idle) items i.going in
+    record {
+      going = going_up l v c.in-None-next_part.ensures c.if-frame-left.false;
+      within = i.within;
+      suffix = i.suffix;
+      risen = i.risen;
+      opened = i.opened;
+      few = i.few;
+      placed = i.placed;
+      table = i.table;
+      tags = i.tags;
+      listed = λ w es n. i.listed w es (subst (λ q. Nodes C (pending ns (c.loop-behind.frame ∷ q)) c.loop-behind.left.now es) (sym items) (up_listed l (reverse c.pop.new.self.items) c.loop-behind.frame c.in-Some-pop.above c.in-None-next_part.ensures es n));
+    }
 
 end_answer : (C : List ℕ → Option Shape) (root bytes rest : List ℕ) (a : Membership) → length rest ≤ length bytes → IsAnswerAtEnd root (length bytes) rest a → (Member C root bytes → rest ≡ []) × (rest ≡ [] → Member C root bytes) → IsAnswer C root bytes a
 end_answer C root bytes rest IsMember low h w = w.1 h
@@ -318,39 +416,28 @@ end_answer C root bytes rest (Ambiguous x) low h w = absurd h
 
 pub returns-in-None-pop-clause-answer : goal.returns-in-None-pop-clause-answer
 returns-in-None-pop-clause-answer c =
-    let C = definitions_in c.args.map.now in
-    let i = c.loop-step.invariant in
-    let none = no_items c.loop-step.stack.items (omega (arith, c.in-None-pop.ensures.cases.0, c.loop-step.stack.ok.0)) in
-    let s = subst (λ l. Walk C c.args.root.now c.args.bytes.now (mark_of c.loop-step.table) (reverse l) c.loop-step.frame c.loop-step.left.now i.names) none i.state in
-    end_answer C c.args.root.now c.args.bytes.now c.loop-step.left.now c.at_end.result i.within c.at_end.ensures (walk_end C s c.in-None.ensures.parts)
-
-pub returns-in-Undecided-clause-answer : goal.returns-in-Undecided-clause-answer
-returns-in-Undecided-clause-answer c =
-    let opened_as = subst (λ o. OpensAs (definitions_in c.args.map.now) (shape_of c.in-Some-get.definition.now) c.loop-step.left.now o) c.in-Undecided.is c.in_ok-open_definition-in-Some.ensures.opened in
-    let C = definitions_in c.args.map.now in
-    let i = c.loop-step.invariant in
-    let e = found_shape c.args.map c.args.map c.in-Some.step.part.now c.in-Some-get.definition.now refl c.in-Some-get.ensures.value in
-    (shape_of c.in-Some-get.definition.now, part_reached C i.state c.in-Some.step.others c.in-Some.ensures.parts, e, opened_as)
+    let l = c.args.layout.now in
+    let i = c.loop-behind.invariant in
+    let none = no_items c.loop-behind.stack.items (omega (arith, c.in-None-pop.ensures.cases.0, c.loop-behind.stack.ok.0)) in
+    let v = subst (λ q. Going l c.args.bytes.now c.loop-behind.marks.items (reverse q) c.loop-behind.frame c.loop-behind.left.now c.loop-behind.idle) none i.going in
+    end_answer (definitions_in l.map.now) l.root.now c.args.bytes.now c.loop-behind.left.now c.at_end.result i.within c.at_end.ensures (going_end l v c.in-None-next_part.ensures)
 
 at_end_empty : (root : List ℕ) (all : ℕ) (rest : List ℕ) (a : Membership) → IsAnswerAtEnd root all rest a → a ≡ IsMember → rest ≡ []
 at_end_empty root all rest IsMember h e = h
 at_end_empty root all rest (NoMember f) h e = cc
 at_end_empty root all rest (Ambiguous x) h e = absurd h
 
-not_listed : (all left : ℕ) (name : List ℕ) (r : Reason) (a : Membership) → IsNoMemberAt all left name r a → a ≡ IsMember → ⊥
-not_listed all left name r IsMember h e = h
-not_listed all left name r (NoMember f) h e = cc
-not_listed all left name r (Ambiguous x) h e = h
-
 pub returns-in-None-pop-clause-listed : goal.returns-in-None-pop-clause-listed
 returns-in-None-pop-clause-listed c = λ w e.
-    let C = definitions_in c.args.map.now in
-    let i = c.loop-step.invariant in
-    let none = no_items c.loop-step.stack.items (omega (arith, c.in-None-pop.ensures.cases.0, c.loop-step.stack.ok.0)) in
-    let left = at_end_empty c.args.root.now (length c.args.bytes.now) c.loop-step.left.now c.at_end.result c.at_end.ensures e in
-    let same : pending (c.loop-step.frame ∷ reverse c.loop-step.stack.items) ≡ [] = ap (λ l. l ++ pending (reverse c.loop-step.stack.items)) c.in-None.ensures.parts ∙ ap (λ l. pending (reverse l)) none in
-    let n = i.listed w [] (subst (λ l. Nodes C l c.loop-step.left.now []) (sym same) (subst (λ b. Nodes C [] b []) (sym left) nodes_none)) in
-    subst (λ l. Nodes C (c.args.root.now ∷ []) c.args.bytes.now l) (all_views (views c.loop-step.nodes.items)) n
+    let l = c.args.layout.now in
+    let C = definitions_in l.map.now in
+    let ns = l.names.items in
+    let i = c.loop-behind.invariant in
+    let none = no_items c.loop-behind.stack.items (omega (arith, c.in-None-pop.ensures.cases.0, c.loop-behind.stack.ok.0)) in
+    let left = at_end_empty l.root.now (length c.args.bytes.now) c.loop-behind.left.now c.at_end.result c.at_end.ensures e in
+    let same : pending ns (c.loop-behind.frame ∷ reverse c.loop-behind.stack.items) ≡ [] = ap (λ q. q ++ pending ns (reverse c.loop-behind.stack.items)) c.in-None-next_part.ensures ∙ ap (λ q. pending ns (reverse q)) none in
+    let n = i.listed w [] (subst (λ q. Nodes C q c.loop-behind.left.now []) (sym same) (subst (λ b. Nodes C [] b []) (sym left) nodes_none)) in
+    subst (λ q. Nodes C (l.root.now ∷ []) c.args.bytes.now q) (all_views (views c.loop-behind.nodes.items)) n
 
 pub returns-in-None-pop-clause-placed : goal.returns-in-None-pop-clause-placed
-returns-in-None-pop-clause-placed c = λ w. (c.loop-step.invariant.placed w).0
+returns-in-None-pop-clause-placed c = λ w. (c.loop-behind.invariant.placed w).0

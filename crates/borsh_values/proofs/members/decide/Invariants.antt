@@ -1,31 +1,28 @@
-use Rattle.std.proofs.Common.{◌≡◌, ◌≤◌, ◌+◌, ◌-◌, ℕ, List, [], ◌∷◌, ◌++◌, length, drop, reverse, true}
+use Rattle.std.proofs.Common.{◌≡◌, ◌≤◌, ◌+◌, ◌-◌, List, [], ◌∷◌, ◌++◌, length, drop, reverse, true}
 use Rattle.std.specs.BTreeMap.{btree_map_len}
 use Rattle.borsh_walks.specs.Definitions.{definitions_in}
-use Rattle.borsh_walks.specs.Tables.{mark_of}
 use Rattle.borsh_walks.specs.ZeroAnswer.{ZeroTable}
 use Rattle.borsh_values.specs.Nodes.{NodeView, Nodes, views}
 use Rattle.borsh_values.specs.Steps.{pending}
 use Rattle.borsh_values.specs.TagTables.{AreTagTables}
-use Rattle.borsh_values.proofs.Walk.{Walk}
+use Rattle.borsh_values.proofs.Going.{Going}
 use Rattle.borsh_values.proofs.Measure.{left, opens}
 use Rattle.borsh_values.proofs.Offsets.{Placed}
 use Rattle.borsh_values.proofs.members.decide.Given as goal
 
-abbrev pub invariant-loop-step : goal.invariant-loop-step
-invariant-loop-step l = record {
-  names : List (List ℕ);
-  state : Walk (definitions_in l.fn.map) l.fn.root l.fn.bytes (mark_of l.table) (reverse l.stack.items) l.frame l.left names;
-  count : length names ≡ l.idle;
+abbrev pub invariant-loop-behind : goal.invariant-loop-behind
+invariant-loop-behind l = record {
+  going : Going l.fn.layout l.fn.bytes l.marks.items (reverse l.stack.items) l.frame l.left l.idle;
   within : length l.left ≤ length l.fn.bytes;
   suffix : l.left ≡ drop (length l.fn.bytes - length l.left) l.fn.bytes;
   risen : l.fn.opened ≤ l.opened;
-  opened : l.opened + opens (btree_map_len l.fn.map) (length l.left) l.idle ≤ l.fn.opened + opens (btree_map_len l.fn.map) (length l.fn.bytes) 0;
-  few : l.wanted ≡ true → length l.nodes.items + opens (btree_map_len l.fn.map) (length l.left) l.idle ≤ opens (btree_map_len l.fn.map) (length l.fn.bytes) 0;
+  opened : l.opened + opens (btree_map_len l.fn.layout.map.now) (length l.left) l.idle ≤ l.fn.opened + opens (btree_map_len l.fn.layout.map.now) (length l.fn.bytes) 0;
+  few : l.wanted ≡ true → length l.nodes.items + opens (btree_map_len l.fn.layout.map.now) (length l.left) l.idle ≤ opens (btree_map_len l.fn.layout.map.now) (length l.fn.bytes) 0;
   placed : l.wanted ≡ true → Placed (length l.fn.bytes) l.nodes.items l.left;
-  table : ZeroTable (definitions_in l.fn.map) l.zeros;
-  tags : AreTagTables (definitions_in l.fn.map) l.tags;
-  listed : l.wanted ≡ true → (es : List NodeView) → Nodes (definitions_in l.fn.map) (pending (l.frame ∷ reverse l.stack.items)) l.left es → Nodes (definitions_in l.fn.map) (l.fn.root ∷ []) l.fn.bytes (views l.nodes.items ++ es);
+  table : ZeroTable (definitions_in l.fn.layout.map.now) l.zeros;
+  tags : AreTagTables (definitions_in l.fn.layout.map.now) l.tags;
+  listed : l.wanted ≡ true → (es : List NodeView) → Nodes (definitions_in l.fn.layout.map.now) (pending l.fn.layout.names.items (l.frame ∷ reverse l.stack.items)) l.left es → Nodes (definitions_in l.fn.layout.map.now) (l.fn.layout.root.now ∷ []) l.fn.bytes (views l.nodes.items ++ es);
 }
 
-abbrev pub decreases-loop-step : goal.decreases-loop-step
-decreases-loop-step l = left l.map (length l.left) l.idle (l.frame ∷ reverse l.stack.items)
+abbrev pub decreases-loop-behind : goal.decreases-loop-behind
+decreases-loop-behind l = left l.layout.map.now l.layout.names.items (length l.left) l.idle (l.frame ∷ reverse l.stack.items)

@@ -1,15 +1,18 @@
-use Rattle.std.proofs.Common.{arith, subst, take}
+use Rattle.std.proofs.Common.{◌∙◌, arith, ap, subst, sym, take}
+use Rattle.std.specs.Prelude.{slice_get}
+use Rattle.borsh_walks.specs.Definitions.{definitions_in}
+use Rattle.borsh_values.specs.Layouts.{IsPlaceOf, parts_in}
 use Rattle.borsh_values.specs.Steps.{FoundAs}
 use Rattle.borsh_values.proofs.FoundLaws.{unnamed}
-use Rattle.borsh_values.proofs.TakesLaws.{found_choice, found_none_choice, short_choice, several_ambiguous}
+use Rattle.borsh_values.proofs.TakesLaws.{found_choice, found_none_choice, found_there, short_choice, several_ambiguous}
 use Rattle.borsh_values.proofs.TableLaws.{keeps_same}
 use Rattle.borsh_values.proofs.opening.open_enum.Goals as goal
 
 pub returns-then-bytes-size-clause-opened : goal.returns-then-bytes-size-clause-opened
-returns-then-bytes-size-clause-opened c = λ C. ((λ z. cc), λ x e m. short_choice C (let h = c.if-bytes-size.true in let s = c.from-size.ensures in omega (arith, h, s)) e m)
+returns-then-bytes-size-clause-opened c = ((λ z. cc), λ x e m. short_choice (definitions_in c.args.layout.now.map.now) (let h = c.if-bytes-size.true in let s = c.from-size.ensures in omega (arith, h, s)) e m)
 
 pub returns-then-bytes-size-clause-kept : goal.returns-then-bytes-size-clause-kept
-returns-then-bytes-size-clause-kept c = keeps_same c.args.tables.now c.requires
+returns-then-bytes-size-clause-kept c = keeps_same c.args.tables.now c.requires.table
 
 pub returns-in-Nothing-clause-opened : goal.returns-in-Nothing-clause-opened
 returns-in-Nothing-clause-opened c =
@@ -17,15 +20,30 @@ returns-in-Nothing-clause-opened c =
     let bytes = c.args.bytes.now in
     let size = c.from-size.result in
     let found = subst (λ f. FoundAs vs (take size bytes) f) c.in-Nothing.is c.in_ok-find_variant_of.ensures.found in
-    λ C. ((λ z. cc), λ x e m. found_none_choice c.args.width size bytes vs c.from-size.ensures c.if-bytes-size.false found C x e m)
+    ((λ z. cc), λ x e m. found_none_choice c.args.width size bytes vs c.from-size.ensures c.if-bytes-size.false found (definitions_in c.args.layout.now.map.now) x e m)
 
-pub returns-in-One-clause-opened : goal.returns-in-One-clause-opened
-returns-in-One-clause-opened c =
+pub returns-in-Some-clause-opened : goal.returns-in-Some-clause-opened
+returns-in-Some-clause-opened c =
     let vs = unnamed c.args.variants.now.items in
+    let ns = c.args.layout.now.names.items in
     let bytes = c.args.bytes.now in
     let size = c.from-size.result in
+    let i = c.in-One.index in
     let found = subst (λ f. FoundAs vs (take size bytes) f) c.in-One.is c.in_ok-find_variant_of.ensures.found in
-    λ C. (found_choice C c.args.width size c.in-One.name bytes vs c.from-size.ensures c.if-bytes-size.false found, omega arith)
+    let h = subst (λ o. IsPlaceOf ns c.args.at i o) c.in-Some.is c.part_at.ensures.place in
+    let at = ap (λ s. slice_get (parts_in s) i) (sym c.requires.shape) ∙ h.1 in
+    (found_choice (definitions_in c.args.layout.now.map.now) c.args.width size i _ bytes vs c.from-size.ensures c.if-bytes-size.false found at, omega arith, h.0)
+
+pub returns-in-None-clause-opened : goal.returns-in-None-clause-opened
+returns-in-None-clause-opened c =
+    let vs = unnamed c.args.variants.now.items in
+    let ns = c.args.layout.now.names.items in
+    let bytes = c.args.bytes.now in
+    let size = c.from-size.result in
+    let i = c.in-One.index in
+    let found = subst (λ f. FoundAs vs (take size bytes) f) c.in-One.is c.in_ok-find_variant_of.ensures.found in
+    let h = subst (λ o. IsPlaceOf ns c.args.at i o) c.in-None.is c.part_at.ensures.place in
+    absurd (found_there vs (take size bytes) i found (ap (λ s. slice_get (parts_in s) i) (sym c.requires.shape) ∙ h))
 
 pub returns-in-Several-clause-opened : goal.returns-in-Several-clause-opened
 returns-in-Several-clause-opened c =
@@ -33,4 +51,4 @@ returns-in-Several-clause-opened c =
     let bytes = c.args.bytes.now in
     let size = c.from-size.result in
     let found = subst (λ f. FoundAs vs (take size bytes) f) c.in-Several.is c.in_ok-find_variant_of.ensures.found in
-    λ C u _. several_ambiguous c.args.width size bytes vs c.from-size.ensures c.if-bytes-size.false found u
+    λ u _. several_ambiguous c.args.width size bytes vs c.from-size.ensures c.if-bytes-size.false found u

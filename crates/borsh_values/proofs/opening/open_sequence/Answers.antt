@@ -1,6 +1,10 @@
-use Rattle.std.proofs.Common.{◌≡◌, ℕ, suc, zero, ◌+◌, ◌^◌, ◌<◌, arith, inl, inr}
+use Rattle.std.proofs.Common.{◌≡◌, ℕ, suc, zero, ◌+◌, ◌^◌, ◌<◌, arith, inl, inr, length, subst, sym}
 use Rattle.borsh_walks.specs.Definitions.{definitions_in}
+use Rattle.borsh_values.specs.Layouts.{name_at}
+use Rattle.borsh_values.specs.Nodes.{packed_size}
+use Rattle.borsh_values.specs.Steps.{TakesElements}
 use Rattle.borsh_values.proofs.Bytes.{small_bytes}
+use Rattle.borsh_values.proofs.Places.{defined_at}
 use Rattle.borsh_values.proofs.TakesLaws.{array_opened, list_opened, count_off, short_sequence}
 use Rattle.borsh_values.proofs.opening.open_sequence.Goals as goal
 use Rattle.borsh_values.proofs.opening.open_sequence.Goals.{then-count-start-via-then-count-start, then-count-start-via-else-count-start+then-end-count}
@@ -10,20 +14,33 @@ width_zero zero lo hi z h u = omega arith
 width_zero (suc w) lo hi z h u = omega arith
 
 pub returns-then-width-eq0 : goal.returns-then-width-eq0
-returns-then-width-eq0 c = array_opened (definitions_in c.args.map.now) c.args.width c.args.start c.args.end c.args.element.now c.args.bytes.now c.if-width-eq0.true (omega arith) (small_bytes c.args.bytes.now (λ k. let b = c.type_inv.bytes k in omega (arith, b))) c.open_elements.result c.open_elements.ensures
+returns-then-width-eq0 c =
+    let l = c.args.layout.now in
+    let C = definitions_in l.map.now in
+    let ns = l.names.items in
+    let e = c.args.element in
+    let d = defined_at l.map.now l.root.now ns l.parts.items c.requires.laid_out e c.requires.within in
+    let t = subst (λ s. TakesElements ns (packed_size s) e c.args.start 0 (length c.args.bytes.now) c.open_elements.result) (sym d) c.open_elements.ensures in
+    array_opened C ns c.args.width c.args.start c.args.end e c.args.bytes.now c.if-width-eq0.true (omega arith) (small_bytes c.args.bytes.now (λ k. let b = c.type_inv.bytes k in omega (arith, b))) c.open_elements.result t
 
 pub returns-then-bytes-size : goal.returns-then-bytes-size
-returns-then-bytes-size c = ((λ z. cc), λ x e m. short_sequence (definitions_in c.args.map.now) (let h = c.if-bytes-size.true in let s = c.from-size.ensures in omega (arith, h, s)) e m)
+returns-then-bytes-size c = ((λ z. cc), λ x e m. short_sequence (definitions_in c.args.layout.now.map.now) (let h = c.if-bytes-size.true in let s = c.from-size.ensures in omega (arith, h, s)) e m)
 
 pub returns-then-count-start : goal.returns-then-count-start
 returns-then-count-start c =
     let f = c.if-not-fits_width.ensures in (
       (λ z. cc),
-      count_off c.args.width c.args.start c.args.end c.number-count.result c.from-size.result c.args.element.now c.args.bytes.now f.2 c.from-size.ensures c.if-bytes-size.false c.number-count.ensures.written c.number-count.ensures.small
-          (elim c.then-count-start.branch [ then-count-start-via-then-count-start w ↦ inl w.if-count-start.true | then-count-start-via-else-count-start+then-end-count w ↦ inr w.if-end-count.true ]) (definitions_in c.args.map.now),
+      count_off c.args.width c.args.start c.args.end c.number-count.result c.from-size.result (name_at c.args.layout.now.names.items c.args.element) c.args.bytes.now f.2 c.from-size.ensures c.if-bytes-size.false c.number-count.ensures.written c.number-count.ensures.small
+          (elim c.then-count-start.branch [ then-count-start-via-then-count-start w ↦ inl w.if-count-start.true | then-count-start-via-else-count-start+then-end-count w ↦ inr w.if-end-count.true ]) (definitions_in c.args.layout.now.map.now),
     )
 
 pub returns : goal.returns
 returns c =
+    let l = c.args.layout.now in
+    let C = definitions_in l.map.now in
+    let ns = l.names.items in
+    let e = c.args.element in
     let f = c.if-not-fits_width.ensures in
-    list_opened (definitions_in c.args.map.now) c.args.width c.args.start c.args.end c.number-count.result c.from-size.result c.args.element.now c.args.bytes.now f.2 c.from-size.ensures c.if-count-start.false c.if-end-count.false c.if-bytes-size.false c.number-count.ensures.written (small_bytes c.args.bytes.now (λ k. let b = c.type_inv.bytes k in omega (arith, b))) c.open_elements-2.result c.open_elements-2.ensures
+    let d = defined_at l.map.now l.root.now ns l.parts.items c.requires.laid_out e c.requires.within in
+    let t = subst (λ s. TakesElements ns (packed_size s) e c.number-count.result c.from-size.result (length c.args.bytes.now) c.open_elements-2.result) (sym d) c.open_elements-2.ensures in
+    list_opened C ns c.args.width c.args.start c.args.end c.number-count.result c.from-size.result e c.args.bytes.now f.2 c.from-size.ensures c.if-count-start.false c.if-end-count.false c.if-bytes-size.false c.number-count.ensures.written (small_bytes c.args.bytes.now (λ k. let b = c.type_inv.bytes k in omega (arith, b))) c.open_elements-2.result t

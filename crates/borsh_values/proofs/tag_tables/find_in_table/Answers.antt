@@ -15,8 +15,7 @@ returns-then-is_tag c =
     let f = c.in-Some.field-0.now in
     let v = got items _ n f c.deref.ensures.value c.in-Some.ensures.lookup.3.0 c.in-Some.ensures.lookup.1 in
     let at : at_key c.args.table.now c.key_of.result ≡ Some (AtOne n) = sym c.in-Some-One.ensures.value ∙ ap (λ a. Some a) c.in-Some-One.field-0-is in
-    let p = c.as_str.result in
-    table_one c.args.tag.now c.requires.table c.key_of.result c.key_of.ensures c.requires.some n at f.0 p (v.listed ∙ ap (λ s. Some (f.0, s)) (sym c.as_str.ensures.value)) (c.if-is_tag.ensures.0 refl)
+    table_one c.args.tag.now c.requires.table c.key_of.result c.key_of.ensures c.requires.some n at f.0 (string_bytes f.2) v.listed (c.if-is_tag.ensures.0 refl)
 
 pub returns-else-is_tag : goal.returns-else-is_tag
 returns-else-is_tag c =

@@ -1,7 +1,8 @@
-use Rattle.std.proofs.Common.{◌≡◌, ◌+◌, take, refl, sym, ◌∙◌, ap, subst, arith, ◌∷◌, [], ◌++◌, Some, true, false}
+use Rattle.std.proofs.Common.{◌≡◌, ◌+◌, ℕ, ℤ, List, length, length-take-le, take, refl, sym, ◌∙◌, subst, arith, ◌∷◌, [], ◌++◌, true, false}
 use Rattle.std.specs.Prelude.{string_bytes}
+use Rattle.std.proofs.lemmas.List.{length-map}
 use Rattle.borsh_values.specs.Steps.{FoundAs}
-use Rattle.borsh_values.proofs.FoundLaws.{unnamed, got, got_none, found_more, found_same, take_next}
+use Rattle.borsh_values.proofs.FoundLaws.{unnamed, got, got_none, found_more, found_same}
 use Rattle.borsh_values.proofs.tags.find_variant.Goals as goal
 use Rattle.borsh_values.proofs.tags.find_variant.Goals.{then-is_tag, else-is_tag}
 
@@ -18,10 +19,10 @@ loop-discriminant-preserved c =
       within = omega (arith, v.within);
       found = elim c.if-is_tag.branch as (λ _. Goal) [
         | then-is_tag w ↦
-            (let p = w.as_str.result in
-            let r = found_more (take n vs) bytes c.loop-discriminant.found f.0 p c.loop-discriminant.invariant.found (w.if-is_tag.ensures.0 refl) in
-            let t = take_next vs n (f.0, p.now) (v.listed ∙ ap (λ s. Some (f.0, s)) (sym w.as_str.ensures.value)) in
-            subst (λ l. FoundAs l bytes c.if-is_tag.found) (sym t) (subst (λ o. FoundAs (take n vs ++ (f.0, p.now) ∷ []) bytes o) (sym (w.found-is ∙ w.add-found.ensures)) r))
+            (let k = length-map {B = ℤ × List ℕ} items (λ v. (v.0, string_bytes v.2)) in
+            let long : length (take n vs) ≡ n = length-take-le n vs (omega (arith, v.within, k)) in
+            let r = found_more (take n vs) bytes c.loop-discriminant.found n f.0 (string_bytes f.2) long c.loop-discriminant.invariant.found (w.if-is_tag.ensures.0 refl) in
+            subst (λ l. FoundAs l bytes c.if-is_tag.found) (sym v.next) (subst (λ o. FoundAs (take n vs ++ (f.0, string_bytes f.2) ∷ []) bytes o) (sym (w.found-is ∙ w.add-found.ensures)) r))
         | else-is_tag w ↦
             (let r = found_same (take n vs) bytes c.loop-discriminant.found f.0 (string_bytes f.2) c.loop-discriminant.invariant.found (λ q. no_true (w.if-is_tag.ensures.1 q)) in
             subst (λ l. FoundAs l bytes c.if-is_tag.found) (sym v.next) (subst (λ o. FoundAs (take n vs ++ (f.0, string_bytes f.2) ∷ []) bytes o) (sym w.found-is) r))

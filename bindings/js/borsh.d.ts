@@ -1,0 +1,128 @@
+/** What a call has no answer for. */
+export class BorshError extends Error {
+  constructor(kind: ErrorKind, text: string, found?: { path?: string; type?: string; offset?: number | string; reason?: string });
+
+  readonly kind: ErrorKind;
+  /** The path of the part that the error is about, as `A.y[3]` or `A.y[3]::V.0`. A name is written in it as it is in the schema. */
+  readonly path?: string;
+  /** The name of the part's type, of an error about bytes. */
+  readonly type?: string;
+  /** The byte at which bytes stop being a value, or near which a text stops being JSON. */
+  readonly offset?: number;
+  /** The error without its path, type and offset. */
+  readonly reason: string;
+}
+
+/**
+ * - `"no"`: the schema breaks a rule or has no greatest size, the bytes are no value, or the JSON describes none
+ * - `"malformed"`: the bytes aren't the encoding of a schema container
+ * - `"undecided"`: the schema allows two values for the same bytes, or breaks a rule of widths
+ * - `"out of memory"`: the module's memory, of at most 4 GiB, doesn't suffice; it can be used further
+ */
+export type ErrorKind = "no" | "malformed" | "undecided" | "out of memory";
+
+/** Bytes, or their hexadecimal digits; white space between digits and a `0x` before them are passed over. */
+export type Source = Uint8Array | ArrayBuffer | string;
+
+/**
+ * A value, by the table "JSON" of docs/TOOL.md, with these instead of some texts:
+ *
+ * - whole numbers of 64 and 128 bits are `bigint`s, or decimal strings where that is asked for; smaller ones are `number`s
+ * - lists and arrays of `u8`, and primitives that are no whole numbers (floats among them), are `Uint8Array`s, as the bytes lie
+ *
+ * So texts are strings, `bool`s booleans, lists and tuples arrays, structs objects, maps by texts or numbers objects too and other
+ * maps arrays of pairs; an `Option` is `null` or what it has; a variant is its name, or an object `{ Name: value }`.
+ */
+export type Value = null | boolean | number | bigint | string | Uint8Array | Value[] | { [name: string]: Value };
+
+/** What some bytes of a value are: a number, a text, a list of numbers, the count of another list, or the tag of an enum. */
+export interface Row {
+  /** How many bytes of the value come before these. */
+  offset: number;
+  /** How many values the part is in. */
+  depth: number;
+  /** The bytes: a part of those that were given, and no copy. A text or a list of numbers has its count before it. */
+  bytes: Uint8Array;
+  /** As `A.y[3]`, or `A.y[3]::V.0`. */
+  path: string;
+  /** The name of the type. */
+  type: string;
+  /** What the bytes say: `12`, `"text"`, `3 elements`, the name of a variant; empty for bytes that are no number. */
+  value: string;
+}
+
+/** What a schema says of a name. Tags and lengths are `bigint`s, since they have 64 bits. `name` is `null` of a field without one. */
+export type Definition =
+  | { kind: "primitive"; size: number }
+  | { kind: "sequence"; lengthWidth: number; least: bigint; greatest: bigint; elements: string }
+  | { kind: "tuple"; elements: string[] }
+  | { kind: "struct"; fields: { name: string | null; type: string }[] }
+  | { kind: "enum"; tagWidth: number; variants: { tag: bigint; name: string; type: string }[] };
+
+/**
+ * A schema: what an encoded schema container says. Each call throws a {@link BorshError} where it has no answer, and a `TypeError` for
+ * an argument of another type; the schema is unchanged after either.
+ *
+ * ```js
+ * const schema = Schema.from(containerBytes);
+ * const value = schema.decode(bytes);
+ * ```
+ */
+export class Schema {
+  private constructor();
+
+  /** The schema of an encoded container, of which a copy is kept. The error is `"malformed"` or `"out of memory"`. */
+  static from(container: Source): Schema;
+
+  /** The schema of schemas: by it an encoded container is itself a value. */
+  static ofSchemas(): Schema;
+
+  /** A copy of the encoded container. */
+  readonly bytes: Uint8Array;
+
+  /** The name of the type whose values the schema describes. */
+  readonly root: string;
+
+  /** The definitions by their names. They aren't to be changed. */
+  readonly definitions: ReadonlyMap<string, Definition>;
+
+  /** Returns if the schema keeps the rules of docs/TOOL.md, else the error `"no"` names a rule and a name that breaks it. */
+  validate(): void;
+
+  /** The greatest size of a value in bytes; the error `"no"` is `overflow` (of 64 bits), `recursive`, or `missing` and a name. */
+  maxSize(): bigint;
+
+  /**
+   * Returns if all of the bytes are a value by the definitions alone; the error `"no"` says where they stop being one, and why. The
+   * type itself may refuse what is a value here: {@link Schema.decode} does so as far as names tell.
+   */
+  check(bytes: Source): void;
+
+  /**
+   * The value that all of the bytes are. The error is as of {@link Schema.check}, and `"no"` for what has no JSON, as a text that isn't
+   * UTF-8, a map whose keys don't ascend, or a value that nests more than 128 deep. With `longNumbers: "string"` numbers of 64 and 128
+   * bits are decimal strings.
+   */
+  decode(bytes: Source, options?: { longNumbers?: "bigint" | "string" }): Value;
+
+  /**
+   * The bytes of a value, as {@link Schema.decode} returns it. Numbers of 64 bits may be `number`s up to 2^53 too, and fields and
+   * entries may come in any order. A `TypeError` refuses what has no exact JSON: `undefined`, a function, NaN, 2^53 as a `number`.
+   */
+  encode(value: Value): Uint8Array;
+
+  /** The value's JSON, on one line unless `compact` is false. With `longNumbers: "string"` numbers of 64 bits are strings. */
+  toJson(bytes: Source, options?: { compact?: boolean; longNumbers?: "number" | "string" }): string;
+
+  /** The bytes of the value that JSON describes. The error `"no"` says which part is wrong, or where the text isn't JSON. */
+  fromJson(json: string): Uint8Array;
+
+  /**
+   * What each byte of the value is, in order. The error is as of {@link Schema.check}, and `"no"` where it nests more than 128 deep.
+   * The parts are found in JavaScript, after the proved check.
+   */
+  rows(bytes: Source): Row[];
+
+  /** The rows up to where the bytes stop being a value, or their end: of bytes that {@link Schema.check} refuses. */
+  rowsBefore(bytes: Source): Row[];
+}

@@ -1,0 +1,122 @@
+// The calls of the WebAssembly module, over bytes: the only file that knows the module's memory.
+//
+// An address is a BigInt, in a memory of 32 bits too. A call may have grown the memory, so no view of it is kept over a call. The
+// proved code leaves nothing in the heap, so that all memory is taken back after each call.
+
+/** What a call's code says: those of `crates/borsh_c`. */
+const KINDS = ["yes", "no", "malformed", "out of memory", "null", "undecided"];
+
+/** In the place of an argument: 8 bytes that the call writes to, and which are its answer. */
+const RESULT = Symbol("result");
+const RESULT_BYTES = 8;
+
+/** A memory that is larger than this after a call is given back to the engine: 64 MiB. */
+const KEPT_BYTES = 2 ** 26;
+
+/** An answer has at first four times the room of what it is made of, in which most fit; but not more than this: 512 MiB. */
+const MOST_ROOM = 2 ** 29;
+
+/** What a call answers: a kind, which is "yes" or says why not, and the bytes that were asked for, or a text that says why. */
+class Answer {
+  constructor(kind, bytes) {
+    this.kind = kind;
+    this.bytes = bytes;
+  }
+}
+
+/** The calls of a compiled module, which has no imports. */
+export class Calls {
+  #module;
+  #instance;
+
+  constructor(module) {
+    this.#module = module;
+    this.#instance = new WebAssembly.Instance(module);
+  }
+
+  valid(schema) {
+    return this.#call("borsh_c_valid", [schema], 256);
+  }
+
+  size(schema) {
+    return this.#call("borsh_c_size", [schema, RESULT], 256);
+  }
+
+  member(schema, value) {
+    return this.#call("borsh_c_member", [schema, value], 256);
+  }
+
+  toJson(schema, value, isCompact, hasQuotedNumbers) {
+    return this.#call("borsh_c_to_json", [schema, value, Number(isCompact), Number(hasQuotedNumbers)], roomFor(value));
+  }
+
+  fromJson(schema, json) {
+    return this.#call("borsh_c_from_json", [schema, json], roomFor(json));
+  }
+
+  /** What the module exports, for tests. */
+  get exports() {
+    return this.#instance.exports;
+  }
+
+  #call(name, given, roomLength) {
+    const used = this.#instance;
+    let isWhole = false;
+    try {
+      const answer = ask(used.exports, name, given, roomLength);
+      isWhole = used.exports.memory.buffer.byteLength <= KEPT_BYTES;
+      return answer;
+    } finally {
+      // After a trap, as where the engine's stack is full, the heap may be half written: another instance has a new one.
+      if (isWhole) used.exports.heap_clear();
+      else this.#instance = new WebAssembly.Instance(this.#module);
+    }
+  }
+}
+
+function roomFor(bytes) {
+  return Math.min(4 * bytes.length, Math.max(bytes.length, MOST_ROOM)) + 256;
+}
+
+function ask(it, name, given, roomLength) {
+  const words = [];
+  let result = 0n;
+  for (const argument of given) {
+    if (typeof argument === "number") {
+      words.push(argument);
+      continue;
+    }
+    const length = argument === RESULT ? RESULT_BYTES : argument.length;
+    const at = it.heap_take(BigInt(length));
+    if (at === 0n) return outOfMemory();
+    if (argument === RESULT) {
+      result = at;
+      words.push(at);
+    } else {
+      view(it, at, length).set(argument);
+      words.push(at, BigInt(length));
+    }
+  }
+  const needed = it.heap_take(8n);
+  if (needed === 0n) return outOfMemory();
+  for (;;) {
+    const room = it.heap_take(BigInt(roomLength));
+    if (room === 0n) return outOfMemory();
+    const kind = KINDS[it[name](...words, room, BigInt(roomLength), needed)];
+    const length = Number(new DataView(it.memory.buffer).getBigUint64(Number(needed), true));
+    if (length <= roomLength) {
+      const isResult = kind === "yes" && result !== 0n;
+      return new Answer(kind, isResult ? view(it, result, RESULT_BYTES).slice() : view(it, room, length).slice());
+    }
+    it.heap_give_back(room);
+    roomLength = length;
+  }
+}
+
+function view(it, at, length) {
+  return new Uint8Array(it.memory.buffer, Number(at), length);
+}
+
+function outOfMemory() {
+  return new Answer("out of memory", new TextEncoder().encode("out of memory"));
+}

@@ -1,0 +1,170 @@
+// What a container defines, and what of it decides how values are written in JSON.
+
+/** Whole numbers by the names of their types: how many bytes they have, and whether they have a sign. */
+const NUMBERS = new Map([["NonZeroUsize", { size: 8, isSigned: false }]]);
+for (const size of [1, 2, 4, 8, 16]) {
+  for (const isSigned of [false, true]) {
+    const name = (isSigned ? "i" : "u") + 8 * size;
+    for (const each of [name, `NonZero${name.toUpperCase()}`]) NUMBERS.set(each, { size, isSigned });
+  }
+}
+
+/** How many structs with one part without a name are gone through to see whether a value may be null, as in `borsh_json`. */
+const MOST_NEWTYPES = 128;
+
+/** The whole numbers of a primitive of this name and size, or undefined. */
+export function numberOf(name, size) {
+  const number = NUMBERS.get(name);
+  return number?.size === size ? number : undefined;
+}
+
+/** The definitions of a container: by name, and what follows from them. */
+export class Definitions {
+  #zeros;
+  #variants = new Map();
+
+  /** Of the container's JSON, with numbers of 64 bits as strings. */
+  constructor(json) {
+    this.root = json.declaration;
+    this.map = new Map(Object.entries(json.definitions).map(([name, definition]) => [name, definitionOf(definition)]));
+    this.#zeros = zeroSizes(this.map);
+  }
+
+  get(name) {
+    return this.map.get(name);
+  }
+
+  /** Whether the values of a name have no bytes. */
+  isZeroSize(name) {
+    return this.#zeros.has(name);
+  }
+
+  /** The variant of an enum with this tag, in as many bits as the enum's tags have, or with this name; else undefined. */
+  variant(definition, tagOrName) {
+    if (!this.#variants.has(definition)) this.#variants.set(definition, variantsOf(definition));
+    return this.#variants.get(definition).get(tagOrName);
+  }
+
+  /** The name of what an `Option` has, if values of this name are written as null or what they have; else undefined. */
+  optionalPart(name) {
+    const part = this.#optionPart(name);
+    return part !== undefined && !this.#mayBeNull(part) ? part : undefined;
+  }
+
+  #optionPart(name) {
+    const definition = this.map.get(name);
+    if (definition?.kind !== "enum" || definition.tagWidth !== 1 || definition.variants.length !== 2) return undefined;
+    const [none, some] = definition.variants;
+    const isOption =
+      none.tag === 0n && none.name === "None" && this.isZeroSize(none.type) && some.tag === 1n && some.name === "Some" && name === `Option<${some.type}>`;
+    return isOption ? some.type : undefined;
+  }
+
+  #mayBeNull(name) {
+    for (let count = 0; count < MOST_NEWTYPES; count++) {
+      if (this.isZeroSize(name)) return true;
+      const definition = this.map.get(name);
+      if (definition === undefined) return false;
+      if (this.#optionPart(name) !== undefined) return true;
+      const part = onlyPart(definition);
+      if (part === undefined) return false;
+      name = part;
+    }
+    return true;
+  }
+}
+
+/** The name of the only part of a struct that has one field, without a name; else undefined. */
+export function onlyPart(definition) {
+  const isOne = definition.kind === "struct" && definition.fields.length === 1 && definition.fields[0].name === null;
+  return isOne ? definition.fields[0].type : undefined;
+}
+
+/** Whether values of a sequence of this name are texts. */
+export function isText(definitions, name, definition) {
+  return name === "String" && isByte(definitions, definition.elements);
+}
+
+/** Whether a name is that of bytes. */
+export function isByte(definitions, name) {
+  const definition = definitions.get(name);
+  return name === "u8" && definition?.kind === "primitive" && definition.size === 1;
+}
+
+function definitionOf(json) {
+  const [[kind, it]] = Object.entries(json);
+  switch (kind) {
+    case "Primitive":
+      return { kind: "primitive", size: it };
+    case "Sequence": {
+      const { start, end } = it.length_range;
+      return { kind: "sequence", lengthWidth: it.length_width, least: BigInt(start), greatest: BigInt(end), elements: it.elements };
+    }
+    case "Tuple":
+      return { kind: "tuple", elements: it.elements };
+    case "Struct":
+      return { kind: "struct", fields: fieldsOf(it.fields) };
+    default:
+      return { kind: "enum", tagWidth: it.tag_width, variants: it.variants.map(([tag, name, type]) => ({ tag: BigInt(tag), name, type })) };
+  }
+}
+
+function fieldsOf(json) {
+  if (json === "Empty") return [];
+  if (json.UnnamedFields) return json.UnnamedFields.map((type) => ({ name: null, type }));
+  return json.NamedFields.map(([name, type]) => ({ name, type }));
+}
+
+/** The variants of an enum by tag and by name; the first of several with one tag. */
+function variantsOf({ tagWidth, variants }) {
+  const found = new Map();
+  for (const variant of [...variants].reverse()) {
+    found.set(BigInt.asUintN(8 * tagWidth, variant.tag), variant);
+    found.set(variant.name, variant);
+  }
+  return found;
+}
+
+/** The names whose values have no bytes: the least set with the rules of `partsToBeEmpty`. */
+function zeroSizes(map) {
+  const users = new Map(); // by the name of a part: the names that need it
+  const missing = new Map(); // by a name: how many of its parts aren't known to be empty
+  const found = [];
+  for (const [name, definition] of map) {
+    const parts = partsToBeEmpty(definition);
+    if (parts === undefined) continue;
+    missing.set(name, parts.length);
+    if (parts.length === 0) found.push(name);
+    for (const part of parts) {
+      if (users.has(part)) users.get(part).push(name);
+      else users.set(part, [name]);
+    }
+  }
+  const zeros = new Set(found);
+  for (const part of found) {
+    for (const name of users.get(part) ?? []) {
+      missing.set(name, missing.get(name) - 1);
+      if (missing.get(name) !== 0) continue;
+      zeros.add(name);
+      found.push(name);
+    }
+  }
+  return zeros;
+}
+
+/** The parts that have to be without bytes for values of the definition to be so; undefined where they always have some. */
+function partsToBeEmpty(definition) {
+  switch (definition.kind) {
+    case "primitive":
+      return definition.size === 0 ? [] : undefined;
+    case "sequence":
+      if (definition.lengthWidth !== 0) return undefined;
+      return definition.greatest === 0n && definition.least === 0n ? [] : [definition.elements];
+    case "tuple":
+      return definition.elements;
+    case "struct":
+      return definition.fields.map((field) => field.type);
+    default:
+      return definition.tagWidth === 0 ? definition.variants.map((variant) => variant.type) : undefined;
+  }
+}

@@ -1,0 +1,222 @@
+// The page in headless Chromium: what it says and marks, by its own document; and pictures of it, in ../out/pictures.
+import assert from "node:assert/strict";
+import { mkdirSync, readFileSync, writeFileSync } from "node:fs";
+import { createServer } from "node:http";
+import { after, before, test } from "node:test";
+import { Browser } from "./browser.mjs";
+
+const PAGE = new URL("../out/page.html", import.meta.url).href;
+const PICTURES = new URL("../out/pictures/", import.meta.url);
+const SCHEMA = "0100000041040000000100000041040002000000010000007803000000753634010000007906000000537472696e6706000000537472696e6701040000000000000000ffffffff000000000200000075380300000075363400080200000075380001";
+const VALUE = "0c000000000000000300000068c3a9";
+
+let browser;
+before(async () => { browser = await Browser.start(); });
+after(() => browser.end());
+
+const text = (id) => browser.value(`document.getElementById("${id}").textContent`);
+const input = (id) => browser.value(`document.getElementById("${id}").value`);
+const marked = () => browser.value(`[...document.querySelectorAll(".byte.is-marked")].map((it) => Number(it.dataset.at))`);
+const markedPaths = () => browser.value(`[...document.querySelectorAll("tr.is-marked")].map((it) => it.children[1].textContent)`);
+const faults = () => browser.value(`[...document.querySelectorAll(".is-fault")].map((it) => Number(it.dataset.at))`);
+
+/** Writes into a field as a person does. */
+const write = (id, content, event = "input") => browser.value(`(() => {
+  const it = document.getElementById("${id}");
+  it.value = ${JSON.stringify(content)};
+  it.dispatchEvent(new Event("${event}", { bubbles: true }));
+})()`);
+const range = (first, end) => Array.from({ length: end - first }, (_, index) => first + index);
+
+test("it begins with an example: the definitions, the greatest size, the JSON", async () => {
+  await browser.visit(PAGE);
+  assert.equal(await text("schema-said"), "valid; a value has at most 4294967307 bytes");
+  assert.match(await text("definitions"), /^struct A \{ x: u64, y: String \}\nsequence String = \[u8; 0\.\.=4294967295\], length in 4 bytes\n/);
+  assert.equal(await text("value-said"), "a value of A, of 15 bytes");
+  assert.deepEqual(JSON.parse(await input("json")), { x: 12, y: "hé" });
+  assert.deepEqual(await browser.value(`[...document.querySelectorAll("#parts tr")].map((it) => [...it.children].map((cell) => cell.textContent))`), [
+    ["0", "A.x", "u64", "12", "0c00000000000000"],
+    ["8", "A.y", "String", '"hé"', "0300000068c3a9"],
+  ]);
+});
+
+test("a part marks its bytes, and a byte its part", async () => {
+  await browser.visit(PAGE);
+  assert.deepEqual(await marked(), []);
+  await browser.point("#parts tr:nth-child(2)");
+  assert.deepEqual(await marked(), range(8, 15));
+  await browser.point('[data-at="3"]');
+  assert.deepEqual(await marked(), range(0, 8));
+  assert.deepEqual(await markedPaths(), ["A.x"]);
+  assert.equal(await text("part"), "bytes 0 to 7 · A.x · u64 · 12");
+});
+
+test("the arrow keys move among the bytes", async () => {
+  await browser.visit(PAGE);
+  await browser.value(`document.querySelector('[data-at="0"]').focus()`);
+  for (const key of ["ArrowRight", "ArrowRight", "End", "ArrowLeft"]) await browser.press(key);
+  assert.equal(await browser.value("document.activeElement.dataset.at"), "13");
+  assert.equal(await text("part"), 'bytes 8 to 14 · A.y · String · "hé"');
+  assert.equal(await browser.value(`document.querySelectorAll('#grid [tabindex="0"]').length`), 1);
+  await browser.press("Home");
+  assert.deepEqual(await marked(), range(0, 8));
+});
+
+test("bytes that are no value: what is wrong, at its byte, and the parts before it", async () => {
+  await browser.visit(PAGE);
+  await write("example", "broken", "change");
+  assert.equal(await text("value-said"), "A.y (`String` at byte 8): too few bytes are left");
+  assert.deepEqual(await faults(), [8]);
+  assert.equal(await browser.value(`document.querySelectorAll("#parts tr").length`), 1);
+  assert.equal(await input("json"), "");
+  await write("value", VALUE.slice(0, 16));
+  assert.deepEqual(await faults(), [8]);
+  assert.equal(await browser.value(`document.querySelector(".is-fault").textContent`), "end");
+  await write("value", `${VALUE}00`);
+  assert.match(await text("value-said"), /at byte 15\): the value ends, and bytes are left$/);
+  assert.deepEqual(await faults(), [15]);
+});
+
+test("a part that the type refuses is marked", async () => {
+  await browser.visit(PAGE);
+  await write("value", "0c0000000000000001000000ff");
+  assert.equal(await text("value-said"), "A.y: not UTF-8");
+  assert.deepEqual(await faults(), [8]);
+});
+
+test("changed JSON changes the bytes, and wrong JSON says where", async () => {
+  await browser.visit(PAGE);
+  await write("json", '{"x": 258, "y": ""}');
+  assert.equal(await input("value"), "020100000000000000000000");
+  assert.equal(await input("json"), '{"x": 258, "y": ""}');
+  assert.equal(await text("value-said"), "a value of A, of 12 bytes");
+  await write("json", '{"x": true, "y": ""}');
+  assert.match(await text("json-said"), /^A\.x: expected a whole number/);
+  assert.equal(await input("value"), "020100000000000000000000");
+  await write("json", "{");
+  assert.match(await text("json-said"), /^not JSON, near byte 1/);
+});
+
+test("base64, a broken schema, and what is neither", async () => {
+  await browser.visit(PAGE);
+  await write("schema", Buffer.from(SCHEMA, "hex").toString("base64"));
+  assert.match(await text("schema-said"), /^valid/);
+  await write("schema", "010000004100000000");
+  assert.equal(await text("schema-said"), "invalid MissingDefinition A; no greatest size: missing A");
+  await write("schema", "00");
+  assert.match(await text("schema-said"), /^not a schema container/);
+  await write("schema", "§");
+  assert.match(await text("schema-said"), /neither hexadecimal digits/);
+});
+
+test("a container by the container of containers", async () => {
+  await browser.visit(PAGE);
+  await write("example", "container", "change");
+  assert.match(await text("value-said"), /^a value of BorshSchemaContainer/);
+  assert.equal(JSON.parse(await input("json")).declaration, "A");
+});
+
+/** Waits until the value's field has something. */
+async function givenValue() {
+  for (let tries = 0; tries < 100 && (await input("value")) === ""; tries++) await new Promise((resolve) => setTimeout(resolve, 20));
+  return input("value");
+}
+
+test("a file of a value, one that is dropped, and a large value", async () => {
+  await browser.visit(PAGE);
+  const { root } = await browser.send("DOM.getDocument");
+  const { nodeId } = await browser.send("DOM.querySelector", { nodeId: root.nodeId, selector: "#value-file" });
+  const file = new URL("../../../crates/borsh_tool/data/value.borsh", import.meta.url).pathname;
+  await write("value", "");
+  await browser.send("DOM.setFileInputFiles", { nodeId, files: [file] });
+  assert.equal(await givenValue(), VALUE);
+  await write("value", "");
+  await browser.value(`(() => {
+    const dataTransfer = new DataTransfer();
+    dataTransfer.items.add(new File([new Uint8Array([7, 0, 0, 0, 0, 0, 0, 0, 0, 0, 0, 0])], "value"));
+    document.getElementById("value").dispatchEvent(new DragEvent("drop", { dataTransfer, bubbles: true, cancelable: true }));
+  })()`);
+  assert.equal(await givenValue(), "070000000000000000000000");
+  const long = `0c00000000000000${"88130000"}${"61".repeat(5000)}`;
+  await write("value", long);
+  assert.equal(await text("more"), "These are the first 4096 of 5012 bytes.");
+});
+
+test("a link has the schema and the value, and nothing is sent", async () => {
+  await browser.visit(PAGE);
+  await write("json", '{"x": 7, "y": "link"}');
+  await browser.value(`document.getElementById("link").click()`);
+  const address = await browser.value("location.href");
+  assert.match(address, /#schema=[\w-]+&value=[\w-]+$/);
+  await browser.visit(address);
+  assert.deepEqual(JSON.parse(await input("json")), { x: 7, y: "link" });
+  const sent = browser.requests.filter((url) => !url.startsWith(PAGE) && url !== "about:blank");
+  assert.deepEqual(sent, []);
+  assert.equal(await browser.value(`fetch("https://example.org").then(() => "sent", () => "refused")`), "refused");
+  assert.ok(browser.messages.some((it) => it.includes("Content Security Policy")));
+  assert.equal(browser.messages.filter((it) => !it.includes("example.org")).join("\n"), "");
+});
+
+/** Serves the package's folder while the action runs, which is given the address. */
+async function served(action) {
+  const types = { js: "text/javascript", wasm: "application/wasm" };
+  const server = createServer(({ url }, response) => {
+    const isFile = /^\/(\w+\.js|out\/borsh\.wasm)$/.test(url);
+    response.writeHead(200, { "content-type": types[url.split(".").pop()] ?? "text/html" });
+    response.end(isFile ? readFileSync(new URL(`..${url}`, import.meta.url)) : "<!doctype html>");
+  });
+  await new Promise((resolve) => server.listen(0, "127.0.0.1", resolve));
+  try {
+    await action(`http://127.0.0.1:${server.address().port}/`);
+  } finally {
+    server.closeAllConnections();
+    server.close();
+  }
+}
+
+test("the package in a browser, from a server", () => served(async (address) => {
+  await browser.send("Page.navigate", { url: address });
+  const said = await browser.value(`import("${address}borsh.js").then(({ Schema }) => {
+    const schema = Schema.from("${SCHEMA}");
+    return [String(schema.maxSize()), String(schema.decode("${VALUE}").x), schema.toJson("${VALUE}")];
+  })`);
+  assert.deepEqual(said, ["4294967307", "12", '{"x":12,"y":"hé"}']);
+}));
+
+/** The relative luminance of a colour `rgb(..)`, and the contrast of two, as the accessibility guidelines of the web define them. */
+function luminance(color) {
+  const [red, green, blue] = color.match(/[\d.]+/g).map((it) => it / 255).map((it) => (it <= 0.03928 ? it / 12.92 : ((it + 0.055) / 1.055) ** 2.4));
+  return 0.2126 * red + 0.7152 * green + 0.0722 * blue;
+}
+function contrast(one, other) {
+  const [light, dark] = [luminance(one), luminance(other)].sort((a, b) => b - a);
+  return (light + 0.05) / (dark + 0.05);
+}
+
+for (const theme of ["light", "dark"]) {
+  for (const width of [1200, 400]) {
+    test(`${theme}, ${width} wide: contrast, names of fields, no scrolling sideways, a picture`, async () => {
+      await browser.send("Emulation.setEmulatedMedia", { features: [{ name: "prefers-color-scheme", value: theme }] });
+      await browser.send("Emulation.setDeviceMetricsOverride", { width, height: width === 400 ? 1900 : 1000, deviceScaleFactor: 1, mobile: false });
+      mkdirSync(PICTURES, { recursive: true });
+      for (const example of ["broken", "container", "struct"]) {
+        await browser.visit(PAGE);
+        await write("example", example, "change");
+        await browser.point(example === "container" ? '[data-at="40"]' : example === "broken" ? ".is-fault" : "#parts tr:nth-child(2)");
+        await browser.value("scrollTo(0, 0)");
+        writeFileSync(new URL(`${example}-${theme}-${width}.png`, PICTURES), await browser.picture());
+        assert.ok(await browser.value("document.documentElement.scrollWidth <= innerWidth"), "it scrolls sideways");
+      }
+      const pairs = await browser.value(`[...document.querySelectorAll("h1, h2, p, label, textarea, select, button, pre, .byte, .offset, th, td")].map((it) => {
+        let back = it;
+        while (back && /rgba\\(0, 0, 0, 0\\)/.test(getComputedStyle(back).backgroundColor)) back = back.parentElement;
+        return [getComputedStyle(it).color, getComputedStyle(back ?? document.body).backgroundColor, it.outerHTML.slice(0, 60)];
+      })`);
+      for (const [color, back, html] of pairs) assert.ok(contrast(color, back) >= 4.5, `${color} on ${back}: ${html}`);
+      const { nodes } = await browser.send("Accessibility.getFullAXTree");
+      const controls = nodes.filter((it) => ["textbox", "combobox", "button", "gridcell"].includes(it.role?.value) && !it.ignored);
+      assert.ok(controls.length >= 7);
+      for (const it of controls) assert.notEqual(it.name?.value ?? "", "", JSON.stringify(it.role));
+    });
+  }
+}

@@ -1,0 +1,87 @@
+// The module's answers beside those of the native library, out/native, on containers and values that are changed at random: the code,
+// and each byte of the answer. BORSH_CASES says how many.
+import assert from "node:assert/strict";
+import { spawnSync } from "node:child_process";
+import { fileURLToPath } from "node:url";
+import { test } from "node:test";
+import { calls, hexOf } from "./load.js";
+import { randomNumbers } from "./random.js";
+import { bytesOf, rowsIn, textOf } from "./suite.js";
+
+const CASES = Number(process.env.BORSH_CASES ?? 100000);
+const AT_ONCE = 10000;
+const CODES = ["yes", "no", "malformed", "out of memory", "null", "undecided"];
+/** Longer rows are of the tests of values. */
+const MOST_BYTES = 3000;
+
+const encoder = new TextEncoder();
+const random = randomNumbers(3);
+
+/** The rows of values, each with the bytes of its schema, its value and its JSON. */
+function originals() {
+  return ["json.tsv", "formats.tsv", "members.tsv", "nodes.tsv", "types.tsv"].flatMap((file) => rowsIn(file).rows).flatMap(({ kind, columns, schema }) => {
+    const bytes = schema().bytes;
+    const value = kind === "text" ? new Uint8Array() : bytesOf(columns[0]);
+    const text = textOf(columns.slice(1));
+    const json = encoder.encode(text.startsWith("! ") ? "null" : text);
+    return bytes.length < MOST_BYTES && value.length + json.length < MOST_BYTES ? [{ bytes, value, json }] : [];
+  });
+}
+
+/** A few bytes changed, left out, put in or cut off. */
+function changed(bytes) {
+  const result = [...bytes];
+  for (let count = random(4); count > 0 && result.length > 0; count--) {
+    const at = random(result.length);
+    const byte = [random(4), random(256), result[random(result.length)]][random(3)];
+    result.splice(at, [0, 1, 1, 1, 1, 2][random(6)], ...[[byte], [byte], [byte], []][random(4)]);
+  }
+  return Uint8Array.from(random(12) ? result : result.slice(0, random(result.length + 1)));
+}
+
+const CALLS = {
+  valid: ({ bytes }) => calls.valid(bytes),
+  size: ({ bytes }) => calls.size(bytes),
+  member: ({ bytes, value }) => calls.member(bytes, value),
+  compact: ({ bytes, value }) => calls.toJson(bytes, value, true, false),
+  quoted: ({ bytes, value }) => calls.toJson(bytes, value, false, true),
+  from: ({ bytes, json }) => calls.fromJson(bytes, json),
+};
+
+/** As the native program prints it. */
+function said(name, answer) {
+  const isSize = name === "size" && answer.kind === "yes";
+  const size = isSize ? new DataView(answer.bytes.buffer).getBigUint64(0, true) : 0n;
+  return `${CODES.indexOf(answer.kind)} ${size} ${isSize ? "" : hexOf(answer.bytes)}`;
+}
+
+function native(cases) {
+  const lines = cases.map(([name, it]) => [name, ...[it.bytes, name === "from" ? it.json : it.value].map((bytes) => hexOf(bytes) || "-")].join(" "));
+  const program = fileURLToPath(new URL("../out/native", import.meta.url));
+  const { stdout, status } = spawnSync(program, { input: `${lines.join("\n")}\n`, maxBuffer: 2 ** 30 });
+  assert.equal(status, 0);
+  return stdout.toString().split("\n");
+}
+
+test(`${CASES} changed containers and values: the native library's code and bytes`, () => {
+  const rows = originals();
+  const names = Object.keys(CALLS);
+  const kinds = {};
+  for (let done = 0; done < CASES; done += AT_ONCE) {
+    const cases = Array.from({ length: Math.min(AT_ONCE, CASES - done) }, () => {
+      const row = rows[random(rows.length)];
+      const isOther = random(8) === 0;
+      const { value, json } = isOther ? rows[random(rows.length)] : row;
+      const [bytes, ...rest] = [row.bytes, value, json].map((it) => (random(2) ? changed(it) : it));
+      return [names[random(names.length)], { bytes, value: rest[0], json: rest[1] }];
+    });
+    const wanted = native(cases);
+    cases.forEach(([name, it], index) => {
+      const answer = CALLS[name](it);
+      assert.equal(said(name, answer), wanted[index], `${name} ${hexOf(it.bytes)} ${hexOf(it.value)} ${hexOf(it.json)}`);
+      kinds[`${name} ${answer.kind}`] = (kinds[`${name} ${answer.kind}`] ?? 0) + 1;
+    });
+  }
+  console.log(Object.entries(kinds).map(([kind, count]) => `${kind}: ${count}`).sort().join(", "));
+  for (const name of names) assert.ok(kinds[`${name} yes`] > CASES / 100 && kinds[`${name} no`] > CASES / 200, name);
+});

@@ -1,0 +1,51 @@
+"""What is raised."""
+
+from __future__ import annotations
+
+import enum
+from typing import Optional
+
+
+class Kind(enum.Enum):
+    """What kind of error it is."""
+
+    NO = "no"
+    """The schema breaks a rule or has no size, the bytes are no value, or the JSON or the Python value says none."""
+
+    MALFORMED = "malformed"
+    """The bytes of the schema aren't the encoding of a schema."""
+
+    UNDECIDED = "undecided"
+    """The schema allows two values for the same bytes, or breaks a rule of widths, so there is no answer."""
+
+
+class Error(ValueError):
+    """Why there is no answer, or why it is no. Its text says where and why.
+
+    Names in it are as they are in the schema: escape them before they go to a terminal. A failed allocation is a `MemoryError`.
+
+    >>> from borsh_proved import Error, Schema
+    >>> schema = Schema.of("(u8, bool)", {"(u8, bool)": {"Tuple": {"elements": ["u8", "bool"]}},
+    ...                                   "bool": {"Primitive": 1}, "u8": {"Primitive": 1}})
+    >>> try:
+    ...     schema.check(b"\\x07")
+    ... except Error as error:
+    ...     print(error, error.kind, error.path, error.offset, sep=" | ")
+    no member: (u8, bool).1 (`bool` at byte 1): too few bytes are left | Kind.NO | (u8, bool).1 | 1
+    """
+
+    kind: Kind
+    """What kind of error it is."""
+
+    path: Optional[str]
+    """The part that the error is about, as `A.y[3]`; None where the error isn't about a part of a value."""
+
+    offset: Optional[int]
+    """The byte of the value at which that part begins, or near which the text stops being JSON; None where the text doesn't tell."""
+
+    def __init__(self, text: str, kind: Kind, path: Optional[str] = None, offset: Optional[int] = None) -> None:
+        super().__init__(text)
+        self.kind, self.path, self.offset = kind, path, offset
+
+    def __reduce__(self):  # an exception is pickled by its arguments
+        return (Error, (str(self), self.kind, self.path, self.offset))

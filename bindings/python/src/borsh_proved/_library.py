@@ -1,0 +1,104 @@
+"""The calls of `borsh.h`: each returns what it gives, or raises why it gives nothing.
+
+The library is libborsh.so.0 in the folder that the variable BORSH_LIB names, or else the one that was installed with the package.
+"""
+
+from __future__ import annotations
+
+import ctypes
+import os
+import re
+from typing import NoReturn, Union
+
+from ._errors import Error, Kind
+
+Bytes = Union[bytes, bytearray, memoryview]
+
+
+class _Buffer(ctypes.Structure):
+    _fields_ = [("data", ctypes.c_void_p), ("length", ctypes.c_size_t), ("block", ctypes.c_void_p)]
+
+
+def _load() -> ctypes.CDLL:
+    folder = os.environ.get("BORSH_LIB") or os.path.dirname(os.path.abspath(__file__))
+    path = os.path.join(folder, "libborsh.so.0")
+    try:
+        return ctypes.CDLL(path)
+    except OSError as error:
+        raise ImportError(f"{error}: install the package with a built library, or name its folder by BORSH_LIB") from error
+
+
+_library = _load()
+_IN = [ctypes.c_char_p, ctypes.c_size_t]
+_OUT = [ctypes.POINTER(_Buffer)]
+for _name, _arguments in {
+    "valid": _IN + _OUT,
+    "size": _IN + [ctypes.POINTER(ctypes.c_size_t)] + _OUT,
+    "member": _IN + _IN + _OUT,
+    "to_json": _IN + _IN + [ctypes.c_bool, ctypes.c_bool] + _OUT,
+    "from_json": _IN + _IN + _OUT,
+}.items():
+    getattr(_library, "borsh_" + _name).argtypes = _arguments
+    getattr(_library, "borsh_" + _name).restype = ctypes.c_uint32
+_library.borsh_free.argtypes = _OUT
+_library.borsh_free.restype = None
+
+_KINDS = {1: Kind.NO, 2: Kind.MALFORMED, 5: Kind.UNDECIDED}
+
+# The places in the texts of the calls about values. A reason that comes with an offset has no name in it.
+_AT_BYTE = re.compile(r"(?:no member: )?(?P<path>.*) \(`.*` at byte (?P<offset>[0-9]+)\): [a-z ,']+", re.S)
+_NEAR_BYTE = re.compile(r"not JSON, near byte (?P<offset>[0-9]+)")
+_AT_PATH = re.compile(r"(?P<path>.*?): .*", re.S)
+
+
+def _ask(name: str, *arguments: object) -> bytes:
+    buffer = _Buffer()
+    code = getattr(_library, "borsh_" + name)(*arguments, ctypes.byref(buffer))
+    try:
+        answer = ctypes.string_at(buffer.data, buffer.length)
+    finally:
+        _library.borsh_free(ctypes.byref(buffer))
+    if code != 0:
+        _fail(code, answer.decode("utf-8", "replace"), name in ("member", "to_json", "from_json"))
+    return answer
+
+
+def _fail(code: int, text: str, is_about_value: bool) -> NoReturn:
+    if code == 3:
+        raise MemoryError
+    if code not in _KINDS:
+        raise RuntimeError(f"another library: code {code}, {text}")
+    error = Error(text, _KINDS[code])
+    if code == 1 and is_about_value:
+        place = _AT_BYTE.fullmatch(text) or _NEAR_BYTE.fullmatch(text) or _AT_PATH.fullmatch(text)
+        found = place.groupdict() if place else {}
+        error.path = found.get("path")
+        error.offset = int(found["offset"]) if "offset" in found else None
+    raise error
+
+
+def bytes_of(value: Bytes) -> bytes:
+    """A copy of the bytes of an object that has some, unless it is `bytes`; `TypeError` for any other."""
+    return value if type(value) is bytes else memoryview(value).tobytes()
+
+
+def check_rules(schema: bytes) -> None:
+    _ask("valid", schema, len(schema))
+
+
+def max_size(schema: bytes) -> int:
+    size = ctypes.c_size_t()
+    _ask("size", schema, len(schema), ctypes.byref(size))
+    return size.value
+
+
+def check_member(schema: bytes, value: bytes) -> None:
+    _ask("member", schema, len(schema), value, len(value))
+
+
+def to_json(schema: bytes, value: bytes, is_compact: bool, has_quoted_numbers: bool) -> str:
+    return _ask("to_json", schema, len(schema), value, len(value), is_compact, has_quoted_numbers).decode()
+
+
+def from_json(schema: bytes, json: bytes) -> bytes:
+    return _ask("from_json", schema, len(schema), json, len(json))

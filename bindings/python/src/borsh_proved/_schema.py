@@ -1,0 +1,184 @@
+"""Schemas."""
+
+from __future__ import annotations
+
+import json
+import pathlib
+from typing import Any, Mapping
+
+from . import _library
+from ._errors import Error
+from ._values import Values
+
+# The schema of schemas: by it a schema is itself a value.
+_SCHEMAS = pathlib.Path(__file__).with_name("schemas.borsh").read_bytes()
+
+
+class Schema:
+    """A schema: the name of a type, the root, and the definitions that it refers to.
+
+    It is given by its encoding, as `borsh::to_vec(&BorshSchemaContainer::for_type::<T>())` makes it in Rust, of the crate `borsh` with
+    its feature `unstable__schema`; or by `Schema.of`. Raises an `Error` of kind `MALFORMED` for other bytes. A schema may break
+    the rules of schemas: see `validate`.
+
+    >>> from borsh_proved import Schema
+    >>> schema = Schema(bytes.fromhex("020000007538 01000000 020000007538 00 01"))
+    >>> schema.root, schema.definitions
+    ('u8', {'u8': {'Primitive': 1}})
+    >>> schema
+    <Schema of u8>
+    """
+
+    __slots__ = ("_encoding", "_root", "_values")
+
+    def __init__(self, encoding: _library.Bytes) -> None:
+        self._encoding = _library.bytes_of(encoding)
+        described = self._described()
+        self._root: str = described["declaration"]
+        self._values = Values(described["definitions"], self._takes)
+
+    def _described(self) -> Any:
+        try:
+            return json.loads(_library.to_json(_SCHEMAS, self._encoding, True, False))
+        except Error:
+            _library.max_size(self._encoding)  # says why the bytes are no schema
+            raise
+
+    @classmethod
+    def of(cls, root: str, definitions: Mapping[str, Any]) -> "Schema":
+        """The schema with this root and these definitions, as JSON has them and as `definitions` gives them.
+
+        Raises an `Error` for what are no definitions.
+
+        >>> Schema.of("Pair", {"Pair": {"Struct": {"fields": {"UnnamedFields": ["u8", "u8"]}}},
+        ...                    "u8": {"Primitive": 1}}).decode(bytes([1, 2]))
+        (1, 2)
+        """
+        text = json.dumps({"declaration": root, "definitions": dict(definitions)})
+        return cls(_library.from_json(_SCHEMAS, text.encode()))
+
+    def __bytes__(self) -> bytes:
+        """The encoding."""
+        return self._encoding
+
+    def __eq__(self, other: object) -> bool:
+        return isinstance(other, Schema) and self._encoding == other._encoding
+
+    def __hash__(self) -> int:
+        return hash(self._encoding)
+
+    def __reduce__(self):
+        return (Schema, (self._encoding,))
+
+    def __repr__(self) -> str:
+        return f"<Schema of {ascii(self._root)[1:-1]}>"
+
+    @property
+    def root(self) -> str:
+        """The name of the type."""
+        return self._root
+
+    @property
+    def definitions(self) -> Mapping[str, Any]:
+        """The definitions by their names, as JSON has them."""
+        return self._described()["definitions"]
+
+    def validate(self) -> None:
+        """Raises an `Error` that says `invalid`, a rule and a name, if the schema breaks a rule of schemas.
+
+        >>> Schema.of("A", {}).validate()
+        Traceback (most recent call last):
+            ...
+        borsh_proved.Error: invalid MissingDefinition A
+        """
+        _library.check_rules(self._encoding)
+
+    def max_size(self) -> int:
+        """The greatest size of a value in bytes: none is longer.
+
+        Raises an `Error` if there is none: `overflow` (2^64 or more), `recursive`, or `missing` and a name without a definition.
+
+        >>> Schema.of("u8", {"u8": {"Primitive": 1}}).max_size()
+        1
+        """
+        return _library.max_size(self._encoding)
+
+    def check(self, value: _library.Bytes) -> None:
+        """Raises an `Error` if the bytes aren't a value, with the place where they stop being one.
+
+        A schema doesn't say that keys ascend, that a `bool` is 0 or 1, or that a text is UTF-8, so that the type may refuse a value all
+        the same; `decode` and `to_json` refuse such values as far as names tell.
+
+        >>> Schema.of("u8", {"u8": {"Primitive": 1}}).check(bytes(2))
+        Traceback (most recent call last):
+            ...
+        borsh_proved.Error: no member: u8 (`u8` at byte 1): the value ends, and bytes are left
+        """
+        _library.check_member(self._encoding, _library.bytes_of(value))
+
+    def to_json(self, value: _library.Bytes, *, pretty: bool = False, quoted: bool = False) -> str:
+        """The value that all of the bytes are, as JSON: in lines with `pretty`, and with numbers of 64 bits as strings with `quoted`.
+
+        Raises an `Error` if the bytes are no value, or one that the type refuses as far as names tell.
+
+        >>> Schema.of("u64", {"u64": {"Primitive": 8}}).to_json(bytes(8), quoted=True)
+        '"0"'
+        """
+        return _library.to_json(self._encoding, _library.bytes_of(value), not pretty, quoted)
+
+    def from_json(self, text: str) -> bytes:
+        """The bytes of the value that the JSON says. Fields may come in any order, and numbers of 64 bits may be strings.
+
+        Raises an `Error` if the text isn't JSON or says no value.
+
+        >>> Schema.of("u16", {"u16": {"Primitive": 2}}).from_json("70000")
+        Traceback (most recent call last):
+            ...
+        borsh_proved.Error: u16: expected a whole number of 16 bits, unsigned
+        """
+        return _library.from_json(self._encoding, text.encode("utf-8", "surrogatepass"))
+
+    def decode(self, value: _library.Bytes) -> Any:
+        """The value that all of the bytes are, as Python's.
+
+        Whole numbers are `int`; `bool`, `f32` and `f64`, and texts are `bool`, `float` and `str`, but a NaN, which no type takes, is
+        `bytes`; lists of `u8` and other primitives are `bytes`; lists are `list`; maps by texts or numbers are `dict`, and other maps lists of pairs; structs are `dict` by the names
+        of their fields, or `tuple`, or what their only field is if it has no name; tuples are `tuple`; an `Option` is None or its value; a
+        variant is its name, or `{name: value}`; a value without bytes is None. An `Option` whose value may be None is a variant,
+        "None" or `{"Some": value}`.
+
+        Raises an `Error` as `to_json` does.
+
+        >>> floats = {"Option<f32>": {"Enum": {"tag_width": 1, "variants": [[0, "None", "()"], [1, "Some", "f32"]]}},
+        ...           "()": {"Primitive": 0}, "f32": {"Primitive": 4}}
+        >>> Schema.of("Option<f32>", floats).decode(bytes.fromhex("010000c03f"))
+        1.5
+        """
+        return self._values.from_json(self._root, json.loads(self.to_json(value)))
+
+    def encode(self, value: Any) -> bytes:
+        """The bytes of a value, given as `decode` gives it; lists may be tuples, any map may be a mapping, and an `f32` is rounded.
+
+        Entries of a mapping may come in any order if its keys are texts or numbers. Raises an `Error` if the schema has no such
+        value, and `TypeError` for objects that are no values of Python's own.
+
+        >>> bits = {"(bool, u128)": {"Tuple": {"elements": ["bool", "u128"]}}, "bool": {"Primitive": 1}, "u128": {"Primitive": 16}}
+        >>> Schema.of("(bool, u128)", bits).encode((True, 2**100)).hex()
+        '0100000000000000000000000010000000'
+        >>> Schema.of("(bool, u128)", bits).encode((True, "x"))
+        Traceback (most recent call last):
+            ...
+        borsh_proved.Error: (bool, u128).1: expected a decimal string of 128 bits, unsigned
+        """
+        return self.from_json(json.dumps(self._values.to_json(self._root, value)))
+
+    def _takes(self, root: str, text: str) -> bool:
+        """Whether the type of this name has a value with this JSON."""
+        name = root.encode()
+        at = 4 + len(self._root.encode())
+        encoding = len(name).to_bytes(4, "little") + name + self._encoding[at:]
+        try:
+            _library.from_json(encoding, text.encode())
+        except Error:
+            return False
+        return True

@@ -1,0 +1,194 @@
+//! What a Borsh schema says, and what bytes mean by it, without the type: whether bytes are a value, the value as JSON, the bytes
+//! of JSON, how long a value can be. A safe layer over the library for C, whose code is proved; this layer isn't.
+//!
+//! A schema is given by its encoding, as `borsh::to_vec(&BorshSchemaContainer::for_type::<T>())` makes it in Rust (of the crate
+//! `borsh`, with its feature `unstable__schema`), and `to_vec` of a `BorshSchemaContainer` in Rattle.
+//!
+//! ```
+//! use borsh_proved::{Schema, Style};
+//!
+//! // The schema of `struct A { x: u64, y: String }`.
+//! let schema = Schema::new(include_bytes!("../../../crates/borsh_tool/data/readme.borsh").as_slice())?;
+//! schema.validate()?;
+//! assert_eq!(schema.max_size()?, 4294967307);
+//!
+//! let value = [12, 0, 0, 0, 0, 0, 0, 0, 3, 0, 0, 0, b'h', 0xc3, 0xa9];
+//! assert_eq!(schema.to_json(&value, Style::COMPACT)?, r#"{"x":12,"y":"hé"}"#);
+//! assert_eq!(schema.from_json(r#"{"y": "hé", "x": 13}"#)?[0], 13);
+//!
+//! let error = schema.check(&value[..14]).unwrap_err();
+//! assert_eq!(error.to_string(), "no member: A.y (`String` at byte 8): too few bytes are left");
+//! # Ok::<(), borsh_proved::Error>(())
+//! ```
+//!
+//! Calls share nothing, so any thread may make them. None ends the process, whatever it is given. Each call decodes the schema.
+#![deny(missing_docs)]
+
+mod sys;
+
+// The program of the README is run as a test.
+#[cfg(doctest)]
+#[doc = include_str!("../README.md")]
+mod readme {}
+
+use std::fmt;
+
+/// What kind of error it is.
+#[derive(Clone, Copy, Debug, PartialEq, Eq, Hash)]
+#[non_exhaustive]
+pub enum ErrorKind {
+    /// The answer is no: the schema breaks a rule or has no size, the bytes are no value, or the JSON says none.
+    No,
+    /// The bytes of the schema aren't the encoding of a schema.
+    Malformed,
+    /// An allocation failed.
+    OutOfMemory,
+    /// The schema allows two values for the same bytes, or breaks a rule of widths, so there is no answer.
+    Undecided,
+    /// A code that `borsh.h` doesn't list for these calls: the library is another one.
+    Unknown,
+}
+
+/// Why there is no answer, or why it is no. Its text names the place: `A.y (`String` at byte 8): too few bytes are left`. Names in it
+/// are as they are in the schema: escape them before they go to a terminal.
+#[derive(Clone, Debug, PartialEq, Eq)]
+pub struct Error {
+    code: u32,
+    text: String,
+}
+
+impl Error {
+    /// What kind of error it is.
+    pub fn kind(&self) -> ErrorKind {
+        match self.code {
+            1 => ErrorKind::No,
+            2 => ErrorKind::Malformed,
+            3 => ErrorKind::OutOfMemory,
+            5 => ErrorKind::Undecided,
+            _ => ErrorKind::Unknown,
+        }
+    }
+
+    /// The code of `borsh.h`.
+    pub fn code(&self) -> u32 {
+        self.code
+    }
+}
+
+impl fmt::Display for Error {
+    fn fmt(&self, f: &mut fmt::Formatter<'_>) -> fmt::Result {
+        f.write_str(&self.text)
+    }
+}
+
+impl std::error::Error for Error {}
+
+/// How JSON is written. By default it has lines and indents, and all numbers of up to 64 bits are JSON numbers.
+#[derive(Clone, Copy, Debug, Default, PartialEq, Eq)]
+pub struct Style {
+    /// Whether it stands on one line, without white space.
+    pub is_compact: bool,
+    /// Whether numbers of 64 bits are strings, since JavaScript rounds numbers above 2^53.
+    pub has_quoted_numbers: bool,
+}
+
+impl Style {
+    /// On one line, with numbers as numbers.
+    pub const COMPACT: Style = Style {
+        is_compact: true,
+        has_quoted_numbers: false,
+    };
+}
+
+/// A schema: the name of a type, and the definitions that it refers to.
+#[derive(Clone, Debug, PartialEq, Eq)]
+pub struct Schema {
+    encoding: Vec<u8>,
+}
+
+impl Schema {
+    /// The schema with this encoding, which may break rules ([`Schema::validate`]).
+    ///
+    /// # Errors
+    ///
+    /// [`ErrorKind::Malformed`] if the bytes aren't the encoding of a schema; [`ErrorKind::OutOfMemory`].
+    pub fn new(encoding: impl Into<Vec<u8>>) -> Result<Schema, Error> {
+        let schema = Schema {
+            encoding: encoding.into(),
+        };
+        match schema.validate() {
+            Err(error) if error.kind() != ErrorKind::No => Err(error),
+            _ => Ok(schema),
+        }
+    }
+
+    /// The encoding.
+    pub fn as_bytes(&self) -> &[u8] {
+        &self.encoding
+    }
+
+    /// That the schema keeps the rules of schemas.
+    ///
+    /// # Errors
+    ///
+    /// [`ErrorKind::No`] with a rule and a name that breaks it, as `invalid MissingDefinition A`; [`ErrorKind::OutOfMemory`].
+    pub fn validate(&self) -> Result<(), Error> {
+        outcome(sys::valid(&self.encoding)).map(drop)
+    }
+
+    /// The greatest size of a value in bytes: none is longer.
+    ///
+    /// # Errors
+    ///
+    /// [`ErrorKind::No`] if there is none: `overflow` (2^64 or more), `recursive`, or `missing` and a name without a definition;
+    /// [`ErrorKind::OutOfMemory`].
+    pub fn max_size(&self) -> Result<usize, Error> {
+        let (size, answer) = sys::size(&self.encoding);
+        outcome(answer).map(|_| size)
+    }
+
+    /// That all of the bytes are a value. A schema doesn't say that keys ascend, that a `bool` is 0 or 1, or that a text is UTF-8,
+    /// and so the type may refuse them all the same.
+    ///
+    /// # Errors
+    ///
+    /// [`ErrorKind::No`] with the place where the bytes stop being a value; [`ErrorKind::Undecided`]; [`ErrorKind::OutOfMemory`].
+    pub fn check(&self, value: &[u8]) -> Result<(), Error> {
+        outcome(sys::member(&self.encoding, value)).map(drop)
+    }
+
+    /// The value that all of the bytes are, as JSON.
+    ///
+    /// # Errors
+    ///
+    /// [`ErrorKind::No`] with the place, if the bytes are no value or the type refuses it as far as names tell;
+    /// [`ErrorKind::Undecided`]; [`ErrorKind::OutOfMemory`].
+    pub fn to_json(&self, value: &[u8], style: Style) -> Result<String, Error> {
+        outcome(sys::to_json(&self.encoding, value, style)).map(text_of)
+    }
+
+    /// The bytes of the value that the JSON says. Fields and entries may come in any order, and numbers of 64 bits may be strings.
+    ///
+    /// # Errors
+    ///
+    /// [`ErrorKind::No`] with the place, if the text isn't JSON or says no value; [`ErrorKind::Undecided`];
+    /// [`ErrorKind::OutOfMemory`].
+    pub fn from_json(&self, json: &str) -> Result<Vec<u8>, Error> {
+        outcome(sys::from_json(&self.encoding, json.as_bytes()))
+    }
+}
+
+/// The library gives UTF-8.
+fn text_of(bytes: Vec<u8>) -> String {
+    String::from_utf8(bytes)
+        .unwrap_or_else(|error| String::from_utf8_lossy(error.as_bytes()).into_owned())
+}
+
+/// What a call that returned this code gave.
+fn outcome((code, bytes): (u32, Vec<u8>)) -> Result<Vec<u8>, Error> {
+    if code == 0 {
+        return Ok(bytes);
+    }
+    let text = text_of(bytes);
+    Err(Error { code, text })
+}

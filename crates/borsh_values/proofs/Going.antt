@@ -1,0 +1,205 @@
+-- The walk over the bytes, by the places of a layout.
+use Rattle.std.proofs.Common.{◌≡◌, ℕ, suc, ◌+◌, ◌<◌, ◌≤◌, List, [], ◌∷◌, ◌++◌, length, take, drop, length-drop, get_or, set, replicate, Some, None, refl, sym, ◌∙◌, ap, subst, arith, add-one, append_assoc}
+use Rattle.std.specs.Prelude.{Option, All}
+use Rattle.std.specs.BTreeMap.{btree_map_len}
+use Rattle.std.proofs.lemmas.List.{length-replicate, length-set}
+use Rattle.borsh_walks.specs.Container.{Shape, Member, Reached, references}
+use Rattle.borsh_walks.specs.Definitions.{definitions_in, shape_of}
+use Rattle.borsh_walks.proofs.Names.{names_within}
+use Rattle.borsh_walks.proofs.Measure.{work}
+use Rattle.borsh_values.specs.Faults.{BeginsWith}
+use Rattle.borsh_values.specs.Nodes.{Opens, NodeView, Nodes, views, ListsNode}
+use Rattle.borsh_values.specs.declared.nodes.Node.{Node}
+use Rattle.borsh_values.specs.Layouts.{name_at, shape_at, IsLaidOut}
+use Rattle.borsh_values.specs.Steps.{OpensAs, remaining, pending, step_count, GoesOn, AllFit, KnownAs, past_copies, mark_at}
+use Rattle.borsh_values.specs.declared.layout.Layout.{Layout}
+use Rattle.borsh_values.specs.declared.frames.Frame.{Frame}
+use Rattle.borsh_values.specs.declared.frames.Rest.{Rest}
+use Rattle.borsh_values.specs.declared.frames.Rest.TheVariants.{Copies}
+use Rattle.borsh_values.specs.declared.frames.Step.{Step}
+use Rattle.borsh_values.specs.declared.frames.Opened.TheVariants.{Taken}
+use Rattle.borsh_values.specs.declared.free.Passed.{Passed}
+use Rattle.borsh_values.specs.Free.{IsFreeFront}
+use Rattle.borsh_values.proofs.FreeWalk.{walk_free}
+use Rattle.borsh_values.specs.declared.members.Mark.{Mark}
+use Rattle.borsh_values.specs.declared.members.Mark.TheVariants.{Empty, Open}
+use Rattle.borsh_values.specs.declared.members.Known.TheVariants.{New}
+use Rattle.borsh_values.proofs.Building.{work_within}
+use Rattle.borsh_values.proofs.Listing.{list_more}
+use Rattle.borsh_values.proofs.Measure.{left, left_moved, left_up, left_still, left_on, left_past, some_step}
+use Rattle.borsh_values.proofs.NodesLaws.{nodes_skip}
+use Rattle.borsh_values.proofs.Places.{defined_at, root_there, marked, mark_here, none_marked, passes}
+use Rattle.borsh_values.proofs.Walk.{Walk, walk_start, walk_skip, walk_still, walk_on, walk_up, walk_up_empty, walk_end, undefined_none, denied, leads_back, part_reached, with_rest}
+
+-- what is left of the names and of the bytes, and what is known of the names
+pub record Going (l : Layout) (bytes : List ℕ) (ms : List (Option Mark)) (fs : List Frame) (f : Frame) (rest : List ℕ) (idle : ℕ) : Type 0 where
+  pub laid : IsLaidOut l
+  pub names : List (List ℕ)
+  pub state : Walk (definitions_in l.map.now) l.names.items l.root.now bytes (λ x. mark_at ms (laid.place x)) fs f rest names
+  pub count : length names ≡ idle
+  pub long : length ms ≡ length l.names.items
+  pub fits : AllFit l.names.items (f ∷ fs)
+
+module _ (l : Layout) where
+  pub defined_in : IsLaidOut l → (i : ℕ) → i < length l.names.items → (definitions_in l.map.now) (name_at l.names.items i) ≡ shape_at l.names.items i
+  defined_in laid i low = defined_at l.map.now l.root.now l.names.items l.parts.items laid i low
+
+  pub going_start : (laid : IsLaidOut l) (bytes : List ℕ) (ms : List (Option Mark)) → ms ≡ replicate (length l.names.items) None → Going l bytes ms [] (record { at = 0; start = length bytes + 1; rest = Copies 0 1 }) bytes 0
+  going_start laid bytes ms z =
+      let r = root_there l.map.now l.root.now l.names.items l.parts.items laid in
+      let f : Frame = record { at = 0; start = length bytes + 1; rest = Copies 0 1 } in
+      record {
+        laid = laid;
+        names = [];
+        state = walk_start (definitions_in l.map.now) l.names.items f (λ x. ap (λ k. mark_at k (laid.place x)) z ∙ none_marked (length l.names.items) (laid.place x)) (omega arith) (ap (λ x. x ∷ []) r.1);
+        count = refl;
+        long = ap (λ k. length k) z ∙ length-replicate (length l.names.items) None;
+        fits = (r.0, r.0, tt);
+      }
+
+  module _ {bytes rest : List ℕ} {ms : List (Option Mark)} {fs : List Frame} {f : Frame} {idle : ℕ} (w : Going l bytes ms fs f rest idle) (s : Step) (g : GoesOn l.names.items f.rest s) where
+    mark_is : mark_at ms (w.laid.place (name_at l.names.items s.at)) ≡ get_or ms s.at None
+    mark_is = mark_here l.map.now l.root.now l.names.items l.parts.items w.laid ms s.at g.within
+
+    pub next_names : pending l.names.items (f ∷ fs) ≡ name_at l.names.items s.at ∷ (remaining l.names.items s.others ++ pending l.names.items fs)
+    next_names = ap (λ ps. ps ++ pending l.names.items fs) g.parts
+
+    pub going_skip : get_or ms s.at None ≡ Some Empty → Going l bytes ms fs (with_rest f (past_copies f.rest s)) rest idle
+    going_skip k =
+        let p = passes l.names.items f.rest s g in
+        record {
+          laid = w.laid;
+          names = w.names;
+          state = walk_skip (definitions_in l.map.now) l.names.items p.0 (past_copies f.rest s) w.state (mark_is ∙ k) p.1;
+          count = w.count;
+          long = w.long;
+          fits = (w.fits.0, p.3, w.fits.2);
+        }
+
+    pub skip_listed : get_or ms s.at None ≡ Some Empty → (es : List NodeView) → Nodes (definitions_in l.map.now) (pending l.names.items (with_rest f (past_copies f.rest s) ∷ fs)) rest es → Nodes (definitions_in l.map.now) (pending l.names.items (f ∷ fs)) rest es
+    skip_listed k es n =
+        let p = passes l.names.items f.rest s g in
+        let same : pending l.names.items (f ∷ fs) ≡ replicate (suc p.0) (name_at l.names.items s.at) ++ (remaining l.names.items (past_copies f.rest s) ++ pending l.names.items fs) = ap (λ ps. ps ++ pending l.names.items fs) p.1 ∙ append_assoc (replicate (suc p.0) (name_at l.names.items s.at)) (remaining l.names.items (past_copies f.rest s)) (pending l.names.items fs) in
+        subst (λ ps. Nodes (definitions_in l.map.now) ps rest es) (sym same) (nodes_skip (definitions_in l.map.now) (suc p.0) (w.state.empty (name_at l.names.items s.at) (mark_is ∙ k)) n)
+
+    pub less_skip : left l.map.now l.names.items (length rest) idle (with_rest f (past_copies f.rest s) ∷ fs) < left l.map.now l.names.items (length rest) idle (f ∷ fs)
+    less_skip = let p = passes l.names.items f.rest s g in left_moved l.map.now l.names.items (length rest) idle f (with_rest f (past_copies f.rest s)) fs p.2
+
+    pub going_reached : Reached (definitions_in l.map.now) l.root.now (name_at l.names.items s.at)
+    going_reached = part_reached (definitions_in l.map.now) l.names.items w.state s.others g.parts
+
+    pub going_back : get_or ms s.at None ≡ Some (Open (length rest)) → BeginsWith (definitions_in l.map.now) (name_at l.names.items s.at) rest → ⊥
+    going_back k = leads_back (definitions_in l.map.now) l.names.items w.state s.others g.parts (mark_is ∙ k)
+
+    pub going_denied : (BeginsWith (definitions_in l.map.now) (name_at l.names.items s.at) rest → ⊥) → Member (definitions_in l.map.now) l.root.now bytes → ⊥
+    going_denied deny = denied (definitions_in l.map.now) l.names.items w.state s.others g.parts deny
+
+    pub going_missing : shape_at l.names.items s.at ≡ None → BeginsWith (definitions_in l.map.now) (name_at l.names.items s.at) rest → ⊥
+    going_missing e m = undefined_none (definitions_in l.map.now) l.names.items (defined_in w.laid s.at g.within ∙ e) m.2
+
+    module _ (d : Shape) (c : shape_at l.names.items s.at ≡ Some d) (n : ℕ) (r : Rest) (o : OpensAs (definitions_in l.map.now) l.names.items d rest (Taken n r)) where
+      pub name_defined : (definitions_in l.map.now) (name_at l.names.items s.at) ≡ Some d
+      name_defined = defined_in w.laid s.at g.within ∙ c
+
+      still : n ≡ 0 → KnownAs (get_or ms s.at None) (length rest) New → Walk (definitions_in l.map.now) l.names.items l.root.now bytes (λ x. mark_at (set ms s.at (Some (Open (length rest)))) (w.laid.place x)) (with_rest f s.others ∷ fs) (record { at = s.at; start = length rest; rest = r }) rest (name_at l.names.items s.at ∷ w.names)
+      still z k = walk_still (definitions_in l.map.now) l.names.items w.state s.others g.parts (record { at = s.at; start = length rest; rest = r }) z name_defined o.0 (λ e. k.0 (sym mark_is ∙ e)) (λ e. k.1 (sym mark_is ∙ e)) (marked l.map.now l.root.now l.names.items l.parts.items w.laid ms s.at (Open (length rest)) w.long g.within) refl refl
+
+      pub room : n ≡ 0 → KnownAs (get_or ms s.at None) (length rest) New → suc idle ≤ btree_map_len l.map.now
+      room z k = let t = still z k in let few = names_within l.map.now (name_at l.names.items s.at ∷ w.names) t.distinct t.defined in let c = w.count in omega (arith, few, c)
+
+      pub going_new : n ≡ 0 → KnownAs (get_or ms s.at None) (length rest) New → Going l bytes (set ms s.at (Some (Open (length rest)))) (with_rest f s.others ∷ fs) (record { at = s.at; start = length rest; rest = r }) rest (idle + 1)
+      going_new z k = record {
+        laid = w.laid;
+        names = name_at l.names.items s.at ∷ w.names;
+        state = still z k;
+        count = ap suc w.count ∙ sym (add-one idle);
+        long = length-set ms s.at (Some (Open (length rest))) ∙ w.long;
+        fits = (g.within, o.2, (w.fits.0, g.fits, w.fits.2));
+      }
+
+      pub going_on : 0 < n → Going l bytes ms (with_rest f s.others ∷ fs) (record { at = s.at; start = length rest; rest = r }) (drop n rest) 0
+      going_on more = record {
+        laid = w.laid;
+        names = [];
+        state = walk_on (definitions_in l.map.now) l.names.items w.state s.others g.parts (record { at = s.at; start = length rest; rest = r }) more name_defined o.0 refl refl;
+        count = refl;
+        long = w.long;
+        fits = (g.within, o.2, (w.fits.0, g.fits, w.fits.2));
+      }
+
+      fewer : 0 < n → length (drop n rest) < length rest
+      fewer more = let t = o.0 in let i = t.within in let d = length-drop n rest in omega (arith, i, d, more)
+
+      -- a name without parts
+      pub going_past : 0 < n → remaining l.names.items r ≡ [] → Going l bytes ms fs (with_rest f s.others) (drop n rest) 0
+      unfolding going_on
+      going_past more none =
+          let v = going_on more in
+          record {
+            laid = w.laid;
+            names = [];
+            state = walk_up (definitions_in l.map.now) l.names.items v.state none (λ q. (let k = fewer more in absurd (omega (arith, q, k))));
+            count = refl;
+            long = w.long;
+            fits = v.fits.2;
+          }
+
+      small_frame : step_count l.names.items r ≤ 2 + work references l.map.now.entries
+      small_frame = let k = work_within l.map.now (name_at l.names.items s.at) d name_defined in let i = o.1 in omega (arith, k, i)
+
+      pub less_new : n ≡ 0 → KnownAs (get_or ms s.at None) (length rest) New → left l.map.now l.names.items (length rest) (idle + 1) (record { at = s.at; start = length rest; rest = r } ∷ with_rest f s.others ∷ fs) < left l.map.now l.names.items (length rest) idle (f ∷ fs)
+      less_new z k = subst (λ i. left l.map.now l.names.items (length rest) i (record { at = s.at; start = length rest; rest = r } ∷ with_rest f s.others ∷ fs) < left l.map.now l.names.items (length rest) idle (f ∷ fs)) (sym (add-one idle)) (left_still l.map.now l.names.items (length rest) idle f (with_rest f s.others) (record { at = s.at; start = length rest; rest = r }) fs (room z k) g.steps small_frame)
+
+      pub less_on : 0 < n → left l.map.now l.names.items (length (drop n rest)) 0 (record { at = s.at; start = length rest; rest = r } ∷ with_rest f s.others ∷ fs) < left l.map.now l.names.items (length rest) idle (f ∷ fs)
+      less_on more = left_on l.map.now l.names.items (length (drop n rest)) (length rest) idle f (with_rest f s.others) (record { at = s.at; start = length rest; rest = r }) fs (fewer more) g.steps small_frame
+
+      pub less_past : 0 < n → left l.map.now l.names.items (length (drop n rest)) 0 (with_rest f s.others ∷ fs) < left l.map.now l.names.items (length rest) idle (f ∷ fs)
+      less_past more = left_past l.map.now l.names.items (length (drop n rest)) (length rest) idle f (with_rest f s.others) fs (fewer more) g.steps
+
+      -- the node is listed, and the nodes of the rest follow
+      pub listed_on : (node : Node) (old new : List Node) → node.name.now ≡ name_at l.names.items s.at → shape_of node.definition.now ≡ d → node.bytes.now ≡ take n rest → ListsNode (definitions_in l.map.now) node old new → ((es : List NodeView) → Nodes (definitions_in l.map.now) (pending l.names.items (f ∷ fs)) rest es → Nodes (definitions_in l.map.now) (l.root.now ∷ []) bytes (views old ++ es)) → (es : List NodeView) → Nodes (definitions_in l.map.now) (remaining l.names.items r ++ (remaining l.names.items s.others ++ pending l.names.items fs)) (drop n rest) es → Nodes (definitions_in l.map.now) (l.root.now ∷ []) bytes (views new ++ es)
+      listed_on node old new name shape own lists before es h =
+          let c = ap (λ x. (definitions_in l.map.now) x) name ∙ name_defined ∙ ap (λ s. Some s) (sym shape) in
+          let opens = subst (λ s. Opens (definitions_in l.map.now) s (take n rest) (remaining l.names.items r)) (sym shape) o.0.opens in
+          list_more (definitions_in l.map.now) (λ k. Nodes (definitions_in l.map.now) (l.root.now ∷ []) bytes k) node old new n rest (remaining l.names.items r) (remaining l.names.items s.others ++ pending l.names.items fs) c own opens lists
+          (λ fs2 m. before fs2 (subst (λ ps. Nodes (definitions_in l.map.now) ps rest fs2) (sym next_names) (subst (λ x. Nodes (definitions_in l.map.now) (x ∷ (remaining l.names.items s.others ++ pending l.names.items fs)) rest fs2) name m))) es h
+
+  -- names of free size are passed
+  module _ {bytes rest : List ℕ} {ms : List (Option Mark)} {fs : List Frame} {f : Frame} {idle : ℕ} (w : Going l bytes ms fs f rest idle) (p : Passed) (g : IsFreeFront (definitions_in l.map.now) l.names.items f.rest (length rest) p) where
+    pub going_pass : All (λ b. b < 256) rest → Going l bytes ms fs (with_rest f p.rest) (drop p.taken rest) 0
+    going_pass small = record {
+      laid = w.laid;
+      names = [];
+      state = walk_free (definitions_in l.map.now) l.names.items g.names p.taken p.rest w.state g.free g.parts g.some g.within small;
+      count = refl;
+      long = w.long;
+      fits = (w.fits.0, g.fits, w.fits.2);
+    }
+
+    pub fewer_pass : length (drop p.taken rest) < length rest
+    fewer_pass = let d = length-drop p.taken rest in let a = g.some in let b = g.within in omega (arith, d, a, b)
+
+    pub less_pass : left l.map.now l.names.items (length (drop p.taken rest)) 0 (with_rest f p.rest ∷ fs) < left l.map.now l.names.items (length rest) idle (f ∷ fs)
+    less_pass = left_past l.map.now l.names.items (length (drop p.taken rest)) (length rest) idle f (with_rest f p.rest) fs fewer_pass g.steps
+
+  pub going_up : {bytes rest : List ℕ} {ms : List (Option Mark)} {fs : List Frame} {f h : Frame} {idle : ℕ} → Going l bytes ms (h ∷ fs) f rest idle → remaining l.names.items f.rest ≡ [] → (f.start ≡ length rest → ⊥) → Going l bytes ms fs h rest idle
+  going_up w e far = record { laid = w.laid; names = w.names; state = walk_up (definitions_in l.map.now) l.names.items w.state e far; count = w.count; long = w.long; fits = w.fits.2 }
+
+  pub going_up_empty : {bytes rest : List ℕ} {ms : List (Option Mark)} {fs : List Frame} {f h : Frame} {idle : ℕ} → Going l bytes ms (h ∷ fs) f rest idle → remaining l.names.items f.rest ≡ [] → f.start ≡ length rest → Going l bytes (set ms f.at (Some Empty)) fs h rest idle
+  going_up_empty {ms = ms} {f = f} w e at = record {
+    laid = w.laid;
+    names = w.names;
+    state = walk_up_empty (definitions_in l.map.now) l.names.items w.state e at (marked l.map.now l.root.now l.names.items l.parts.items w.laid ms f.at Empty w.long w.fits.0);
+    count = w.count;
+    long = length-set ms f.at (Some Empty) ∙ w.long;
+    fits = w.fits.2;
+  }
+
+  pub up_listed : {rest : List ℕ} (fs : List Frame) (f h : Frame) → remaining l.names.items f.rest ≡ [] → (es : List NodeView) → Nodes (definitions_in l.map.now) (pending l.names.items (h ∷ fs)) rest es → Nodes (definitions_in l.map.now) (pending l.names.items (f ∷ h ∷ fs)) rest es
+  up_listed {rest} fs f h e es n = subst (λ ps. Nodes (definitions_in l.map.now) ps rest es) (sym (ap (λ ps. ps ++ pending l.names.items (h ∷ fs)) e)) n
+
+  pub less_up : (len idle : ℕ) (f : Frame) (fs : List Frame) → left l.map.now l.names.items len idle fs < left l.map.now l.names.items len idle (f ∷ fs)
+  less_up len idle f fs = left_up l.map.now l.names.items len idle f fs (some_step l.names.items f.rest)
+
+  pub going_end : {bytes rest : List ℕ} {ms : List (Option Mark)} {f : Frame} {idle : ℕ} → Going l bytes ms [] f rest idle → remaining l.names.items f.rest ≡ [] → (Member (definitions_in l.map.now) l.root.now bytes → rest ≡ []) × (rest ≡ [] → Member (definitions_in l.map.now) l.root.now bytes)
+  going_end w e = walk_end (definitions_in l.map.now) l.names.items w.state e
