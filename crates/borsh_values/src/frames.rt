@@ -103,6 +103,7 @@ pub fn has_parts(layout: &Layout<'_>, rest: Rest) -> bool
     requires laid_out { IsLaidOut layout.now }
     requires fits { Fits layout.now.names.items rest }
     ensures none { result ≡ false → remaining layout.now.names.items rest ≡ [] }
+    ensures some { result ≡ true → 0 < length (remaining layout.now.names.items rest) }
 {
     next_part(layout, rest).is_some()
 }
