@@ -114,13 +114,7 @@ fn free_size(layout: &Layout<'_>, sizes: &Vec<u64>, at: usize) -> u64
 fn no_sizes(alloc: Global, count: usize) -> Result<Vec<u64>, AllocError>
     ensures { IfOk result (λ v. v.items ≡ replicate count 0) }
 {
-    let mut sizes: Vec<u64> = Vec::new(alloc);
-    let mut done: usize = 0;
-    while done < count {
-        sizes.push(0)?;
-        done += 1;
-    }
-    Ok(sizes)
+    vec![in alloc; 0; count]
 }
 
 // Finds the sizes of names whose parts have known sizes, the last names first.

@@ -82,13 +82,7 @@ fn set_mark(marks: &mut Vec<Option<Mark>>, at: usize, mark: Mark)
 fn unmarked(alloc: Global, count: usize) -> Result<Vec<Option<Mark>>, AllocError>
     ensures { IfOk result (λ v. v.items ≡ replicate count None) }
 {
-    let mut marks: Vec<Option<Mark>> = Vec::new(alloc);
-    let mut done: usize = 0;
-    while done < count {
-        marks.push(None)?;
-        done += 1;
-    }
-    Ok(marks)
+    vec![in alloc; None; count]
 }
 
 // The first bytes.
