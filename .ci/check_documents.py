@@ -46,6 +46,7 @@ RUN = {
     "docs/CALLING.md": ("console",),
     "bindings/c/README.md": ("c",),
     "bindings/python/README.md": ("python",),
+    "bindings/python/MACHINES.md": ("python",),
     "bindings/js/README.md": ("js",),
     "bindings/rust/README.md": ("rust",),
 }

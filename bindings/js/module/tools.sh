@@ -1,5 +1,4 @@
 # Sourced by the scripts here: the toolchain's clang and linker for WebAssembly, and Binaryen. `room` is a folder of the caller's.
-command -v wasm-opt >/dev/null || { echo "bindings/js: there is no wasm-opt (Debian's package binaryen)" >&2; exit 2; }
 clang=$(dirname "$(rt doc)")/toolchain/bin/clang
 
 # Features that Node 18 has.
@@ -11,19 +10,24 @@ compile_c() { # SOURCE.c OBJECT [FLAG..]
     "$clang" "${flags[@]}" -O2 -std=c11 -ffreestanding -fno-builtin -Wall -Wextra -Wno-unused-parameter -Werror "${@:3}" -c "$1" -o "$2"
 }
 
-# link NAME OBJECT.. -- EXPORT..: makes $room/NAME64.wasm, and of it $room/NAME.wasm with a memory of 32 bits. The stack is lowest, so that
-# it can't grow into data: an overflow leaves the memory, which traps. It is an error if nothing defines a name.
+# link FOLDER NAME OBJECT.. -- EXPORT..: makes FOLDER/NAME64.wasm, and of it FOLDER/NAME.wasm with a memory of 32 bits, if there is
+# Binaryen. The stack is lowest, so that it can't grow into data: an overflow leaves the memory, which traps. It is an error if nothing
+# defines a name.
 link() {
-    local name=$1 objects=() exports=()
-    shift
+    local folder=$1 name=$2 objects=() exports=()
+    shift 2
     while [ "$1" != -- ]; do objects+=("$1"); shift; done
     shift
     for it in "$@"; do exports+=("--export=$it"); done
     ln -sf "$clang" "$room/wasm-ld"
     "$room/wasm-ld" -mwasm64 --no-entry --stack-first -z stack-size=1048576 --max-memory=4294967296 --gc-sections --strip-all \
         "${exports[@]}" "${objects[@]}" -o "$room/linked.wasm"
-    wasm-opt "${features[@]}" --memory64-lowering -Os "$room/linked.wasm" -o "$room/$name.wasm"
-    wasm-opt "${features[@]}" -Os "$room/linked.wasm" -o "$room/${name}64.wasm"
+    if command -v wasm-opt >/dev/null; then
+        wasm-opt "${features[@]}" --memory64-lowering -Os "$room/linked.wasm" -o "$folder/$name.wasm"
+        wasm-opt "${features[@]}" -Os "$room/linked.wasm" -o "$folder/${name}64.wasm"
+    else
+        cp "$room/linked.wasm" "$folder/${name}64.wasm"
+    fi
 }
 
 # What the host calls of the heap, and what tests call of it besides.

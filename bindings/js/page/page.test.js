@@ -1,11 +1,13 @@
-// The page in headless Chromium: what it says and marks, by its own document; and pictures of it, in ../out/pictures.
+// The page (BORSH_PAGE, or ../out/page.html) in headless Chromium: what it says and marks, by its own document; and pictures of it, in
+// ../out/pictures.
 import assert from "node:assert/strict";
 import { mkdirSync, readFileSync, writeFileSync } from "node:fs";
 import { createServer } from "node:http";
 import { after, before, test } from "node:test";
+import { pathToFileURL } from "node:url";
 import { Browser } from "./browser.mjs";
 
-const PAGE = new URL("../out/page.html", import.meta.url).href;
+const PAGE = process.env.BORSH_PAGE ? pathToFileURL(process.env.BORSH_PAGE).href : new URL("../out/page.html", import.meta.url).href;
 const PICTURES = new URL("../out/pictures/", import.meta.url);
 const SCHEMA = "0100000041040000000100000041040002000000010000007803000000753634010000007906000000537472696e6706000000537472696e6701040000000000000000ffffffff000000000200000075380300000075363400080200000075380001";
 const VALUE = "0c000000000000000300000068c3a9";

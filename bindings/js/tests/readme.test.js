@@ -1,20 +1,21 @@
-// The examples of the README print what their comments say.
+// The examples of the README print what their comments say, as files of the package, or of the folder BORSH_ROOM, where it is installed.
 import assert from "node:assert/strict";
 import { execFileSync } from "node:child_process";
 import { readFileSync, rmSync, writeFileSync } from "node:fs";
 import { test } from "node:test";
-import { fileURLToPath } from "node:url";
-import { repositoryFile } from "./load.js";
+import { fileURLToPath, pathToFileURL } from "node:url";
 
 const readme = readFileSync(new URL("../README.md", import.meta.url), "utf8");
 const examples = [...readme.matchAll(/^```js\n(.*?)^```$/gms)].map((it) => it[1]);
 
-/** Run as a file of the package, whose own name it imports. */
+const folder = process.env.BORSH_ROOM ? pathToFileURL(`${process.env.BORSH_ROOM}/`) : new URL("../out/", import.meta.url);
+
+/** Run as a file that imports the package by its name. */
 function printed(example) {
-  const file = new URL("../out/example.mjs", import.meta.url);
+  const file = new URL("example.mjs", folder);
   writeFileSync(file, example);
   try {
-    return execFileSync(process.execPath, [fileURLToPath(file)], { cwd: fileURLToPath(repositoryFile(".")) }).toString();
+    return execFileSync(process.execPath, [fileURLToPath(file)]).toString();
   } finally {
     rmSync(file);
   }
