@@ -13,7 +13,10 @@ fn main() {
     let folder = found.unwrap_or_else(|| {
         panic!("there is no libborsh.a in {folders:?}: run bindings/c/build, or name its folder by BORSH_LIB")
     });
-    println!("cargo:rerun-if-changed={}", folder.join("libborsh.a").display());
+    println!(
+        "cargo:rerun-if-changed={}",
+        folder.join("libborsh.a").display()
+    );
     println!("cargo:rustc-link-search=native={}", folder.display());
     println!("cargo:rustc-link-lib=static=borsh");
 }
