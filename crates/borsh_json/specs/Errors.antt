@@ -9,7 +9,7 @@ use Rattle.borsh_json.specs.declared.error.JsonError.TheVariants.{OutOfMemory, N
 use Rattle.borsh_json.specs.declared.error.PartError.{PartError}
 use Rattle.borsh_json.specs.declared.error.PartError.TheVariants.{OutOfMemory as NoMemory, Refused as RefusedPart}
 use Rattle.borsh_json.specs.declared.error.Refusal.{Refusal}
-use Rattle.borsh_json.specs.declared.error.Refusal.TheVariants.{TooDeep, RepeatedName, EmptyElements, NotBool, NotUtf8, Zero, Descends, OtherNodes, Expected, MissingField, UnknownName, RepeatedKey, Undefined}
+use Rattle.borsh_json.specs.declared.error.Refusal.TheVariants.{TooDeep, RepeatedName, EmptyElements, NotBool, NotUtf8, Zero, NotNumber, Descends, OtherNodes, Expected, MissingField, UnknownName, RepeatedKey, Undefined}
 
 -- ---- which refusals a call may return
 
@@ -21,6 +21,7 @@ IsTooDeep EmptyElements = ⊥
 IsTooDeep NotBool = ⊥
 IsTooDeep NotUtf8 = ⊥
 IsTooDeep Zero = ⊥
+IsTooDeep NotNumber = ⊥
 IsTooDeep Descends = ⊥
 IsTooDeep OtherNodes = ⊥
 IsTooDeep (Expected wanted) = ⊥
@@ -37,6 +38,7 @@ IsUnwritable EmptyElements = ⊤
 IsUnwritable NotBool = ⊤
 IsUnwritable NotUtf8 = ⊤
 IsUnwritable Zero = ⊤
+IsUnwritable NotNumber = ⊤
 IsUnwritable Descends = ⊤
 IsUnwritable OtherNodes = ⊤
 IsUnwritable (Expected wanted) = ⊥
@@ -53,6 +55,7 @@ IsUnreadable EmptyElements = ⊤
 IsUnreadable NotBool = ⊥
 IsUnreadable NotUtf8 = ⊥
 IsUnreadable Zero = ⊥
+IsUnreadable NotNumber = ⊤
 IsUnreadable Descends = ⊤
 IsUnreadable OtherNodes = ⊤
 IsUnreadable (Expected wanted) = ⊤

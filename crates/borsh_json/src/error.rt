@@ -52,6 +52,8 @@ pub enum Refusal {
     NotUtf8,
     /// A non-zero number is 0.
     Zero,
+    /// A float is a NaN.
+    NotNumber,
     /// The elements of a set, or the keys of a map, don't ascend up to this one.
     Descends,
     /// The nodes aren't those of the definitions.
@@ -141,6 +143,7 @@ impl fmt::Display for Refusal {
             Refusal::NotBool => write!(f, "neither 0 nor 1"),
             Refusal::NotUtf8 => write!(f, "not UTF-8"),
             Refusal::Zero => write!(f, "zero"),
+            Refusal::NotNumber => write!(f, "not a number"),
             Refusal::Descends => write!(f, "not above the one before it"),
             Refusal::OtherNodes => write!(f, "other nodes than the schema's"),
             Refusal::Expected(wanted) => write!(f, "expected {wanted}"),

@@ -1,5 +1,6 @@
 // How the values of a name are written in JSON.
 use crate::definitions::Definitions;
+use crate::floats::is_float;
 use crate::formats::{Collection, collection_of, only_part, option_part};
 use crate::numbers::Number;
 use crate::order::Ordered;
@@ -53,6 +54,8 @@ pub enum Kind<'a> {
     Text,
     /// `"0x0a1f"`, of so many bytes.
     Bytes(u8),
+    /// The bits of a float of so many bytes, as bytes; no NaN.
+    Float(u8),
     /// `"0x0a1f"`, of any number of bytes; also taken from `[10, 31]`.
     ByteList(Elements<'a>),
     /// `[..]`, of elements that are primitives.
@@ -105,6 +108,9 @@ pub fn kind_of<'a>(
 pub fn kind_of_primitive<'a>(name: &str, size: u8) -> Kind<'a> {
     if name == "bool" && size == 1 {
         return Kind::Bool;
+    }
+    if is_float(name, size) {
+        return Kind::Float(size);
     }
     match Number::named(name, size) {
         Some(number) => Kind::Number(number),

@@ -6,6 +6,7 @@
 
 mod definitions;
 mod error;
+mod floats;
 mod formats;
 mod kinds;
 mod numbers;

@@ -7,6 +7,7 @@ ghost use Rattle.std.specs.Prelude.{◌≡◌, IfErr, IfOk, IfSome, IsSome, OnOk
 
 use crate::definitions::Definitions;
 use crate::error::{JsonError, PartError, PartResult, Refusal};
+use crate::floats::is_nan;
 use crate::kinds::{Elements, Entries, KeyKind, Kind, NamedFields, Variants};
 use crate::numbers::Number;
 use crate::position::{Key, Part, Parts, Place, Position};
@@ -22,8 +23,8 @@ use std::mem;
 ///
 /// The text is as [`crate::to_json`] writes it, in any layout; the fields of a struct and the entries of an object may come in
 /// any order, a list of `u8` may be an array of numbers, and numbers of 64 bits may be strings. What doesn't fit the
-/// definitions is refused with its path and what was expected; so are keys that come twice, and arrays whose elements or
-/// keys don't ascend where they have to. The bytes are a member of the root.
+/// definitions is refused with its path and what was expected; so are keys that come twice, the bits of a NaN, and arrays whose
+/// elements or keys don't ascend where they have to. The bytes are a member of the root.
 ///
 /// Determined: after `Ok` the bytes are a member of the root, and the text is JSON that nests at most 128 deep. After `NotJson`
 /// it isn't; after any other error but `OutOfMemory` and `TooDeep` it is. `Ambiguous` is as of [`is_member`], and `NoMember`
@@ -256,7 +257,17 @@ impl<'a, 't, 's> Reading<'a, 't, 's> {
                 Some(value) => Ok(self.out.push(u8::from(value))?),
                 None => Err(self.expected("true or false")),
             },
-            Kind::Bytes(size) => self.read_bytes(size, &element),
+            Kind::Bytes(size) => {
+                let bytes = self.fixed_bytes(size, &element)?;
+                Ok(self.out.extend_from_slice(bytes.as_slice())?)
+            }
+            Kind::Float(size) => {
+                let bytes = self.fixed_bytes(size, &element)?;
+                if is_nan(bytes.as_slice()) {
+                    return Err(self.position.refused(Refusal::NotNumber));
+                }
+                Ok(self.out.extend_from_slice(bytes.as_slice())?)
+            }
             Kind::Text => match element.as_str() {
                 Some(text) => self.put_list(definition, text.as_bytes()),
                 None => Err(self.expected("a string")),
@@ -352,13 +363,14 @@ impl<'a, 't, 's> Reading<'a, 't, 's> {
         }
     }
 
-    fn read_bytes(&mut self, size: u8, element: &Element<'t, 's>) -> PartResult<'a, ()>
+    /// The bytes that `0x` and digits say, which are so many.
+    fn fixed_bytes(&self, size: u8, element: &Element<'t, 's>) -> PartResult<'a, Vec<u8>>
         ensures { IfErr result (IsPartError IsUnreadable) }
     {
         if let Some(text) = element.as_str() {
             let bytes = self.hexadecimal(text)?;
             if bytes.len() == usize::from(size) {
-                return Ok(self.out.extend_from_slice(bytes.as_slice())?);
+                return Ok(bytes);
             }
         }
         let wanted = format!(in self.alloc; "\"0x..\" of {size} bytes")?;

@@ -6,14 +6,13 @@ ghost use Rattle.std.specs.Prelude.{IfErr, OnOk};
 
 use crate::definitions::Definitions;
 use crate::error::{JsonError, PartError, Refusal};
+use crate::floats::shortest;
 use crate::kinds::Kind;
 use borsh_values::{Decoded, Node, Path, Paths, count_of, decode, elements_of, variant_of};
 use borsh_walks::Definition;
 use json::MAX_DEPTH;
-use ryu::{Buffer, Float};
 use std::alloc::{AllocError, Global};
 use std::collections::BTreeMap;
-use std::num::{f32_from_bits_with_nan, f64_from_bits_with_nan};
 use std::str;
 
 /// What some of the bytes of a value are: the count of a list, with its elements if these are primitives; the tag of an
@@ -97,17 +96,7 @@ fn value_of<'a>(
 ) -> Result<String, AllocError> {
     match definitions.kind(node.name, node.definition)? {
         Kind::Number(number) => number.decimal(alloc, node.bytes),
-        Kind::Bytes(_) => match (node.name, node.bytes) {
-            ("f32", [a, b, c, d]) => {
-                let bits = u32::from_le_bytes([*a, *b, *c, *d]);
-                shortest(alloc, f32_from_bits_with_nan(bits))
-            }
-            ("f64", [a, b, c, d, e, f, g, h]) => {
-                let bits = u64::from_le_bytes([*a, *b, *c, *d, *e, *f, *g, *h]);
-                shortest(alloc, f64_from_bits_with_nan(bits))
-            }
-            _ => Ok(String::new(alloc)),
-        },
+        Kind::Float(_) => shortest(alloc, node.bytes),
         Kind::Bool => match node.bytes {
             [0] => String::from_str(alloc, "false"),
             [1] => String::from_str(alloc, "true"),
@@ -127,14 +116,6 @@ fn value_of<'a>(
         },
         _ => Ok(String::new(alloc)),
     }
-}
-
-/// The shortest text that reads back as the float, `inf` or `-inf`; a NaN, which no value of a float's type is, is no number.
-fn shortest<F: Float>(alloc: Global, value: F) -> Result<String, AllocError> {
-    if !value.is_number() {
-        return String::from_str(alloc, "not a number");
-    }
-    String::from_str(alloc, Buffer::new().format(value))
 }
 
 /// The name of the variant of an enum; of other nodes nothing.

@@ -6,6 +6,7 @@ ghost use Rattle.std.specs.Prelude.{IfErr, IfSome, OnOk};
 
 use crate::definitions::Definitions;
 use crate::error::{JsonError, PartError, Refusal};
+use crate::floats::is_nan;
 use crate::kinds::{Elements, Kind, kind_of_primitive};
 use crate::order::{Ascent, first_descent};
 use borsh_values::{Decoded, Node, PathStep, Paths, decode, elements_of};
@@ -15,8 +16,8 @@ use std::collections::BTreeMap;
 use std::str;
 
 /// Refuses bytes that are no member of `root`, or that its type would refuse as far as names tell: a `bool` that is neither 0
-/// nor 1, a `String` that isn't UTF-8, a non-zero number of 0, a set or map whose keys don't ascend or have no bytes, and a list
-/// with a length whose elements have no bytes.
+/// nor 1, a `String` that isn't UTF-8, a non-zero number of 0, an `f32` or `f64` that is a NaN, a set or map whose keys don't
+/// ascend or have no bytes, and a list with a length whose elements have no bytes.
 ///
 /// The order of keys is known of numbers, `bool`, texts, and of tuples, arrays, lists, ordered sets and maps, and options of
 /// these. Keys of other types, as structs and enums, are taken in any order.
@@ -96,7 +97,7 @@ fn wrong_in(node: &Node<'_>, kind: Kind<'_>) -> Option<Wrong>
     ensures { IfSome result (λ w. IsUnwritable w.1) }
 {
     match kind {
-        Kind::Number(_) | Kind::Bool => wrong_number(node.name, node.bytes, None),
+        Kind::Number(_) | Kind::Bool | Kind::Float(_) => wrong_number(node.name, node.bytes, None),
         Kind::Text => match str::from_utf8(elements_of(node)) {
             Ok(_) => None,
             Err(_) => Some((None, Refusal::NotUtf8)),
@@ -109,7 +110,7 @@ fn wrong_in(node: &Node<'_>, kind: Kind<'_>) -> Option<Wrong>
     }
 }
 
-/// What is wrong with a number or `bool` of this name.
+/// What is wrong with a number, float or `bool` of this name.
 fn wrong_number(name: &str, bytes: &[u8], index: Option<usize>) -> Option<Wrong>
     ensures { IfSome result (λ w. IsUnwritable w.1) }
 {
@@ -121,6 +122,7 @@ fn wrong_number(name: &str, bytes: &[u8], index: Option<usize>) -> Option<Wrong>
         Kind::Number(number) if number.is_non_zero && bytes.iter().all(|byte| *byte == 0) => {
             Some((index, Refusal::Zero))
         }
+        Kind::Float(_) if is_nan(bytes) => Some((index, Refusal::NotNumber)),
         _ => None,
     }
 }

@@ -7,6 +7,7 @@ ghost use Rattle.std.specs.Prelude.{IfErr, IfOk, IsSome, OnOk, string_bytes};
 
 use crate::definitions::Definitions;
 use crate::error::{JsonError, PartError, PartResult, Refusal};
+use crate::floats::is_nan;
 use crate::kinds::{Elements, Entries, KeyKind, Kind, Variants, kind_of_primitive};
 use crate::numbers::Number;
 use crate::order::Ordered;
@@ -32,8 +33,8 @@ use std::str;
 /// - lists of `u8` and other primitives are hexadecimal strings, `"0x0a1f"`; a value without bytes is `null`
 ///
 /// The text is JSON, and [`crate::from_json`] gives the bytes again. Refused with their path are bytes that the type
-/// itself would refuse (a `bool` of 2, a `String` that isn't UTF-8, a non-zero number of 0, a set or map whose keys don't
-/// ascend), definitions with two fields or two variants of one name, lists with a length whose elements have no bytes, maps
+/// itself would refuse (a `bool` of 2, a `String` that isn't UTF-8, a non-zero number of 0, a NaN, a set or map whose keys
+/// don't ascend), definitions with two fields or two variants of one name, lists with a length whose elements have no bytes, maps
 /// whose keys have none, and values that nest more than 128 deep. The order of keys is known of numbers, `bool`, texts, and of
 /// tuples, arrays, lists, ordered sets and maps, and options of these, and not of structs and enums.
 ///
@@ -169,7 +170,7 @@ impl<'a, 'n> Writing<'a, 'n> {
         }
         let node = self.take_node(part.name)?;
         match self.definitions.kind(node.name, node.definition)? {
-            Kind::Number(_) | Kind::Bool | Kind::Bytes(_) => {
+            Kind::Number(_) | Kind::Bool | Kind::Bytes(_) | Kind::Float(_) => {
                 self.write_primitive(node.name, node.bytes)
             }
             Kind::Text => self.write_text(elements_of(&node)),
@@ -340,6 +341,7 @@ impl<'a, 'n> Writing<'a, 'n> {
         match kind_of_primitive(name, size) {
             Kind::Number(number) => self.write_number(number, bytes),
             Kind::Bool => self.write_bool(bytes),
+            Kind::Float(_) if is_nan(bytes) => Err(self.position.refused(Refusal::NotNumber)),
             _ => self.write_bytes(bytes),
         }
     }

@@ -22,5 +22,6 @@ pub mod LayoutLaws
 pub mod Building
 pub mod Places
 pub mod Going
+pub mod ZeroLaws
 pub mod FreeLaws
 pub mod FreeWalk

@@ -8,6 +8,7 @@ use Rattle.borsh_values.specs.declared.frames.Rest.{Rest}
 use Rattle.borsh_values.specs.declared.free.Passed.{Passed}
 use Rattle.borsh_values.specs.Layouts.{name_at}
 use Rattle.borsh_values.specs.Steps.{remaining, step_count, Fits}
+use Rattle.borsh_values.specs.Zeros.{AreZeros}
 
 module _ (C : List ℕ → Option Shape) where
   -- each n bytes are a member of the name, and it has no others
@@ -40,6 +41,7 @@ module _ (C : List ℕ → Option Shape) where
     pub fits : Fits ns p.rest
     pub steps : step_count ns p.rest ≤ step_count ns r
 
--- the free sizes of a layout are right
-abbrev pub KnowsSizes : Layout → Type 0
-KnowsSizes l = AreFree (definitions_in l.map.now) l.names.items l.sizes.items
+-- what a layout says of sizes is right: which are free, and which names have values without bytes
+pub record KnowsSizes (l : Layout) : Type 0 where
+  pub free : AreFree (definitions_in l.map.now) l.names.items l.sizes.items
+  pub zeros : AreZeros (definitions_in l.map.now) l.names.items l.zeros.items

@@ -10,5 +10,6 @@ pub mod Encoded
 pub mod Steps
 pub mod TagTables
 pub mod Layouts
+pub mod Zeros
 pub mod Free
 pub mod Passing

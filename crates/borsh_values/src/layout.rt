@@ -7,6 +7,7 @@ ghost use Rattle.borsh_walks.specs.Tables.{mark_of};
 ghost use Rattle.std.specs.Prelude.{IfOk, OnOk, Some, [], ◌∷◌, ◌≡◌, option_map, slice_get};
 
 use crate::free::free_sizes;
+use crate::zeros::zero_sizes;
 use borsh_walks::Definition;
 use borsh_walks::parts::referenced_part;
 use std::alloc::{AllocError, Global};
@@ -29,10 +30,14 @@ pub struct Layout<'a> {
     pub map: &'a BTreeMap<String, Definition>,
     /// The names, that of the root first.
     pub names: Vec<Named<'a>>,
+    /// The place of each name.
+    pub places: BTreeMap<&'a str, usize>,
     /// Of each name the places of the names in its definition.
     pub parts: Vec<Vec<usize>>,
     /// Of each name how many bytes all its members have, where any so many bytes are one; 0 where that isn't so, or isn't known.
     pub sizes: Vec<u64>,
+    /// Of each name whether its values have no bytes.
+    pub zeros: Vec<bool>,
 }
 
 /// The name at a place.
@@ -146,10 +151,13 @@ impl<'a> Layout<'a> {
             root,
             map,
             names,
+            places,
             parts,
             sizes: Vec::new(alloc),
+            zeros: Vec::new(alloc),
         };
         layout.sizes = free_sizes(alloc, &layout)?;
+        layout.zeros = zero_sizes(alloc, &layout)?;
         Ok(layout)
     }
 }

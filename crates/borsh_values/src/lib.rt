@@ -21,10 +21,11 @@ mod paths;
 mod tag_tables;
 mod tags;
 mod unambiguous;
+mod zeros;
 
 pub use encoding::encode_value;
 pub use faults::{Fault, Path, PathStep, Reason};
-pub use layout::Layout;
+pub use layout::{Layout, Named};
 pub use members::{Decoded, Membership, decode, is_member, is_member_counted};
 pub use nodes::{Node, count_of, elements_of, encode, variant_of};
 pub use paths::Paths;

@@ -8,7 +8,6 @@ ghost use Rattle.borsh_walks.specs.Definitions.{definitions_in};
 ghost use Rattle.borsh_values.specs.Nodes.{AreOffsets, Nodes, views};
 ghost use Rattle.borsh_values.specs.Decoding.{DecodesValue, HasAtMost};
 ghost use Rattle.borsh_values.specs.declared.members.Membership.TheVariants.{Member as IsMember};
-ghost use Rattle.borsh_walks.specs.ZeroAnswer.{ZeroTable};
 ghost use Rattle.std.specs.Prelude.{IfOk, IfSome, None, Some, ◌+◌, ◌-◌, ◌<◌, ◌≤◌, ◌≡◌, ◌∷◌, [], get_or, length, drop, replicate, slice_set, take, true};
 
 use crate::faults::{Fault, Path, Reason, no_member};
@@ -285,9 +284,8 @@ impl<'a> Layout<'a> {
         ensures risen { opened.old ≤ opened.new }
         ensures bounded_work { opened.new ≤ opened.old + most_opened bytes.now self.now.map.now }
     {
-        let mut zeros: BTreeMap<&'a str, bool> = BTreeMap::new(alloc);
         let mut nodes: Vec<Node<'a>> = Vec::new(alloc);
-        decide(alloc, self, bytes, false, &mut zeros, &mut nodes, opened)
+        decide(alloc, self, bytes, false, &mut nodes, opened)
     }
 
     /// As [`decode`], for a layout that was made before. Left open: as there.
@@ -305,18 +303,9 @@ impl<'a> Layout<'a> {
             DecodesValue C self.now.root.now bytes.now result }
         ensures bounded_work { IfOk result (λ a. HasAtMost (most_opened bytes.now self.now.map.now) a) }
     {
-        let mut zeros: BTreeMap<&'a str, bool> = BTreeMap::new(alloc);
         let mut nodes: Vec<Node<'a>> = Vec::new(alloc);
         let mut opened = 0;
-        match decide(
-            alloc,
-            self,
-            bytes,
-            true,
-            &mut zeros,
-            &mut nodes,
-            &mut opened,
-        )? {
+        match decide(alloc, self, bytes, true, &mut nodes, &mut opened)? {
             Membership::Member => Ok(Decoded::Nodes(nodes)),
             Membership::NoMember(fault) => Ok(Decoded::NoMember(fault)),
             Membership::Ambiguous(name) => Ok(Decoded::Ambiguous(name)),
@@ -331,13 +320,11 @@ fn decide<'a>(
     layout: &Layout<'a>,
     bytes: &'a [u8],
     wanted: bool,
-    zeros: &mut BTreeMap<&'a str, bool>,
     nodes: &mut Vec<Node<'a>>,
     opened: &mut u64,
 ) -> Result<Membership<'a>, AllocError>
     requires laid_out { IsLaidOut layout.now }
     requires sizes { KnowsSizes layout.now }
-    requires table { ZeroTable (definitions_in layout.now.map.now) zeros.old }
     requires empty { nodes.old.items ≡ [] }
     ensures answer { let C = definitions_in layout.now.map.now in
         IfOk result (λ a. IsAnswer C layout.now.root.now bytes.now a) }
@@ -427,7 +414,7 @@ fn decide<'a>(
                                         );
                                     }
                                     Known::New => {
-                                        list_node(alloc, wanted, layout.map, zeros, nodes, node)?;
+                                        list_node(layout, step.at, wanted, nodes, node)?;
                                         count_one(opened);
                                         frame.rest = step.others;
                                         stack.push(frame)?;
@@ -441,7 +428,7 @@ fn decide<'a>(
                                     }
                                 }
                             } else {
-                                list_node(alloc, wanted, layout.map, zeros, nodes, node)?;
+                                list_node(layout, step.at, wanted, nodes, node)?;
                                 count_one(opened);
                                 frame.rest = step.others;
                                 idle = 0;

@@ -1,15 +1,16 @@
 // The nodes of a value.
+ghost use Rattle.borsh_values.specs.Free.{KnowsSizes};
+ghost use Rattle.borsh_values.specs.Layouts.{name_at};
 ghost use Rattle.borsh_values.specs.Nodes.{AreElementsOf, IsCountOf, IsVariantOf, ListsNode, joined_bytes, views};
 ghost use Rattle.borsh_walks.specs.Definitions.{definitions_in, shape_of};
-ghost use Rattle.borsh_walks.specs.ZeroAnswer.{ZeroTable};
-ghost use Rattle.std.specs.Prelude.{IfOk, OnOk, ◌≡◌, true};
+ghost use Rattle.std.specs.Prelude.{IfOk, OnOk, ◌≡◌, ◌<◌, length, true};
 
+use crate::layout::Layout;
 use crate::numbers::number;
 use crate::tags::variant_at;
-use borsh_walks::zero::is_zero;
-use borsh_walks::{Counted, Definition, Expansions};
+use crate::zeros::is_zero_at;
+use borsh_walks::Definition;
 use std::alloc::{AllocError, Global};
-use std::collections::BTreeMap;
 
 /// A part of a value, or the value itself, with the bytes that it encodes before its own parts: a primitive all
 /// its bytes, a sequence its count, an enum its tag, a struct and a tuple none. The elements of a sequence that are
@@ -97,29 +98,22 @@ pub fn elements_of<'a>(node: &Node<'a>) -> &'a [u8]
     }
 }
 
-/// Lists the node, if nodes are wanted and its name isn't of zero size.
+/// Lists the node of the name at a place, if nodes are wanted and its values have bytes.
 pub fn list_node<'a>(
-    alloc: Global,
+    layout: &Layout<'a>,
+    at: usize,
     wanted: bool,
-    map: &'a BTreeMap<String, Definition>,
-    zeros: &mut BTreeMap<&'a str, bool>,
     nodes: &mut Vec<Node<'a>>,
     node: Node<'a>,
 ) -> Result<(), AllocError>
-    requires { ZeroTable (definitions_in map.now) zeros.old }
-    ensures table { OnOk result (ZeroTable (definitions_in map.now) zeros.new) }
-    ensures listed { OnOk result
-        (wanted ≡ true → ListsNode (definitions_in map.now) node.entry nodes.old.items nodes.new.items) }
+    requires sizes { KnowsSizes layout.now }
+    requires within { at < length layout.now.names.items }
+    requires name { node.name.now ≡ name_at layout.now.names.items at }
+    ensures { let C = definitions_in layout.now.map.now in
+        OnOk result (wanted ≡ true → ListsNode C node.entry nodes.old.items nodes.new.items) }
 {
-    if !wanted {
+    if !wanted || node.bytes.is_empty() && is_zero_at(layout, at) {
         return Ok(());
-    }
-    if node.bytes.is_empty() {
-        let mut counts = Expansions::NONE;
-        let mut counted = Counted::new(map, &mut counts);
-        if is_zero(alloc, node.name, zeros, &mut counted)? {
-            return Ok(());
-        }
     }
     nodes.push(node)?;
     Ok(())

@@ -133,7 +133,7 @@ fn main() {
     let decimal = "! u128: expected a decimal string of 128 bits, unsigned";
     other("u128", "07+00*15", "\"7\"", decimal, 7u128);
     other("f32", "0000c03f", "\"0x0000c03f\"", "! f32: expected \"0x..\" of 4 bytes", 1.5f32);
-    other("f32", "0000c07f", "\"0x0000c07f\"", "! f32: expected \"0x..\" of 4 bytes", f32::NAN);
+    other("f32", "0000807f", "\"0x0000807f\"", "! f32: expected \"0x..\" of 4 bytes", f32::INFINITY);
     let variant = "! Option<Option<u8>>: expected a variant: \"Name\" or {\"Name\": value}";
     other("Option<Option<u8>>", "0100", "{\"Some\":null}", variant, Some(None::<u8>));
     other("Option<Option<u8>>", "00", "\"None\"", variant, None::<Option<u8>>);

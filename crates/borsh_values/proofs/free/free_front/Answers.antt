@@ -22,7 +22,7 @@ returns-then-all-left c =
     let some = c.if-all-gt0.true in
     let low = fits_copies ns c.args.rest at k c.in-Copies.is c.requires.fits in
     let e : c.product-all.result ≡ k * n = c.product-all.ensures some ∙ ap (λ i. k * i) c.size_at.ensures in
-    let f : FreeSize C (name_at ns at) n = c.requires.free at low (some_factor k n (subst (λ i. 0 < i) e some)) in
+    let f : FreeSize C (name_at ns at) n = c.requires.free.free at low (some_factor k n (subst (λ i. 0 < i) e some)) in
     let step = some_step ns c.args.rest in
     let left = c.if-all-left.true in
     record {
@@ -48,7 +48,7 @@ returns-then-size-left c =
     let some = c.if-size-gt0.true in
     let low = fits_parts ns c.args.rest at next c.in-Parts.is c.requires.fits in
     let g = parts_on ns at next part low c.in-Some.ensures.place in
-    let f : FreeSize C (name_at ns part) size = subst (λ i. FreeSize C (name_at ns part) i) (sym e) (c.requires.free part g.within (omega (arith, e, some))) in
+    let f : FreeSize C (name_at ns part) size = subst (λ i. FreeSize C (name_at ns part) i) (sym e) (c.requires.free.free part g.within (omega (arith, e, some))) in
     let left = c.if-size-left.true in
     let p : Passed = record { taken = size; rest = Parts at (next + 1) } in
     subst (λ r. IsFreeFront C ns r c.args.left p) (sym c.in-Parts.is) (record {

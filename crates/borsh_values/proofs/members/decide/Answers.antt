@@ -43,7 +43,6 @@ loop-behind-init c =
       opened = omega arith;
       few = λ _. (let e = ap (λ q. length q) c.requires.empty in omega (arith, e));
       placed = λ _. (subst (λ q. AreOffsets 0 q) (sym c.requires.empty) tt, (let t = ap (λ q. total q) c.requires.empty in omega (arith, t)));
-      table = c.requires.table;
       tags = tables_none C c.new-tags.result (marks_none c.new-tags.result c.new-tags.ensures.empty);
       listed = λ w es n. subst (λ q. Nodes C (l.root.now ∷ []) c.args.bytes.now (views q ++ es)) (sym c.requires.empty) (subst (λ x. Nodes C (x ∷ []) c.args.bytes.now es) (root_there l.map.now l.root.now ns l.parts.items c.requires.laid_out).1 (subst (λ q. Nodes C (name_at ns 0 ∷ pending ns (reverse q)) c.args.bytes.now es) c.new-stack.ensures.items n));
     }
@@ -84,7 +83,6 @@ loop-behind-preserved-in-Some c =
       opened = opened_on D (length bytes) c.args.opened.now c.loop-behind.opened c.loop-behind.opened (length c.in-Some.behind.left.now) (length rest) c.loop-behind.idle fewer i.opened (omega arith);
       few = λ w. absurd (no_nodes c.args.wanted p.1 w);
       placed = λ w. absurd (no_nodes c.args.wanted p.1 w);
-      table = i.table;
       tags = i.tags;
       listed = λ w. absurd (no_nodes c.args.wanted p.1 w);
     }
@@ -155,7 +153,6 @@ loop-behind-preserved-in-Empty c =
       opened = i.opened;
       few = i.few;
       placed = i.placed;
-      table = i.table;
       tags = c.in_ok-open_definition-in-Some-next_part.ensures.tables;
       listed = λ w es n. i.listed w es (skip_listed l i.going s g c.in-Empty.ensures es (subst (λ t. Nodes C (pending ns (with_rest c.loop-behind.frame t ∷ fs)) c.loop-behind.left.now es) c.after_copies-frame.ensures n));
     }
@@ -222,11 +219,10 @@ loop-behind-preserved-in-New c =
       suffix = i.suffix;
       risen = omega (arith, i.risen, c.count_one.ensures.risen);
       opened = opened_still D all c.args.opened.now c.loop-behind.opened c.count_one.new.count (length c.loop-behind.left.now) c.loop-behind.idle q i.opened c.count_one.ensures.by_one;
-      few = λ w. few_still D all (length c.loop-behind.nodes.items) (length c.list_node.new.nodes.items) (length c.loop-behind.left.now) c.loop-behind.idle q (i.few w) (listed_more C node c.loop-behind.nodes.items c.list_node.new.nodes.items (c.in_ok-list_node-in-New.ensures.listed w));
-      placed = λ w. placed_more C node c.loop-behind.nodes.items c.list_node.new.nodes.items n all c.loop-behind.left.now c.loop-behind.left.now c.offset_of-offset.ensures c.front.ensures (sym same) (c.in_ok-list_node-in-New.ensures.listed w) (i.placed w);
-      table = c.in_ok-list_node-in-New.ensures.table;
+      few = λ w. few_still D all (length c.loop-behind.nodes.items) (length c.list_node.new.nodes.items) (length c.loop-behind.left.now) c.loop-behind.idle q (i.few w) (listed_more C node c.loop-behind.nodes.items c.list_node.new.nodes.items (c.in_ok-list_node-in-New.ensures w));
+      placed = λ w. placed_more C node c.loop-behind.nodes.items c.list_node.new.nodes.items n all c.loop-behind.left.now c.loop-behind.left.now c.offset_of-offset.ensures c.front.ensures (sym same) (c.in_ok-list_node-in-New.ensures w) (i.placed w);
       tags = c.in_ok-open_definition-in-Some-next_part.ensures.tables;
-      listed = λ w es m. listed_on l i.going s g d sh n r o node c.loop-behind.nodes.items c.list_node.new.nodes.items c.name_of-name.ensures refl c.front.ensures (c.in_ok-list_node-in-New.ensures.listed w) (i.listed w) es (subst (λ b. Nodes C (remaining ns r ++ (remaining ns s.others ++ pending ns fs)) b es) (sym same) (subst (λ q. Nodes C (remaining ns r ++ pending ns q) c.loop-behind.left.now es) back m));
+      listed = λ w es m. listed_on l i.going s g d sh n r o node c.loop-behind.nodes.items c.list_node.new.nodes.items c.name_of-name.ensures refl c.front.ensures (c.in_ok-list_node-in-New.ensures w) (i.listed w) es (subst (λ b. Nodes C (remaining ns r ++ (remaining ns s.others ++ pending ns fs)) b es) (sym same) (subst (λ q. Nodes C (remaining ns r ++ pending ns q) c.loop-behind.left.now es) back m));
     }
 
 positive : (n : ℕ) → (n ≡ 0 → ⊥) → 0 < n
@@ -303,11 +299,10 @@ loop-behind-preserved-then-has_parts c =
       suffix = ends.1;
       risen = omega (arith, i.risen, c.count_one-else-taken-eq0.ensures.risen);
       opened = opened_on D all c.args.opened.now c.loop-behind.opened c.count_one-else-taken-eq0.new.count (length c.after-left.result.now) (length c.loop-behind.left.now) c.loop-behind.idle fewer i.opened c.count_one-else-taken-eq0.ensures.by_one;
-      few = λ w. few_on D all (length old) (length new) (length c.after-left.result.now) (length c.loop-behind.left.now) c.loop-behind.idle fewer (i.few w) (listed_more C node old new (c.in_ok-list_node-in-Taken.ensures.listed w));
-      placed = λ w. placed_more C node old new n all c.loop-behind.left.now c.after-left.result.now c.offset_of-offset.ensures c.front.ensures c.after-left.ensures (c.in_ok-list_node-in-Taken.ensures.listed w) (i.placed w);
-      table = c.in_ok-list_node-in-Taken.ensures.table;
+      few = λ w. few_on D all (length old) (length new) (length c.after-left.result.now) (length c.loop-behind.left.now) c.loop-behind.idle fewer (i.few w) (listed_more C node old new (c.in_ok-list_node-in-Taken.ensures w));
+      placed = λ w. placed_more C node old new n all c.loop-behind.left.now c.after-left.result.now c.offset_of-offset.ensures c.front.ensures c.after-left.ensures (c.in_ok-list_node-in-Taken.ensures w) (i.placed w);
       tags = c.in_ok-open_definition-in-Some-next_part.ensures.tables;
-      listed = λ w es m. listed_on l i.going s g d sh n r o node old new c.name_of-name.ensures refl c.front.ensures (c.in_ok-list_node-in-Taken.ensures.listed w) (i.listed w) es (subst (λ b. Nodes C (remaining ns r ++ (remaining ns s.others ++ pending ns fs)) b es) c.after-left.ensures (subst (λ q. Nodes C (remaining ns r ++ pending ns q) c.after-left.result.now es) back m));
+      listed = λ w es m. listed_on l i.going s g d sh n r o node old new c.name_of-name.ensures refl c.front.ensures (c.in_ok-list_node-in-Taken.ensures w) (i.listed w) es (subst (λ b. Nodes C (remaining ns r ++ (remaining ns s.others ++ pending ns fs)) b es) c.after-left.ensures (subst (λ q. Nodes C (remaining ns r ++ pending ns q) c.after-left.result.now es) back m));
     }
 
 pub loop-behind-preserved-else-has_parts : goal.loop-behind-preserved-else-has_parts
@@ -339,11 +334,10 @@ loop-behind-preserved-else-has_parts c =
       suffix = ends.1;
       risen = omega (arith, i.risen, c.count_one-else-taken-eq0.ensures.risen);
       opened = opened_on D all c.args.opened.now c.loop-behind.opened c.count_one-else-taken-eq0.new.count (length c.after-left.result.now) (length c.loop-behind.left.now) c.loop-behind.idle fewer i.opened c.count_one-else-taken-eq0.ensures.by_one;
-      few = λ w. few_on D all (length old) (length new) (length c.after-left.result.now) (length c.loop-behind.left.now) c.loop-behind.idle fewer (i.few w) (listed_more C node old new (c.in_ok-list_node-in-Taken.ensures.listed w));
-      placed = λ w. placed_more C node old new n all c.loop-behind.left.now c.after-left.result.now c.offset_of-offset.ensures c.front.ensures c.after-left.ensures (c.in_ok-list_node-in-Taken.ensures.listed w) (i.placed w);
-      table = c.in_ok-list_node-in-Taken.ensures.table;
+      few = λ w. few_on D all (length old) (length new) (length c.after-left.result.now) (length c.loop-behind.left.now) c.loop-behind.idle fewer (i.few w) (listed_more C node old new (c.in_ok-list_node-in-Taken.ensures w));
+      placed = λ w. placed_more C node old new n all c.loop-behind.left.now c.after-left.result.now c.offset_of-offset.ensures c.front.ensures c.after-left.ensures (c.in_ok-list_node-in-Taken.ensures w) (i.placed w);
       tags = c.in_ok-open_definition-in-Some-next_part.ensures.tables;
-      listed = λ w es m. listed_on l i.going s g d sh n r o node old new c.name_of-name.ensures refl c.front.ensures (c.in_ok-list_node-in-Taken.ensures.listed w) (i.listed w) es (subst (λ b. Nodes C (remaining ns r ++ (remaining ns s.others ++ pending ns fs)) b es) c.after-left.ensures (subst (λ q. Nodes C (q ++ (remaining ns s.others ++ pending ns fs)) c.after-left.result.now es) (sym none) m));
+      listed = λ w es m. listed_on l i.going s g d sh n r o node old new c.name_of-name.ensures refl c.front.ensures (c.in_ok-list_node-in-Taken.ensures w) (i.listed w) es (subst (λ b. Nodes C (remaining ns r ++ (remaining ns s.others ++ pending ns fs)) b es) c.after-left.ensures (subst (λ q. Nodes C (q ++ (remaining ns s.others ++ pending ns fs)) c.after-left.result.now es) (sym none) m));
     }
 
 pub loop-behind-smaller-then-frame-left : goal.loop-behind-smaller-then-frame-left
@@ -371,7 +365,6 @@ loop-behind-preserved-then-frame-left c =
       opened = i.opened;
       few = i.few;
       placed = i.placed;
-      table = i.table;
       tags = i.tags;
       listed = λ w es n. i.listed w es (subst (λ q. Nodes C (pending ns (c.loop-behind.frame ∷ q)) c.loop-behind.left.now es) (sym items) (up_listed l (reverse c.pop.new.self.items) c.loop-behind.frame c.in-Some-pop.above c.in-None-next_part.ensures es n));
     }
@@ -401,7 +394,6 @@ loop-behind-preserved c =
       opened = i.opened;
       few = i.few;
       placed = i.placed;
-      table = i.table;
       tags = i.tags;
       listed = λ w es n. i.listed w es (subst (λ q. Nodes C (pending ns (c.loop-behind.frame ∷ q)) c.loop-behind.left.now es) (sym items) (up_listed l (reverse c.pop.new.self.items) c.loop-behind.frame c.in-Some-pop.above c.in-None-next_part.ensures es n));
     }

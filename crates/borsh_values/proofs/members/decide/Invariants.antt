@@ -1,7 +1,6 @@
 use Rattle.std.proofs.Common.{◌≡◌, ◌≤◌, ◌+◌, ◌-◌, List, [], ◌∷◌, ◌++◌, length, drop, reverse, true}
 use Rattle.std.specs.BTreeMap.{btree_map_len}
 use Rattle.borsh_walks.specs.Definitions.{definitions_in}
-use Rattle.borsh_walks.specs.ZeroAnswer.{ZeroTable}
 use Rattle.borsh_values.specs.Nodes.{NodeView, Nodes, views}
 use Rattle.borsh_values.specs.Steps.{pending}
 use Rattle.borsh_values.specs.TagTables.{AreTagTables}
@@ -19,7 +18,6 @@ invariant-loop-behind l = record {
   opened : l.opened + opens (btree_map_len l.fn.layout.map.now) (length l.left) l.idle ≤ l.fn.opened + opens (btree_map_len l.fn.layout.map.now) (length l.fn.bytes) 0;
   few : l.wanted ≡ true → length l.nodes.items + opens (btree_map_len l.fn.layout.map.now) (length l.left) l.idle ≤ opens (btree_map_len l.fn.layout.map.now) (length l.fn.bytes) 0;
   placed : l.wanted ≡ true → Placed (length l.fn.bytes) l.nodes.items l.left;
-  table : ZeroTable (definitions_in l.fn.layout.map.now) l.zeros;
   tags : AreTagTables (definitions_in l.fn.layout.map.now) l.tags;
   listed : l.wanted ≡ true → (es : List NodeView) → Nodes (definitions_in l.fn.layout.map.now) (pending l.fn.layout.names.items (l.frame ∷ reverse l.stack.items)) l.left es → Nodes (definitions_in l.fn.layout.map.now) (l.fn.layout.root.now ∷ []) l.fn.bytes (views l.nodes.items ++ es);
 }

@@ -2,14 +2,10 @@ use Rattle.std.proofs.Common.{[], refl, sym, subst}
 use Rattle.borsh_walks.specs.Container.{stays, Reached}
 use Rattle.borsh_walks.specs.Definitions.{definitions_in}
 use Rattle.borsh_walks.proofs.Names.{among_one}
-use Rattle.borsh_walks.proofs.RulesGlue.{empty_table}
 use Rattle.borsh_values.specs.Membership.{IsAnswer}
 use Rattle.borsh_values.proofs.NodesLaws.{nodes_bytes, one_reading}
 use Rattle.borsh_values.proofs.Valid.{none_ambiguous}
 use Rattle.borsh_values.proofs.layout.Layout.decode.Goals as goal
-
-pub decide-requires-clause-table : goal.decide-requires-clause-table
-decide-requires-clause-table c = empty_table (definitions_in c.args.self.now.map.now) c.new-zeros.result c.new-zeros.ensures.empty
 
 pub returns-in-Member-clause-value : goal.returns-in-Member-clause-value
 returns-in-Member-clause-value c =

@@ -1,10 +1,6 @@
 use Rattle.borsh_walks.specs.Definitions.{definitions_in}
-use Rattle.borsh_walks.proofs.RulesGlue.{empty_table}
 use Rattle.borsh_values.proofs.Valid.{answers}
 use Rattle.borsh_values.proofs.layout.Layout.is_member_counted.Goals as goal
-
-pub decide-requires-clause-table : goal.decide-requires-clause-table
-decide-requires-clause-table c = empty_table (definitions_in c.args.self.now.map.now) c.new-zeros.result c.new-zeros.ensures.empty
 
 pub returns-clause-answer : goal.returns-clause-answer
 returns-clause-answer c = answers (definitions_in c.args.self.now.map.now) c.decide.result c.decide.ensures.answer
