@@ -1,5 +1,7 @@
+mod Inserted
 mod Lengths
 mod Signing
+mod WellFormed
 mod WithSchema
 -- re-exports: the steps of readers and writers
 pub use Rattle.borsh_io.proofs.ReadLaws

@@ -1,8 +1,10 @@
 pub mod Counting
 pub mod Derived
+pub mod Inserted
 pub mod Length
 pub mod Schema
 pub mod Signing
+pub mod WellFormed
 pub mod WithSchema
 -- re-exports from the crates that this one uses
 pub use Rattle.borsh_io.specs.Errors

@@ -16,6 +16,7 @@ pub mod de;
 pub mod derived;
 pub mod error;
 pub mod io;
+pub mod laws;
 mod length;
 pub mod schema;
 pub mod schema_helpers;

@@ -1,12 +1,13 @@
 // Types with their containers, and values that are sent with them.
-ghost use Rattle.std.specs.Prelude.{◌≡◌, Decides, IfOk, IfErr};
+ghost use Rattle.std.specs.Prelude.{◌≡◌, true, Decides, IfOk, IfErr};
 ghost use Rattle.borsh_io.specs.Errors.{error_kind};
 ghost use Rattle.std.specs.String.{string_cmp};
 ghost use Rattle.std.specs.BTreeMap.{IsOrdered};
-ghost use Rattle.borsh_schema.specs.Containers.{IsContainerOf, DescribesRoot, map_of};
+ghost use Rattle.borsh_schema.specs.Containers.{IsContainerOf, DescribesRoot, map_of, language_of, root_of};
 ghost use Rattle.borsh_definitions.specs.Described.{nothing_defined};
 ghost use Rattle.borsh_schema.specs.Joined.{BuildFault};
 ghost use Rattle.borsh_schema.specs.Sized.{AnswersTypeSize};
+ghost use Rattle.borsh.specs.WellFormed.{are_well_formed, DecodesToMembers, IsWellFormed};
 ghost use Rattle.borsh.specs.WithSchema.{DecodesWithSchema, EncodesWithSchema, IsBuildKind, WhyNoContainer};
 
 use super::de::from_slice;
@@ -19,7 +20,8 @@ use borsh_walks::SchemaMaxSerializedSizeError;
 use std::alloc::Global;
 
 /// The schema container of a type: its name, and the definition of every type that it refers to. Each
-/// encoding is a member of its root.
+/// encoding is a member of its root; of a canonical type all bytes that decode are. If the definitions are
+/// well-formed (`are_well_formed`, which computes), the container is valid and unambiguous.
 ///
 /// Returns `Redefinition` of a name that has two different definitions, and `OutOfMemory` if an
 /// allocation fails. Left open: memory; which of several such names is reported.
@@ -32,6 +34,9 @@ pub fn schema_container_of<T: BorshSchema>(alloc: Global) -> SchemaResult<BorshS
     ensures ok { IfOk result (λ c. IsContainerOf T.name T.parts c) }
     ensures err { IfErr result (λ e. BuildFault nothing_defined T.parts e) }
     ensures language { IfOk result (λ c. DescribesRoot T.codec c) }
+    ensures decoded { IfOk result (λ c. T.codec.is_canonical ≡ true → DecodesToMembers T.codec c) }
+    ensures well_formed { IfOk result
+        (λ c. are_well_formed T.name T.parts ≡ true → IsWellFormed (language_of c) (root_of c)) }
     ensures ascending { IfOk result (λ c. IsOrdered string_cmp (map_of c)) }
 {
     BorshSchemaContainer::for_type::<T>(alloc)

@@ -1,4 +1,4 @@
-use Rattle.std.proofs.Common.{rules, IfOk, ◌-◌}
+use Rattle.std.proofs.Common.{rules, IfOk}
 use Rattle.borsh.specs.Length.{IsLength}
 use Rattle.borsh.proofs.Lengths.{no_length}
 use Rattle.borsh.proofs.ser.object_length.Goals as goal
