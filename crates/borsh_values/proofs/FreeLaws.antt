@@ -5,8 +5,7 @@ use Rattle.std.proofs.Math.Nat.{suc-mul}
 use Rattle.std.proofs.lemmas.List.Elements.{All-take, All-drop}
 use Rattle.borsh_walks.specs.Container.{Shape, primitive, sequence, product, of_primitive, of_sequence, of_parts, Members, no_members, more_members}
 use Rattle.borsh_values.proofs.PrefixFree.{member_as}
-use Rattle.borsh_values.proofs.Required.{members_head, whole, unwhole}
-use Rattle.borsh_values.proofs.TakesLaws.{joined, parted}
+use Rattle.borsh_values.proofs.Required.{members_head, whole, unwhole, joined, parted}
 use Rattle.borsh_values.specs.Layouts.{parts_in}
 use Rattle.borsh_values.specs.Free.{FreeSize, FreeSizes, IsFreeArray}
 

@@ -3,15 +3,16 @@ use Rattle.std.proofs.Common.{◌≡◌, ℕ, suc, ◌+◌, ◌<◌, ◌≤◌, 
 use Rattle.std.specs.Prelude.{Option, All}
 use Rattle.std.specs.BTreeMap.{btree_map_len}
 use Rattle.std.proofs.lemmas.List.{length-replicate, length-set}
-use Rattle.borsh_walks.specs.Container.{Shape, Member, Reached, references}
+use Rattle.borsh_walks.specs.Container.{Shape, Reached, references}
 use Rattle.borsh_walks.specs.Definitions.{definitions_in, shape_of}
 use Rattle.borsh_walks.proofs.Names.{names_within}
 use Rattle.borsh_walks.proofs.Measure.{work}
 use Rattle.borsh_values.specs.Faults.{BeginsWith}
+use Rattle.borsh_values.specs.declared.faults.Reason.{Reason}
 use Rattle.borsh_values.specs.Nodes.{Opens, NodeView, Nodes, views, ListsNode}
 use Rattle.borsh_values.specs.declared.nodes.Node.{Node}
 use Rattle.borsh_values.specs.Layouts.{name_at, shape_at, IsLaidOut}
-use Rattle.borsh_values.specs.Steps.{OpensAs, remaining, pending, step_count, GoesOn, AllFit, KnownAs, past_copies, mark_at}
+use Rattle.borsh_values.specs.Steps.{NoneBegins, OpensAs, remaining, pending, step_count, GoesOn, AllFit, KnownAs, past_copies, mark_at}
 use Rattle.borsh_values.specs.declared.layout.Layout.{Layout}
 use Rattle.borsh_values.specs.declared.frames.Frame.{Frame}
 use Rattle.borsh_values.specs.declared.frames.Rest.{Rest}
@@ -25,26 +26,31 @@ use Rattle.borsh_values.specs.declared.members.Mark.{Mark}
 use Rattle.borsh_values.specs.declared.members.Mark.TheVariants.{Empty, Open}
 use Rattle.borsh_values.specs.declared.members.Known.TheVariants.{New}
 use Rattle.borsh_values.proofs.Building.{work_within}
-use Rattle.borsh_values.proofs.Listing.{list_more}
+use Rattle.borsh_values.proofs.FrontLaws.{Begun}
+use Rattle.borsh_values.proofs.Listing.{front_listed}
 use Rattle.borsh_values.proofs.Measure.{left, left_moved, left_up, left_still, left_on, left_past, some_step}
 use Rattle.borsh_values.proofs.NodesLaws.{nodes_skip}
 use Rattle.borsh_values.proofs.Places.{defined_at, root_there, marked, mark_here, none_marked, passes}
-use Rattle.borsh_values.proofs.Walk.{Walk, walk_start, walk_skip, walk_still, walk_on, walk_up, walk_up_empty, walk_end, undefined_none, denied, leads_back, part_reached, with_rest}
+use Rattle.borsh_values.proofs.Walk.{Walk, walk_start, walk_skip, walk_still, walk_on, walk_up, walk_up_empty, undefined_none, denied, leads_back, part_reached, with_rest}
 
 -- what is left of the names and of the bytes, and what is known of the names
-pub record Going (l : Layout) (bytes : List ℕ) (ms : List (Option Mark)) (fs : List Frame) (f : Frame) (rest : List ℕ) (idle : ℕ) : Type 0 where
+pub record Going (l : Layout) (done : List ℕ) (ms : List (Option Mark)) (fs : List Frame) (f : Frame) (rest : List ℕ) (idle : ℕ) : Type 0 where
   pub laid : IsLaidOut l
   pub names : List (List ℕ)
-  pub state : Walk (definitions_in l.map.now) l.names.items l.root.now bytes (λ x. mark_at ms (laid.place x)) fs f rest names
+  pub state : Walk (definitions_in l.map.now) l.names.items l.root.now done (λ x. mark_at ms (laid.place x)) fs f rest names
   pub count : length names ≡ idle
   pub long : length ms ≡ length l.names.items
   pub fits : AllFit l.names.items (f ∷ fs)
 
 module _ (l : Layout) where
+  -- nodes of members of the names ps, whatever these are, make nodes of a member that begins with these bytes
+  abbrev pub Listed : List ℕ → List (List ℕ) → List Node → Type 0
+  Listed done ps old = (cs : List ℕ) (es : List NodeView) → Nodes (definitions_in l.map.now) ps cs es → Nodes (definitions_in l.map.now) (l.root.now ∷ []) (done ++ cs) (views old ++ es)
+
   pub defined_in : IsLaidOut l → (i : ℕ) → i < length l.names.items → (definitions_in l.map.now) (name_at l.names.items i) ≡ shape_at l.names.items i
   defined_in laid i low = defined_at l.map.now l.root.now l.names.items l.parts.items laid i low
 
-  pub going_start : (laid : IsLaidOut l) (bytes : List ℕ) (ms : List (Option Mark)) → ms ≡ replicate (length l.names.items) None → Going l bytes ms [] (record { at = 0; start = length bytes + 1; rest = Copies 0 1 }) bytes 0
+  pub going_start : (laid : IsLaidOut l) (bytes : List ℕ) (ms : List (Option Mark)) → ms ≡ replicate (length l.names.items) None → Going l [] ms [] (record { at = 0; start = length bytes + 1; rest = Copies 0 1 }) bytes 0
   going_start laid bytes ms z =
       let r = root_there l.map.now l.root.now l.names.items l.parts.items laid in
       let f : Frame = record { at = 0; start = length bytes + 1; rest = Copies 0 1 } in
@@ -57,14 +63,14 @@ module _ (l : Layout) where
         fits = (r.0, r.0, tt);
       }
 
-  module _ {bytes rest : List ℕ} {ms : List (Option Mark)} {fs : List Frame} {f : Frame} {idle : ℕ} (w : Going l bytes ms fs f rest idle) (s : Step) (g : GoesOn l.names.items f.rest s) where
+  module _ {done rest : List ℕ} {ms : List (Option Mark)} {fs : List Frame} {f : Frame} {idle : ℕ} (w : Going l done ms fs f rest idle) (s : Step) (g : GoesOn l.names.items f.rest s) where
     mark_is : mark_at ms (w.laid.place (name_at l.names.items s.at)) ≡ get_or ms s.at None
     mark_is = mark_here l.map.now l.root.now l.names.items l.parts.items w.laid ms s.at g.within
 
     pub next_names : pending l.names.items (f ∷ fs) ≡ name_at l.names.items s.at ∷ (remaining l.names.items s.others ++ pending l.names.items fs)
     next_names = ap (λ ps. ps ++ pending l.names.items fs) g.parts
 
-    pub going_skip : get_or ms s.at None ≡ Some Empty → Going l bytes ms fs (with_rest f (past_copies f.rest s)) rest idle
+    pub going_skip : get_or ms s.at None ≡ Some Empty → Going l done ms fs (with_rest f (past_copies f.rest s)) rest idle
     going_skip k =
         let p = passes l.names.items f.rest s g in
         record {
@@ -76,11 +82,11 @@ module _ (l : Layout) where
           fits = (w.fits.0, p.3, w.fits.2);
         }
 
-    pub skip_listed : get_or ms s.at None ≡ Some Empty → (es : List NodeView) → Nodes (definitions_in l.map.now) (pending l.names.items (with_rest f (past_copies f.rest s) ∷ fs)) rest es → Nodes (definitions_in l.map.now) (pending l.names.items (f ∷ fs)) rest es
-    skip_listed k es n =
+    pub skip_listed : get_or ms s.at None ≡ Some Empty → (old : List Node) → Listed done (pending l.names.items (f ∷ fs)) old → Listed done (pending l.names.items (with_rest f (past_copies f.rest s) ∷ fs)) old
+    skip_listed k old before cs es n =
         let p = passes l.names.items f.rest s g in
         let same : pending l.names.items (f ∷ fs) ≡ replicate (suc p.0) (name_at l.names.items s.at) ++ (remaining l.names.items (past_copies f.rest s) ++ pending l.names.items fs) = ap (λ ps. ps ++ pending l.names.items fs) p.1 ∙ append_assoc (replicate (suc p.0) (name_at l.names.items s.at)) (remaining l.names.items (past_copies f.rest s)) (pending l.names.items fs) in
-        subst (λ ps. Nodes (definitions_in l.map.now) ps rest es) (sym same) (nodes_skip (definitions_in l.map.now) (suc p.0) (w.state.empty (name_at l.names.items s.at) (mark_is ∙ k)) n)
+        before cs es (subst (λ ps. Nodes (definitions_in l.map.now) ps cs es) (sym same) (nodes_skip (definitions_in l.map.now) (suc p.0) (w.state.empty (name_at l.names.items s.at) (mark_is ∙ k)) n))
 
     pub less_skip : left l.map.now l.names.items (length rest) idle (with_rest f (past_copies f.rest s) ∷ fs) < left l.map.now l.names.items (length rest) idle (f ∷ fs)
     less_skip = let p = passes l.names.items f.rest s g in left_moved l.map.now l.names.items (length rest) idle f (with_rest f (past_copies f.rest s)) fs p.2
@@ -88,26 +94,26 @@ module _ (l : Layout) where
     pub going_reached : Reached (definitions_in l.map.now) l.root.now (name_at l.names.items s.at)
     going_reached = part_reached (definitions_in l.map.now) l.names.items w.state s.others g.parts
 
-    pub going_back : get_or ms s.at None ≡ Some (Open (length rest)) → BeginsWith (definitions_in l.map.now) (name_at l.names.items s.at) rest → ⊥
-    going_back k = leads_back (definitions_in l.map.now) l.names.items w.state s.others g.parts (mark_is ∙ k)
+    pub going_back : {r : Reason} → get_or ms s.at None ≡ Some (Open (length rest)) → NoneBegins (definitions_in l.map.now) r (name_at l.names.items s.at) rest
+    going_back k more f = leads_back (definitions_in l.map.now) l.names.items w.state s.others g.parts (mark_is ∙ k)
 
-    pub going_denied : (BeginsWith (definitions_in l.map.now) (name_at l.names.items s.at) rest → ⊥) → Member (definitions_in l.map.now) l.root.now bytes → ⊥
-    going_denied deny = denied (definitions_in l.map.now) l.names.items w.state s.others g.parts deny
+    pub going_denied : (r : Reason) → NoneBegins (definitions_in l.map.now) r (name_at l.names.items s.at) rest → NoneBegins (definitions_in l.map.now) r l.root.now (done ++ rest)
+    going_denied r deny more f m = denied (definitions_in l.map.now) l.names.items w.state s.others g.parts (deny more f) (subst (λ b. BeginsWith (definitions_in l.map.now) l.root.now b) (append_assoc done rest more) m)
 
-    pub going_missing : shape_at l.names.items s.at ≡ None → BeginsWith (definitions_in l.map.now) (name_at l.names.items s.at) rest → ⊥
-    going_missing e m = undefined_none (definitions_in l.map.now) l.names.items (defined_in w.laid s.at g.within ∙ e) m.2
+    pub going_missing : {r : Reason} → shape_at l.names.items s.at ≡ None → NoneBegins (definitions_in l.map.now) r (name_at l.names.items s.at) rest
+    going_missing e more f m = undefined_none (definitions_in l.map.now) l.names.items (defined_in w.laid s.at g.within ∙ e) m.2
 
     module _ (d : Shape) (c : shape_at l.names.items s.at ≡ Some d) (n : ℕ) (r : Rest) (o : OpensAs (definitions_in l.map.now) l.names.items d rest (Taken n r)) where
       pub name_defined : (definitions_in l.map.now) (name_at l.names.items s.at) ≡ Some d
       name_defined = defined_in w.laid s.at g.within ∙ c
 
-      still : n ≡ 0 → KnownAs (get_or ms s.at None) (length rest) New → Walk (definitions_in l.map.now) l.names.items l.root.now bytes (λ x. mark_at (set ms s.at (Some (Open (length rest)))) (w.laid.place x)) (with_rest f s.others ∷ fs) (record { at = s.at; start = length rest; rest = r }) rest (name_at l.names.items s.at ∷ w.names)
+      still : n ≡ 0 → KnownAs (get_or ms s.at None) (length rest) New → Walk (definitions_in l.map.now) l.names.items l.root.now done (λ x. mark_at (set ms s.at (Some (Open (length rest)))) (w.laid.place x)) (with_rest f s.others ∷ fs) (record { at = s.at; start = length rest; rest = r }) rest (name_at l.names.items s.at ∷ w.names)
       still z k = walk_still (definitions_in l.map.now) l.names.items w.state s.others g.parts (record { at = s.at; start = length rest; rest = r }) z name_defined o.0 (λ e. k.0 (sym mark_is ∙ e)) (λ e. k.1 (sym mark_is ∙ e)) (marked l.map.now l.root.now l.names.items l.parts.items w.laid ms s.at (Open (length rest)) w.long g.within) refl refl
 
       pub room : n ≡ 0 → KnownAs (get_or ms s.at None) (length rest) New → suc idle ≤ btree_map_len l.map.now
       room z k = let t = still z k in let few = names_within l.map.now (name_at l.names.items s.at ∷ w.names) t.distinct t.defined in let c = w.count in omega (arith, few, c)
 
-      pub going_new : n ≡ 0 → KnownAs (get_or ms s.at None) (length rest) New → Going l bytes (set ms s.at (Some (Open (length rest)))) (with_rest f s.others ∷ fs) (record { at = s.at; start = length rest; rest = r }) rest (idle + 1)
+      pub going_new : n ≡ 0 → KnownAs (get_or ms s.at None) (length rest) New → Going l done (set ms s.at (Some (Open (length rest)))) (with_rest f s.others ∷ fs) (record { at = s.at; start = length rest; rest = r }) rest (idle + 1)
       going_new z k = record {
         laid = w.laid;
         names = name_at l.names.items s.at ∷ w.names;
@@ -117,7 +123,7 @@ module _ (l : Layout) where
         fits = (g.within, o.2, (w.fits.0, g.fits, w.fits.2));
       }
 
-      pub going_on : 0 < n → Going l bytes ms (with_rest f s.others ∷ fs) (record { at = s.at; start = length rest; rest = r }) (drop n rest) 0
+      pub going_on : 0 < n → Going l (done ++ take n rest) ms (with_rest f s.others ∷ fs) (record { at = s.at; start = length rest; rest = r }) (drop n rest) 0
       going_on more = record {
         laid = w.laid;
         names = [];
@@ -131,7 +137,7 @@ module _ (l : Layout) where
       fewer more = let t = o.0 in let i = t.within in let d = length-drop n rest in omega (arith, i, d, more)
 
       -- a name without parts
-      pub going_past : 0 < n → remaining l.names.items r ≡ [] → Going l bytes ms fs (with_rest f s.others) (drop n rest) 0
+      pub going_past : 0 < n → remaining l.names.items r ≡ [] → Going l (done ++ take n rest) ms fs (with_rest f s.others) (drop n rest) 0
       unfolding going_on
       going_past more none =
           let v = going_on more in
@@ -157,16 +163,17 @@ module _ (l : Layout) where
       less_past more = left_past l.map.now l.names.items (length (drop n rest)) (length rest) idle f (with_rest f s.others) fs (fewer more) g.steps
 
       -- the node is listed, and the nodes of the rest follow
-      pub listed_on : (node : Node) (old new : List Node) → node.name.now ≡ name_at l.names.items s.at → shape_of node.definition.now ≡ d → node.bytes.now ≡ take n rest → ListsNode (definitions_in l.map.now) node old new → ((es : List NodeView) → Nodes (definitions_in l.map.now) (pending l.names.items (f ∷ fs)) rest es → Nodes (definitions_in l.map.now) (l.root.now ∷ []) bytes (views old ++ es)) → (es : List NodeView) → Nodes (definitions_in l.map.now) (remaining l.names.items r ++ (remaining l.names.items s.others ++ pending l.names.items fs)) (drop n rest) es → Nodes (definitions_in l.map.now) (l.root.now ∷ []) bytes (views new ++ es)
-      listed_on node old new name shape own lists before es h =
-          let c = ap (λ x. (definitions_in l.map.now) x) name ∙ name_defined ∙ ap (λ s. Some s) (sym shape) in
-          let opens = subst (λ s. Opens (definitions_in l.map.now) s (take n rest) (remaining l.names.items r)) (sym shape) o.0.opens in
-          list_more (definitions_in l.map.now) (λ k. Nodes (definitions_in l.map.now) (l.root.now ∷ []) bytes k) node old new n rest (remaining l.names.items r) (remaining l.names.items s.others ++ pending l.names.items fs) c own opens lists
-          (λ fs2 m. before fs2 (subst (λ ps. Nodes (definitions_in l.map.now) ps rest fs2) (sym next_names) (subst (λ x. Nodes (definitions_in l.map.now) (x ∷ (remaining l.names.items s.others ++ pending l.names.items fs)) rest fs2) name m))) es h
+      pub listed_on : (node : Node) (old new : List Node) → node.name.now ≡ name_at l.names.items s.at → shape_of node.definition.now ≡ d → node.bytes.now ≡ take n rest → ListsNode (definitions_in l.map.now) node old new → Listed done (pending l.names.items (f ∷ fs)) old → Listed (done ++ take n rest) (remaining l.names.items r ++ (remaining l.names.items s.others ++ pending l.names.items fs)) new
+      listed_on node old new name shape own lists before cs es h =
+          let C = definitions_in l.map.now in
+          let c = ap (λ x. C x) name ∙ name_defined ∙ ap (λ s. Some s) (sym shape) in
+          let opens = subst (λ s. Opens C s (take n rest) (remaining l.names.items r)) (sym shape) o.0.opens in
+          front_listed C l.root.now done node old new n rest (remaining l.names.items r) (remaining l.names.items s.others ++ pending l.names.items fs) o.0.within c own opens lists
+          (λ ds fs2 m. before ds fs2 (subst (λ ps. Nodes C ps ds fs2) (sym next_names) (subst (λ x. Nodes C (x ∷ (remaining l.names.items s.others ++ pending l.names.items fs)) ds fs2) name m))) cs es h
 
   -- names of free size are passed
-  module _ {bytes rest : List ℕ} {ms : List (Option Mark)} {fs : List Frame} {f : Frame} {idle : ℕ} (w : Going l bytes ms fs f rest idle) (p : Passed) (g : IsFreeFront (definitions_in l.map.now) l.names.items f.rest (length rest) p) where
-    pub going_pass : All (λ b. b < 256) rest → Going l bytes ms fs (with_rest f p.rest) (drop p.taken rest) 0
+  module _ {done rest : List ℕ} {ms : List (Option Mark)} {fs : List Frame} {f : Frame} {idle : ℕ} (w : Going l done ms fs f rest idle) (p : Passed) (g : IsFreeFront (definitions_in l.map.now) l.names.items f.rest (length rest) p) where
+    pub going_pass : All (λ b. b < 256) rest → Going l (done ++ take p.taken rest) ms fs (with_rest f p.rest) (drop p.taken rest) 0
     going_pass small = record {
       laid = w.laid;
       names = [];
@@ -182,10 +189,10 @@ module _ (l : Layout) where
     pub less_pass : left l.map.now l.names.items (length (drop p.taken rest)) 0 (with_rest f p.rest ∷ fs) < left l.map.now l.names.items (length rest) idle (f ∷ fs)
     less_pass = left_past l.map.now l.names.items (length (drop p.taken rest)) (length rest) idle f (with_rest f p.rest) fs fewer_pass g.steps
 
-  pub going_up : {bytes rest : List ℕ} {ms : List (Option Mark)} {fs : List Frame} {f h : Frame} {idle : ℕ} → Going l bytes ms (h ∷ fs) f rest idle → remaining l.names.items f.rest ≡ [] → (f.start ≡ length rest → ⊥) → Going l bytes ms fs h rest idle
+  pub going_up : {done rest : List ℕ} {ms : List (Option Mark)} {fs : List Frame} {f h : Frame} {idle : ℕ} → Going l done ms (h ∷ fs) f rest idle → remaining l.names.items f.rest ≡ [] → (f.start ≡ length rest → ⊥) → Going l done ms fs h rest idle
   going_up w e far = record { laid = w.laid; names = w.names; state = walk_up (definitions_in l.map.now) l.names.items w.state e far; count = w.count; long = w.long; fits = w.fits.2 }
 
-  pub going_up_empty : {bytes rest : List ℕ} {ms : List (Option Mark)} {fs : List Frame} {f h : Frame} {idle : ℕ} → Going l bytes ms (h ∷ fs) f rest idle → remaining l.names.items f.rest ≡ [] → f.start ≡ length rest → Going l bytes (set ms f.at (Some Empty)) fs h rest idle
+  pub going_up_empty : {done rest : List ℕ} {ms : List (Option Mark)} {fs : List Frame} {f h : Frame} {idle : ℕ} → Going l done ms (h ∷ fs) f rest idle → remaining l.names.items f.rest ≡ [] → f.start ≡ length rest → Going l done (set ms f.at (Some Empty)) fs h rest idle
   going_up_empty {ms = ms} {f = f} w e at = record {
     laid = w.laid;
     names = w.names;
@@ -195,11 +202,12 @@ module _ (l : Layout) where
     fits = w.fits.2;
   }
 
-  pub up_listed : {rest : List ℕ} (fs : List Frame) (f h : Frame) → remaining l.names.items f.rest ≡ [] → (es : List NodeView) → Nodes (definitions_in l.map.now) (pending l.names.items (h ∷ fs)) rest es → Nodes (definitions_in l.map.now) (pending l.names.items (f ∷ h ∷ fs)) rest es
-  up_listed {rest} fs f h e es n = subst (λ ps. Nodes (definitions_in l.map.now) ps rest es) (sym (ap (λ ps. ps ++ pending l.names.items (h ∷ fs)) e)) n
+  pub up_listed : (done : List ℕ) (old : List Node) (fs : List Frame) (f h : Frame) → remaining l.names.items f.rest ≡ [] → Listed done (pending l.names.items (f ∷ h ∷ fs)) old → Listed done (pending l.names.items (h ∷ fs)) old
+  up_listed done old fs f h e = subst (λ ps. Listed done ps old) (ap (λ ps. ps ++ pending l.names.items (h ∷ fs)) e)
 
   pub less_up : (len idle : ℕ) (f : Frame) (fs : List Frame) → left l.map.now l.names.items len idle fs < left l.map.now l.names.items len idle (f ∷ fs)
   less_up len idle f fs = left_up l.map.now l.names.items len idle f fs (some_step l.names.items f.rest)
 
-  pub going_end : {bytes rest : List ℕ} {ms : List (Option Mark)} {f : Frame} {idle : ℕ} → Going l bytes ms [] f rest idle → remaining l.names.items f.rest ≡ [] → (Member (definitions_in l.map.now) l.root.now bytes → rest ≡ []) × (rest ≡ [] → Member (definitions_in l.map.now) l.root.now bytes)
-  going_end w e = walk_end (definitions_in l.map.now) l.names.items w.state e
+  -- all names are passed
+  pub going_end : {done rest : List ℕ} {ms : List (Option Mark)} {f : Frame} {idle : ℕ} → Going l done ms [] f rest idle → remaining l.names.items f.rest ≡ [] → Begun (definitions_in l.map.now) l.root.now done []
+  going_end {done} w e = subst (λ ps. Begun (definitions_in l.map.now) l.root.now done (ps ++ [])) e w.state.begun

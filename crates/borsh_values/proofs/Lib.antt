@@ -24,4 +24,6 @@ pub mod Places
 pub mod Going
 pub mod ZeroLaws
 pub mod FreeLaws
+pub mod FrontLaws
+pub mod NextLaws
 pub mod FreeWalk

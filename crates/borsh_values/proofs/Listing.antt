@@ -1,5 +1,5 @@
 -- The nodes that were listed, and those of the rest.
-use Rattle.std.proofs.Common.{◌≡◌, ℕ, suc, zero, List, [], ◌∷◌, ◌++◌, take, drop, Some, refl, sym, ◌∙◌, ap, subst, append_assoc, inl, inr}
+use Rattle.std.proofs.Common.{◌≡◌, ℕ, suc, zero, ◌≤◌, List, [], ◌∷◌, ◌++◌, length, take, drop, Some, refl, sym, ◌∙◌, ap, subst, arith, append_assoc, inl, inr}
 use Rattle.std.specs.Prelude.{Option}
 use Rattle.borsh_walks.specs.Container.{Shape, IsZeroSize}
 use Rattle.borsh_walks.specs.Definitions.{shape_of}
@@ -21,7 +21,7 @@ all_views [] = refl
 all_views (x ∷ xs) = ap (λ l. x ∷ l) (all_views xs)
 
 -- a name was opened, and its node listed
-pub list_more : (C : List ℕ → Option Shape) (G : List NodeView → Type 0) (n : Node) (old new : List Node) (k : ℕ) (left : List ℕ) (ns qs : List (List ℕ)) → C n.name.now ≡ Some (shape_of n.definition.now) → n.bytes.now ≡ take k left → Opens C (shape_of n.definition.now) (take k left) ns → ListsNode C n old new → ((es : List NodeView) → Nodes C (n.name.now ∷ qs) left es → G (views old ++ es)) → (es : List NodeView) → Nodes C (ns ++ qs) (drop k left) es → G (views new ++ es)
+list_more : (C : List ℕ → Option Shape) (G : List NodeView → Type 0) (n : Node) (old new : List Node) (k : ℕ) (left : List ℕ) (ns qs : List (List ℕ)) → C n.name.now ≡ Some (shape_of n.definition.now) → n.bytes.now ≡ take k left → Opens C (shape_of n.definition.now) (take k left) ns → ListsNode C n old new → ((es : List NodeView) → Nodes C (n.name.now ∷ qs) left es → G (views old ++ es)) → (es : List NodeView) → Nodes C (ns ++ qs) (drop k left) es → G (views new ++ es)
 list_more C G n old new k left ns qs c b o lists f es h =
     let x = n.name.now in
     let d = shape_of n.definition.now in
@@ -37,3 +37,22 @@ list_more C G n old new k left ns qs c b o lists f es h =
           let a : views new ++ es ≡ views old ++ view_of n ∷ es = ap (λ l. views l ++ es) z.1 ∙ ap (λ l. l ++ es) (views_append old n) ∙ append_assoc (views old) (view_of n ∷ []) es in
           subst G (sym a) g)
     ]
+
+take_again : (k : ℕ) (xs cs : List ℕ) → k ≤ length xs → take k (take k xs ++ cs) ≡ take k xs
+take_again zero xs cs h = refl
+take_again (suc k) [] cs h = absurd (omega arith)
+take_again (suc k) (x ∷ xs) cs h = ap (λ l. x ∷ l) (take_again k xs cs (omega arith))
+
+drop_again : (k : ℕ) (xs cs : List ℕ) → k ≤ length xs → drop k (take k xs ++ cs) ≡ cs
+drop_again zero xs cs h = refl
+drop_again (suc k) [] cs h = absurd (omega arith)
+drop_again (suc k) (x ∷ xs) cs h = drop_again k xs cs (omega arith)
+
+-- whatever bytes follow those of the node
+pub front_listed : (C : List ℕ → Option Shape) (root done : List ℕ) (n : Node) (old new : List Node) (k : ℕ) (rest : List ℕ) (ns qs : List (List ℕ)) → k ≤ length rest → C n.name.now ≡ Some (shape_of n.definition.now) → n.bytes.now ≡ take k rest → Opens C (shape_of n.definition.now) (take k rest) ns → ListsNode C n old new → ((cs : List ℕ) (es : List NodeView) → Nodes C (n.name.now ∷ qs) cs es → Nodes C (root ∷ []) (done ++ cs) (views old ++ es)) → (cs : List ℕ) (es : List NodeView) → Nodes C (ns ++ qs) cs es → Nodes C (root ∷ []) ((done ++ take k rest) ++ cs) (views new ++ es)
+front_listed C root done n old new k rest ns qs low c b o lists f cs es h =
+    let t = take_again k rest cs low in
+    let d = drop_again k rest cs low in
+    let left : List ℕ = take k rest ++ cs in
+    let r = list_more C (λ l. Nodes C (root ∷ []) (done ++ left) l) n old new k left ns qs c (b ∙ sym t) (subst (λ l. Opens C (shape_of n.definition.now) l ns) (sym t) o) lists (λ es m. f left es m) es (subst (λ l. Nodes C (ns ++ qs) l es) (sym d) h) in
+    subst (λ l. Nodes C (root ∷ []) l (views new ++ es)) (sym (append_assoc done (take k rest) cs)) r

@@ -1,5 +1,5 @@
 -- A name that requires itself has no member.
-use Rattle.std.proofs.Common.{◌≡◌, ℕ, suc, zero, ◌≤◌, List, [], ◌∷◌, ◌++◌, replicate, Some, refl, sym, ◌∙◌, ap, subst, arith, ◌⊎◌, inl, inr}
+use Rattle.std.proofs.Common.{◌≡◌, ℕ, suc, zero, ◌≤◌, List, [], ◌∷◌, ◌++◌, replicate, Some, refl, sym, ◌∙◌, ap, subst, arith, append_assoc, ◌⊎◌, inl, inr}
 use Rattle.std.specs.Prelude.{Option}
 use Rattle.borsh_walks.specs.Container.{Shape, sequence, product, IsIn, first, later, first_variant, later_variant, Member, of_primitive, of_sequence, of_parts, of_choice, Members, no_members, more_members, Reaches, onward, IsOnCycle}
 use Rattle.borsh_values.specs.Steps.{required_by, OnlyEmpty, AllOnlyEmpty}
@@ -83,3 +83,12 @@ module _ (C : List ℕ → Option Shape) where
       end : (bs : List ℕ) → bs ++ [] ≡ bs
       end [] = refl
       end (b ∷ bs) = ap (λ l. b ∷ l) (end bs)
+
+  -- members one after another
+  pub joined : {ps qs : List (List ℕ)} {xs ys : List ℕ} → Members C ps xs → Members C qs ys → Members C (ps ++ qs) (xs ++ ys)
+  joined no_members ns = ns
+  joined {qs = qs} {ys = ys} (more_members {p = p} {bs = us} {cs = vs} {ps = ps} m ms) ns = subst (λ l. Members C (p ∷ (ps ++ qs)) l) (sym (append_assoc us vs ys)) (more_members m (joined ms ns))
+
+  pub parted : (ps : List (List ℕ)) {qs : List (List ℕ)} {bs : List ℕ} → Members C (ps ++ qs) bs → (xs : List ℕ) × (ys : List ℕ) × Members C ps xs × Members C qs ys × (bs ≡ xs ++ ys)
+  parted [] {bs = bs} ms = ([], bs, no_members, ms, refl)
+  parted (p ∷ ps) (more_members {bs = us} {cs = vs} m ms) = let r = parted ps ms in (us ++ r.0, r.1, more_members m r.2, r.3, ap (λ l. us ++ l) r.4 ∙ sym (append_assoc us r.0 r.1))

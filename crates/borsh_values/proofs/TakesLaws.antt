@@ -13,13 +13,15 @@ use Rattle.borsh_values.specs.declared.frames.Rest.TheVariants.{Copies, Parts}
 use Rattle.borsh_values.specs.declared.layout.Named.{Named}
 use Rattle.borsh_values.specs.declared.frames.Opened.{Opened}
 use Rattle.borsh_values.specs.declared.frames.Opened.TheVariants.{Undecided, Refused, Taken}
-use Rattle.borsh_values.specs.Nodes.{packed_size, OpensElements}
+use Rattle.borsh_values.specs.Nodes.{packed_size, OpensElements, Opens}
 use Rattle.borsh_values.specs.Faults.{BeginsWith}
-use Rattle.borsh_values.specs.Steps.{remaining, required_by, OnlyEmpty, AllOnlyEmpty, Takes, FoundAs, TakesElements, OpensAs}
+use Rattle.borsh_values.specs.Steps.{remaining, required_by, OnlyEmpty, AllOnlyEmpty, OpensOnce, NoneBegins, Takes, FoundAs, TakesElements, OpensAs}
 use Rattle.borsh_values.proofs.FoundLaws.{listed_at}
 use Rattle.borsh_values.proofs.Packed.{packed_is, copies_of, copies_are}
 use Rattle.borsh_values.proofs.PrefixFree.{same_front, one_count, member_as}
-use Rattle.borsh_values.proofs.Required.{members_head, only_empty_members}
+use Rattle.borsh_values.proofs.Required.{only_empty_members}
+use Rattle.borsh_values.proofs.FrontLaws.{opens_once, once_variant}
+use Rattle.borsh_values.specs.declared.faults.Reason.TheVariants.{TooShort}
 
 take_drop : (n : ℕ) (xs : List ℕ) → take n xs ++ drop n xs ≡ xs
 take_drop zero xs = refl
@@ -31,26 +33,16 @@ length_take zero xs h = refl
 length_take (suc n) [] h = absurd (omega arith)
 length_take (suc n) (x ∷ xs) h = ap suc (length_take n xs (omega arith))
 
-drop_front : (xs ys : List ℕ) → drop (length xs) (xs ++ ys) ≡ ys
-drop_front [] ys = refl
-drop_front (x ∷ xs) ys = drop_front xs ys
+take_front : (w : ℕ) (xs ys : List ℕ) → w ≤ length xs → take w (xs ++ ys) ≡ take w xs
+take_front zero xs ys h = refl
+take_front (suc w) [] ys h = absurd (omega arith)
+take_front (suc w) (x ∷ xs) ys h = ap (λ l. x ∷ l) (take_front w xs ys (omega arith))
 
-drop_at : (n : ℕ) (xs ys : List ℕ) → length xs ≡ n → drop n (xs ++ ys) ≡ ys
-drop_at n xs ys e = ap (λ k. drop k (xs ++ ys)) (sym e) ∙ drop_front xs ys
-
-no_bytes : (bs : List ℕ) → length bs ≡ 0 → bs ≡ []
-no_bytes [] e = refl
-no_bytes (b ∷ bs) e = absurd (omega arith)
+-- too few bytes may have more behind them
+pub too_short : (C : List ℕ → Option Shape) {x bytes : List ℕ} → (BeginsWith C x bytes → ⊥) → NoneBegins C TooShort x bytes
+too_short C {x} {bytes} none more f m = none (subst (λ b. BeginsWith C x b) (ap (λ l. bytes ++ l) (f refl) ∙ append-nil bytes) m)
 
 module _ (C : List ℕ → Option Shape) where
-  pub joined : {ps qs : List (List ℕ)} {xs ys : List ℕ} → Members C ps xs → Members C qs ys → Members C (ps ++ qs) (xs ++ ys)
-  joined no_members ns = ns
-  joined {qs = qs} {ys = ys} (more_members {p = p} {bs = us} {cs = vs} {ps = ps} m ms) ns = subst (λ l. Members C (p ∷ (ps ++ qs)) l) (sym (append_assoc us vs ys)) (more_members m (joined ms ns))
-
-  pub parted : (ps : List (List ℕ)) {qs : List (List ℕ)} {bs : List ℕ} → Members C (ps ++ qs) bs → (xs : List ℕ) × (ys : List ℕ) × Members C ps xs × Members C qs ys × (bs ≡ xs ++ ys)
-  parted [] {bs = bs} ms = ([], bs, no_members, ms, refl)
-  parted (p ∷ ps) (more_members {bs = us} {cs = vs} m ms) = let r = parted ps ms in (us ++ r.0, r.1, more_members m r.2, r.3, ap (λ l. us ++ l) r.4 ∙ sym (append_assoc us r.0 r.1))
-
   -- zero sizes
   all_zero : (ps : List (List ℕ)) → AllOnlyEmpty C ps → (p : List ℕ) → IsIn p ps → IsZeroSize C p
   all_zero [] h p a = elim a [ ]
@@ -68,29 +60,8 @@ module _ (C : List ℕ → Option Shape) where
   choice_zero zero k p vs z e c h = zeroed (choice zero ((k, p) ∷ [])) (p ∷ []) (c ∙ ap (λ l. Some (choice zero l)) e) refl (λ q a. subst (λ y. IsZeroSize C y) (sym (among_one a)) h)
   choice_zero (suc w) k p vs z e c h = absurd (omega arith)
 
-  -- parts
-  parts_forth : {x : List ℕ} {qs ps : List (List ℕ)} {bytes : List ℕ} → C x ≡ Some (product qs) → Members C (x ∷ ps) bytes → Members C (qs ++ ps) bytes
-  parts_forth {qs = qs} {ps = ps} c m =
-      let s = members_head C m in
-      subst (λ l. Members C (qs ++ ps) l) (sym s.4) (joined (member_as C (product qs) c s.2) s.3)
-
-  parts_back : {x : List ℕ} {qs ps : List (List ℕ)} {bytes : List ℕ} → C x ≡ Some (product qs) → Members C (qs ++ ps) bytes → Members C (x ∷ ps) bytes
-  parts_back {x} {qs = qs} {ps = ps} c m = let s = parted qs m in subst (λ l. Members C (x ∷ ps) l) (sym s.4) (more_members (of_parts c s.2) s.3)
-
   parts_only_empty : {x : List ℕ} {qs : List (List ℕ)} → C x ≡ Some (product qs) → AllOnlyEmpty C qs → OnlyEmpty C x
   parts_only_empty {qs = qs} c a = (of_parts c (only_empty_members C a), zeroed (product qs) qs c refl (all_zero qs a))
-
-  -- primitives
-  primitive_forth : {x : List ℕ} {n : ℕ} {ps : List (List ℕ)} {bytes : List ℕ} → C x ≡ Some (primitive n) → Members C (x ∷ ps) bytes → Members C ps (drop n bytes)
-  primitive_forth {n = n} {ps = ps} c m =
-      let s = members_head C m in
-      let b = member_as C (primitive n) c s.2 in
-      subst (λ l. Members C ps l) (sym (ap (λ l. drop n l) s.4 ∙ drop_at n s.0 s.1 b.0)) s.3
-
-  primitive_back : {x : List ℕ} {n : ℕ} {ps : List (List ℕ)} {bytes : List ℕ} → n ≤ length bytes → All (λ b. b < 256) (take n bytes) → C x ≡ Some (primitive n) → Members C ps (drop n bytes) → Members C (x ∷ ps) bytes
-  primitive_back {x} {n = n} {ps = ps} {bytes = bytes} low small c m =
-      let one : Member C x (take n bytes) = of_primitive (c ∙ ap (λ k. Some (primitive k)) (sym (length_take n bytes low))) small in
-      subst (λ l. Members C (x ∷ ps) l) (take_drop n bytes) (more_members one m)
 
   primitive_only_empty : {x : List ℕ} {n : ℕ} → n ≡ 0 → All (λ b. b < 256) [] → C x ≡ Some (primitive n) → OnlyEmpty C x
   primitive_only_empty {n = n} z small c = (of_primitive (c ∙ ap (λ k. Some (primitive k)) z) small, zeroed (primitive 0) [] (c ∙ ap (λ k. Some (primitive k)) z) refl (λ p a. elim a [ ]))
@@ -98,10 +69,9 @@ module _ (C : List ℕ → Option Shape) where
 pub takes_parts : (C : List ℕ → Option Shape) (qs : List (List ℕ)) (bytes : List ℕ) → Takes C (product qs) bytes 0 qs
 takes_parts C qs bytes = record {
   within = omega arith;
-  forth = λ x ps c m. parts_forth C c m;
-  back = λ x ps c m. parts_back C c m;
   only_empty = λ _ x c a. parts_only_empty C c a;
   opens = (refl, refl);
+  once = opens_once C (product qs) [] qs tt (refl, refl);
   mentioned = λ p a. a;
   needs = λ _ p a. a;
 }
@@ -109,10 +79,9 @@ takes_parts C qs bytes = record {
 pub takes_primitive : (C : List ℕ → Option Shape) (n : ℕ) (bytes : List ℕ) → n ≤ length bytes → All (λ b. b < 256) (take n bytes) → All (λ b. b < 256) [] → Takes C (primitive n) bytes n []
 takes_primitive C n bytes low small none = record {
   within = low;
-  forth = λ x ps c m. primitive_forth C c m;
-  back = λ x ps c m. primitive_back C low small c m;
   only_empty = λ z x c a. primitive_only_empty C z none c;
   opens = (length_take n bytes low, small, refl);
+  once = opens_once C (primitive n) (take n bytes) [] tt (length_take n bytes low, small, refl);
   mentioned = λ p a. elim a [ ];
   needs = λ _ p a. elim a [ ];
 }
@@ -128,20 +97,6 @@ same_tag w k j bytes cs ys t e = same_front (tag w k) (tag w j) (drop w bytes) (
 module _ (C : List ℕ → Option Shape) where
   -- sequences
   module _ (w lo hi k : ℕ) (e : List ℕ) (unambiguous : hi < lo + 256 ^ w) (low : lo ≤ k) (high : k ≤ hi) where
-    sequence_forth : {x : List ℕ} {ps : List (List ℕ)} {bytes : List ℕ} → tag w (pos k) ≡ take w bytes → C x ≡ Some (sequence w lo hi e) → Members C (x ∷ ps) bytes → Members C (replicate k e ++ ps) (drop w bytes)
-    sequence_forth {ps = ps} {bytes = bytes} t c m =
-        let s = members_head C m in
-        let b = member_as C (sequence w lo hi e) c s.2 in
-        let q = same_tag w (pos k) (pos b.0) bytes b.1 s.1 t (s.4 ∙ ap (λ l. l ++ s.1) b.5) in
-        let o : k ≡ b.0 = one_count w lo hi k b.0 unambiguous low high b.2 b.3 q.0 in
-        subst (λ l. Members C (replicate k e ++ ps) l) (sym q.1) (joined C (subst (λ i. Members C (replicate i e) b.1) (sym o) b.4) s.3)
-
-    sequence_back : {x : List ℕ} {ps : List (List ℕ)} {bytes : List ℕ} → tag w (pos k) ≡ take w bytes → C x ≡ Some (sequence w lo hi e) → Members C (replicate k e ++ ps) (drop w bytes) → Members C (x ∷ ps) bytes
-    sequence_back {x} {ps} {bytes} t c m =
-        let s = parted C (replicate k e) m in
-        let z : (tag w (pos k) ++ s.0) ++ s.1 ≡ bytes = append_assoc (tag w (pos k)) s.0 s.1 ∙ ap (λ l. tag w (pos k) ++ l) (sym s.4) ∙ ap (λ l. l ++ drop w bytes) t ∙ take_drop w bytes in
-        subst (λ l. Members C (x ∷ ps) l) z (more_members (of_sequence k c low high s.2) s.3)
-
     sequence_only_empty : {x : List ℕ} → w ≡ 0 → C x ≡ Some (sequence w lo hi e) → AllOnlyEmpty C (replicate k e) → OnlyEmpty C x
     sequence_only_empty {x} z c a = (
       subst (λ l. Member C x l) (ap (λ i. tag i (pos k) ++ []) z ∙ ap (λ l. l ++ []) (no_tag (pos k))) (of_sequence k c low high (only_empty_members C a)),
@@ -150,20 +105,6 @@ module _ (C : List ℕ → Option Shape) where
 
   -- enums
   module _ (w : ℕ) (k : ℤ) (p : List ℕ) (vs : List (ℤ × List ℕ)) (listed : IsListedVariant k p vs) (one : (j : ℤ) (q : List ℕ) → IsListedVariant j q vs → tag w j ≡ tag w k → q ≡ p) where
-    choice_forth : {x : List ℕ} {ps : List (List ℕ)} {bytes : List ℕ} → tag w k ≡ take w bytes → C x ≡ Some (choice w vs) → Members C (x ∷ ps) bytes → Members C (p ∷ ps) (drop w bytes)
-    choice_forth {ps = ps} {bytes = bytes} t c m =
-        let s = members_head C m in
-        let b = member_as C (choice w vs) c s.2 in
-        let q = same_tag w k b.0 bytes b.2 s.1 t (s.4 ∙ ap (λ l. l ++ s.1) b.5) in
-        let o = one b.0 b.1 b.3 (sym q.0) in
-        subst (λ l. Members C (p ∷ ps) l) (sym q.1) (more_members (subst (λ z. Member C z b.2) o b.4) s.3)
-
-    choice_back : {x : List ℕ} {ps : List (List ℕ)} {bytes : List ℕ} → tag w k ≡ take w bytes → C x ≡ Some (choice w vs) → Members C (p ∷ ps) (drop w bytes) → Members C (x ∷ ps) bytes
-    choice_back {x} {ps} {bytes} t c m =
-        let s = members_head C m in
-        let z : (tag w k ++ s.0) ++ s.1 ≡ bytes = append_assoc (tag w k) s.0 s.1 ∙ ap (λ l. tag w k ++ l) (sym s.4) ∙ ap (λ l. l ++ drop w bytes) t ∙ take_drop w bytes in
-        subst (λ l. Members C (x ∷ ps) l) z (more_members (of_choice c listed s.2) s.3)
-
     choice_only_empty : {x : List ℕ} → (w ≡ 0 → vs ≡ (k, p) ∷ []) → w ≡ 0 → C x ≡ Some (choice w vs) → OnlyEmpty C p → OnlyEmpty C x
     choice_only_empty {x} single z c h = (
       subst (λ l. Member C x l) (ap (λ i. tag i k ++ []) z ∙ ap (λ l. l ++ []) (no_tag k)) (of_choice c listed h.0),
@@ -177,6 +118,13 @@ module _ (C : List ℕ → Option Shape) where
       let t = length-tag w (pos b.0) in
       let n : length ((tag w (pos b.0) ++ b.1) ++ m.1) ≡ w + length b.1 + length m.1 = simp (length-append, length-tag) in
       absurd (omega (arith, l, n))
+
+  pub short_primitive : {x : List ℕ} {n : ℕ} {bytes : List ℕ} → length bytes < n → C x ≡ Some (primitive n) → BeginsWith C x bytes → ⊥
+  short_primitive {n = n} h c m =
+      let b = member_as C (primitive n) c m.2 in
+      let l = ap (λ l. length l) m.3 ∙ length-append m.0 m.1 in
+      let s = b.0 in
+      absurd (omega (arith, l, s, h))
 
   pub short_choice : {x : List ℕ} {w : ℕ} {vs : List (ℤ × List ℕ)} {bytes : List ℕ} → length bytes < w → C x ≡ Some (choice w vs) → BeginsWith C x bytes → ⊥
   short_choice {w = w} {vs = vs} h c m =
@@ -206,15 +154,15 @@ sequence_needs zero (suc lo) hi k e unambiguous low high z p a = subst (λ y. Is
 sequence_needs (suc w) lo hi k e unambiguous low high z p a = absurd (omega arith)
 
 pub takes_sequence : (C : List ℕ → Option Shape) (w lo hi k : ℕ) (e bytes : List ℕ) → packed_size (C e) ≡ 0 → hi < lo + 256 ^ w → lo ≤ k → k ≤ hi → w ≤ length bytes → tag w (pos k) ≡ take w bytes → Takes C (sequence w lo hi e) bytes w (replicate k e)
-takes_sequence C w lo hi k e bytes packed unambiguous low high within t = record {
-  within = within;
-  forth = λ x ps c m. sequence_forth C w lo hi k e unambiguous low high t c m;
-  back = λ x ps c m. sequence_back C w lo hi k e unambiguous low high t c m;
-  only_empty = λ z x c a. sequence_only_empty C w lo hi k e unambiguous low high z c a;
-  opens = (k, [], low, high, sym t ∙ sym (append-nil (tag w (pos k))), subst (λ i. OpensElements i e k [] (replicate k e)) (sym packed) (refl, refl));
-  mentioned = λ p a. subst (λ y. IsIn p (y ∷ [])) (sym (among-replicate k a)) first;
-  needs = sequence_needs w lo hi k e unambiguous low high;
-}
+takes_sequence C w lo hi k e bytes packed unambiguous low high within t =
+    let opened : Opens C (sequence w lo hi e) (take w bytes) (replicate k e) = (k, [], low, high, sym t ∙ sym (append-nil (tag w (pos k))), subst (λ i. OpensElements i e k [] (replicate k e)) (sym packed) (refl, refl)) in record {
+      within = within;
+      only_empty = λ z x c a. sequence_only_empty C w lo hi k e unambiguous low high z c a;
+      opens = opened;
+      once = opens_once C (sequence w lo hi e) (take w bytes) (replicate k e) unambiguous opened;
+      mentioned = λ p a. subst (λ y. IsIn p (y ∷ [])) (sym (among-replicate k a)) first;
+      needs = sequence_needs w lo hi k e unambiguous low high;
+    }
 
 no_copies : (w k n : ℕ) → w + k * suc n ≡ 0 → k ≡ 0
 no_copies w zero n z = refl
@@ -222,13 +170,6 @@ no_copies w (suc k) n z = let p = suc-mul k (suc n) in absurd (omega (arith, z, 
 
 -- sequences whose elements are listed with them
 module _ (C : List ℕ → Option Shape) (w lo hi k n : ℕ) (e : List ℕ) (packed : packed_size (C e) ≡ suc n) (unambiguous : hi < lo + 256 ^ w) (low : lo ≤ k) (high : k ≤ hi) where
-  packed_forth : {x : List ℕ} {ps : List (List ℕ)} {bytes : List ℕ} → tag w (pos k) ≡ take w bytes → C x ≡ Some (sequence w lo hi e) → Members C (x ∷ ps) bytes → Members C ps (drop (w + k * suc n) bytes)
-  packed_forth {ps = ps} {bytes = bytes} t c m =
-      let s = parted C (replicate k e) (sequence_forth C w lo hi k e unambiguous low high t c m) in
-      let l = copies_are C n k s.0 (packed_is n (C e) packed) s.2 in
-      let d : drop (w + k * suc n) bytes ≡ s.1 = sym (drop-drop (k * suc n) w bytes) ∙ ap (λ b. drop (k * suc n) b) s.4 ∙ drop_at (k * suc n) s.0 s.1 l.0 in
-      subst (λ b. Members C ps b) (sym d) s.3
-
   module _ (bytes : List ℕ) (within : w + k * suc n ≤ length bytes) (small : All (λ b. b < 256) bytes) (t : tag w (pos k) ≡ take w bytes) where
     fits : k * suc n ≤ length (drop w bytes)
     fits = let d = length-drop w bytes in omega (arith, within, d)
@@ -236,29 +177,25 @@ module _ (C : List ℕ → Option Shape) (w lo hi k n : ℕ) (e : List ℕ) (pac
     elements_small : All (λ b. b < 256) (take (k * suc n) (drop w bytes))
     elements_small = All-take (λ b. b < 256) (k * suc n) (drop w bytes) (All-drop (λ b. b < 256) w bytes small)
 
-    packed_back : {x : List ℕ} {ps : List (List ℕ)} → C x ≡ Some (sequence w lo hi e) → Members C ps (drop (w + k * suc n) bytes) → Members C (x ∷ ps) bytes
-    packed_back {x} {ps} c m =
-        let ms = copies_of C n k (take (k * suc n) (drop w bytes)) (packed_is n (C e) packed) (length_take (k * suc n) (drop w bytes) fits) elements_small in
-        let behind : Members C ps (drop (k * suc n) (drop w bytes)) = subst (λ b. Members C ps b) (sym (drop-drop (k * suc n) w bytes)) m in
-        sequence_back C w lo hi k e unambiguous low high t c (subst (λ b. Members C (replicate k e ++ ps) b) (take_drop (k * suc n) (drop w bytes)) (joined C ms behind))
-
     packed_only_empty : {x : List ℕ} → w + k * suc n ≡ 0 → C x ≡ Some (sequence w lo hi e) → OnlyEmpty C x
     packed_only_empty {x} z c = sequence_only_empty C w lo hi k e unambiguous low high (omega (arith, z)) c (subst (λ i. AllOnlyEmpty C (replicate i e)) (sym (no_copies w k n z)) tt)
+
+    packed_opened : Opens C (sequence w lo hi e) (take (w + k * suc n) bytes) []
+    packed_opened = (
+      k,
+      take (k * suc n) (drop w bytes),
+      low,
+      high,
+      take-add w (k * suc n) bytes ∙ ap (λ l. l ++ take (k * suc n) (drop w bytes)) (sym t),
+      subst (λ i. OpensElements i e k (take (k * suc n) (drop w bytes)) []) (sym packed) (length_take (k * suc n) (drop w bytes) fits, elements_small, refl),
+    )
 
     takes_packed : Takes C (sequence w lo hi e) bytes (w + k * suc n) []
     takes_packed = record {
       within = within;
-      forth = λ x ps c m. packed_forth t c m;
-      back = λ x ps c m. packed_back c m;
       only_empty = λ z x c a. packed_only_empty z c;
-      opens = (
-        k,
-        take (k * suc n) (drop w bytes),
-        low,
-        high,
-        take-add w (k * suc n) bytes ∙ ap (λ l. l ++ take (k * suc n) (drop w bytes)) (sym t),
-        subst (λ i. OpensElements i e k (take (k * suc n) (drop w bytes)) []) (sym packed) (length_take (k * suc n) (drop w bytes) fits, elements_small, refl),
-      );
+      opens = packed_opened;
+      once = opens_once C (sequence w lo hi e) (take (w + k * suc n) bytes) [] unambiguous packed_opened;
       mentioned = λ p a. elim a [ ];
       needs = λ _ p a. elim a [ ];
     }
@@ -278,7 +215,11 @@ elements_opened : (C : List ℕ → Option Shape) (ns : List Named) (w lo hi k a
 elements_opened C ns w lo hi k at bytes u low high within t small zero p Undecided h = absurd h
 elements_opened C ns w lo hi k at bytes u low high within t small (suc n) p Undecided h = absurd h
 elements_opened C ns w lo hi k at bytes u low high within t small zero p (Refused r) h = let f = h.1 in absurd (omega (arith, f, within))
-elements_opened C ns w lo hi k at bytes u low high within t small (suc n) p (Refused r) h = (h.0, λ x c m. no_packed C w lo hi k n (name_at ns at) p u low high h.1 t c m)
+elements_opened C ns w lo hi k at bytes u low high within t small (suc n) p (Refused r) h = (
+  (λ e. let q = h.0 in cc),
+  λ x c. subst (λ i. NoneBegins C i x bytes) (sym h.0) (too_short C (λ m. no_packed C w lo hi k n (name_at ns at) p u low high h.1 t c m)),
+  λ _. inr (k, t, low, high, subst (λ i. length bytes < w + k * i) (sym p) h.1),
+)
 elements_opened C ns w lo hi k at bytes u low high within t small zero p (Taken n r) h =
     let e = name_at ns at in
     let a = takes_sequence C w lo hi k e bytes p u low high within t in
@@ -299,10 +240,9 @@ in_variants listed (later a) = elim a [ ]
 pub takes_choice : (C : List ℕ → Option Shape) (w : ℕ) (k : ℤ) (p bytes : List ℕ) (vs : List (ℤ × List ℕ)) → IsListedVariant k p vs → ((j : ℤ) (q : List ℕ) → IsListedVariant j q vs → tag w j ≡ tag w k → q ≡ p) → (w ≡ 0 → (q : List ℕ) → IsIn q (p ∷ []) → IsIn q (required_by (choice w vs))) → (w ≡ 0 → vs ≡ (k, p) ∷ []) → w ≤ length bytes → tag w k ≡ take w bytes → Takes C (choice w vs) bytes w (p ∷ [])
 takes_choice C w k p bytes vs listed one needs single within t = record {
   within = within;
-  forth = λ x ps c m. choice_forth C w k p vs listed one t c m;
-  back = λ x ps c m. choice_back C w k p vs listed one t c m;
   only_empty = λ z x c a. choice_only_empty C w k p vs listed one single z c a.0;
   opens = (k, p, listed, sym t, refl);
+  once = subst (λ b. OpensOnce C (choice w vs) b (p ∷ [])) t (once_variant C w vs k p one);
   mentioned = λ q a. in_variants listed a;
   needs = needs;
 }
@@ -329,8 +269,8 @@ list_opened C ns w lo hi k size at bytes fits z low high within t small a h = op
 pub small_at : (w size k : ℕ) (bytes : List ℕ) → size ≡ w → size ≤ length bytes → k < 256 ^ length (take size bytes) → k < 256 ^ w
 small_at w size k bytes z within h = subst (λ i. k < 256 ^ i) (length_take size bytes within ∙ z) h
 
-pub count_off : (w lo hi k size : ℕ) (e bytes : List ℕ) → hi < 256 ^ w → size ≡ w → size ≤ length bytes → low_bytes (length (take size bytes)) k ≡ take size bytes → k < 256 ^ length (take size bytes) → (k < lo) ⊎ (hi < k) → (C : List ℕ → Option Shape) (x : List ℕ) → C x ≡ Some (sequence w lo hi e) → BeginsWith C x bytes → ⊥
-count_off w lo hi k size e bytes fits z within t small off C x c m = no_count C k fits (small_at w size k bytes z within small) (written_at w size k bytes z within t) off c m
+pub count_off : (w lo hi k size : ℕ) (e bytes : List ℕ) → hi < 256 ^ w → size ≡ w → size ≤ length bytes → low_bytes (length (take size bytes)) k ≡ take size bytes → k < 256 ^ length (take size bytes) → (k < lo) ⊎ (hi < k) → (C : List ℕ → Option Shape) (x : List ℕ) → C x ≡ Some (sequence w lo hi e) → (more : List ℕ) → BeginsWith C x (bytes ++ more) → ⊥
+count_off w lo hi k size e bytes fits z within t small off C x c more m = no_count C k fits (small_at w size k bytes z within small) (written_at w size k bytes z within t ∙ sym (take_front w bytes more (omega (arith, z, within)))) off c m
 
 single_needs : (w : ℕ) (k : ℤ) (p : List ℕ) (vs : List (ℤ × List ℕ)) → vs ≡ (k, p) ∷ [] → w ≡ 0 → (q : List ℕ) → IsIn q (p ∷ []) → IsIn q (required_by (choice w vs))
 single_needs zero k p vs e z q a = subst (λ l. IsIn q (required_by (choice zero l))) (sym e) a
@@ -367,11 +307,12 @@ found_choice C w size i p bytes vs z within g at =
     (λ zero_is. f.3 (t ∙ no_front w bytes zero_is))
     (omega arith) k)
 
-pub found_none_choice : (w size : ℕ) (bytes : List ℕ) (vs : List (ℤ × List ℕ)) → size ≡ w → size ≤ length bytes → FoundAs vs (take size bytes) Nothing → (C : List ℕ → Option Shape) (x : List ℕ) → C x ≡ Some (choice w vs) → BeginsWith C x bytes → ⊥
-found_none_choice w size bytes vs z within f C x c m =
+pub found_none_choice : (w size : ℕ) (bytes : List ℕ) (vs : List (ℤ × List ℕ)) → size ≡ w → size ≤ length bytes → FoundAs vs (take size bytes) Nothing → (C : List ℕ → Option Shape) (x : List ℕ) → C x ≡ Some (choice w vs) → (more : List ℕ) → BeginsWith C x (bytes ++ more) → ⊥
+found_none_choice w size bytes vs z within f C x c more m =
     let l : length (take size bytes) ≡ w = length_take size bytes within ∙ z in
     let t : take size bytes ≡ take w bytes = ap (λ i. take i bytes) z in
-    no_variant C (omega arith) (λ j q a b. f.0 j q a (ap (λ i. tag i j) l ∙ b ∙ sym t)) c m
+    let long = length-append bytes more in
+    no_variant C (omega (arith, long, z, within)) (λ j q a b. f.0 j q a (ap (λ i. tag i j) l ∙ b ∙ take_front w bytes more (omega (arith, z, within)) ∙ sym t)) c m
 
 pub several_ambiguous : (w size : ℕ) (bytes : List ℕ) (vs : List (ℤ × List ℕ)) → size ≡ w → size ≤ length bytes → (DistinctTags (length (take size bytes)) vs → ⊥) → DistinctTags w vs → ⊥
 several_ambiguous w size bytes vs z within f t = f (subst (λ i. DistinctTags i vs) (sym (length_take size bytes within ∙ z)) t)

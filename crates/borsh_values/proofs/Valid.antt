@@ -6,6 +6,9 @@ use Rattle.borsh_walks.specs.Container.{Shape, primitive, sequence, product, cho
 use Rattle.borsh_walks.specs.RulesAnswer.{KeepsWidths, IsWidth}
 use Rattle.borsh_values.specs.Unambiguous.{IsUnambiguous}
 use Rattle.borsh_values.specs.Membership.{IsUndecided, IsDecided, IsAnswer, AnswersMembership}
+use Rattle.borsh_values.specs.Fronts.{AnswersFront, IsDecidedFront, IsFrontAnswer}
+use Rattle.borsh_values.specs.declared.fronts.Front.{Front}
+use Rattle.borsh_values.specs.declared.fronts.Front.TheVariants.{Value, TooShort, NoMember as NotBegun, Ambiguous as Unclear}
 use Rattle.borsh_values.specs.declared.members.Membership.{Membership}
 use Rattle.borsh_values.specs.declared.members.Membership.TheVariants.{Member as IsMember, NoMember, Ambiguous}
 
@@ -46,3 +49,17 @@ module _ (C : List ℕ → Option Shape) where
       decided : {root : List ℕ} (bytes : List ℕ) {E : Type 0} → IsValid C root → IsUnambiguous C root → (result : Result Membership E) → IfOk result (λ a. IsAnswer C root bytes a) → IfOk result (λ a. IsDecided a)
       decided bytes v u (Ok a) h = never bytes a v u h
       decided bytes v u (Err e) h = tt
+
+  -- so it gets how the bytes begin
+  pub fronts : {root bytes : List ℕ} {E : Type 0} (result : Result Front E) → IfOk result (λ a. IsFrontAnswer C root bytes a) → AnswersFront C root bytes result
+  fronts {root} {bytes} result h = record { answer = h; decided = λ v u. decided v u result h }
+    where
+      never : (a : Front) → IsValid C root → IsUnambiguous C root → IsFrontAnswer C root bytes a → IsDecidedFront a
+      never (Value n) v u h = tt
+      never (TooShort f) v u h = tt
+      never (NotBegun f) v u h = tt
+      never (Unclear x) v u h = none_ambiguous x.now v u h
+
+      decided : {E : Type 0} → IsValid C root → IsUnambiguous C root → (result : Result Front E) → IfOk result (λ a. IsFrontAnswer C root bytes a) → IfOk result (λ a. IsDecidedFront a)
+      decided v u (Ok a) h = never a v u h
+      decided v u (Err e) h = tt

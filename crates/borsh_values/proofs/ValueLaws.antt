@@ -7,7 +7,7 @@ use Rattle.borsh_values.specs.Encoded.{names_and_bytes, IsValueOf, HaveNodes}
 use Rattle.borsh_values.specs.Unambiguous.{IsUnambiguous}
 use Rattle.borsh_values.specs.declared.nodes.Node.{Node}
 use Rattle.borsh_values.proofs.NodesLaws.{nodes_bytes, opens_member}
-use Rattle.borsh_values.proofs.TakesLaws.{parted}
+use Rattle.borsh_values.proofs.Required.{parted}
 use Rattle.borsh_values.proofs.Required.{unwhole}
 
 joined_same : (es fs : List NodeView) → names_and_bytes es ≡ names_and_bytes fs → joined_bytes es ≡ joined_bytes fs

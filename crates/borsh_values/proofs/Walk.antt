@@ -1,7 +1,7 @@
 -- What the loop keeps, and each of its steps.
-use Rattle.std.proofs.Common.{◌≡◌, ℕ, suc, ◌≤◌, ◌<◌, List, [], ◌∷◌, ◌++◌, length, drop, replicate, Some, None, refl, sym, ◌∙◌, ap, subst, arith, append_assoc, length-drop, ◌⊎◌, inl, inr}
+use Rattle.std.proofs.Common.{◌≡◌, ℕ, suc, ◌≤◌, ◌<◌, List, [], ◌∷◌, ◌++◌, length, take, drop, replicate, Some, None, refl, sym, ◌∙◌, ap, subst, arith, append_assoc, append-nil, length-drop, ◌⊎◌, inl, inr}
 use Rattle.std.specs.Prelude.{Option, ⊤}
-use Rattle.borsh_walks.specs.Container.{Shape, IsIn, IsDefined, first, later, Member, of_primitive, of_sequence, of_parts, of_choice, Members, no_members, references, Reached, Reaches, stays, onward}
+use Rattle.borsh_walks.specs.Container.{Shape, IsIn, IsDefined, first, later, Member, of_primitive, of_sequence, of_parts, of_choice, references, Reached, Reaches, stays, onward}
 use Rattle.borsh_walks.specs.SizeAnswer.{Distinct, distinct_none, distinct_more}
 use Rattle.borsh_values.specs.Faults.{BeginsWith}
 use Rattle.borsh_values.specs.Steps.{remaining, pending, required_by, OnlyEmpty, AllOnlyEmpty, Takes}
@@ -13,7 +13,8 @@ use Rattle.borsh_values.specs.declared.members.Mark.{Mark}
 use Rattle.borsh_values.specs.declared.members.Mark.TheVariants.{Empty, Open}
 use Rattle.borsh_walks.proofs.Names.{name_cases, also_defined, among_one, among_append}
 use Rattle.borsh_walks.proofs.Tables.{Updated}
-use Rattle.borsh_values.proofs.Required.{not_required, members_head, pass, unpass, only_empty_copies, whole, unwhole}
+use Rattle.borsh_values.proofs.FrontLaws.{Begun, begun_start, begun_skip, begun_on, begun_denied}
+use Rattle.borsh_values.proofs.Required.{not_required, only_empty_copies}
 
 abbrev pub with_rest : Frame → Rest → Frame
 with_rest f r = record { at = f.at; start = f.start; rest = r }
@@ -41,9 +42,9 @@ module _ (C : List ℕ → Option Shape) (ns : List Named) where
   Chain o [] y s = ⊤
   Chain o (f ∷ fs) y s = Link o f y s × Chain o fs (name_at ns f.at) f.start
 
-  pub record Walk (root bytes : List ℕ) (T : List ℕ → Option Mark) (fs : List Frame) (f : Frame) (rest : List ℕ) (L : List (List ℕ)) : Type 0 where
-    pub forth : Member C root bytes → Members C (pending ns (f ∷ fs)) rest
-    pub back : Members C (pending ns (f ∷ fs)) rest → Member C root bytes
+  -- of the bytes those in done are read, and rest is left
+  pub record Walk (root done : List ℕ) (T : List ℕ → Option Mark) (fs : List Frame) (f : Frame) (rest : List ℕ) (L : List (List ℕ)) : Type 0 where
+    pub begun : Begun C root done (pending ns (f ∷ fs))
     pub reached : (x : List ℕ) → IsIn x (pending ns (f ∷ fs)) → Reached C root x
     pub empty : (x : List ℕ) → T x ≡ Some Empty → OnlyEmpty C x
     pub here : (x : List ℕ) → T x ≡ Some (Open (length rest)) → On ns x (length rest) (f ∷ fs)
@@ -57,19 +58,12 @@ module _ (C : List ℕ → Option Shape) (ns : List Named) where
   start_top : (o : ℕ) (f : Frame) → o < f.start → Top o f
   start_top o f h = record { low = omega arith; only_empty = λ e. absurd (omega arith); needs = λ e. absurd (omega arith) }
 
-  all_of : {root bytes : List ℕ} (ps : List (List ℕ)) → ps ≡ root ∷ [] → Member C root bytes → Members C (ps ++ []) bytes
-  all_of {root} {bytes} ps e m = subst (λ l. Members C (l ++ []) bytes) (sym e) (whole C m)
-
-  of_all : {root bytes : List ℕ} (ps : List (List ℕ)) → ps ≡ root ∷ [] → Members C (ps ++ []) bytes → Member C root bytes
-  of_all {root} {bytes} ps e m = unwhole C (subst (λ l. Members C (l ++ []) bytes) e m)
-
   from_root : {root x : List ℕ} (ps : List (List ℕ)) → ps ≡ root ∷ [] → IsIn x (ps ++ []) → Reached C root x
   from_root {root} {x} ps e a = subst (λ y. Reached C root y) (sym (among_one (subst (λ l. IsIn x (l ++ [])) e a))) stays
 
-  pub walk_start : {root bytes : List ℕ} {T : List ℕ → Option Mark} (f : Frame) → ((x : List ℕ) → T x ≡ None) → length bytes < f.start → remaining ns f.rest ≡ root ∷ [] → Walk root bytes T [] f bytes []
+  pub walk_start : {root bytes : List ℕ} {T : List ℕ → Option Mark} (f : Frame) → ((x : List ℕ) → T x ≡ None) → length bytes < f.start → remaining ns f.rest ≡ root ∷ [] → Walk root [] T [] f bytes []
   walk_start {root} {bytes} f none low e = record {
-    forth = all_of (remaining ns f.rest) e;
-    back = of_all (remaining ns f.rest) e;
+    begun = subst (λ l. Begun C root [] (l ++ [])) (sym e) (begun_start C);
     reached = λ x a. from_root (remaining ns f.rest) e a;
     empty = λ x h. let n = none x in cc;
     here = λ x h. let n = none x in cc;
@@ -82,13 +76,12 @@ module _ (C : List ℕ → Option Shape) (ns : List Named) where
   }
 
   -- copies of a name that is known to be empty are passed over
-  pub walk_skip : {root bytes rest p : List ℕ} {T : List ℕ → Option Mark} {fs : List Frame} {f : Frame} {L : List (List ℕ)} (k : ℕ) (r : Rest) → Walk root bytes T fs f rest L → T p ≡ Some Empty → remaining ns f.rest ≡ replicate (suc k) p ++ remaining ns r → Walk root bytes T fs (with_rest f r) rest L
-  walk_skip {root} {bytes} {rest} {p} {T} {fs} {f} {L} k r w t e =
+  pub walk_skip : {root done rest p : List ℕ} {T : List ℕ → Option Mark} {fs : List Frame} {f : Frame} {L : List (List ℕ)} (k : ℕ) (r : Rest) → Walk root done T fs f rest L → T p ≡ Some Empty → remaining ns f.rest ≡ replicate (suc k) p ++ remaining ns r → Walk root done T fs (with_rest f r) rest L
+  walk_skip {root} {done} {rest} {p} {T} {fs} {f} {L} k r w t e =
       let h = w.empty p t in
       let same : pending ns (f ∷ fs) ≡ replicate (suc k) p ++ (remaining ns r ++ pending ns fs) = ap (λ l. l ++ pending ns fs) e ∙ append_assoc (replicate (suc k) p) (remaining ns r) (pending ns fs) in
       record {
-        forth = λ m. pass C (suc k) h (subst (λ l. Members C l rest) same (w.forth m));
-        back = λ m. w.back (subst (λ l. Members C l rest) (sym same) (unpass C (suc k) h m));
+        begun = begun_skip C (suc k) h (subst (λ l. Begun C root done l) same w.begun);
         reached = λ x a. w.reached x (subst (λ l. IsIn x l) (sym same) (among_right (replicate (suc k) p) a));
         empty = w.empty;
         here = λ x q. on_with f r fs (w.here x q);
@@ -119,12 +112,11 @@ module _ (C : List ℕ → Option Shape) (ns : List Named) where
   undefined_none e (of_choice p listed m) = cc
 
   -- the last name is passed: a frame above follows
-  pub walk_up : {root bytes rest : List ℕ} {T : List ℕ → Option Mark} {fs : List Frame} {f h : Frame} {L : List (List ℕ)} → Walk root bytes T (h ∷ fs) f rest L → remaining ns f.rest ≡ [] → (f.start ≡ length rest → ⊥) → Walk root bytes T fs h rest L
-  walk_up {root} {bytes} {rest} {T} {fs} {f} {h} {L} w e far =
+  pub walk_up : {root done rest : List ℕ} {T : List ℕ → Option Mark} {fs : List Frame} {f h : Frame} {L : List (List ℕ)} → Walk root done T (h ∷ fs) f rest L → remaining ns f.rest ≡ [] → (f.start ≡ length rest → ⊥) → Walk root done T fs h rest L
+  walk_up {root} {done} {rest} {T} {fs} {f} {h} {L} w e far =
       let same : pending ns (f ∷ h ∷ fs) ≡ pending ns (h ∷ fs) = ap (λ l. l ++ pending ns (h ∷ fs)) e in
       record {
-        forth = λ m. subst (λ l. Members C l rest) same (w.forth m);
-        back = λ m. w.back (subst (λ l. Members C l rest) (sym same) m);
+        begun = subst (λ l. Begun C root done l) same w.begun;
         reached = λ x a. w.reached x (subst (λ l. IsIn x l) (sym same) a);
         empty = w.empty;
         here = λ x q. elim (w.here x q) [ inl k ↦ absurd (far k.1) | inr k ↦ k ];
@@ -137,13 +129,12 @@ module _ (C : List ℕ → Option Shape) (ns : List Named) where
       }
 
   -- and has turned out to be empty
-  pub walk_up_empty : {root bytes rest : List ℕ} {T U : List ℕ → Option Mark} {fs : List Frame} {f h : Frame} {L : List (List ℕ)} → Walk root bytes T (h ∷ fs) f rest L → remaining ns f.rest ≡ [] → f.start ≡ length rest → Updated T U (name_at ns f.at) Empty → Walk root bytes U fs h rest L
-  walk_up_empty {root} {bytes} {rest} {T} {U} {fs} {f} {h} {L} w e at u =
+  pub walk_up_empty : {root done rest : List ℕ} {T U : List ℕ → Option Mark} {fs : List Frame} {f h : Frame} {L : List (List ℕ)} → Walk root done T (h ∷ fs) f rest L → remaining ns f.rest ≡ [] → f.start ≡ length rest → Updated T U (name_at ns f.at) Empty → Walk root done U fs h rest L
+  walk_up_empty {root} {done} {rest} {T} {U} {fs} {f} {h} {L} w e at u =
       let same : pending ns (f ∷ h ∷ fs) ≡ pending ns (h ∷ fs) = ap (λ l. l ++ pending ns (h ∷ fs)) e in
       let is : OnlyEmpty C (name_at ns f.at) = w.top.only_empty at (subst (λ l. AllOnlyEmpty C l) (sym e) tt) in
       record {
-        forth = λ m. subst (λ l. Members C l rest) same (w.forth m);
-        back = λ m. w.back (subst (λ l. Members C l rest) (sym same) m);
+        begun = subst (λ l. Begun C root done l) same w.begun;
         reached = λ x a. w.reached x (subst (λ l. IsIn x l) (sym same) a);
         empty = λ x q. elim (name_cases x (name_at ns f.at)) [ inl k ↦ subst (λ y. OnlyEmpty C y) (sym k) is | inr k ↦ w.empty x (sym (u.others x k) ∙ q) ];
         here = λ x q. elim (name_cases x (name_at ns f.at)) [
@@ -171,17 +162,8 @@ module _ (C : List ℕ → Option Shape) (ns : List Named) where
           ] in
           go (name_cases x p)
 
-  -- all names are passed
-  pub walk_end : {root bytes rest : List ℕ} {T : List ℕ → Option Mark} {f : Frame} {L : List (List ℕ)} → Walk root bytes T [] f rest L → remaining ns f.rest ≡ [] → (Member C root bytes → rest ≡ []) × (rest ≡ [] → Member C root bytes)
-  walk_end {rest = rest} {f = f} w e =
-      let same : pending ns (f ∷ []) ≡ [] = ap (λ l. l ++ []) e in
-      ((λ m. nothing (subst (λ l. Members C l rest) same (w.forth m))), λ h. w.back (subst (λ l. Members C l rest) (sym same) (subst (λ b. Members C [] b) (sym h) no_members)))
-    where
-      nothing : {bs : List ℕ} → Members C [] bs → bs ≡ []
-      nothing no_members = refl
-
   -- the next name is opened: what is kept of the members
-  module _ {root bytes rest p : List ℕ} {T : List ℕ → Option Mark} {fs : List Frame} {f : Frame} {L : List (List ℕ)} (w : Walk root bytes T fs f rest L) (r : Rest) (e : remaining ns f.rest ≡ p ∷ remaining ns r) where
+  module _ {root done rest p : List ℕ} {T : List ℕ → Option Mark} {fs : List Frame} {f : Frame} {L : List (List ℕ)} (w : Walk root done T fs f rest L) (r : Rest) (e : remaining ns f.rest ≡ p ∷ remaining ns r) where
     next_is : pending ns (f ∷ fs) ≡ p ∷ (remaining ns r ++ pending ns fs)
     next_is = ap (λ l. l ++ pending ns fs) e
 
@@ -204,16 +186,17 @@ module _ (C : List ℕ → Option Shape) (ns : List Named) where
         ] in
         go (among_append (remaining ns g.rest) (remaining ns r ++ pending ns fs) a)
 
+    on_next : {d : Shape} {n : ℕ} (g : Frame) → C p ≡ Some d → Takes C d rest n (remaining ns g.rest) → Begun C root (done ++ take n rest) (remaining ns g.rest ++ (remaining ns r ++ pending ns fs))
+    on_next {d} g c t = begun_on C d c t.opens t.once (subst (λ l. Begun C root done l) next_is w.begun)
+
     pub part_reached : Reached C root p
     part_reached = next_reached
 
     -- without a byte
-    pub walk_still : {U : List ℕ → Option Mark} {d : Shape} {n : ℕ} (g : Frame) → n ≡ 0 → C p ≡ Some d → Takes C d rest n (remaining ns g.rest) → (T p ≡ Some Empty → ⊥) → (T p ≡ Some (Open (length rest)) → ⊥) → Updated T U p (Open (length rest)) → name_at ns g.at ≡ p → g.start ≡ length rest → Walk root bytes U (with_rest f r ∷ fs) g rest (p ∷ L)
+    pub walk_still : {U : List ℕ → Option Mark} {d : Shape} {n : ℕ} (g : Frame) → n ≡ 0 → C p ≡ Some d → Takes C d rest n (remaining ns g.rest) → (T p ≡ Some Empty → ⊥) → (T p ≡ Some (Open (length rest)) → ⊥) → Updated T U p (Open (length rest)) → name_at ns g.at ≡ p → g.start ≡ length rest → Walk root done U (with_rest f r ∷ fs) g rest (p ∷ L)
     walk_still {U} {d} {n} g zero_is c t not_empty not_open u name start =
-        let at : drop n rest ≡ rest = ap (λ i. drop i rest) zero_is in
         record {
-          forth = λ m. subst (λ b. Members C (remaining ns g.rest ++ (remaining ns r ++ pending ns fs)) b) at (t.forth p (remaining ns r ++ pending ns fs) c (subst (λ l. Members C l rest) next_is (w.forth m)));
-          back = λ m. w.back (subst (λ l. Members C l rest) (sym next_is) (t.back p (remaining ns r ++ pending ns fs) c (subst (λ b. Members C (remaining ns g.rest ++ (remaining ns r ++ pending ns fs)) b) (sym at) m)));
+          begun = subst (λ l. Begun C root l (remaining ns g.rest ++ (remaining ns r ++ pending ns fs))) (none n zero_is rest) (on_next g c t);
           reached = reached_more g c t.mentioned;
           empty = λ x h. elim (name_cases x p) [ inl q ↦ (let a = u.here in let b = ap U q in cc) | inr q ↦ w.empty x (sym (u.others x q) ∙ h) ];
           here = λ x h. elim (name_cases x p) [ inl q ↦ inl (name ∙ sym q, start) | inr q ↦ inr (on_with f r fs (w.here x (sym (u.others x q) ∙ h))) ];
@@ -229,6 +212,9 @@ module _ (C : List ℕ → Option Shape) (ns : List Named) where
           marked = λ x a. also_marked u w.marked x a;
         }
       where
+        none : (n : ℕ) → n ≡ 0 → (bs : List ℕ) → done ++ take n bs ≡ done
+        none n z bs = ap (λ i. done ++ take i bs) z ∙ append-nil done
+
         on_with : {x : List ℕ} {o : ℕ} (f : Frame) (r : Rest) (fs : List Frame) → On ns x o (f ∷ fs) → On ns x o (with_rest f r ∷ fs)
         on_with f r fs (inl h) = inl h
         on_with f r fs (inr h) = inr h
@@ -244,12 +230,11 @@ module _ (C : List ℕ → Option Shape) (ns : List Named) where
             go (f x a) (name_cases x p)
 
     -- with some bytes: no frame has taken none since
-    pub walk_on : {d : Shape} {n : ℕ} (g : Frame) → 0 < n → C p ≡ Some d → Takes C d rest n (remaining ns g.rest) → name_at ns g.at ≡ p → g.start ≡ length rest → Walk root bytes T (with_rest f r ∷ fs) g (drop n rest) []
+    pub walk_on : {d : Shape} {n : ℕ} (g : Frame) → 0 < n → C p ≡ Some d → Takes C d rest n (remaining ns g.rest) → name_at ns g.at ≡ p → g.start ≡ length rest → Walk root (done ++ take n rest) T (with_rest f r ∷ fs) g (drop n rest) []
     walk_on {d} {n} g more c t name start =
         let less : length (drop n rest) < length rest = (let i = t.within in let k = length-drop n rest in omega (arith, i, k)) in
         record {
-          forth = λ m. t.forth p (remaining ns r ++ pending ns fs) c (subst (λ l. Members C l rest) next_is (w.forth m));
-          back = λ m. w.back (subst (λ l. Members C l rest) (sym next_is) (t.back p (remaining ns r ++ pending ns fs) c m));
+          begun = on_next g c t;
           reached = reached_more g c t.mentioned;
           empty = w.empty;
           here = λ x h. let k = w.past x (length (drop n rest)) h in absurd (omega (arith, k, less));
@@ -269,11 +254,11 @@ module _ (C : List ℕ → Option Shape) (ns : List Named) where
         far_chain (f ∷ fs) y s h c = (far_link f y s (let k = c.0.low in omega (arith, k)), far_chain fs (name_at ns f.at) f.start h c.1)
 
     -- ---- answers
-    -- where no member of the next name begins, the bytes are no member
-    pub denied : (BeginsWith C p rest → ⊥) → Member C root bytes → ⊥
-    denied deny m = let s = members_head C (subst (λ l. Members C l rest) next_is (w.forth m)) in deny (s.0, s.1, s.2, s.4)
+    -- where no member of the next name begins with some bytes, none of the root does behind those that are read
+    pub denied : {bs : List ℕ} → (BeginsWith C p bs → ⊥) → BeginsWith C root (done ++ bs) → ⊥
+    denied deny = begun_denied C (subst (λ l. Begun C root done l) next_is w.begun) deny
 
-    pub leads_back : T p ≡ Some (Open (length rest)) → BeginsWith C p rest → ⊥
+    pub leads_back : {bs : List ℕ} → T p ≡ Some (Open (length rest)) → BeginsWith C p bs → ⊥
     leads_back h m =
         let l = on_leads (length rest) fs f w.chain (w.here p h) in
         let n = w.top.needs l.0 in

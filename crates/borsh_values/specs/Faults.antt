@@ -1,17 +1,9 @@
 -- Where bytes stop being a member.
-use Rattle.std.specs.Prelude.{◌≡◌, ℕ, ◌-◌, ◌≤◌, ◌<◌, List, ◌++◌, length, drop, Option}
+use Rattle.std.specs.Prelude.{◌≡◌, ℕ, ◌≤◌, ◌<◌, List, ◌++◌, length, drop, Option}
 use Rattle.borsh_walks.specs.Container.{Shape, Member, Reached}
 use Rattle.borsh_values.specs.declared.faults.Fault.{Fault}
 use Rattle.borsh_values.specs.declared.faults.Reason.{Reason}
 use Rattle.borsh_values.specs.declared.faults.Reason.TheVariants.{BytesLeft}
-use Rattle.borsh_values.specs.declared.members.Membership.{Membership}
-use Rattle.borsh_values.specs.declared.members.Membership.TheVariants.{Member as IsMember, NoMember, Ambiguous}
-
--- the answer is a fault of the name, where so many of the bytes are left
-abbrev pub IsNoMemberAt : ℕ → ℕ → List ℕ → Reason → Membership → Type 0
-IsNoMemberAt all left name reason IsMember = ⊥
-IsNoMemberAt all left name reason (NoMember f) = (f.offset ≡ all - left) × (f.name.now ≡ name) × (f.reason ≡ reason)
-IsNoMemberAt all left name reason (Ambiguous x) = ⊥
 
 module _ (C : List ℕ → Option Shape) where
   -- some of the first bytes, or all, are a member of the name

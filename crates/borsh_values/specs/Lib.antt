@@ -13,3 +13,5 @@ pub mod Layouts
 pub mod Zeros
 pub mod Free
 pub mod Passing
+pub mod Fronts
+pub mod Next

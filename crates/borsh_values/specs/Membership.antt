@@ -1,12 +1,11 @@
 -- What `is_member` answers.
-use Rattle.std.specs.Prelude.{◌≡◌, ⊤, ℕ, suc, ◌-◌, ◌*◌, List, [], length, Option, Some, Result, IfOk, String}
+use Rattle.std.specs.Prelude.{◌≡◌, ⊤, ℕ, suc, ◌*◌, List, length, Option, Some, Result, IfOk, String}
 use Rattle.std.specs.BTreeMap.{BTreeMap, btree_map_len}
 use Rattle.borsh_walks.specs.declared.definition.Definition.{Definition}
 use Rattle.borsh_walks.specs.Container.{Shape, Member, Reached, IsValid}
 use Rattle.borsh_walks.specs.RulesAnswer.{KeepsWidths}
 use Rattle.borsh_values.specs.Unambiguous.{UnambiguousShape, IsUnambiguous}
 use Rattle.borsh_values.specs.Faults.{IsFault}
-use Rattle.borsh_values.specs.declared.faults.Reason.TheVariants.{BytesLeft}
 use Rattle.borsh_values.specs.declared.members.Membership.{Membership}
 use Rattle.borsh_values.specs.declared.members.Membership.TheVariants.{Member as IsMember, NoMember, Ambiguous}
 
@@ -17,12 +16,6 @@ IsUndecided C root x = (d : Shape) × Reached C root x × (C x ≡ Some d) × (U
 -- a name that is reached, and whose definition is ambiguous
 abbrev pub IsAmbiguousName : (List ℕ → Option Shape) → List ℕ → List ℕ → Type 0
 IsAmbiguousName C root x = (d : Shape) × Reached C root x × (C x ≡ Some d) × (UnambiguousShape d → ⊥)
-
--- where no name is left to read, the bytes that are left decide, of so many
-abbrev pub IsAnswerAtEnd : List ℕ → ℕ → List ℕ → Membership → Type 0
-IsAnswerAtEnd root all left IsMember = left ≡ []
-IsAnswerAtEnd root all left (NoMember f) = (left ≡ [] → ⊥) × (f.offset ≡ all - length left) × (f.name.now ≡ root) × (f.reason ≡ BytesLeft)
-IsAnswerAtEnd root all left (Ambiguous x) = ⊥
 
 -- how many definitions are opened at most: as many as there are, and one more, for each byte and for the end
 abbrev pub most_opened : {A : Type 0} → List ℕ → BTreeMap (String A) Definition → ℕ

@@ -1,11 +1,12 @@
 -- What the loop over the bytes of a value works on.
-use Rattle.std.specs.Prelude.{◌≡◌, ℕ, Bool, true, false, suc, zero, ◌+◌, ◌*◌, ◌≤◌, ◌<◌, ◌^◌, List, [], ◌∷◌, ◌++◌, length, take, drop, replicate, ℤ, Option, Some, None, get_or, slice_get, ⊤}
+use Rattle.std.specs.Prelude.{◌≡◌, ◌⊎◌, ℕ, Bool, true, false, suc, zero, ◌+◌, ◌*◌, ◌≤◌, ◌<◌, ◌^◌, List, [], ◌∷◌, ◌++◌, length, take, drop, replicate, ℤ, pos, Option, Some, None, get_or, slice_get, ⊤}
 use Rattle.borsh_walks.specs.Container.{Shape, primitive, sequence, product, choice, IsIn, IsListedVariant, tag, Member, Members, references, IsZeroSize}
 use Rattle.borsh_walks.specs.RulesAnswer.{KeepsWidths, IsWidth}
 use Rattle.borsh_values.specs.Unambiguous.{DistinctTags, UnambiguousShape}
-use Rattle.borsh_values.specs.Nodes.{Opens}
+use Rattle.borsh_values.specs.Nodes.{Opens, packed_size}
 use Rattle.borsh_values.specs.Faults.{BeginsWith}
-use Rattle.borsh_values.specs.declared.faults.Reason.TheVariants.{BytesLeft}
+use Rattle.borsh_values.specs.declared.faults.Reason.{Reason}
+use Rattle.borsh_values.specs.declared.faults.Reason.TheVariants.{BytesLeft, TooShort}
 use Rattle.borsh_values.specs.Layouts.{name_at, shape_at, parts_in}
 use Rattle.borsh_values.specs.declared.layout.Named.{Named}
 use Rattle.borsh_values.specs.declared.frames.Step.{Step}
@@ -90,33 +91,45 @@ abbrev pub AllOnlyEmpty : (List ℕ → Option Shape) → List (List ℕ) → Ty
 AllOnlyEmpty C [] = ⊤
 AllOnlyEmpty C (p ∷ ps) = OnlyEmpty C p × AllOnlyEmpty C ps
 
+-- bytes that begin with own begin with no other own bytes of the definition, and with no other parts
+abbrev pub OpensOnce : (List ℕ → Option Shape) → Shape → List ℕ → List (List ℕ) → Type 0
+OpensOnce C d own ns = (b : List ℕ) (ms : List (List ℕ)) (r s : List ℕ) → Opens C d b ms → b ++ r ≡ own ++ s → (b ≡ own) × (r ≡ s) × (ms ≡ ns)
+
+-- no member of the name begins with the bytes, nor with these and more, unless the reason is that they are too few
+abbrev pub NoneBegins : (List ℕ → Option Shape) → Reason → List ℕ → List ℕ → Type 0
+NoneBegins C r x bytes = (more : List ℕ) → (r ≡ TooShort → more ≡ []) → BeginsWith C x (bytes ++ more) → ⊥
+
 -- a name with the definition d is read from bytes as n bytes and then the names ns
 pub record Takes (C : List ℕ → Option Shape) (d : Shape) (bytes : List ℕ) (n : ℕ) (ns : List (List ℕ)) : Type 0 where
   -- there are n bytes
   pub within : n ≤ length bytes
-  -- members of the name begin with these n bytes, and members of ns follow
-  pub forth : (x : List ℕ) (ps : List (List ℕ)) → C x ≡ Some d → Members C (x ∷ ps) bytes → Members C (ns ++ ps) (drop n bytes)
-  -- the n bytes and members of ns are a member of the name
-  pub back : (x : List ℕ) (ps : List (List ℕ)) → C x ≡ Some d → Members C (ns ++ ps) (drop n bytes) → Members C (x ∷ ps) bytes
   -- where no byte is taken and none is in ns, the name has the empty member alone
   pub only_empty : n ≡ 0 → (x : List ℕ) → C x ≡ Some d → AllOnlyEmpty C ns → OnlyEmpty C x
-  -- the n bytes are those that the definition encodes before its parts ns
+  -- the n bytes are those that the definition encodes before its parts ns, and no other bytes are
   pub opens : Opens C d (take n bytes) ns
+  pub once : OpensOnce C d (take n bytes) ns
   -- the names are written in the definition
   pub mentioned : (p : List ℕ) → IsIn p ns → IsIn p (references d)
   -- where no byte is taken, they are required
   pub needs : n ≡ 0 → (p : List ℕ) → IsIn p ns → IsIn p (required_by d)
 
+-- the definition takes more bytes than these: as a primitive, for its tag, its count, or the elements that are listed with this
+abbrev pub TakesMore : (List ℕ → Option Shape) → Shape → List ℕ → Type 0
+TakesMore C (primitive n) bytes = length bytes < n
+TakesMore C (sequence w lo hi e) bytes = (length bytes < w) ⊎ ((k : ℕ) × (tag w (pos k) ≡ take w bytes) × (lo ≤ k) × (k ≤ hi) × (length bytes < w + k * packed_size (C e)))
+TakesMore C (product ps) bytes = ⊥
+TakesMore C (choice w vs) bytes = length bytes < w
+
 -- what an opened definition takes from the bytes, or that no member begins here, or that the definition is ambiguous or breaks a rule of widths
 abbrev pub OpensAs : (List ℕ → Option Shape) → List Named → Shape → List ℕ → Opened → Type 0
 OpensAs C ns d bytes Undecided = UnambiguousShape d → KeepsWidths d → ⊥
-OpensAs C ns d bytes (Refused r) = (r ≡ BytesLeft → ⊥) × ((x : List ℕ) → C x ≡ Some d → BeginsWith C x bytes → ⊥)
+OpensAs C ns d bytes (Refused r) = (r ≡ BytesLeft → ⊥) × ((x : List ℕ) → C x ≡ Some d → NoneBegins C r x bytes) × (r ≡ TooShort → TakesMore C d bytes)
 OpensAs C ns d bytes (Taken n r) = Takes C d bytes n (remaining ns r) × (step_count ns r ≤ 2 + length (references d)) × Fits ns r
 
 -- what k elements at a place of the layout take behind w bytes of all, where each has m bytes that are listed with their sequence
 abbrev pub TakesElements : List Named → ℕ → ℕ → ℕ → ℕ → ℕ → Opened → Type 0
 TakesElements ns m e k w all Undecided = ⊥
-TakesElements ns m e k w all (Refused r) = (r ≡ BytesLeft → ⊥) × (all < w + k * m)
+TakesElements ns m e k w all (Refused r) = (r ≡ TooShort) × (all < w + k * m)
 TakesElements ns zero e k w all (Taken n r) = (n ≡ w) × (remaining ns r ≡ replicate k (name_at ns e)) × (step_count ns r ≤ 3) × Fits ns r
 TakesElements ns (suc m) e k w all (Taken n r) = (n ≡ w + k * suc m) × (n ≤ all) × (remaining ns r ≡ []) × (step_count ns r ≤ 3) × Fits ns r
 

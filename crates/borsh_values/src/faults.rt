@@ -1,11 +1,11 @@
 // Where bytes stop being a member, and why.
-ghost use Rattle.borsh_values.specs.Faults.{IsNoMemberAt};
+ghost use Rattle.borsh_values.specs.Fronts.{StopsAt};
 ghost use Rattle.borsh_values.specs.Layouts.{name_at};
 ghost use Rattle.std.specs.Prelude.{IfOk, ◌≤◌, length};
 
 use crate::frames::{Frame, Rest, Step};
+use crate::fronts::Front;
 use crate::layout::{Layout, name_of};
-use crate::members::Membership;
 use crate::numbers::number;
 use crate::opening::definition_at;
 use crate::paths::field_step;
@@ -166,11 +166,11 @@ pub fn no_member<'a>(
     step: Step,
     left: usize,
     reason: Reason,
-) -> Result<Membership<'a>, AllocError>
+) -> Result<Front<'a>, AllocError>
     requires { left ≤ length bytes.now }
     ensures { let all = length bytes.now in
         let name = name_at layout.now.names.items step.at in
-        IfOk result (λ a. IsNoMemberAt all left name reason a) }
+        IfOk result (λ a. StopsAt all left name reason a) }
 {
     let mut steps: Vec<PathStep<'a>> = Vec::new(alloc);
     for frame in open.as_slice() {
@@ -187,10 +187,14 @@ pub fn no_member<'a>(
         steps.push(step)?;
     }
     let root = layout.root;
-    Ok(Membership::NoMember(Fault {
+    let fault = Fault {
         offset: bytes.len() - left,
         name: name_of(&layout.names, step.at),
         reason,
         path: Path { root, steps },
-    }))
+    };
+    match reason {
+        Reason::TooShort => Ok(Front::TooShort(fault)),
+        _ => Ok(Front::NoMember(fault)),
+    }
 }

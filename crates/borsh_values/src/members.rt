@@ -1,11 +1,13 @@
 // Whether bytes are a member of a name.
-ghost use Rattle.borsh_values.specs.Membership.{AnswersMembership, IsAnswer, IsAnswerAtEnd, most_opened};
+ghost use Rattle.borsh_values.specs.Membership.{AnswersMembership, IsAnswer, most_opened};
+ghost use Rattle.borsh_values.specs.Fronts.{AreNodesOf, IsFrontAnswer};
+ghost use Rattle.borsh_values.specs.declared.fronts.Front.TheVariants.{Value};
 ghost use Rattle.borsh_values.specs.Free.{KnowsSizes};
 ghost use Rattle.borsh_values.specs.Passing.{PassesFree};
 ghost use Rattle.borsh_values.specs.Layouts.{IsLaidOut};
 ghost use Rattle.borsh_values.specs.Steps.{Fits, KnownAs};
 ghost use Rattle.borsh_walks.specs.Definitions.{definitions_in};
-ghost use Rattle.borsh_values.specs.Nodes.{AreOffsets, Nodes, views};
+ghost use Rattle.borsh_values.specs.Nodes.{AreOffsets};
 ghost use Rattle.borsh_values.specs.Decoding.{DecodesValue, HasAtMost};
 ghost use Rattle.borsh_values.specs.declared.members.Membership.TheVariants.{Member as IsMember};
 ghost use Rattle.std.specs.Prelude.{IfOk, IfSome, None, Some, ◌+◌, ◌-◌, ◌<◌, ◌≤◌, ◌≡◌, ◌∷◌, [], get_or, length, drop, replicate, slice_set, take, true};
@@ -13,6 +15,7 @@ ghost use Rattle.std.specs.Prelude.{IfOk, IfSome, None, Some, ◌+◌, ◌-◌, 
 use crate::faults::{Fault, Path, Reason, no_member};
 use crate::frames::{Frame, Opened, Rest, after_copies, has_parts, next_part};
 use crate::free::free_front;
+use crate::fronts::Front;
 use crate::layout::{Layout, name_of};
 use crate::nodes::{Node, list_node};
 use crate::opening::{definition_at, open_definition};
@@ -84,16 +87,16 @@ fn unmarked(alloc: Global, count: usize) -> Result<Vec<Option<Mark>>, AllocError
     vec![in alloc; None; count]
 }
 
-// The first bytes.
-fn front(bytes: &[u8], taken: usize) -> &[u8]
+/// The first bytes.
+pub fn front(bytes: &[u8], taken: usize) -> &[u8]
     requires { taken ≤ length bytes.now }
     ensures { result.now ≡ take taken bytes.now }
 {
     &bytes[..taken]
 }
 
-// The bytes behind the first ones.
-fn after(bytes: &[u8], taken: usize) -> &[u8]
+/// The bytes behind the first ones.
+pub fn after(bytes: &[u8], taken: usize) -> &[u8]
     requires { taken ≤ length bytes.now }
     ensures { result.now ≡ drop taken bytes.now }
 {
@@ -147,23 +150,34 @@ fn count_one(count: &mut u64)
     *count = count.saturating_add(1);
 }
 
-// The answer where all names are read.
-fn at_end<'a>(alloc: Global, root: &'a str, bytes: &[u8], left: &[u8]) -> Membership<'a>
-    requires { length left.now ≤ length bytes.now }
-    ensures { IsAnswerAtEnd root.now (length bytes.now) left.now result }
+// Whether all of the bytes are the value that they begin with.
+fn whole<'a>(alloc: Global, layout: &Layout<'a>, bytes: &[u8], front: Front<'a>) -> Membership<'a>
+    requires { let C = definitions_in layout.now.map.now in
+        IsFrontAnswer C layout.now.root.now bytes.now front }
+    ensures answer { let C = definitions_in layout.now.map.now in
+        IsAnswer C layout.now.root.now bytes.now result }
+    ensures all { result ≡ IsMember → front.entry ≡ Value (length bytes.now) }
 {
-    if left.is_empty() {
-        return Membership::Member;
+    let root = layout.root;
+    match front {
+        Front::Value(taken) => {
+            if taken == bytes.len() {
+                return Membership::Member;
+            }
+            Membership::NoMember(Fault {
+                offset: taken,
+                name: root,
+                reason: Reason::BytesLeft,
+                path: Path {
+                    root,
+                    steps: Vec::new(alloc),
+                },
+            })
+        }
+        Front::TooShort(fault) => Membership::NoMember(fault),
+        Front::NoMember(fault) => Membership::NoMember(fault),
+        Front::Ambiguous(name) => Membership::Ambiguous(name),
     }
-    Membership::NoMember(Fault {
-        offset: bytes.len() - left.len(),
-        name: root,
-        reason: Reason::BytesLeft,
-        path: Path {
-            root,
-            steps: Vec::new(alloc),
-        },
-    })
 }
 
 /// Whether all of `bytes` is a member of `root`, by the definitions of `map` alone.
@@ -285,7 +299,8 @@ impl<'a> Layout<'a> {
         ensures bounded_work { opened.new ≤ opened.old + most_opened bytes.now self.now.map.now }
     {
         let mut nodes: Vec<Node<'a>> = Vec::new(alloc);
-        decide(alloc, self, bytes, false, &mut nodes, opened)
+        let front = decide(alloc, self, bytes, false, &mut nodes, opened)?;
+        Ok(whole(alloc, self, bytes, front))
     }
 
     /// As [`decode`], for a layout that was made before. Left open: as there.
@@ -305,7 +320,8 @@ impl<'a> Layout<'a> {
     {
         let mut nodes: Vec<Node<'a>> = Vec::new(alloc);
         let mut opened = 0;
-        match decide(alloc, self, bytes, true, &mut nodes, &mut opened)? {
+        let front = decide(alloc, self, bytes, true, &mut nodes, &mut opened)?;
+        match whole(alloc, self, bytes, front) {
             Membership::Member => Ok(Decoded::Nodes(nodes)),
             Membership::NoMember(fault) => Ok(Decoded::NoMember(fault)),
             Membership::Ambiguous(name) => Ok(Decoded::Ambiguous(name)),
@@ -313,23 +329,24 @@ impl<'a> Layout<'a> {
     }
 }
 
-// The loop over the bytes, which lists the nodes if they are asked for. Each frame of `stack` waits until the one after
-// it was read; `idle` counts the names that were begun since the last byte was taken.
-fn decide<'a>(
+/// The loop over the bytes, to the end of their first value, whose nodes it lists if they are asked for. Each frame of `stack`
+/// waits until the one after it was read; `idle` counts the names that were begun since the last byte was taken.
+pub fn decide<'a>(
     alloc: Global,
     layout: &Layout<'a>,
     bytes: &'a [u8],
     wanted: bool,
     nodes: &mut Vec<Node<'a>>,
     opened: &mut u64,
-) -> Result<Membership<'a>, AllocError>
+) -> Result<Front<'a>, AllocError>
     requires laid_out { IsLaidOut layout.now }
     requires sizes { KnowsSizes layout.now }
     requires empty { nodes.old.items ≡ [] }
     ensures answer { let C = definitions_in layout.now.map.now in
-        IfOk result (λ a. IsAnswer C layout.now.root.now bytes.now a) }
-    ensures listed { wanted ≡ true → IfOk result (λ a. a ≡ IsMember →
-        Nodes (definitions_in layout.now.map.now) (layout.now.root.now ∷ []) bytes.now (views nodes.new.items)) }
+        IfOk result (λ a. IsFrontAnswer C layout.now.root.now bytes.now a) }
+    ensures listed { let C = definitions_in layout.now.map.now in
+        wanted ≡ true →
+        IfOk result (λ a. AreNodesOf C layout.now.root.now bytes.now nodes.new.items a) }
     ensures placed { wanted ≡ true → IfOk result (λ a. AreOffsets 0 nodes.new.items) }
     ensures risen { opened.old ≤ opened.new }
     ensures bounded_work { opened.new ≤ opened.old + most_opened bytes.now layout.now.map.now }
@@ -374,7 +391,7 @@ fn decide<'a>(
                     match open_definition(
                         alloc, layout, &mut tags, name, step.at, definition, left,
                     )? {
-                        Opened::Undecided => return Ok(Membership::Ambiguous(name)),
+                        Opened::Undecided => return Ok(Front::Ambiguous(name)),
                         Opened::Refused(why) => {
                             return no_member(
                                 alloc,
@@ -453,7 +470,7 @@ fn decide<'a>(
                         }
                         frame = above;
                     }
-                    None => return Ok(at_end(alloc, layout.root, bytes, left)),
+                    None => return Ok(Front::Value(offset_of(bytes, left))),
                 },
             }
         }

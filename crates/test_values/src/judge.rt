@@ -3,8 +3,8 @@ use super::definitions::{Definitions, text};
 use super::wrong::{Wrong, check, expect};
 use borsh_json::{JsonError, LongNumbers, Style, check_strict, from_json, rows_of, to_json};
 use borsh_values::{
-    Decoded, Membership, Node, Paths, count_of, decode, elements_of, encode, encode_value,
-    is_member, variant_of,
+    Decoded, DecodedFront, Front, Layout, Membership, Next, Node, Paths, count_of, decode,
+    elements_of, encode, encode_value, is_member, variant_of,
 };
 use std::alloc::Global;
 
@@ -38,6 +38,9 @@ impl<'a> Root<'a> {
         let alloc = self.alloc;
         expect(alloc, "is_member", self.member(bytes)?.as_str(), wanted)?;
         expect(alloc, "decode", self.nodes(bytes)?.as_str(), wanted)?;
+        let front = self.front(bytes)?;
+        let is_front = wanted.ends_with("too few bytes are left") == (front.as_str() == "short");
+        check(alloc, is_front, "front", front.as_str())?;
         self.expect_answers(bytes, wanted, wanted)?;
         match rows_of(alloc, self.name, self.map, bytes) {
             Ok(_) => check(alloc, false, "rows_of", "rows"),
@@ -131,16 +134,42 @@ impl<'a> Root<'a> {
         Ok(encode_value(self.alloc, name, self.map, nodes)?)
     }
 
-    /// That neither a beginning of the bytes is a value nor they with one byte more.
+    /// That neither a beginning of the bytes is a value nor they with one byte more, which begin with the value.
     fn judge_lengths(&self, bytes: &[u8]) -> Result<(), Wrong> {
+        let alloc = self.alloc;
         for end in 0..bytes.len().min(BEGINNINGS) {
-            let is_value = self.has(&bytes[..end])?;
-            check(self.alloc, !is_value, "is_member", "a beginning is a value")?;
+            check(alloc, !self.has(&bytes[..end])?, "is_member", "a beginning")?;
+            expect(alloc, "front", self.front(&bytes[..end])?.as_str(), "short")?;
         }
-        let mut longer = Vec::from_slice(self.alloc, bytes)?;
+        let mut longer = Vec::from_slice(alloc, bytes)?;
         longer.push(0)?;
-        let is_value = self.has(longer.as_slice())?;
-        check(self.alloc, !is_value, "is_member", "a longer value")
+        check(alloc, !self.has(longer.as_slice())?, "is_member", "longer")?;
+        let length = format!(in alloc; "{}", bytes.len())?;
+        let front = self.front(longer.as_slice())?;
+        expect(alloc, "front", front.as_str(), length.as_str())
+    }
+
+    /// How many of the first bytes are a value, with the bytes of as many nodes; or why none are.
+    fn front(&self, bytes: &[u8]) -> Result<String, Wrong> {
+        let alloc = self.alloc;
+        let layout = Layout::new(alloc, self.name, self.map)?;
+        let taken = match layout.front(alloc, bytes)? {
+            Front::Value(taken) => taken,
+            Front::TooShort(_) => return text(alloc, "short"),
+            Front::NoMember(fault) => return told(alloc, &JsonError::NoMember(fault)),
+            Front::Ambiguous(name) => return told(alloc, &JsonError::Ambiguous(name)),
+        };
+        match layout.decode_front(alloc, bytes)? {
+            DecodedFront::Value(nodes, same) if same == taken => {
+                let joined = encode(alloc, nodes.as_slice())?;
+                let mut left = bytes;
+                let next = layout.next_value(alloc, &mut left)?;
+                let is_next = matches!(next, Next::Value(value) if value.len() == taken);
+                check(alloc, is_next || taken == 0, "next_value", "another")?;
+                Ok(format!(in alloc; "{}", joined.len())?)
+            }
+            _ => text(alloc, "other nodes"),
+        }
     }
 
     /// Whether the bytes are a value.

@@ -1,26 +1,23 @@
-use Rattle.std.proofs.Common.{◌≡◌, ℕ, suc, ◌+◌, ◌-◌, ◌<◌, ◌≤◌, List, [], ◌∷◌, ◌++◌, length, drop, length-drop, zero, reverse, replicate, set, Some, None, refl, sym, ◌∙◌, ap, subst, arith, true}
+use Rattle.std.proofs.Common.{◌≡◌, ℕ, suc, ◌+◌, ◌-◌, ◌<◌, ◌≤◌, List, [], ◌∷◌, ◌++◌, length, take, drop, length-drop, append-nil, zero, reverse, replicate, set, Some, None, refl, sym, ◌∙◌, ap, subst, arith, true}
 use Rattle.std.specs.Prelude.{Option, All, Bool, false}
 use Rattle.std.proofs.lemmas.List.Elements.{All-drop}
 use Rattle.borsh_values.proofs.Bytes.{small_bytes}
 use Rattle.std.specs.BTreeMap.{btree_map_len}
 use Rattle.borsh_walks.specs.Definitions.{definitions_in, shape_of}
-use Rattle.borsh_walks.specs.Container.{Shape, Member, stays}
 use Rattle.borsh_walks.proofs.Tables.{marks_none, no_items}
 use Rattle.borsh_walks.proofs.Spots.{last_first}
 use Rattle.borsh_values.specs.declared.frames.Frame.{Frame}
 use Rattle.borsh_values.specs.declared.frames.Rest.TheVariants.{Copies}
 use Rattle.borsh_values.specs.declared.members.Mark.TheVariants.{Open}
-use Rattle.borsh_values.specs.declared.members.Membership.{Membership}
-use Rattle.borsh_values.specs.declared.members.Membership.TheVariants.{Member as IsMember, NoMember, Ambiguous}
 use Rattle.borsh_values.specs.declared.faults.Reason.TheVariants.{MissingDefinition, Recursive}
 use Rattle.borsh_values.specs.declared.nodes.Node.{Node}
 use Rattle.borsh_values.specs.Layouts.{name_at}
-use Rattle.borsh_values.specs.Membership.{IsAnswer, IsAnswerAtEnd}
 use Rattle.borsh_values.specs.Nodes.{AreOffsets, Nodes, nodes_none, views}
-use Rattle.borsh_values.specs.Steps.{OpensAs, pending, remaining}
-use Rattle.borsh_values.proofs.Answers.{suffix_start, suffix_on, some_left, at_fault, answers_no}
-use Rattle.borsh_values.proofs.Going.{Going, defined_in, going_start, skip_listed, going_skip, less_skip, going_reached, going_back, going_denied, going_missing, room, going_new, going_on, going_past, less_new, less_on, less_past, listed_on, going_pass, fewer_pass, less_pass, going_up, going_up_empty, up_listed, less_up, going_end}
+use Rattle.borsh_values.specs.Steps.{NoneBegins, OpensAs, pending, remaining}
+use Rattle.borsh_values.proofs.Answers.{before, before_start, suffix_start, suffix_on, answers_no, is_front}
+use Rattle.borsh_values.proofs.Going.{Going, Listed, defined_in, going_start, skip_listed, going_skip, less_skip, going_reached, going_back, going_denied, going_missing, room, going_new, going_on, going_past, less_new, less_on, less_past, listed_on, going_pass, fewer_pass, less_pass, going_up, going_up_empty, up_listed, less_up, going_end}
 use Rattle.borsh_values.proofs.Listing.{all_views}
+use Rattle.borsh_values.proofs.NodesLaws.{nodes_bytes}
 use Rattle.borsh_values.proofs.Offsets.{total, placed_more}
 use Rattle.borsh_values.proofs.Places.{root_there}
 use Rattle.borsh_values.proofs.Walk.{with_rest}
@@ -36,7 +33,7 @@ loop-behind-init c =
     let f : Frame = record { at = 0; start = length c.args.bytes.now + 1; rest = Copies 0 1 } in
     let g = going_start l c.requires.laid_out c.args.bytes.now c.in_ok-marks.marks.items (c.in_ok-marks.ensures ∙ ap (λ n. replicate n None) (c.len.ensures ∙ l.names.ok.0)) in
     record {
-      going = subst (λ q. Going l c.args.bytes.now c.in_ok-marks.marks.items (reverse q) f c.args.bytes.now 0) (sym c.new-stack.ensures.items) g;
+      going = subst (λ d. Going l d c.in_ok-marks.marks.items (reverse c.new-stack.result.items) f c.args.bytes.now 0) (before_start c.args.bytes.now) (subst (λ q. Going l [] c.in_ok-marks.marks.items (reverse q) f c.args.bytes.now 0) (sym c.new-stack.ensures.items) g);
       within = omega arith;
       suffix = suffix_start c.args.bytes.now;
       risen = omega arith;
@@ -44,7 +41,7 @@ loop-behind-init c =
       few = λ _. (let e = ap (λ q. length q) c.requires.empty in omega (arith, e));
       placed = λ _. (subst (λ q. AreOffsets 0 q) (sym c.requires.empty) tt, (let t = ap (λ q. total q) c.requires.empty in omega (arith, t)));
       tags = tables_none C c.new-tags.result (marks_none c.new-tags.result c.new-tags.ensures.empty);
-      listed = λ w es n. subst (λ q. Nodes C (l.root.now ∷ []) c.args.bytes.now (views q ++ es)) (sym c.requires.empty) (subst (λ x. Nodes C (x ∷ []) c.args.bytes.now es) (root_there l.map.now l.root.now ns l.parts.items c.requires.laid_out).1 (subst (λ q. Nodes C (name_at ns 0 ∷ pending ns (reverse q)) c.args.bytes.now es) c.new-stack.ensures.items n));
+      listed = λ w cs es n. subst (λ q. Nodes C (l.root.now ∷ []) (before c.args.bytes.now c.args.bytes.now ++ cs) (views q ++ es)) (sym c.requires.empty) (subst (λ d. Nodes C (l.root.now ∷ []) (d ++ cs) es) (before_start c.args.bytes.now) (subst (λ x. Nodes C (x ∷ []) cs es) (root_there l.map.now l.root.now ns l.parts.items c.requires.laid_out).1 (subst (λ q. Nodes C (name_at ns 0 ∷ pending ns (reverse q)) cs es) c.new-stack.ensures.items n)));
     }
 
 -- names of free size are passed
@@ -58,6 +55,9 @@ loop-behind-smaller-in-Some c =
     let rest = c.loop-behind.left.now in
     subst (λ b. left l.map.now ns (length b) 0 (with_rest c.loop-behind.frame c.in-Some.behind.rest ∷ fs) < left l.map.now ns (length rest) c.loop-behind.idle (c.loop-behind.frame ∷ fs)) (sym p.4)
     (subst (λ r. left l.map.now ns (length (drop p.0.taken rest)) 0 (with_rest c.loop-behind.frame r ∷ fs) < left l.map.now ns (length rest) c.loop-behind.idle (c.loop-behind.frame ∷ fs)) (sym p.3) (less_pass l i.going p.0 p.2))
+
+none_taken : (n : ℕ) (xs ys : List ℕ) → n ≡ 0 → before xs ys ++ take n ys ≡ before xs ys
+none_taken n xs ys z = ap (λ i. before xs ys ++ take i ys) z ∙ append-nil (before xs ys)
 
 no_nodes : (w : Bool) → w ≡ false → w ≡ true → ⊥
 no_nodes w e f = cc
@@ -76,7 +76,7 @@ loop-behind-preserved-in-Some c =
     let ends = suffix_on p.0.taken bytes rest c.in-Some.behind.left.now i.within i.suffix p.4 p.2.within in
     let fewer : length c.in-Some.behind.left.now < length rest = subst (λ b. length b < length rest) (sym p.4) (fewer_pass l i.going p.0 p.2) in
     record {
-      going = subst (λ b. Going l bytes c.loop-behind.marks.items fs (with_rest c.loop-behind.frame c.in-Some.behind.rest) b 0) (sym p.4) (subst (λ r. Going l bytes c.loop-behind.marks.items fs (with_rest c.loop-behind.frame r) (drop p.0.taken rest) 0) (sym p.3) (going_pass l i.going p.0 p.2 small));
+      going = subst (λ d. Going l d c.loop-behind.marks.items fs (with_rest c.loop-behind.frame c.in-Some.behind.rest) c.in-Some.behind.left.now 0) ends.2 (subst (λ b. Going l (before bytes rest ++ take p.0.taken rest) c.loop-behind.marks.items fs (with_rest c.loop-behind.frame c.in-Some.behind.rest) b 0) (sym p.4) (subst (λ r. Going l (before bytes rest ++ take p.0.taken rest) c.loop-behind.marks.items fs (with_rest c.loop-behind.frame r) (drop p.0.taken rest) 0) (sym p.3) (going_pass l i.going p.0 p.2 small)));
       within = ends.0;
       suffix = ends.1;
       risen = i.risen;
@@ -96,8 +96,8 @@ returns-in_default-clause-answer c =
     let s = c.in-Some-next_part.step in
     let g = c.in-Some-next_part.ensures in
     let fs = reverse c.loop-behind.stack.items in
-    let deny = going_missing l i.going s g (sym c.in_default.ensures) in
-    answers_no C l.root.now c.args.bytes.now c.loop-behind.left.now (name_at ns s.at) MissingDefinition i.suffix (going_reached l i.going s g) (λ e. cc) deny (going_denied l i.going s g deny) c.no_member.result c.no_member.ensures
+    let deny : NoneBegins C MissingDefinition (name_at ns s.at) c.loop-behind.left.now = going_missing l i.going s g (sym c.in_default.ensures) in
+    answers_no C l.root.now c.args.bytes.now c.loop-behind.left.now (name_at ns s.at) MissingDefinition i.within i.suffix (going_reached l i.going s g) (λ e. cc) deny (going_denied l i.going s g MissingDefinition deny) (λ e. cc) c.no_member.result c.no_member.ensures
 
 pub returns-in-Refused-clause-answer : goal.returns-in-Refused-clause-answer
 returns-in-Refused-clause-answer c =
@@ -111,7 +111,7 @@ returns-in-Refused-clause-answer c =
     let d = shape_of c.in-Some-definition_at.definition.now in
     let o = subst (λ o. OpensAs C ns d c.loop-behind.left.now o) c.in-Refused.is c.in_ok-open_definition-in-Some-next_part.ensures.opened in
     let deny = o.1 (name_at ns s.at) (defined_in l i.going.laid s.at g.within ∙ sym c.in-Some-definition_at.ensures) in
-    answers_no C l.root.now c.args.bytes.now c.loop-behind.left.now (name_at ns s.at) c.in-Refused.why i.suffix (going_reached l i.going s g) o.0 deny (going_denied l i.going s g deny) c.no_member-in-Refused.result c.no_member-in-Refused.ensures
+    answers_no C l.root.now c.args.bytes.now c.loop-behind.left.now (name_at ns s.at) c.in-Refused.why i.within i.suffix (going_reached l i.going s g) o.0 deny (going_denied l i.going s g c.in-Refused.why deny) (λ e. (d, defined_in l i.going.laid s.at g.within ∙ sym c.in-Some-definition_at.ensures, o.2 e)) c.no_member-in-Refused.result c.no_member-in-Refused.ensures
 
 pub returns-in-Recursive-clause-answer : goal.returns-in-Recursive-clause-answer
 returns-in-Recursive-clause-answer c =
@@ -122,8 +122,8 @@ returns-in-Recursive-clause-answer c =
     let s = c.in-Some-next_part.step in
     let g = c.in-Some-next_part.ensures in
     let fs = reverse c.loop-behind.stack.items in
-    let deny = going_back l i.going s g c.in-Recursive.ensures in
-    answers_no C l.root.now c.args.bytes.now c.loop-behind.left.now (name_at ns s.at) Recursive i.suffix (going_reached l i.going s g) (λ e. cc) deny (going_denied l i.going s g deny) c.no_member-in-Recursive.result c.no_member-in-Recursive.ensures
+    let deny : NoneBegins C Recursive (name_at ns s.at) c.loop-behind.left.now = going_back l i.going s g c.in-Recursive.ensures in
+    answers_no C l.root.now c.args.bytes.now c.loop-behind.left.now (name_at ns s.at) Recursive i.within i.suffix (going_reached l i.going s g) (λ e. cc) deny (going_denied l i.going s g Recursive deny) (λ e. cc) c.no_member-in-Recursive.result c.no_member-in-Recursive.ensures
 
 pub loop-behind-smaller-in-Empty : goal.loop-behind-smaller-in-Empty
 loop-behind-smaller-in-Empty c =
@@ -146,7 +146,7 @@ loop-behind-preserved-in-Empty c =
     let g = c.in-Some-next_part.ensures in
     let fs = reverse c.loop-behind.stack.items in
     record {
-      going = subst (λ t. Going l c.args.bytes.now c.loop-behind.marks.items fs (with_rest c.loop-behind.frame t) c.loop-behind.left.now c.loop-behind.idle) (sym c.after_copies-frame.ensures) (going_skip l i.going s g c.in-Empty.ensures);
+      going = subst (λ t. Going l (before c.args.bytes.now c.loop-behind.left.now) c.loop-behind.marks.items fs (with_rest c.loop-behind.frame t) c.loop-behind.left.now c.loop-behind.idle) (sym c.after_copies-frame.ensures) (going_skip l i.going s g c.in-Empty.ensures);
       within = i.within;
       suffix = i.suffix;
       risen = i.risen;
@@ -154,7 +154,7 @@ loop-behind-preserved-in-Empty c =
       few = i.few;
       placed = i.placed;
       tags = c.in_ok-open_definition-in-Some-next_part.ensures.tables;
-      listed = λ w es n. i.listed w es (skip_listed l i.going s g c.in-Empty.ensures es (subst (λ t. Nodes C (pending ns (with_rest c.loop-behind.frame t ∷ fs)) c.loop-behind.left.now es) c.after_copies-frame.ensures n));
+      listed = λ w. subst (λ t. Listed l (before c.args.bytes.now c.loop-behind.left.now) (pending ns (with_rest c.loop-behind.frame t ∷ fs)) c.loop-behind.nodes.items) (sym c.after_copies-frame.ensures) (skip_listed l i.going s g c.in-Empty.ensures c.loop-behind.nodes.items (i.listed w));
     }
 
 pub overflow_add-idle : goal.overflow_add-idle
@@ -214,7 +214,7 @@ loop-behind-preserved-in-New c =
     let all = length c.args.bytes.now in
     let same : drop n c.loop-behind.left.now ≡ c.loop-behind.left.now = ap (λ k. drop k c.loop-behind.left.now) c.if-taken-eq0.true in
     record {
-      going = subst (λ v. Going l c.args.bytes.now v (reverse c.push.new.self.items) f c.loop-behind.left.now (c.loop-behind.idle + 1)) (sym c.set_mark.ensures) (subst (λ v. Going l c.args.bytes.now (set c.loop-behind.marks.items s.at (Some (Open (length c.loop-behind.left.now)))) v f c.loop-behind.left.now (c.loop-behind.idle + 1)) (sym back) (going_new l i.going s g d sh n r o c.if-taken-eq0.true c.in-New.ensures));
+      going = subst (λ v. Going l (before c.args.bytes.now c.loop-behind.left.now) v (reverse c.push.new.self.items) f c.loop-behind.left.now (c.loop-behind.idle + 1)) (sym c.set_mark.ensures) (subst (λ v. Going l (before c.args.bytes.now c.loop-behind.left.now) (set c.loop-behind.marks.items s.at (Some (Open (length c.loop-behind.left.now)))) v f c.loop-behind.left.now (c.loop-behind.idle + 1)) (sym back) (going_new l i.going s g d sh n r o c.if-taken-eq0.true c.in-New.ensures));
       within = i.within;
       suffix = i.suffix;
       risen = omega (arith, i.risen, c.count_one.ensures.risen);
@@ -222,7 +222,7 @@ loop-behind-preserved-in-New c =
       few = λ w. few_still D all (length c.loop-behind.nodes.items) (length c.list_node.new.nodes.items) (length c.loop-behind.left.now) c.loop-behind.idle q (i.few w) (listed_more C node c.loop-behind.nodes.items c.list_node.new.nodes.items (c.in_ok-list_node-in-New.ensures w));
       placed = λ w. placed_more C node c.loop-behind.nodes.items c.list_node.new.nodes.items n all c.loop-behind.left.now c.loop-behind.left.now c.offset_of-offset.ensures c.front.ensures (sym same) (c.in_ok-list_node-in-New.ensures w) (i.placed w);
       tags = c.in_ok-open_definition-in-Some-next_part.ensures.tables;
-      listed = λ w es m. listed_on l i.going s g d sh n r o node c.loop-behind.nodes.items c.list_node.new.nodes.items c.name_of-name.ensures refl c.front.ensures (c.in_ok-list_node-in-New.ensures w) (i.listed w) es (subst (λ b. Nodes C (remaining ns r ++ (remaining ns s.others ++ pending ns fs)) b es) (sym same) (subst (λ q. Nodes C (remaining ns r ++ pending ns q) c.loop-behind.left.now es) back m));
+      listed = λ w. subst (λ b. Listed l b (pending ns (f ∷ reverse c.push.new.self.items)) c.list_node.new.nodes.items) (none_taken n c.args.bytes.now c.loop-behind.left.now c.if-taken-eq0.true) (subst (λ q. Listed l (before c.args.bytes.now c.loop-behind.left.now ++ take n c.loop-behind.left.now) (remaining ns r ++ pending ns q) c.list_node.new.nodes.items) (sym back) (listed_on l i.going s g d sh n r o node c.loop-behind.nodes.items c.list_node.new.nodes.items c.name_of-name.ensures refl c.front.ensures (c.in_ok-list_node-in-New.ensures w) (i.listed w)));
     }
 
 positive : (n : ℕ) → (n ≡ 0 → ⊥) → 0 < n
@@ -287,6 +287,7 @@ loop-behind-preserved-then-has_parts c =
     let more = positive n c.if-taken-eq0.false in
     let ends = suffix_on n c.args.bytes.now c.loop-behind.left.now c.after-left.result.now i.within i.suffix c.after-left.ensures o.0.within in
     let fewer = less_left n c.loop-behind.left.now c.after-left.result.now c.after-left.ensures more o.0.within in
+    let read : List ℕ = before c.args.bytes.now c.loop-behind.left.now ++ take n c.loop-behind.left.now in
     let D = btree_map_len l.map.now in
     let all = length c.args.bytes.now in
     let old = c.loop-behind.nodes.items in
@@ -294,7 +295,7 @@ loop-behind-preserved-then-has_parts c =
     let f : Frame = record { at = s.at; start = length c.loop-behind.left.now; rest = r } in
     let back = last_first c.loop-behind.stack.items c.push-then-has_parts.new.self.items (with_rest c.loop-behind.frame s.others) c.in_ok-push-in-Taken.ensures.items in
     record {
-      going = subst (λ b. Going l c.args.bytes.now c.loop-behind.marks.items (reverse c.push-then-has_parts.new.self.items) f b 0) (sym c.after-left.ensures) (subst (λ v. Going l c.args.bytes.now c.loop-behind.marks.items v f (drop n c.loop-behind.left.now) 0) (sym back) (going_on l i.going s g d sh n r o more));
+      going = subst (λ d. Going l d c.loop-behind.marks.items (reverse c.push-then-has_parts.new.self.items) f c.after-left.result.now 0) ends.2 (subst (λ b. Going l read c.loop-behind.marks.items (reverse c.push-then-has_parts.new.self.items) f b 0) (sym c.after-left.ensures) (subst (λ v. Going l read c.loop-behind.marks.items v f (drop n c.loop-behind.left.now) 0) (sym back) (going_on l i.going s g d sh n r o more)));
       within = ends.0;
       suffix = ends.1;
       risen = omega (arith, i.risen, c.count_one-else-taken-eq0.ensures.risen);
@@ -302,7 +303,7 @@ loop-behind-preserved-then-has_parts c =
       few = λ w. few_on D all (length old) (length new) (length c.after-left.result.now) (length c.loop-behind.left.now) c.loop-behind.idle fewer (i.few w) (listed_more C node old new (c.in_ok-list_node-in-Taken.ensures w));
       placed = λ w. placed_more C node old new n all c.loop-behind.left.now c.after-left.result.now c.offset_of-offset.ensures c.front.ensures c.after-left.ensures (c.in_ok-list_node-in-Taken.ensures w) (i.placed w);
       tags = c.in_ok-open_definition-in-Some-next_part.ensures.tables;
-      listed = λ w es m. listed_on l i.going s g d sh n r o node old new c.name_of-name.ensures refl c.front.ensures (c.in_ok-list_node-in-Taken.ensures w) (i.listed w) es (subst (λ b. Nodes C (remaining ns r ++ (remaining ns s.others ++ pending ns fs)) b es) c.after-left.ensures (subst (λ q. Nodes C (remaining ns r ++ pending ns q) c.after-left.result.now es) back m));
+      listed = λ w. subst (λ b. Listed l b (pending ns (f ∷ reverse c.push-then-has_parts.new.self.items)) new) ends.2 (subst (λ q. Listed l read (remaining ns r ++ pending ns q) new) (sym back) (listed_on l i.going s g d sh n r o node old new c.name_of-name.ensures refl c.front.ensures (c.in_ok-list_node-in-Taken.ensures w) (i.listed w)));
     }
 
 pub loop-behind-preserved-else-has_parts : goal.loop-behind-preserved-else-has_parts
@@ -323,13 +324,14 @@ loop-behind-preserved-else-has_parts c =
     let more = positive n c.if-taken-eq0.false in
     let ends = suffix_on n c.args.bytes.now c.loop-behind.left.now c.after-left.result.now i.within i.suffix c.after-left.ensures o.0.within in
     let fewer = less_left n c.loop-behind.left.now c.after-left.result.now c.after-left.ensures more o.0.within in
+    let read : List ℕ = before c.args.bytes.now c.loop-behind.left.now ++ take n c.loop-behind.left.now in
     let D = btree_map_len l.map.now in
     let all = length c.args.bytes.now in
     let old = c.loop-behind.nodes.items in
     let new = c.list_node-else-taken-eq0.new.nodes.items in
     let none = c.has_parts.ensures.none c.if-has_parts.false in
     record {
-      going = subst (λ b. Going l c.args.bytes.now c.loop-behind.marks.items fs (with_rest c.loop-behind.frame s.others) b 0) (sym c.after-left.ensures) (going_past l i.going s g d sh n r o more none);
+      going = subst (λ d. Going l d c.loop-behind.marks.items fs (with_rest c.loop-behind.frame s.others) c.after-left.result.now 0) ends.2 (subst (λ b. Going l read c.loop-behind.marks.items fs (with_rest c.loop-behind.frame s.others) b 0) (sym c.after-left.ensures) (going_past l i.going s g d sh n r o more none));
       within = ends.0;
       suffix = ends.1;
       risen = omega (arith, i.risen, c.count_one-else-taken-eq0.ensures.risen);
@@ -337,7 +339,7 @@ loop-behind-preserved-else-has_parts c =
       few = λ w. few_on D all (length old) (length new) (length c.after-left.result.now) (length c.loop-behind.left.now) c.loop-behind.idle fewer (i.few w) (listed_more C node old new (c.in_ok-list_node-in-Taken.ensures w));
       placed = λ w. placed_more C node old new n all c.loop-behind.left.now c.after-left.result.now c.offset_of-offset.ensures c.front.ensures c.after-left.ensures (c.in_ok-list_node-in-Taken.ensures w) (i.placed w);
       tags = c.in_ok-open_definition-in-Some-next_part.ensures.tables;
-      listed = λ w es m. listed_on l i.going s g d sh n r o node old new c.name_of-name.ensures refl c.front.ensures (c.in_ok-list_node-in-Taken.ensures w) (i.listed w) es (subst (λ b. Nodes C (remaining ns r ++ (remaining ns s.others ++ pending ns fs)) b es) c.after-left.ensures (subst (λ q. Nodes C (q ++ (remaining ns s.others ++ pending ns fs)) c.after-left.result.now es) (sym none) m));
+      listed = λ w. subst (λ b. Listed l b (remaining ns s.others ++ pending ns fs) new) ends.2 (subst (λ q. Listed l read (q ++ (remaining ns s.others ++ pending ns fs)) new) none (listed_on l i.going s g d sh n r o node old new c.name_of-name.ensures refl c.front.ensures (c.in_ok-list_node-in-Taken.ensures w) (i.listed w)));
     }
 
 pub loop-behind-smaller-then-frame-left : goal.loop-behind-smaller-then-frame-left
@@ -356,9 +358,9 @@ loop-behind-preserved-then-frame-left c =
     let ns = l.names.items in
     let i = c.loop-behind.invariant in
     let items = last_first c.pop.new.self.items c.loop-behind.stack.items c.in-Some-pop.above c.in-Some-pop.ensures.items in
-    let v = subst (λ q. Going l c.args.bytes.now c.loop-behind.marks.items q c.loop-behind.frame c.loop-behind.left.now c.loop-behind.idle) items i.going in
+    let v = subst (λ q. Going l (before c.args.bytes.now c.loop-behind.left.now) c.loop-behind.marks.items q c.loop-behind.frame c.loop-behind.left.now c.loop-behind.idle) items i.going in
     record {
-      going = subst (λ q. Going l c.args.bytes.now q (reverse c.pop.new.self.items) c.in-Some-pop.above c.loop-behind.left.now c.loop-behind.idle) (sym c.set_mark-then-frame-left.ensures) (going_up_empty l v c.in-None-next_part.ensures c.if-frame-left.true);
+      going = subst (λ q. Going l (before c.args.bytes.now c.loop-behind.left.now) q (reverse c.pop.new.self.items) c.in-Some-pop.above c.loop-behind.left.now c.loop-behind.idle) (sym c.set_mark-then-frame-left.ensures) (going_up_empty l v c.in-None-next_part.ensures c.if-frame-left.true);
       within = i.within;
       suffix = i.suffix;
       risen = i.risen;
@@ -366,7 +368,7 @@ loop-behind-preserved-then-frame-left c =
       few = i.few;
       placed = i.placed;
       tags = i.tags;
-      listed = λ w es n. i.listed w es (subst (λ q. Nodes C (pending ns (c.loop-behind.frame ∷ q)) c.loop-behind.left.now es) (sym items) (up_listed l (reverse c.pop.new.self.items) c.loop-behind.frame c.in-Some-pop.above c.in-None-next_part.ensures es n));
+      listed = λ w. up_listed l (before c.args.bytes.now c.loop-behind.left.now) c.loop-behind.nodes.items (reverse c.pop.new.self.items) c.loop-behind.frame c.in-Some-pop.above c.in-None-next_part.ensures (subst (λ q. Listed l (before c.args.bytes.now c.loop-behind.left.now) (pending ns (c.loop-behind.frame ∷ q)) c.loop-behind.nodes.items) items (i.listed w));
     }
 
 pub loop-behind-smaller : goal.loop-behind-smaller
@@ -385,7 +387,7 @@ loop-behind-preserved c =
     let ns = l.names.items in
     let i = c.loop-behind.invariant in
     let items = last_first c.pop.new.self.items c.loop-behind.stack.items c.in-Some-pop.above c.in-Some-pop.ensures.items in
-    let v = subst (λ q. Going l c.args.bytes.now c.loop-behind.marks.items q c.loop-behind.frame c.loop-behind.left.now c.loop-behind.idle) items i.going in
+    let v = subst (λ q. Going l (before c.args.bytes.now c.loop-behind.left.now) c.loop-behind.marks.items q c.loop-behind.frame c.loop-behind.left.now c.loop-behind.idle) items i.going in
     record {
       going = going_up l v c.in-None-next_part.ensures c.if-frame-left.false;
       within = i.within;
@@ -395,41 +397,29 @@ loop-behind-preserved c =
       few = i.few;
       placed = i.placed;
       tags = i.tags;
-      listed = λ w es n. i.listed w es (subst (λ q. Nodes C (pending ns (c.loop-behind.frame ∷ q)) c.loop-behind.left.now es) (sym items) (up_listed l (reverse c.pop.new.self.items) c.loop-behind.frame c.in-Some-pop.above c.in-None-next_part.ensures es n));
+      listed = λ w. up_listed l (before c.args.bytes.now c.loop-behind.left.now) c.loop-behind.nodes.items (reverse c.pop.new.self.items) c.loop-behind.frame c.in-Some-pop.above c.in-None-next_part.ensures (subst (λ q. Listed l (before c.args.bytes.now c.loop-behind.left.now) (pending ns (c.loop-behind.frame ∷ q)) c.loop-behind.nodes.items) items (i.listed w));
     }
-
-end_answer : (C : List ℕ → Option Shape) (root bytes rest : List ℕ) (a : Membership) → length rest ≤ length bytes → IsAnswerAtEnd root (length bytes) rest a → (Member C root bytes → rest ≡ []) × (rest ≡ [] → Member C root bytes) → IsAnswer C root bytes a
-end_answer C root bytes rest IsMember low h w = w.1 h
-end_answer C root bytes rest (NoMember f) low h w = (
-  (λ m. h.0 (w.0 m)),
-  at_fault C root bytes f h.1 h.2 h.3 (omega arith) stays (let k = some_left rest h.0 in omega (arith, low, k), refl),
-)
-end_answer C root bytes rest (Ambiguous x) low h w = absurd h
 
 pub returns-in-None-pop-clause-answer : goal.returns-in-None-pop-clause-answer
 returns-in-None-pop-clause-answer c =
     let l = c.args.layout.now in
     let i = c.loop-behind.invariant in
     let none = no_items c.loop-behind.stack.items (omega (arith, c.in-None-pop.ensures.cases.0, c.loop-behind.stack.ok.0)) in
-    let v = subst (λ q. Going l c.args.bytes.now c.loop-behind.marks.items (reverse q) c.loop-behind.frame c.loop-behind.left.now c.loop-behind.idle) none i.going in
-    end_answer (definitions_in l.map.now) l.root.now c.args.bytes.now c.loop-behind.left.now c.at_end.result i.within c.at_end.ensures (going_end l v c.in-None-next_part.ensures)
-
-at_end_empty : (root : List ℕ) (all : ℕ) (rest : List ℕ) (a : Membership) → IsAnswerAtEnd root all rest a → a ≡ IsMember → rest ≡ []
-at_end_empty root all rest IsMember h e = h
-at_end_empty root all rest (NoMember f) h e = cc
-at_end_empty root all rest (Ambiguous x) h e = absurd h
+    let v = subst (λ q. Going l (before c.args.bytes.now c.loop-behind.left.now) c.loop-behind.marks.items (reverse q) c.loop-behind.frame c.loop-behind.left.now c.loop-behind.idle) none i.going in
+    is_front (definitions_in l.map.now) l.root.now c.args.bytes.now c.loop-behind.left.now c.offset_of.result c.offset_of.ensures i.suffix (going_end l v c.in-None-next_part.ensures)
 
 pub returns-in-None-pop-clause-listed : goal.returns-in-None-pop-clause-listed
-returns-in-None-pop-clause-listed c = λ w e.
+returns-in-None-pop-clause-listed c = λ w.
     let l = c.args.layout.now in
     let C = definitions_in l.map.now in
     let ns = l.names.items in
     let i = c.loop-behind.invariant in
     let none = no_items c.loop-behind.stack.items (omega (arith, c.in-None-pop.ensures.cases.0, c.loop-behind.stack.ok.0)) in
-    let left = at_end_empty l.root.now (length c.args.bytes.now) c.loop-behind.left.now c.at_end.result c.at_end.ensures e in
     let same : pending ns (c.loop-behind.frame ∷ reverse c.loop-behind.stack.items) ≡ [] = ap (λ q. q ++ pending ns (reverse c.loop-behind.stack.items)) c.in-None-next_part.ensures ∙ ap (λ q. pending ns (reverse q)) none in
-    let n = i.listed w [] (subst (λ q. Nodes C q c.loop-behind.left.now []) (sym same) (subst (λ b. Nodes C [] b []) (sym left) nodes_none)) in
-    subst (λ q. Nodes C (l.root.now ∷ []) c.args.bytes.now q) (all_views (views c.loop-behind.nodes.items)) n
+    let n = i.listed w [] [] (subst (λ q. Nodes C q [] []) (sym same) nodes_none) in
+    let read : before c.args.bytes.now c.loop-behind.left.now ++ [] ≡ take c.offset_of.result c.args.bytes.now = append-nil (before c.args.bytes.now c.loop-behind.left.now) ∙ ap (λ k. take k c.args.bytes.now) (sym c.offset_of.ensures) in
+    let m = subst (λ q. Nodes C (l.root.now ∷ []) (take c.offset_of.result c.args.bytes.now) q) (all_views (views c.loop-behind.nodes.items)) (subst (λ b. Nodes C (l.root.now ∷ []) b (views c.loop-behind.nodes.items ++ [])) read n) in
+    (m, nodes_bytes C m)
 
 pub returns-in-None-pop-clause-placed : goal.returns-in-None-pop-clause-placed
 returns-in-None-pop-clause-placed c = λ w. (c.loop-behind.invariant.placed w).0
