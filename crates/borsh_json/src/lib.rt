@@ -8,6 +8,7 @@ mod definitions;
 mod error;
 mod formats;
 mod kinds;
+mod laws;
 mod numbers;
 mod order;
 mod output;
@@ -18,6 +19,7 @@ mod strict;
 mod writing;
 
 pub use error::{JsonError, Refusal};
+pub use laws::text_determines_bytes;
 pub use output::{Layout, LongNumbers, Style};
 pub use reading::from_json;
 pub use rows::{Row, rows_of};
