@@ -1,1 +1,5 @@
 pub mod Errors
+pub mod Forms
+pub mod Table
+pub mod InOrder
+pub mod Represents

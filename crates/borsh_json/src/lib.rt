@@ -9,6 +9,7 @@ mod error;
 mod floats;
 mod formats;
 mod kinds;
+mod laws;
 mod numbers;
 mod order;
 mod output;
@@ -19,6 +20,7 @@ mod strict;
 mod writing;
 
 pub use error::{JsonError, Refusal};
+pub use laws::text_determines_bytes;
 pub use output::{Layout, LongNumbers, Style};
 pub use reading::from_json;
 pub use rows::{Row, rows_of};

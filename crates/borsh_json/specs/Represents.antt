@@ -1,0 +1,21 @@
+-- Which bytes a JSON value represents, by the definitions of a container.
+use Rattle.std.specs.Prelude.{◌≡◌, ℕ, List, [], ◌∷◌, ◌++◌, Option, Some}
+use Rattle.json.specs.Json.{Json, document}
+use Rattle.borsh_walks.specs.Container.{Member}
+use Rattle.borsh_json.specs.Forms.{Form, shapes}
+use Rattle.borsh_json.specs.Table.{Kind, HasKind, Part, Says}
+use Rattle.borsh_json.specs.InOrder.{InOrder}
+
+module _ (F : List ℕ → Option Form) where
+  -- the parts have these bytes, one after another: those that the first says, and then those of its own parts and of the others
+  pub data HaveBytes : List Part → List ℕ → Type 0 where
+    none_left : HaveBytes [] []
+    next_part : {x bs : List ℕ} {j : Json} {ps : List Part} (kind : Kind) (own : List ℕ) (qs : List Part) → HasKind F x kind → Says F kind j own qs → HaveBytes (qs ++ ps) bs → HaveBytes ((x, j) ∷ ps) (own ++ bs)
+
+  -- the JSON value represents the bytes as a value of the root: they are what it says, a member, and in order
+  abbrev pub Represents : List ℕ → Json → List ℕ → Type 0
+  Represents root j bytes = HaveBytes ((root, j) ∷ []) bytes × Member (shapes F) root bytes × InOrder F root bytes
+
+  -- the text is JSON that represents the bytes
+  abbrev pub TextRepresents : List ℕ → List ℕ → List ℕ → Type 0
+  TextRepresents root text bytes = (j : Json) × (document text ≡ Some j) × Represents root j bytes
