@@ -8,6 +8,10 @@ use borsh_types::BorshKey;
 
 /// What inserting entries in turn leaves (`after_inserts`), as in a decoded index map: each key once, in its first place and
 /// with its last value.
+///
+/// ```
+/// index_map_entries::<u8, String>();
+/// ```
 pub fn index_map_entries<K: BorshKey, V>()
     ensures { (read : List (K × V)) → HasEachKeyOnce K.eq read (after_inserts K.eq read) }
 {}
