@@ -99,7 +99,7 @@ fn read_text<'a>(
     }
 }
 
-/// Why a text isn't JSON that is read: it nests too deep, or is wrong somewhere.
+/// Why a text isn't JSON that is read: it nests too deep, or is wrong at a byte, where a token begins that can't follow.
 fn why_not_json<'a>(alloc: Global, root: &'a str, text: &str) -> JsonError<'a>
     ensures { TellsNoJson result }
 {
@@ -107,23 +107,49 @@ fn why_not_json<'a>(alloc: Global, root: &'a str, text: &str) -> JsonError<'a>
     let Ok(mut reader) = Reader::new(text, &mut scratch) else {
         return JsonError::OutOfMemory;
     };
-    let mut depth: usize = 0;
+    // Of each array and object that is open, whether it is an object.
+    let mut open: Vec<bool> = Vec::new(alloc);
+    let mut has_key = false;
     for _ in 0..u64::MAX {
+        let offset = reader.offset();
         let Some(token) = reader.next() else {
             break;
         };
+        if !may_follow(open.last().copied(), has_key, token) {
+            return JsonError::NotJson(offset);
+        }
+        has_key = matches!(token, Token::Key(_));
         match token {
-            Token::BeginArray | Token::BeginObject => depth = depth.saturating_add(1),
-            Token::EndArray | Token::EndObject => depth = depth.saturating_sub(1),
-            Token::Bad => break,
+            Token::BeginArray | Token::BeginObject => {
+                if open.len() >= MAX_DEPTH {
+                    let steps = Vec::new(alloc);
+                    return JsonError::Refused(Path { root, steps }, Refusal::TooDeep);
+                }
+                let Ok(()) = open.push(matches!(token, Token::BeginObject)) else {
+                    return JsonError::OutOfMemory;
+                };
+            }
+            Token::EndArray | Token::EndObject => {
+                let _closed = open.pop();
+            }
             _ => (),
         }
-        if depth > MAX_DEPTH {
-            let steps = Vec::new(alloc);
-            return JsonError::Refused(Path { root, steps }, Refusal::TooDeep);
+        // Nothing may follow the whole value.
+        if open.is_empty() && !has_key {
+            break;
         }
     }
     JsonError::NotJson(reader.offset())
+}
+
+/// Whether a token may follow in an object, in an array, or in front of the whole value; in an object behind a key or not.
+fn may_follow(is_object: Option<bool>, has_key: bool, token: Token<'_>) -> bool {
+    match token {
+        Token::Bad => false,
+        Token::Key(_) | Token::EndObject => is_object == Some(true) && !has_key,
+        Token::EndArray => is_object == Some(false),
+        _ => is_object != Some(true) || has_key,
+    }
 }
 
 fn read_value<'a>(
@@ -414,7 +440,7 @@ impl<'a, 't, 's> Reading<'a, 't, 's> {
         let count = count as u64;
         let (start, end) = (length_range.start, length_range.end);
         if count < start || end < count {
-            let wanted = format!(in self.alloc; "{start} to {end} elements")?;
+            let wanted = wanted_count(self.alloc, start, end)?;
             return Err(self.position.refused(Refusal::Expected(wanted)));
         }
         Ok(self.put_wide(*length_width, count.to_le_bytes(), 0)?)
@@ -627,6 +653,15 @@ impl<'a, 't, 's> Reading<'a, 't, 's> {
             Ok(wanted) => self.position.refused(Refusal::Expected(wanted)),
             Err(_) => PartError::OutOfMemory,
         }
+    }
+}
+
+/// How many elements a list has to have.
+fn wanted_count(alloc: Global, start: u64, end: u64) -> Result<String, AllocError> {
+    match (start, end) {
+        (1, 1) => String::from_str(alloc, "1 element"),
+        _ if start == end => format!(in alloc; "{start} elements"),
+        _ => format!(in alloc; "{start} to {end} elements"),
     }
 }
 
