@@ -7,16 +7,26 @@
 
 #include <stdlib.h>
 
+/* Where a refusal is: `Place` of `crates/borsh_c`. The path is a part of the text. */
+struct place {
+    bool has_offset;
+    bool has_path;
+    size_t offset;
+    size_t path_start;
+    size_t path_length;
+};
+
 /* The functions of `crates/borsh_c`. No pointer may be null. */
 uint32_t borsh_c_valid(const uint8_t *schema, size_t schema_length, uint8_t *room, size_t room_length, size_t *needed);
 uint32_t borsh_c_size(const uint8_t *schema, size_t schema_length, size_t *size, uint8_t *room, size_t room_length,
                       size_t *needed);
 uint32_t borsh_c_member(const uint8_t *schema, size_t schema_length, const uint8_t *value, size_t value_length,
-                        uint8_t *room, size_t room_length, size_t *needed);
+                        struct place *place, uint8_t *room, size_t room_length, size_t *needed);
 uint32_t borsh_c_to_json(const uint8_t *schema, size_t schema_length, const uint8_t *value, size_t value_length,
-                         bool is_compact, bool has_quoted_numbers, uint8_t *room, size_t room_length, size_t *needed);
+                         bool is_compact, bool has_quoted_numbers, struct place *place, uint8_t *room, size_t room_length,
+                         size_t *needed);
 uint32_t borsh_c_from_json(const uint8_t *schema, size_t schema_length, const uint8_t *json, size_t json_length,
-                           uint8_t *room, size_t room_length, size_t *needed);
+                           struct place *place, uint8_t *room, size_t room_length, size_t *needed);
 
 enum call { VALID, SIZE, MEMBER, TO_JSON, FROM_JSON };
 
@@ -37,12 +47,12 @@ void borsh_free(struct borsh_buffer *buffer) {
     if (buffer == NULL)
         return;
     free(buffer->block);
-    *buffer = (struct borsh_buffer){nothing, 0, NULL};
+    *buffer = (struct borsh_buffer){.data = nothing};
 }
 
 /* An error that the proved functions don't have. Its text isn't allocated. */
 static uint32_t fail(uint32_t code, const char *text, size_t length, struct borsh_buffer *out) {
-    *out = (struct borsh_buffer){(const uint8_t *)text, length, NULL};
+    *out = (struct borsh_buffer){.data = (const uint8_t *)text, .length = length};
     return code;
 }
 
@@ -53,7 +63,7 @@ static bool is_null(const uint8_t *bytes, size_t length) { return bytes == NULL 
 /* Where no bytes are: a pointer that isn't null. */
 static const uint8_t *start(const uint8_t *bytes) { return bytes == NULL ? nothing : bytes; }
 
-static uint32_t call(const struct question *q, uint8_t *room, size_t room_length, size_t *needed) {
+static uint32_t call(const struct question *q, struct place *place, uint8_t *room, size_t room_length, size_t *needed) {
     const uint8_t *schema = start(q->schema);
     const uint8_t *value = start(q->value);
     switch (q->call) {
@@ -62,12 +72,12 @@ static uint32_t call(const struct question *q, uint8_t *room, size_t room_length
     case SIZE:
         return borsh_c_size(schema, q->schema_length, q->size, room, room_length, needed);
     case MEMBER:
-        return borsh_c_member(schema, q->schema_length, value, q->value_length, room, room_length, needed);
+        return borsh_c_member(schema, q->schema_length, value, q->value_length, place, room, room_length, needed);
     case TO_JSON:
-        return borsh_c_to_json(schema, q->schema_length, value, q->value_length, q->is_compact, q->has_quoted_numbers, room, room_length,
-                               needed);
+        return borsh_c_to_json(schema, q->schema_length, value, q->value_length, q->is_compact, q->has_quoted_numbers, place, room,
+                               room_length, needed);
     default:
-        return borsh_c_from_json(schema, q->schema_length, value, q->value_length, room, room_length, needed);
+        return borsh_c_from_json(schema, q->schema_length, value, q->value_length, place, room, room_length, needed);
     }
 }
 
@@ -89,10 +99,15 @@ static uint32_t ask(const struct question *q, struct borsh_buffer *out) {
         if (room == NULL)
             break;
         size_t needed = 0;
-        uint32_t code = call(q, room, room_length, &needed);
+        struct place place = {false, false, 0, 0, 0};
+        uint32_t code = call(q, &place, room, room_length, &needed);
         if (needed <= room_length) {
             room[needed] = 0;
-            *out = (struct borsh_buffer){room, needed, room};
+            *out = (struct borsh_buffer){.data = room, .length = needed, .block = room};
+            out->path = place.has_path ? room + place.path_start : NULL;
+            out->path_length = place.path_length;
+            out->has_offset = place.has_offset;
+            out->offset = place.offset;
             return code;
         }
         free(room);

@@ -43,6 +43,12 @@ struct borsh_buffer {
     /* Never null after a call, and behind the last byte is a zero byte that isn't counted. */
     const uint8_t *data;
     size_t length;
+    /* After BORSH_NO of a call about a value: the path of the part that the text is about, as `A.y[3]`, which lies in `data`, or null. */
+    const uint8_t *path;
+    size_t path_length;
+    /* If `has_offset`, the byte at which the value has no such part, or near which the JSON is wrong. */
+    size_t offset;
+    bool has_offset;
     /* What `borsh_free` frees. */
     void *block;
 };
@@ -57,7 +63,8 @@ uint32_t borsh_valid(const uint8_t *schema, size_t schema_length, struct borsh_b
  * BORSH_NO the text is `overflow`, `recursive`, or `missing` and a name. */
 uint32_t borsh_size(const uint8_t *schema, size_t schema_length, size_t *size, struct borsh_buffer *text);
 
-/* Whether all of the bytes are a value of the root. After BORSH_NO the text says where they stop being one, and why. */
+/* Whether all of the bytes are a value of the root. After BORSH_NO the text says where they stop being one, and why; so do `path` and
+ * `offset`. */
 uint32_t borsh_member(const uint8_t *schema, size_t schema_length, const uint8_t *value, size_t value_length,
                       struct borsh_buffer *text);
 

@@ -34,6 +34,12 @@ static struct file file_at(const char *path) {
 
 static void print_text(const char *call, uint32_t code, const struct borsh_buffer *text) {
     printf("%s: %u%s%s\n", call, (unsigned)code, text->length == 0 ? "" : " ", (const char *)text->data);
+    if (text->path != NULL)
+        printf("place: %.*s", (int)text->path_length, (const char *)text->path);
+    if (text->has_offset)
+        printf(" at byte %zu", text->offset);
+    if (text->path != NULL || text->has_offset)
+        printf("\n");
 }
 
 static void print_bytes(const char *call, uint32_t code, const struct borsh_buffer *bytes) {

@@ -10,17 +10,26 @@ const KINDS = ["yes", "no", "malformed", "out of memory", "null", "undecided"];
 const RESULT = Symbol("result");
 const RESULT_BYTES = 8;
 
+/** In the place of an argument: where the call writes the place of a refusal, the `Place` of `crates/borsh_c`. */
+const PLACE = Symbol("place");
+const PLACE_BYTES = 32;
+
 /** A memory that is larger than this after a call is given back to the engine: 64 MiB. */
 const KEPT_BYTES = 2 ** 26;
 
 /** An answer has at first four times the room of what it is made of, in which most fit; but not more than this: 512 MiB. */
 const MOST_ROOM = 2 ** 29;
 
-/** What a call answers: a kind, which is "yes" or says why not, and the bytes that were asked for, or a text that says why. */
+/**
+ * What a call answers: a kind, which is "yes" or says why not, and the bytes that were asked for, or a text that says why; and the place
+ * that this names: an offset, and the part of the text that is a path. Both may be undefined.
+ */
 class Answer {
-  constructor(kind, bytes) {
+  constructor(kind, bytes, place) {
     this.kind = kind;
     this.bytes = bytes;
+    this.offset = place?.offset;
+    this.path = place?.path;
   }
 }
 
@@ -43,15 +52,15 @@ export class Calls {
   }
 
   member(schema, value) {
-    return this.#call("borsh_c_member", [schema, value], 256);
+    return this.#call("borsh_c_member", [schema, value, PLACE], 256);
   }
 
   toJson(schema, value, isCompact, hasQuotedNumbers) {
-    return this.#call("borsh_c_to_json", [schema, value, Number(isCompact), Number(hasQuotedNumbers)], roomFor(value));
+    return this.#call("borsh_c_to_json", [schema, value, Number(isCompact), Number(hasQuotedNumbers), PLACE], roomFor(value));
   }
 
   fromJson(schema, json) {
-    return this.#call("borsh_c_from_json", [schema, json], roomFor(json));
+    return this.#call("borsh_c_from_json", [schema, json, PLACE], roomFor(json));
   }
 
   /** What the module exports, for tests. */
@@ -80,17 +89,17 @@ function roomFor(bytes) {
 
 function ask(it, name, given, roomLength) {
   const words = [];
-  let result = 0n;
+  const written = {}; // by RESULT and PLACE: the address
   for (const argument of given) {
     if (typeof argument === "number") {
       words.push(argument);
       continue;
     }
-    const length = argument === RESULT ? RESULT_BYTES : argument.length;
+    const length = argument === RESULT ? RESULT_BYTES : argument === PLACE ? PLACE_BYTES : argument.length;
     const at = it.heap_take(BigInt(length));
     if (at === 0n) return outOfMemory();
-    if (argument === RESULT) {
-      result = at;
+    if (typeof argument === "symbol") {
+      written[argument] = at;
       words.push(at);
     } else {
       view(it, at, length).set(argument);
@@ -105,12 +114,23 @@ function ask(it, name, given, roomLength) {
     const kind = KINDS[it[name](...words, room, BigInt(roomLength), needed)];
     const length = Number(new DataView(it.memory.buffer).getBigUint64(Number(needed), true));
     if (length <= roomLength) {
-      const isResult = kind === "yes" && result !== 0n;
-      return new Answer(kind, isResult ? view(it, result, RESULT_BYTES).slice() : view(it, room, length).slice());
+      if (kind === "yes" && written[RESULT]) return new Answer(kind, view(it, written[RESULT], RESULT_BYTES).slice());
+      const place = kind === "no" && written[PLACE] ? placeAt(it, written[PLACE]) : undefined;
+      return new Answer(kind, view(it, room, length).slice(), place);
     }
     it.heap_give_back(room);
     roomLength = length;
   }
+}
+
+/** What a call has written to a `Place`: two bytes that say what there is, and three numbers. */
+function placeAt(it, at) {
+  const place = new DataView(it.memory.buffer, Number(at), PLACE_BYTES);
+  const number = (index) => Number(place.getBigUint64(8 * index, true));
+  return {
+    offset: place.getUint8(0) ? number(1) : undefined,
+    path: place.getUint8(1) ? { start: number(2), end: number(2) + number(3) } : undefined,
+  };
 }
 
 function view(it, at, length) {

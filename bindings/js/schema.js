@@ -13,16 +13,6 @@ export function useModule(module) {
   return calls;
 }
 
-/** Where bytes stop being a value: path, type, offset and reason. A name may itself be written so, and is then cut elsewhere. */
-const FAULT = new RegExp(
-  "^(?:no member: )?(?<path>.*) \\(`(?<type>.*)` at byte (?<offset>\\d+)\\): (?<reason>the value ends, and bytes are left|" +
-    "too few bytes are left|the number of elements isn't allowed|no variant has this tag|it has no definition|" +
-    "it leads back to itself before any byte)$",
-  "s",
-);
-const NOT_JSON = /^not JSON, near byte (?<offset>\d+)$/;
-const PART = /^(?<path>.*?): (?<reason>.*)$/s;
-
 /** What a call has no answer for. */
 export class BorshError extends Error {
   constructor(kind, text, found) {
@@ -31,7 +21,7 @@ export class BorshError extends Error {
     this.kind = kind;
     this.path = found?.path;
     this.type = found?.type;
-    this.offset = found?.offset === undefined ? undefined : Number(found.offset);
+    this.offset = found?.offset;
     this.reason = found?.reason ?? text;
   }
 }
@@ -48,12 +38,22 @@ function bytesFrom(source) {
   return bytes;
 }
 
-/** The bytes of the answer, or else an error; `patterns` find the parts of its text. */
-function answerOf(answer, patterns = []) {
+/** The bytes of the answer, or else an error. */
+function answerOf(answer) {
   if (answer.kind === "yes") return answer.bytes;
-  const text = decoder.decode(answer.bytes);
-  const pattern = answer.kind === "no" ? patterns.find((it) => it.test(text)) : undefined;
-  throw new BorshError(answer.kind, text, pattern?.exec(text).groups);
+  throw new BorshError(answer.kind, decoder.decode(answer.bytes), foundIn(answer));
+}
+
+/** What the text of an answer says: `PATH: REASON`, or of a fault of bytes ``PATH (`TYPE` at byte OFFSET): REASON``. */
+function foundIn({ bytes, offset, path }) {
+  if (path === undefined) return { offset };
+  const rest = decoder.decode(bytes.subarray(path.end));
+  const found = { offset, path: decoder.decode(bytes.subarray(path.start, path.end)), reason: rest.slice(": ".length) };
+  if (offset === undefined) return found;
+  // No reason of a fault has such words.
+  const middle = `\` at byte ${offset}): `;
+  const at = rest.lastIndexOf(middle);
+  return { ...found, type: rest.slice(" (`".length, at), reason: rest.slice(at + middle.length) };
 }
 
 export class Schema {
@@ -98,7 +98,7 @@ export class Schema {
   }
 
   check(value) {
-    answerOf(calls.member(this.#bytes, bytesFrom(value)), [FAULT]);
+    answerOf(calls.member(this.#bytes, bytesFrom(value)));
   }
 
   decode(value, { longNumbers = "bigint" } = {}) {
@@ -113,11 +113,11 @@ export class Schema {
 
   toJson(value, { compact = true, longNumbers = "number" } = {}) {
     if (longNumbers !== "number" && longNumbers !== "string") throw new TypeError('longNumbers is neither "number" nor "string"');
-    return decoder.decode(answerOf(calls.toJson(this.#bytes, bytesFrom(value), compact, longNumbers === "string"), [FAULT, PART]));
+    return decoder.decode(answerOf(calls.toJson(this.#bytes, bytesFrom(value), compact, longNumbers === "string")));
   }
 
   fromJson(json) {
-    return answerOf(calls.fromJson(this.#bytes, encoder.encode(json)), [NOT_JSON, PART]);
+    return answerOf(calls.fromJson(this.#bytes, encoder.encode(json)));
   }
 
   rows(value) {

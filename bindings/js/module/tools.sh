@@ -1,10 +1,11 @@
 # Sourced by the scripts here: the toolchain's clang and linker for WebAssembly, and Binaryen. `room` is a folder of the caller's.
 clang=$(dirname "$(rt doc)")/toolchain/bin/clang
 
-# Features that Node 18 has.
-flags=(--target=wasm64-unknown-unknown -mcpu=mvp -mbulk-memory -msign-ext -mnontrapping-fptoint -mmutable-globals --no-default-config
-    -ffunction-sections -fdata-sections)
-features=(--enable-memory64 --enable-bulk-memory --enable-sign-ext --enable-nontrapping-float-to-int --enable-mutable-globals)
+# Features that Node 18 has. With vectors the loops over JSON take half the time.
+flags=(--target=wasm64-unknown-unknown -mcpu=mvp -msimd128 -mbulk-memory -msign-ext -mnontrapping-fptoint -mmutable-globals
+    --no-default-config -ffunction-sections -fdata-sections)
+features=(--enable-memory64 --enable-simd --enable-bulk-memory --enable-sign-ext --enable-nontrapping-float-to-int
+    --enable-mutable-globals)
 
 compile_c() { # SOURCE.c OBJECT [FLAG..]
     "$clang" "${flags[@]}" -O2 -std=c11 -ffreestanding -fno-builtin -Wall -Wextra -Wno-unused-parameter -Werror "${@:3}" -c "$1" -o "$2"
@@ -23,7 +24,8 @@ link() {
     "$room/wasm-ld" -mwasm64 --no-entry --stack-first -z stack-size=1048576 --max-memory=4294967296 --gc-sections --strip-all \
         "${exports[@]}" "${objects[@]}" -o "$room/linked.wasm"
     if command -v wasm-opt >/dev/null; then
-        wasm-opt "${features[@]}" --memory64-lowering -Os "$room/linked.wasm" -o "$folder/$name.wasm"
+        "$(dirname "${BASH_SOURCE[0]}")/narrow" "$room/linked.wasm" "$room/narrow.wasm" "${features[@]}"
+        wasm-opt "${features[@]}" -Os "$room/narrow.wasm" -o "$folder/$name.wasm"
         wasm-opt "${features[@]}" -Os "$room/linked.wasm" -o "$folder/${name}64.wasm"
     else
         cp "$room/linked.wasm" "$folder/${name}64.wasm"

@@ -1,5 +1,5 @@
-// The module's answers beside those of the native library, out/native, on containers and values that are changed at random: the code,
-// and each byte of the answer. BORSH_CASES says how many.
+// The module's answers beside those of the native library, out/native, on containers and values that are changed at random: the code, the
+// place, and each byte of the answer. BORSH_CASES says how many.
 import assert from "node:assert/strict";
 import { spawnSync } from "node:child_process";
 import { fileURLToPath } from "node:url";
@@ -52,7 +52,8 @@ const CALLS = {
 function said(name, answer) {
   const isSize = name === "size" && answer.kind === "yes";
   const size = isSize ? new DataView(answer.bytes.buffer).getBigUint64(0, true) : 0n;
-  return `${CODES.indexOf(answer.kind)} ${size} ${isSize ? "" : hexOf(answer.bytes)}`;
+  const place = `${answer.offset ?? ""}${answer.path ? `:${answer.path.start}+${answer.path.end - answer.path.start}` : ""}`;
+  return `${CODES.indexOf(answer.kind)} ${size} ${place} ${isSize ? "" : hexOf(answer.bytes)}`;
 }
 
 function native(cases) {

@@ -29,7 +29,8 @@ function refuseEach(call) {
 /** Without the host's blocks, which `heap_clear` takes back: what the call itself leaves. */
 function blocksLeft(name, ...given) {
   const before = counted.exports.heap_blocks();
-  const taken = given.filter((it) => it instanceof Uint8Array).length + 2; // the inputs, the room, and where its length is written
+  // The inputs, the room, and where its length and the place are written.
+  const taken = given.filter((it) => it instanceof Uint8Array).length + (name === "valid" ? 2 : 3);
   counted[name](...given);
   return counted.exports.heap_blocks() - before - BigInt(taken);
 }

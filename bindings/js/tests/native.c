@@ -1,4 +1,5 @@
-/* The answers of the native library: for each line "CALL SCHEMA VALUE", in hexadecimal digits or `-`, the code and the bytes. */
+/* The answers of the native library: for each line "CALL SCHEMA VALUE", in hexadecimal digits or `-`, the code, the size, the place and the
+ * bytes. */
 #include "borsh.h"
 
 #include <stdio.h>
@@ -41,6 +42,11 @@ int main(void) {
         else
             code = borsh_from_json(s, schema_length, v, value_length, &out);
         printf("%u %zu ", code, size);
+        if (out.has_offset)
+            printf("%zu", out.offset);
+        if (out.path != NULL)
+            printf(":%zu+%zu", (size_t)(out.path - out.data), out.path_length);
+        printf(" ");
         for (size_t i = 0; i < out.length; i++)
             printf("%02x", out.data[i]);
         puts("");

@@ -149,12 +149,13 @@ class Calls(unittest.TestCase):
             thread.join()
         self.assertEqual(answers, [value] * 4)
 
-    def test_a_place_is_found_in_the_text_whatever_names_there_are(self):
-        name = "A (`u8` at byte 7): too few"
-        schema = Schema.of(name, {name: {"Tuple": {"elements": ["u8", "u8"]}}, **PRIMITIVES})
-        with self.assertRaises(Error) as raised:
-            schema.check(b"\1")
-        self.assertEqual((raised.exception.path, raised.exception.offset), (name + ".1", 1))
+    def test_a_place_is_told_whatever_names_there_are(self):
+        for name in ("A (`u8` at byte 7): too few", "no member: A: b", "", "é`"):
+            schema = Schema.of(name, {name: {"Tuple": {"elements": ["u8", "bool"]}}, **PRIMITIVES})
+            for call, value, offset in ((schema.check, b"\1", 1), (schema.decode, b"\1", 1), (schema.decode, b"\1\2", None)):
+                with self.assertRaises(Error) as raised:
+                    call(value)
+                self.assertEqual((raised.exception.path, raised.exception.offset), (name + ".1", offset))
 
 
 class Wheel(unittest.TestCase):

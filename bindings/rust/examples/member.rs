@@ -8,7 +8,14 @@ fn print(call: &str, answer: Result<String, Error>) -> bool {
     match &answer {
         Ok(text) if text.is_empty() => println!("{call}: 0"),
         Ok(text) => println!("{call}: 0 {text}"),
-        Err(error) => println!("{call}: {} {error}", error.code()),
+        Err(error) => {
+            println!("{call}: {} {error}", error.code());
+            match (error.path(), error.offset()) {
+                (Some(path), Some(offset)) => println!("place: {path} at byte {offset}"),
+                (Some(path), None) => println!("place: {path}"),
+                _ => {}
+            }
+        }
     }
     answer.is_ok()
 }

@@ -18,6 +18,7 @@
 //!
 //! let error = schema.check(&value[..14]).unwrap_err();
 //! assert_eq!(error.to_string(), "no member: A.y (`String` at byte 8): too few bytes are left");
+//! assert_eq!((error.path(), error.offset()), (Some("A.y"), Some(8)));
 //! # Ok::<(), borsh_proved::Error>(())
 //! ```
 //!
@@ -55,6 +56,8 @@ pub enum ErrorKind {
 pub struct Error {
     code: u32,
     text: String,
+    path: Option<String>,
+    offset: Option<usize>,
 }
 
 impl Error {
@@ -67,6 +70,16 @@ impl Error {
             5 => ErrorKind::Undecided,
             _ => ErrorKind::Unknown,
         }
+    }
+
+    /// The path of the part that the error is about, as `A.y[3]`, of an error about a part of a value.
+    pub fn path(&self) -> Option<&str> {
+        self.path.as_deref()
+    }
+
+    /// The byte at which the value has no such part, or near which the text stops being JSON.
+    pub fn offset(&self) -> Option<usize> {
+        self.offset
     }
 
     /// The code of `borsh.h`.
@@ -184,11 +197,15 @@ fn text_of(bytes: Vec<u8>) -> String {
         .unwrap_or_else(|error| String::from_utf8_lossy(error.as_bytes()).into_owned())
 }
 
-/// What a call that returned this code gave.
-fn outcome((code, bytes): (u32, Vec<u8>)) -> Result<Vec<u8>, Error> {
-    if code == 0 {
-        return Ok(bytes);
+/// What a call gave, or its error.
+fn outcome(answer: sys::Answer) -> Result<Vec<u8>, Error> {
+    if answer.code == 0 {
+        return Ok(answer.bytes);
     }
-    let text = text_of(bytes);
-    Err(Error { code, text })
+    Err(Error {
+        code: answer.code,
+        text: text_of(answer.bytes),
+        path: answer.path.map(text_of),
+        offset: answer.offset,
+    })
 }

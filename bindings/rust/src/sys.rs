@@ -1,4 +1,4 @@
-//! The calls of `borsh.h`: each returns its code, and what it filled its buffer with.
+//! The calls of `borsh.h`.
 
 use crate::Style;
 
@@ -7,7 +7,19 @@ use crate::Style;
 struct Buffer {
     data: *const u8,
     length: usize,
+    path: *const u8,
+    path_length: usize,
+    offset: usize,
+    has_offset: bool,
     block: *mut u8,
+}
+
+/// What a call returned: its code, what it filled its buffer with, and the place that it told.
+pub struct Answer {
+    pub code: u32,
+    pub bytes: Vec<u8>,
+    pub path: Option<Vec<u8>>,
+    pub offset: Option<usize>,
 }
 
 extern "C" {
@@ -51,31 +63,41 @@ impl Drop for Buffer {
     }
 }
 
-/// Makes a call with a buffer, and returns its code and what it filled the buffer with. The call has to fill it as `borsh.h` says.
-fn call(fill: impl FnOnce(*mut Buffer) -> u32) -> (u32, Vec<u8>) {
+/// Makes a call with a buffer. The call has to fill it as `borsh.h` says.
+fn call(fill: impl FnOnce(*mut Buffer) -> u32) -> Answer {
     let mut buffer = Buffer {
         data: std::ptr::null(),
         length: 0,
+        path: std::ptr::null(),
+        path_length: 0,
+        offset: 0,
+        has_offset: false,
         block: std::ptr::null_mut(),
     };
     let code = fill(&mut buffer);
-    // SAFETY: each call of the library leaves the buffer with `length` bytes at `data`, which isn't null.
-    let bytes = unsafe { std::slice::from_raw_parts(buffer.data, buffer.length) }.to_vec();
-    (code, bytes)
+    // SAFETY: each call of the library leaves the buffer with `length` bytes at `data`, which isn't null, and with `path_length`
+    // bytes at `path` if that isn't null.
+    let copy = |bytes, length| unsafe { std::slice::from_raw_parts(bytes, length) }.to_vec();
+    Answer {
+        code,
+        bytes: copy(buffer.data, buffer.length),
+        path: (!buffer.path.is_null()).then(|| copy(buffer.path, buffer.path_length)),
+        offset: buffer.has_offset.then_some(buffer.offset),
+    }
 }
 
-pub fn valid(schema: &[u8]) -> (u32, Vec<u8>) {
+pub fn valid(schema: &[u8]) -> Answer {
     // SAFETY: the slice lies at its pointer, and the buffer is ours. So below.
     call(|text| unsafe { borsh_valid(schema.as_ptr(), schema.len(), text) })
 }
 
-pub fn size(schema: &[u8]) -> (usize, (u32, Vec<u8>)) {
+pub fn size(schema: &[u8]) -> (usize, Answer) {
     let mut size = 0;
     let answer = call(|text| unsafe { borsh_size(schema.as_ptr(), schema.len(), &mut size, text) });
     (size, answer)
 }
 
-pub fn member(schema: &[u8], value: &[u8]) -> (u32, Vec<u8>) {
+pub fn member(schema: &[u8], value: &[u8]) -> Answer {
     call(|text| unsafe {
         borsh_member(
             schema.as_ptr(),
@@ -87,7 +109,7 @@ pub fn member(schema: &[u8], value: &[u8]) -> (u32, Vec<u8>) {
     })
 }
 
-pub fn to_json(schema: &[u8], value: &[u8], style: Style) -> (u32, Vec<u8>) {
+pub fn to_json(schema: &[u8], value: &[u8], style: Style) -> Answer {
     call(|json| unsafe {
         borsh_to_json(
             schema.as_ptr(),
@@ -101,7 +123,7 @@ pub fn to_json(schema: &[u8], value: &[u8], style: Style) -> (u32, Vec<u8>) {
     })
 }
 
-pub fn from_json(schema: &[u8], json: &[u8]) -> (u32, Vec<u8>) {
+pub fn from_json(schema: &[u8], json: &[u8]) -> Answer {
     call(|value| unsafe {
         borsh_from_json(
             schema.as_ptr(),

@@ -1,3 +1,4 @@
 pub mod Room
+pub mod Places
 pub mod Answers
 pub mod Texts

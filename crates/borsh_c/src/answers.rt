@@ -1,7 +1,7 @@
 // What is asked of a container, and of bytes by it.
 ghost use Rattle.std.specs.Prelude.{◌≡◌, IfErr, IfOk, IsSome, OnOk, Some, string_bytes};
-ghost use Rattle.borsh_c.specs.Answers.{About, Anything, HasNoSize, IsInvalid, IsNoMember, IsRefused, IsUnclear, Never};
-ghost use Rattle.borsh_c.specs.Texts.{IsNo, IsUndecided, TellsBroken, TellsNoSize, TellsNoValue, TellsUnread};
+ghost use Rattle.borsh_c.specs.Answers.{About, HasNoJson, HasNoSize, IsInvalid, IsNoMember, IsNoText, IsRefused, IsUnclear, Never, wherever};
+ghost use Rattle.borsh_c.specs.Texts.{IsNoAt, IsUndecided, TellsBroken, TellsNoSize, TellsNoValue, TellsUnread};
 ghost use Rattle.borsh_definitions.specs.Codecs.{root_and_map};
 ghost use Rattle.borsh_io.specs.Errors.{error_kind};
 ghost use Rattle.borsh_walks.specs.Container.{IsValid, MaxSize, Member};
@@ -10,11 +10,12 @@ ghost use Rattle.borsh_walks.specs.RulesAnswer.{AcceptsIfValid, JudgesRules};
 ghost use Rattle.borsh_walks.specs.SizeOutcome.{AnswersSize};
 ghost use Rattle.json.specs.Json.{document};
 
-use super::refusal::Refusal;
+use super::place::Span;
+use super::refusal::{Refusal, Said};
 use borsh_de::BorshDeserialize;
 use borsh_io::{Error, ErrorKind};
 use borsh_json::{JsonError, Style, from_json, to_json};
-use borsh_values::{Membership, is_member};
+use borsh_values::{Fault, Membership, Path, is_member};
 use borsh_walks::{
     Counted, Definition, Expansions, SchemaContainerValidateError, SchemaMaxSerializedSizeError,
     check_rules, root_size,
@@ -29,7 +30,7 @@ type Container = (String, BTreeMap<String, Definition>);
 /// The container whose encoding the bytes are.
 fn container_from(alloc: Global, schema: &[u8]) -> Result<Container, Refusal>
     ensures ok { IfOk result (λ c. root_and_map.encoding c ≡ Some schema.now) }
-    ensures err { IfErr result (λ e. IsRefused schema.now Never Never e) }
+    ensures err { IfErr result (λ e. IsRefused schema.now (wherever Never) Never e) }
 {
     match <(String, BTreeMap<String, Definition>)>::try_from_slice(alloc, schema) {
         Ok(container) => Ok(container),
@@ -53,7 +54,7 @@ fn unread(alloc: Global, error: &Error) -> Refusal
 /// Whether the container keeps the rules of schemas.
 pub fn rules(alloc: Global, schema: &[u8]) -> Result<(), Refusal>
     ensures ok { OnOk result (About schema.now IsValid) }
-    ensures err { IfErr result (λ e. IsRefused schema.now IsInvalid Never e) }
+    ensures err { IfErr result (λ e. IsRefused schema.now (wherever IsInvalid) Never e) }
 {
     let (root, definitions) = container_from(alloc, schema)?;
     match rules_of(alloc, root.as_str(), &definitions) {
@@ -81,25 +82,60 @@ fn broken(alloc: Global, error: &SchemaContainerValidateError) -> Refusal
     ensures { TellsBroken error.now result }
 {
     match error.broken_rule() {
-        Some((rule, name)) => no(format!(in alloc; "invalid {rule} {name}")),
+        Some((rule, name)) => no(format!(in alloc; "invalid {rule} {name}"), None),
         None => Refusal::OutOfMemory,
     }
 }
 
-/// No, with a text, if there was memory for it.
-fn no(text: Result<String, AllocError>) -> Refusal
-    ensures { IsNo result }
+/// No, with a text that names no part, if there was memory for it.
+fn no(text: Result<String, AllocError>, offset: Option<usize>) -> Refusal
+    ensures { IsNoAt offset result }
 {
     match text {
-        Ok(text) => Refusal::No(text),
+        Ok(text) => Refusal::No(Said {
+            text,
+            offset,
+            path: None,
+        }),
         Err(AllocError) => Refusal::OutOfMemory,
     }
+}
+
+/// No, with a text that begins with a path behind its first `before` bytes, if there was memory for it.
+fn no_part(
+    alloc: Global,
+    text: Result<String, AllocError>,
+    before: usize,
+    path: &Path<'_>,
+    offset: Option<usize>,
+) -> Refusal
+    ensures { IsNoAt offset result }
+{
+    match (text, format!(in alloc; "{path}")) {
+        (Ok(text), Ok(path)) => Refusal::No(Said {
+            text,
+            offset,
+            path: Some(Span {
+                start: before,
+                length: path.len(),
+            }),
+        }),
+        _ => Refusal::OutOfMemory,
+    }
+}
+
+/// No, since a fault was found.
+fn no_member(alloc: Global, before: &str, fault: &Fault<'_>) -> Refusal
+    ensures { IsNoAt (Some fault.now.offset) result }
+{
+    let text = format!(in alloc; "{before}{fault}");
+    no_part(alloc, text, before.len(), &fault.path, Some(fault.offset))
 }
 
 /// The greatest size of the root: no encoding is longer.
 pub fn greatest_size(alloc: Global, schema: &[u8]) -> Result<usize, Refusal>
     ensures ok { IfOk result (λ n. About schema.now (λ C root. MaxSize C root n)) }
-    ensures err { IfErr result (λ e. IsRefused schema.now HasNoSize Never e) }
+    ensures err { IfErr result (λ e. IsRefused schema.now (wherever HasNoSize) Never e) }
 {
     let (root, definitions) = container_from(alloc, schema)?;
     match size_of_root(alloc, root.as_str(), &definitions) {
@@ -125,10 +161,10 @@ fn no_size(alloc: Global, error: &SchemaMaxSerializedSizeError) -> Refusal
     ensures { TellsNoSize error.now result }
 {
     match error {
-        SchemaMaxSerializedSizeError::Overflow => no(String::from_str(alloc, "overflow")),
-        SchemaMaxSerializedSizeError::Recursive => no(String::from_str(alloc, "recursive")),
+        SchemaMaxSerializedSizeError::Overflow => no(String::from_str(alloc, "overflow"), None),
+        SchemaMaxSerializedSizeError::Recursive => no(String::from_str(alloc, "recursive"), None),
         SchemaMaxSerializedSizeError::MissingDefinition(name) => {
-            no(format!(in alloc; "missing {name}"))
+            no(format!(in alloc; "missing {name}"), None)
         }
         // The size of a container is never refused so.
         SchemaMaxSerializedSizeError::Redefinition(_) => Refusal::OutOfMemory,
@@ -144,7 +180,7 @@ pub fn membership(alloc: Global, schema: &[u8], value: &[u8]) -> Result<(), Refu
     let (root, definitions) = container_from(alloc, schema)?;
     match is_member(alloc, root.as_str(), &definitions, value)? {
         Membership::Member => Ok(()),
-        Membership::NoMember(fault) => Err(no(format!(in alloc; "no member: {fault}"))),
+        Membership::NoMember(fault) => Err(no_member(alloc, "no member: ", &fault)),
         Membership::Ambiguous(name) => Err(unclear(alloc, name)),
     }
 }
@@ -163,7 +199,7 @@ fn unclear(alloc: Global, name: &str) -> Refusal
 pub fn json_of(alloc: Global, schema: &[u8], value: &[u8], style: Style) -> Result<String, Refusal>
     ensures member { OnOk result (About schema.now (λ C root. Member C root value.now)) }
     ensures json { IfOk result (λ text. IsSome (document (string_bytes text))) }
-    ensures err { IfErr result (λ e. IsRefused schema.now Anything IsUnclear e) }
+    ensures err { IfErr result (λ e. IsRefused schema.now (HasNoJson value.now) IsUnclear e) }
 {
     let (root, definitions) = container_from(alloc, schema)?;
     match to_json(alloc, root.as_str(), &definitions, value, style) {
@@ -176,11 +212,11 @@ pub fn json_of(alloc: Global, schema: &[u8], value: &[u8], style: Style) -> Resu
 pub fn value_of(alloc: Global, schema: &[u8], json: &[u8]) -> Result<Vec<u8>, Refusal>
     ensures ok { IfOk result (λ bytes. About schema.now (λ C root. Member C root bytes.items)) }
     ensures json { OnOk result (IsSome (document json.now)) }
-    ensures err { IfErr result (λ e. IsRefused schema.now Anything IsUnclear e) }
+    ensures err { IfErr result (λ e. IsRefused schema.now (IsNoText json.now) IsUnclear e) }
 {
     let (root, definitions) = container_from(alloc, schema)?;
     let Ok(text) = str::from_utf8(json) else {
-        return Err(no(String::from_str(alloc, "not UTF-8")));
+        return Err(no(String::from_str(alloc, "not UTF-8"), None));
     };
     match from_json(alloc, root.as_str(), &definitions, text) {
         Ok(bytes) => Ok(bytes),
@@ -195,6 +231,9 @@ fn no_value(alloc: Global, error: &JsonError<'_>) -> Refusal
     match error {
         JsonError::OutOfMemory => Refusal::OutOfMemory,
         JsonError::Ambiguous(name) => unclear(alloc, name),
-        _ => no(format!(in alloc; "{error}")),
+        JsonError::NoMember(fault) => no_member(alloc, "", fault),
+        JsonError::NotJson(offset) => no(format!(in alloc; "{error}"), Some(*offset)),
+        JsonError::Refused(path, _) => no_part(alloc, format!(in alloc; "{error}"), 0, path, None),
+        JsonError::NoValue => no(format!(in alloc; "{error}"), None),
     }
 }

@@ -1,17 +1,28 @@
 // Why a call has no answer, or the answer is no.
-ghost use Rattle.std.specs.Prelude.{◌≡◌};
-ghost use Rattle.borsh_c.specs.Answers.{code_of};
+ghost use Rattle.std.specs.Prelude.{◌≡◌, ◌+◌, ◌≤◌};
+ghost use Rattle.borsh_c.specs.Answers.{code_of, told_offset};
+ghost use Rattle.borsh_c.specs.Places.{offset_of};
 ghost use Rattle.borsh_c.specs.declared.refusal.Refusal.TheVariants.{OutOfMemory};
 
 use super::codes::{MALFORMED, NO, OUT_OF_MEMORY, UNDECIDED};
+use super::place::{NOWHERE, Place, Span, place_in};
 use super::room::give;
 use std::alloc::AllocError;
+
+/// A text, and the place that it tells.
+#[derive(Debug, Drop)]
+pub struct Said {
+    pub text: String,
+    pub offset: Option<usize>,
+    /// The part of the text that is a path.
+    pub path: Option<Span>,
+}
 
 /// Why a call has no answer, or the answer is no, with a text that says why.
 #[derive(Debug, Drop)]
 pub enum Refusal {
     /// The answer is no.
-    No(String),
+    No(Said),
     /// The bytes aren't the encoding of a container.
     Malformed(String),
     /// An allocation failed.
@@ -29,13 +40,17 @@ impl From<AllocError> for Refusal {
 }
 
 impl Refusal {
-    /// Gives the text, and returns the code.
-    pub fn tell(&self, room: &mut [u8], needed: &mut usize) -> u32
-        ensures { result ≡ code_of self.now }
+    /// Gives the text and the place, and returns the code.
+    pub fn tell(&self, place: &mut Place, room: &mut [u8], needed: &mut usize) -> u32
+        ensures code { result ≡ code_of self.now }
+        ensures offset { offset_of place.new ≡ told_offset self.now }
+        ensures within { place.new.path_start + place.new.path_length ≤ needed.new }
     {
+        *place = NOWHERE;
         match self {
-            Refusal::No(text) => {
-                give(text.as_bytes(), room, needed);
+            Refusal::No(said) => {
+                *place = place_in(said.text.len(), said.offset, said.path);
+                give(said.text.as_bytes(), room, needed);
                 NO
             }
             Refusal::Malformed(text) => {

@@ -1,5 +1,6 @@
 //! Worked examples: each call with each code that it returns, and rooms that are too small.
 use super::codes::{MALFORMED, NO, UNDECIDED, YES};
+use super::place::{NOWHERE, Place};
 use super::{borsh_c_from_json, borsh_c_member, borsh_c_size, borsh_c_to_json, borsh_c_valid};
 use std::alloc::Global;
 use std::process::Abort;
@@ -40,6 +41,71 @@ fn given<'a>(room: &'a [u8], needed: usize) -> &'a str {
     str::from_utf8(given_bytes(room, needed)).unwrap_or("no text")
 }
 
+/// A call about a value.
+#[derive(Clone, Copy)]
+enum Call {
+    Member,
+    ToJson(bool, bool),
+    FromJson,
+}
+
+/// What a call about a value answers.
+#[derive(Clone, Copy)]
+struct Answer {
+    code: u32,
+    place: Place,
+    room: [u8; 64],
+    needed: usize,
+}
+
+fn ask(alloc: Global, call: Call, schema: &[u8], value: &[u8]) -> Answer {
+    let mut place = NOWHERE;
+    let mut room = [0; 64];
+    let mut needed = 1;
+    let code = match call {
+        Call::Member => borsh_c_member(alloc, schema, value, &mut place, &mut room, &mut needed),
+        Call::ToJson(is_compact, has_quoted) => {
+            let (at, to) = (&mut place, &mut room);
+            borsh_c_to_json(
+                alloc,
+                schema,
+                value,
+                is_compact,
+                has_quoted,
+                at,
+                to,
+                &mut needed,
+            )
+        }
+        Call::FromJson => {
+            borsh_c_from_json(alloc, schema, value, &mut place, &mut room, &mut needed)
+        }
+    };
+    Answer {
+        code,
+        place,
+        room,
+        needed,
+    }
+}
+
+impl Answer {
+    fn is(&self, code: u32, bytes: &[u8]) -> bool {
+        self.code == code && given_bytes(&self.room, self.needed) == bytes
+    }
+
+    /// Whether it is no, with this offset and this path, which has so many bytes of the text before it.
+    fn is_at(&self, offset: Option<usize>, before: usize, path: &[u8]) -> bool {
+        let place = self.place;
+        let bytes = given_bytes(&self.room, self.needed);
+        self.code == NO
+            && (place.has_offset, place.offset) == (offset.is_some(), offset.unwrap_or(0))
+            && (place.has_path, place.path_start, place.path_length) == (true, before, path.len())
+            && before <= bytes.len()
+            && bytes[before..].starts_with(path)
+    }
+}
+
 fn answers_of_rules(alloc: Global) -> bool {
     let mut room = [0u8; 64];
     let mut needed = 1;
@@ -77,15 +143,13 @@ fn answers_the_greatest_size(rt: HostRuntime) -> Result<(), Fail> {
 }
 
 fn answers_of_membership(alloc: Global) -> bool {
-    let mut room = [0u8; 64];
-    let mut needed = 1;
-    borsh_c_member(alloc, SCHEMA, VALUE, &mut room, &mut needed) == YES
-        && needed == 0
-        && borsh_c_member(alloc, BYTE, b"", &mut room, &mut needed) == NO
-        && given(&room, needed) == "no member: u8 (`u8` at byte 0): too few bytes are left"
-        && borsh_c_member(alloc, TWICE, b"\0\x07", &mut room, &mut needed) == UNDECIDED
-        && given(&room, needed) == "`E` is ambiguous"
-        && borsh_c_member(alloc, b"\x01", b"", &mut room, &mut needed) == MALFORMED
+    let few = b"no member: A.y (`String` at byte 8): too few bytes are left";
+    let short = ask(alloc, Call::Member, SCHEMA, &VALUE[..14]);
+    ask(alloc, Call::Member, SCHEMA, VALUE).is(YES, b"")
+        && short.is(NO, few)
+        && short.is_at(Some(8), 11, b"A.y")
+        && ask(alloc, Call::Member, TWICE, b"\0\x07").is(UNDECIDED, b"`E` is ambiguous")
+        && ask(alloc, Call::Member, b"\x01", b"").code == MALFORMED
 }
 
 #[test]
@@ -95,15 +159,13 @@ fn answers_whether_bytes_are_a_value(rt: HostRuntime) -> Result<(), Fail> {
 }
 
 fn json_of_bytes(alloc: Global) -> bool {
-    let mut room = [0u8; 64];
-    let mut needed = 1;
-    borsh_c_to_json(alloc, SCHEMA, VALUE, true, false, &mut room, &mut needed) == YES
-        && given(&room, needed) == "{\"x\":12,\"y\":\"hé\"}"
-        && borsh_c_to_json(alloc, SCHEMA, VALUE, false, false, &mut room, &mut needed) == YES
-        && given(&room, needed) == "{\n  \"x\": 12,\n  \"y\": \"hé\"\n}"
-        && borsh_c_to_json(alloc, SCHEMA, VALUE, true, true, &mut room, &mut needed) == YES
-        && given(&room, needed) == "{\"x\":\"12\",\"y\":\"hé\"}"
-        && borsh_c_to_json(alloc, BYTE, VALUE, false, false, &mut room, &mut needed) == NO
+    let compact = ask(alloc, Call::ToJson(true, false), SCHEMA, VALUE);
+    let pretty = ask(alloc, Call::ToJson(false, false), SCHEMA, VALUE);
+    let quoted = ask(alloc, Call::ToJson(true, true), SCHEMA, VALUE);
+    compact.is(YES, "{\"x\":12,\"y\":\"hé\"}".as_bytes())
+        && pretty.is(YES, "{\n  \"x\": 12,\n  \"y\": \"hé\"\n}".as_bytes())
+        && quoted.is(YES, "{\"x\":\"12\",\"y\":\"hé\"}".as_bytes())
+        && ask(alloc, Call::ToJson(true, true), SCHEMA, &VALUE[..14]).is_at(Some(8), 0, b"A.y")
 }
 
 #[test]
@@ -113,14 +175,12 @@ fn gives_json(rt: HostRuntime) -> Result<(), Fail> {
 }
 
 fn bytes_of_json(alloc: Global) -> bool {
-    let mut room = [0u8; 64];
-    let mut needed = 1;
     let json = b"{\"y\": \"h\\u00e9\", \"x\": 12}";
-    borsh_c_from_json(alloc, SCHEMA, json, &mut room, &mut needed) == YES
-        && given_bytes(&room, needed) == VALUE
-        && borsh_c_from_json(alloc, SCHEMA, b"\xff", &mut room, &mut needed) == NO
-        && given(&room, needed) == "not UTF-8"
-        && borsh_c_from_json(alloc, BYTE, b"256", &mut room, &mut needed) == NO
+    let broken = ask(alloc, Call::FromJson, BYTE, b"[").place;
+    ask(alloc, Call::FromJson, SCHEMA, json).is(YES, VALUE)
+        && ask(alloc, Call::FromJson, SCHEMA, b"\xff").is(NO, b"not UTF-8")
+        && ask(alloc, Call::FromJson, BYTE, b"256").is_at(None, 0, b"u8")
+        && (broken.has_offset, broken.has_path) == (true, false)
 }
 
 #[test]
@@ -130,12 +190,14 @@ fn gives_the_bytes_of_json(rt: HostRuntime) -> Result<(), Fail> {
 }
 
 fn only_what_fits_is_written(alloc: Global) -> bool {
+    let mut place = NOWHERE;
     let mut room = [9u8; 2];
     let mut needed = 0;
-    borsh_c_to_json(alloc, BYTE, b"\xff", true, false, &mut room, &mut needed) == YES
-        && (room, needed) == ([9, 9], 3)
-        && borsh_c_to_json(alloc, BYTE, b"\x0c", true, false, &mut room, &mut needed) == YES
-        && (room, needed) == (*b"12", 2)
+    borsh_c_from_json(alloc, BYTE, b"256", &mut place, &mut room, &mut needed) == NO
+        && room == [9, 9]
+        && needed > 2
+        && borsh_c_from_json(alloc, BYTE, b"12", &mut place, &mut room, &mut needed) == YES
+        && (room, needed) == ([12, 9], 1)
 }
 
 #[test]

@@ -7,7 +7,6 @@ from __future__ import annotations
 
 import ctypes
 import os
-import re
 from typing import NoReturn, Union
 
 from ._errors import Error, Kind
@@ -16,7 +15,15 @@ Bytes = Union[bytes, bytearray, memoryview]
 
 
 class _Buffer(ctypes.Structure):
-    _fields_ = [("data", ctypes.c_void_p), ("length", ctypes.c_size_t), ("block", ctypes.c_void_p)]
+    _fields_ = [
+        ("data", ctypes.c_void_p),
+        ("length", ctypes.c_size_t),
+        ("path", ctypes.c_void_p),
+        ("path_length", ctypes.c_size_t),
+        ("offset", ctypes.c_size_t),
+        ("has_offset", ctypes.c_bool),
+        ("block", ctypes.c_void_p),
+    ]
 
 
 def _load() -> ctypes.CDLL:
@@ -45,36 +52,30 @@ _library.borsh_free.restype = None
 
 _KINDS = {1: Kind.NO, 2: Kind.MALFORMED, 5: Kind.UNDECIDED}
 
-# The places in the texts of the calls about values. A reason that comes with an offset has no name in it.
-_AT_BYTE = re.compile(r"(?:no member: )?(?P<path>.*) \(`.*` at byte (?P<offset>[0-9]+)\): [a-z ,']+", re.S)
-_NEAR_BYTE = re.compile(r"not JSON, near byte (?P<offset>[0-9]+)")
-_AT_PATH = re.compile(r"(?P<path>.*?): .*", re.S)
-
 
 def _ask(name: str, *arguments: object) -> bytes:
     buffer = _Buffer()
     code = getattr(_library, "borsh_" + name)(*arguments, ctypes.byref(buffer))
     try:
-        answer = ctypes.string_at(buffer.data, buffer.length)
+        if code != 0:
+            _fail(code, buffer)
+        return ctypes.string_at(buffer.data, buffer.length)
     finally:
         _library.borsh_free(ctypes.byref(buffer))
-    if code != 0:
-        _fail(code, answer.decode("utf-8", "replace"), name in ("member", "to_json", "from_json"))
-    return answer
 
 
-def _fail(code: int, text: str, is_about_value: bool) -> NoReturn:
+def _fail(code: int, buffer: _Buffer) -> NoReturn:
     if code == 3:
         raise MemoryError
+    text = _text(buffer.data, buffer.length)
     if code not in _KINDS:
         raise RuntimeError(f"another library: code {code}, {text}")
-    error = Error(text, _KINDS[code])
-    if code == 1 and is_about_value:
-        place = _AT_BYTE.fullmatch(text) or _NEAR_BYTE.fullmatch(text) or _AT_PATH.fullmatch(text)
-        found = place.groupdict() if place else {}
-        error.path = found.get("path")
-        error.offset = int(found["offset"]) if "offset" in found else None
-    raise error
+    path = None if buffer.path is None else _text(buffer.path, buffer.path_length)
+    raise Error(text, _KINDS[code], path, buffer.offset if buffer.has_offset else None)
+
+
+def _text(data: int, length: int) -> str:
+    return ctypes.string_at(data, length).decode("utf-8", "replace")
 
 
 def bytes_of(value: Bytes) -> bytes:

@@ -1,4 +1,4 @@
-use Rattle.std.proofs.Common.{subst}
+use Rattle.std.proofs.Common.{Some, refl, subst}
 use Rattle.borsh_walks.specs.Container.{Member}
 use Rattle.borsh_walks.specs.Definitions.{definitions_in}
 use Rattle.borsh_values.specs.Membership.{IsAnswer, IsDecided}
@@ -14,7 +14,8 @@ returns-in-Member-clause-ok c =
 pub returns-in-NoMember-clause-err : goal.returns-in-NoMember-clause-err
 returns-in-NoMember-clause-err c =
     let m = subst (IsAnswer (definitions_in c.in_ok-root.definitions) c.as_str.result.now c.args.value.now) c.in-NoMember.is c.in_ok-is_member.ensures.answer in
-    no_told (c.in_ok-root.root, c.in_ok-root.definitions) c.in_ok-root.ensures.ok c.as_str.result.now c.as_str.ensures.value (IsNoMember c.args.value.now) IsUnclear m.0 c.no.result c.no.ensures
+    no_told (c.in_ok-root.root, c.in_ok-root.definitions) c.in_ok-root.ensures.ok c.as_str.result.now c.as_str.ensures.value (IsNoMember c.args.value.now) IsUnclear
+    (Some c.in-NoMember.fault.offset) (m.0, (c.in-NoMember.fault, m.1, refl)) c.no_member.result c.no_member.ensures
 
 pub returns-clause-err : goal.returns-clause-err
 returns-clause-err c =
