@@ -1,15 +1,14 @@
 -- Values at the front of bytes that go on.
-use Rattle.std.proofs.Common.{◌≡◌, ℕ, suc, zero, ◌+◌, ◌<◌, ◌≤◌, List, [], ◌∷◌, ◌++◌, length, take, drop, replicate, Some, refl, sym, ◌∙◌, ap, subst, arith, append_assoc, append-nil, length-append, take-append-drop, length-take-le, inl, inr}
+use Rattle.std.proofs.Common.{◌≡◌, ℕ, suc, zero, ◌<◌, List, [], ◌∷◌, ◌++◌, length, replicate, Some, refl, sym, ◌∙◌, ap, subst, arith, append_assoc, append-nil, length-append}
 use Rattle.std.specs.Prelude.{Option, All, ℤ, pos}
-use Rattle.std.proofs.lemmas.List.{append_cancel_left}
-use Rattle.borsh_walks.specs.Container.{Shape, primitive, sequence, product, choice, IsListedVariant, tag, Member, Members, no_members, more_members, stays}
+use Rattle.borsh_walks.specs.Container.{Shape, primitive, sequence, product, choice, IsListedVariant, tag, Member, Members, no_members, more_members}
 use Rattle.borsh_walks.proofs.Laws.{length-tag}
-use Rattle.borsh_values.specs.Unambiguous.{UnambiguousShape, IsUnambiguous}
+use Rattle.borsh_values.specs.Unambiguous.{UnambiguousShape}
 use Rattle.borsh_values.specs.Faults.{BeginsWith}
 use Rattle.borsh_values.specs.Free.{FreeSizes}
 use Rattle.borsh_values.specs.Nodes.{packed_size, OpensElements, Opens}
 use Rattle.borsh_values.specs.Steps.{OnlyEmpty, OpensOnce}
-use Rattle.borsh_values.proofs.PrefixFree.{prefix_free, member_as, same_front}
+use Rattle.borsh_values.proofs.PrefixFree.{member_as, same_front}
 use Rattle.borsh_values.proofs.NodesLaws.{opens_one, opens_member}
 use Rattle.borsh_values.proofs.Packed.{packed_is, copies_are, no_more}
 use Rattle.borsh_values.proofs.Required.{members_head, pass, unpass, whole, unwhole, joined, parted}

@@ -1,7 +1,7 @@
 -- What an opened definition takes.
-use Rattle.std.proofs.Common.{◌≡◌, ℕ, suc, zero, ◌+◌, ◌-◌, ◌*◌, ◌<◌, ◌≤◌, ◌^◌, List, [], ◌∷◌, ◌++◌, length, take, drop, replicate, Some, refl, sym, ◌∙◌, ap, subst, arith, append_assoc, length-append, length-drop, append-nil, take-add, drop-drop, ◌⊎◌, inl, inr}
+use Rattle.std.proofs.Common.{◌≡◌, ℕ, suc, zero, ◌+◌, ◌-◌, ◌*◌, ◌<◌, ◌≤◌, ◌^◌, List, [], ◌∷◌, ◌++◌, length, take, drop, replicate, Some, refl, sym, ◌∙◌, ap, subst, arith, append_assoc, length-append, length-drop, append-nil, take-add, ◌⊎◌, inl, inr}
 use Rattle.std.specs.Prelude.{Option, None, All, ℤ, pos, negsuc, slice_get}
-use Rattle.borsh_walks.specs.Container.{Shape, primitive, sequence, product, choice, IsIn, first, later, IsListedVariant, low_bytes, tag, variant_names, references, Member, of_primitive, of_sequence, of_parts, of_choice, Members, no_members, more_members, IsZeroSize, zeroed}
+use Rattle.borsh_walks.specs.Container.{Shape, primitive, sequence, product, choice, IsIn, first, later, IsListedVariant, low_bytes, tag, variant_names, references, Member, of_primitive, of_sequence, of_parts, of_choice, Members, IsZeroSize, zeroed}
 use Rattle.std.proofs.Math.Nat.{suc-mul}
 use Rattle.std.proofs.lemmas.List.Elements.{All-take, All-drop}
 use Rattle.borsh_walks.proofs.Names.{among_one}
@@ -17,7 +17,7 @@ use Rattle.borsh_values.specs.Nodes.{packed_size, OpensElements, Opens}
 use Rattle.borsh_values.specs.Faults.{BeginsWith}
 use Rattle.borsh_values.specs.Steps.{remaining, required_by, OnlyEmpty, AllOnlyEmpty, OpensOnce, NoneBegins, Takes, FoundAs, TakesElements, OpensAs}
 use Rattle.borsh_values.proofs.FoundLaws.{listed_at}
-use Rattle.borsh_values.proofs.Packed.{packed_is, copies_of, copies_are}
+use Rattle.borsh_values.proofs.Packed.{packed_is, copies_are}
 use Rattle.borsh_values.proofs.PrefixFree.{same_front, one_count, member_as}
 use Rattle.borsh_values.proofs.Required.{only_empty_members}
 use Rattle.borsh_values.proofs.FrontLaws.{opens_once, once_variant}

@@ -1,5 +1,5 @@
 -- What the loop keeps, and each of its steps.
-use Rattle.std.proofs.Common.{◌≡◌, ℕ, suc, ◌≤◌, ◌<◌, List, [], ◌∷◌, ◌++◌, length, take, drop, replicate, Some, None, refl, sym, ◌∙◌, ap, subst, arith, append_assoc, append-nil, length-drop, ◌⊎◌, inl, inr}
+use Rattle.std.proofs.Common.{◌≡◌, ℕ, suc, ◌≤◌, ◌<◌, List, [], ◌∷◌, ◌++◌, length, take, drop, replicate, Some, None, sym, ◌∙◌, ap, subst, arith, append_assoc, append-nil, length-drop, ◌⊎◌, inl, inr}
 use Rattle.std.specs.Prelude.{Option, ⊤}
 use Rattle.borsh_walks.specs.Container.{Shape, IsIn, IsDefined, first, later, Member, of_primitive, of_sequence, of_parts, of_choice, references, Reached, Reaches, stays, onward}
 use Rattle.borsh_walks.specs.SizeAnswer.{Distinct, distinct_none, distinct_more}

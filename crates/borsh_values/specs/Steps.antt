@@ -1,6 +1,6 @@
 -- What the loop over the bytes of a value works on.
 use Rattle.std.specs.Prelude.{◌≡◌, ◌⊎◌, ℕ, Bool, true, false, suc, zero, ◌+◌, ◌*◌, ◌≤◌, ◌<◌, ◌^◌, List, [], ◌∷◌, ◌++◌, length, take, drop, replicate, ℤ, pos, Option, Some, None, get_or, slice_get, ⊤}
-use Rattle.borsh_walks.specs.Container.{Shape, primitive, sequence, product, choice, IsIn, IsListedVariant, tag, Member, Members, references, IsZeroSize}
+use Rattle.borsh_walks.specs.Container.{Shape, primitive, sequence, product, choice, IsIn, IsListedVariant, tag, Member, references, IsZeroSize}
 use Rattle.borsh_walks.specs.RulesAnswer.{KeepsWidths, IsWidth}
 use Rattle.borsh_values.specs.Unambiguous.{DistinctTags, UnambiguousShape}
 use Rattle.borsh_values.specs.Nodes.{Opens, packed_size}

@@ -1,5 +1,5 @@
 use Rattle.std.proofs.Common.{◌≡◌, ℕ, suc, ◌+◌, ◌-◌, ◌<◌, ◌≤◌, List, [], ◌∷◌, ◌++◌, length, take, drop, length-drop, append-nil, zero, reverse, replicate, set, Some, None, refl, sym, ◌∙◌, ap, subst, arith, true}
-use Rattle.std.specs.Prelude.{Option, All, Bool, false}
+use Rattle.std.specs.Prelude.{All, Bool, false}
 use Rattle.std.proofs.lemmas.List.Elements.{All-drop}
 use Rattle.borsh_values.proofs.Bytes.{small_bytes}
 use Rattle.std.specs.BTreeMap.{btree_map_len}

@@ -1,4 +1,4 @@
-use Rattle.std.proofs.Common.{[], ◌++◌, append-nil, refl, subst, sym, take}
+use Rattle.std.proofs.Common.{[], append-nil, refl, subst, sym, take}
 use Rattle.borsh_walks.specs.Definitions.{definitions_in}
 use Rattle.borsh_values.specs.Fronts.{HasNoFront, IsFrontAnswer}
 use Rattle.borsh_values.specs.Next.{IsFirst}
