@@ -17,7 +17,7 @@ use Rattle.borsh_json.specs.declared.error.JsonError.{JsonError}
 use Rattle.borsh_json.specs.declared.error.JsonError.TheVariants.{OutOfMemory as NoMemory}
 use Rattle.borsh_walks.specs.declared.definition.Definition.{Definition}
 use Rattle.borsh_tool_commands.specs.declared.failure.Failure.{Failure}
-use Rattle.borsh_tool_commands.specs.declared.failure.Failure.TheVariants.{NoCommand, Unreadable, NotHexadecimal, NotContainer, NotValue, NotText, TwoInputs, Unwritable, OutOfMemory}
+use Rattle.borsh_tool_commands.specs.declared.failure.Failure.TheVariants.{NoCommand, Unreadable, NotHexadecimal, NotContainer, NotValue, NotText, TwoInputs, RawOnTerminal, Unwritable, OutOfMemory}
 use Rattle.borsh_tool_commands.specs.Failures.{BeginsWithContainer, HasReason, IsFailure, IsNoMemory}
 use Rattle.borsh_tool_commands.specs.declared.values.Schema.{Schema}
 use Rattle.borsh_tool_commands.specs.Sent.{IsContainer}
@@ -31,6 +31,7 @@ led path f g h (NotContainer p e) k = (k.0, f k.1)
 led path f g h (NotValue p t) k = (k.0, g k.1)
 led path f g h (NotText p) k = (k.0, h k.1)
 led path f g h TwoInputs k = absurd k
+led path f g h RawOnTerminal k = absurd k
 led path f g h (Unwritable e) k = absurd k
 led path f g h OutOfMemory k = tt
 
@@ -48,6 +49,7 @@ only_memory path f g h (NotContainer p e) k = absurd (f k.1)
 only_memory path f g h (NotValue p t) k = absurd (g k.1)
 only_memory path f g h (NotText p) k = absurd (h k.1)
 only_memory path f g h TwoInputs k = absurd k
+only_memory path f g h RawOnTerminal k = absurd k
 only_memory path f g h (Unwritable e) k = absurd k
 only_memory path f g h OutOfMemory k = tt
 

@@ -6,7 +6,7 @@ use Rattle.borsh_json.specs.declared.error.JsonError.{JsonError}
 use Rattle.borsh_json.specs.declared.error.JsonError.TheVariants.{OutOfMemory as NoMemory}
 use Rattle.borsh_json.specs.Errors.{IsNoJsonReason, IsNoRowsReason, IsTextReason}
 use Rattle.borsh_tool_commands.specs.declared.failure.Failure.{Failure}
-use Rattle.borsh_tool_commands.specs.declared.failure.Failure.TheVariants.{NoCommand, Unreadable, NotHexadecimal, NotContainer, NotValue, NotText, TwoInputs, Unwritable, OutOfMemory}
+use Rattle.borsh_tool_commands.specs.declared.failure.Failure.TheVariants.{NoCommand, Unreadable, NotHexadecimal, NotContainer, NotValue, NotText, TwoInputs, RawOnTerminal, Unwritable, OutOfMemory}
 use Rattle.borsh_tool_commands.specs.declared.values.Schema.{Schema}
 use Rattle.borsh_tool_commands.specs.Sent.{IsContainer, IsSent}
 
@@ -19,6 +19,7 @@ IsFailure path no_container no_value no_text (NotContainer p e) = (p.now ≡ pat
 IsFailure path no_container no_value no_text (NotValue p text) = (p.now ≡ path) × no_value
 IsFailure path no_container no_value no_text (NotText p) = (p.now ≡ path) × no_text
 IsFailure path no_container no_value no_text TwoInputs = ⊥
+IsFailure path no_container no_value no_text RawOnTerminal = ⊥
 IsFailure path no_container no_value no_text (Unwritable e) = ⊥
 IsFailure path no_container no_value no_text OutOfMemory = ⊤
 

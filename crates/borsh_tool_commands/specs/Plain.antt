@@ -14,6 +14,10 @@ IsPlain b = (b == 10 || is_printable b) ≡ true
 abbrev pub digit : ℕ → ℕ
 digit n = if ltb n 10 then 48 + n else 87 + n
 
+-- a byte as two hexadecimal digits
+abbrev pub digits : ℕ → List ℕ
+digits b = digit (b / 16) ∷ digit (b % 16) ∷ []
+
 -- how a byte of a text is printed: printable ASCII as itself, another byte as `\x` and two digits
 abbrev pub escaped : ℕ → List ℕ
 escaped b = if is_printable b then b ∷ [] else 92 ∷ 120 ∷ digit (b / 16) ∷ digit (b % 16) ∷ []

@@ -3,6 +3,9 @@ use super::answers::Question;
 use clap::{Arg, ArgAction, ArgMatches, Command};
 use std::alloc::{AllocError, Global};
 
+/// What `--version` says behind the program's name.
+const VERSION: &str = "0.1.0 (the format of the Rust crate borsh 1.8.1)";
+
 const AFTER_HELP: &str =
     "Exit status: 0 for yes, 1 for no or for bytes that are no container, 2 for wrong use or input that can't be read.";
 
@@ -19,7 +22,7 @@ const AFTER_DECODE: &str =
     "The JSON is what serde_json prints for the same type, where that and the container determine the bytes: a struct with one\nunnamed field is that field; an Option is null or its value, or an enum where the value may itself be null; a variant is\n\"Name\" or {\"Name\": value}; a map with texts or numbers as keys is an object. Lists of u8 and other primitives are\nhexadecimal strings, \"0x..\"; numbers of 128 bits are decimal strings; a value without bytes is null. A NaN is refused, and\nsets and maps whose keys don't ascend, where the order is known: of numbers, bool, texts, and tuples, arrays, lists and\noptions of these, and not of structs and enums.";
 
 const AFTER_ENCODE: &str =
-    "Takes what `decode` prints, in any layout; fields and entries may come in any order, and numbers of 64 bits may be\nstrings. With --hex the bytes are printed as hexadecimal digits and a line feed. With --with-schema the bytes of the\ncontainer come first.";
+    "Takes what `decode` prints, in any layout; fields and entries may come in any order, and numbers of 64 bits may be\nstrings. With --hex the bytes are printed as hexadecimal digits and a line feed; raw bytes go to a terminal only\nwith --raw. With --with-schema the bytes of the container come first.";
 
 const AFTER_MEMBER: &str =
     "Prints `member`, or `no member`, the path where the bytes stop being a value of the container's root, and why. The\ndefinitions alone decide; a type may refuse a member, as a `bool` of 2 or keys that don't ascend. With --strict such\nbytes are `not canonical`, as far as the names tell.";
@@ -31,7 +34,7 @@ const AFTER_SHOW: &str =
 #[derive(Clone, Copy, Debug)]
 pub struct Request<'a> {
     pub question: Question,
-    /// A file, or `-` for standard input.
+    /// A file, digits behind `0x`, or `-` for standard input.
     pub path: &'a str,
     /// Whether the bytes are written as hexadecimal digits.
     pub is_hex: bool,
@@ -56,10 +59,10 @@ pub enum Action {
 #[derive(Clone, Copy, Debug)]
 pub struct ValueRequest<'a> {
     pub action: Action,
-    /// A file, `-` for standard input, or `self` for the container of containers; none where the value's bytes have
-    /// their container in front.
+    /// A file, digits behind `0x`, `-` for standard input, or `self` for the container of containers; none where the
+    /// value's bytes have their container in front.
     pub schema: Option<&'a str>,
-    /// A file, or `-` for standard input.
+    /// A file, or `-` for standard input; or digits behind `0x`, but of JSON.
     pub value: &'a str,
     /// Whether the container is written as hexadecimal digits.
     pub is_schema_hex: bool,
@@ -75,6 +78,8 @@ pub struct ValueRequest<'a> {
     pub is_strict: bool,
     /// Whether no colours are wanted.
     pub is_plain: bool,
+    /// Whether raw bytes may go to a terminal.
+    pub is_raw: bool,
 }
 
 /// The commands of the tool.
@@ -86,6 +91,7 @@ pub struct ValueRequest<'a> {
 pub fn command<'a>(alloc: Global) -> Result<Command<'a>, AllocError> {
     Command::new(alloc, "borsh")
         .bin_name("borsh")?
+        .version(VERSION)
         .about("Answers what a Borsh schema container says, and what bytes mean by it")
         .after_help(AFTER_HELP)
         .subcommand_required(true)
@@ -152,7 +158,7 @@ fn on_container<'a>(
         .arg(value(
             alloc,
             "FILE",
-            "The encoded container, or `-` for standard input",
+            "The encoded container: a file, its digits as `0x..`, or `-` for standard input",
         ))?
         .arg(flag(
             alloc,
@@ -170,7 +176,7 @@ fn on_bytes<'a>(alloc: Global, name: &'a str, about: &'a str) -> Result<Command<
         .arg(value(
             alloc,
             "VALUE",
-            "The bytes of the value, or `-` for standard input",
+            "The bytes of the value: a file, their digits as `0x..`, or `-` for standard input",
         ))?
         .arg(flag(
             alloc,
@@ -191,8 +197,17 @@ fn encode_command<'a>(alloc: Global) -> Result<Command<'a>, AllocError> {
         .about("Prints the bytes of a value in JSON")
         .after_help(AFTER_ENCODE)
         .arg(schema(alloc).required(true))?
-        .arg(value(alloc, "JSON", "The value, or `-` for standard input"))?
+        .arg(value(
+            alloc,
+            "JSON",
+            "The value: a file, or `-` for standard input",
+        ))?
         .arg(flag(alloc, "hex", "Prints hexadecimal digits"))?
+        .arg(flag(
+            alloc,
+            "raw",
+            "Prints raw bytes where standard output is a terminal, too",
+        ))?
         .arg(schema_hex(alloc))?
         .arg(flag(
             alloc,
@@ -215,7 +230,7 @@ fn schema_unless_sent<'a>(alloc: Global) -> Result<Arg<'a>, AllocError> {
 
 fn schema<'a>(alloc: Global) -> Arg<'a> {
     Arg::new(alloc, "SCHEMA").help(
-        "The encoded container, `-` for standard input, or `self` for the container of containers",
+        "The encoded container: a file, its digits as `0x..`, `-` for standard input, or `self` for that of containers",
     )
 }
 
@@ -257,6 +272,7 @@ pub fn value_request_from<'a>(matches: &ArgMatches<'a>) -> Option<ValueRequest<'
         has_quoted_numbers: inner.get_flag("quoted"),
         is_strict: inner.get_flag("strict"),
         is_plain: inner.get_flag("plain"),
+        is_raw: inner.get_flag("raw"),
     })
 }
 

@@ -24,6 +24,8 @@ pub enum Failure<'a> {
     NotText(&'a str),
     /// Both the container and the value are to come from standard input.
     TwoInputs,
+    /// Raw bytes were to go to a terminal.
+    RawOnTerminal,
     /// The answer can't be written.
     Unwritable(io::Error),
     /// An allocation failed.
@@ -52,16 +54,40 @@ impl<'a> fmt::Display for Failure<'a> {
     fn fmt<W: fmt::Write>(&self, f: &mut fmt::Formatter<W>) -> fmt::Result {
         match self {
             Failure::NoCommand => write!(f, "no command"),
-            Failure::Unreadable(path, error) => write!(f, "{path}: {error}"),
-            Failure::NotHexadecimal(path, error) => write!(f, "{path}: {error}"),
+            Failure::Unreadable(path, error) => write!(f, "{}: {error}", Named(path)),
+            Failure::NotHexadecimal(path, error) => write!(f, "{}: {error}", Named(path)),
             Failure::NotContainer(path, error) => {
-                write!(f, "{path}: not a schema container: {error}")
+                write!(f, "{}: not a schema container: {error}", Named(path))
             }
-            Failure::NotValue(path, error) => write!(f, "{path}: {error}"),
-            Failure::NotText(path) => write!(f, "{path}: not UTF-8"),
+            Failure::NotValue(path, error) => write!(f, "{}: {error}", Named(path)),
+            Failure::NotText(path) => write!(f, "{}: not UTF-8", Named(path)),
             Failure::TwoInputs => write!(f, "only one input can be standard input"),
+            Failure::RawOnTerminal => {
+                write!(
+                    f,
+                    "raw bytes aren't printed on a terminal: use --hex or --raw, or redirect them"
+                )
+            }
             Failure::Unwritable(error) => write!(f, "{error}"),
             Failure::OutOfMemory => write!(f, "out of memory"),
+        }
+    }
+}
+
+/// How many characters of digits that were given name them.
+const NAMING_DIGITS: usize = 18;
+
+/// The name of an input: its path, or the first of the digits that were given.
+#[derive(Clone, Copy)]
+struct Named<'a>(&'a str);
+
+impl<'a> fmt::Display for Named<'a> {
+    fn fmt<W: fmt::Write>(&self, f: &mut fmt::Formatter<W>) -> fmt::Result {
+        match self.0.get(..NAMING_DIGITS) {
+            Some(front) if front.len() < self.0.len() && front.starts_with("0x") => {
+                write!(f, "{front}..")
+            }
+            _ => f.write_str(self.0),
         }
     }
 }
@@ -78,12 +104,16 @@ pub fn failure_line(alloc: Global, text: &str) -> Result<PlainText, AllocError> 
     Ok(out)
 }
 
-/// What is wrong with a command line: the first paragraph of the parser's text, as one line.
+/// What is wrong with a command line, as one line: the first paragraph of the parser's text, and the second where it is a tip.
 pub fn usage_line(alloc: Global, text: &str) -> Result<PlainText, AllocError> {
     let text = text.strip_prefix("error: ").unwrap_or(text);
-    let paragraph = match text.split_once("\n\n") {
-        Some((first, _)) => first,
-        None => text,
-    };
-    failure_line(alloc, paragraph)
+    let mut paragraphs = text.split("\n\n");
+    let wrong = paragraphs.next().unwrap_or(text);
+    match paragraphs.next() {
+        Some(tip) if tip.starts_with("  tip: ") => {
+            let both = format!(in alloc; "{wrong};{tip}")?;
+            failure_line(alloc, both.as_str())
+        }
+        _ => failure_line(alloc, wrong),
+    }
 }

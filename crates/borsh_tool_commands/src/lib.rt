@@ -7,6 +7,7 @@
 
 pub mod answers;
 pub mod colors;
+mod columns;
 pub mod command;
 pub mod definitions;
 pub mod failure;

@@ -1,7 +1,7 @@
 // Text that a terminal shows as it is.
 ghost use Rattle.std.specs.Prelude.{◌≡◌, ◌++◌, ◌∷◌, ◌<◌, ◌≤◌, [], All, OnOk, decimal, flat_map};
 ghost use Rattle.std.specs.Fmt.{signed_decimal};
-ghost use Rattle.borsh_tool_commands.specs.Plain.{IsPlain, digit as digit_of, escaped, quoted, name_text, is_word as is_word_byte, is_identifier as is_identifier_text};
+ghost use Rattle.borsh_tool_commands.specs.Plain.{IsPlain, digit as digit_of, digits, escaped, quoted, name_text, is_word as is_word_byte, is_identifier as is_identifier_text};
 ghost use Rattle.std.specs.List.{list_all};
 
 use std::alloc::{AllocError, Global};
@@ -34,6 +34,13 @@ impl PlainText {
         ensures plain { All IsPlain result.now }
     {
         self.text.as_slice()
+    }
+
+    /// Takes all of the text away, and keeps its room.
+    pub fn clear(&mut self)
+        ensures { self.new.text.items ≡ [] }
+    {
+        self.text.clear();
     }
 
     /// Adds a text, in which printable ASCII appears as it is, and any other byte as `\x` and two digits.
@@ -76,6 +83,23 @@ impl PlainText {
         self.put(b'"')?;
         self.push_quoted(name.as_bytes())?;
         self.put(b'"')
+    }
+
+    /// Adds bytes as hexadecimal digits.
+    pub fn push_digits(&mut self, bytes: &[u8]) -> Added
+        ensures { OnOk result (self.new.text.items ≡ self.old.text.items ++ flat_map digits bytes.now) }
+    {
+        for byte in bytes {
+            self.push_hex(*byte)?;
+        }
+        Ok(())
+    }
+
+    fn push_hex(&mut self, byte: u8) -> Added
+        ensures { OnOk result (self.new.text.items ≡ self.old.text.items ++ digits byte) }
+    {
+        self.put(digit(byte / 16))?;
+        self.put(digit(byte % 16))
     }
 
     /// Adds JSON. Left open: memory; any text: tested.
@@ -154,6 +178,16 @@ impl PlainText {
     {
         self.text.push(byte)?;
         Ok(())
+    }
+}
+
+/// What is written is added as by [`push`](PlainText::push). It fails only if an allocation does.
+impl fmt::Write for PlainText {
+    fn write_str(&mut self, text: &str) -> fmt::Result {
+        match self.push(text) {
+            Ok(()) => Ok(()),
+            Err(_) => Err(fmt::Error),
+        }
     }
 }
 

@@ -25,8 +25,8 @@ use std::{env, fs, io};
 /// The answer goes to standard output, and what is wrong to standard error, as one line.
 ///
 /// `is_terminal` is whether standard output is a terminal: then `show` has colours, unless `--plain` is
-/// among the words or the variable `NO_COLOR` is set and isn't empty. Left open: everything, which is
-/// tested.
+/// among the words or the variable `NO_COLOR` is set and isn't empty; and `encode` prints raw bytes only
+/// with `--raw`. Left open: everything, which is tested.
 ///
 /// ```
 /// let words: Vec<String> = env::args(&rt)?.collect(rt.alloc())?;
@@ -113,6 +113,10 @@ fn perform_on_value<'a, R: Files + Env + Input + Print + AllocGlobal>(
     request: &ValueRequest<'a>,
     is_terminal: bool,
 ) -> Result<bool, Failure<'a>> {
+    let is_encoding = request.action == Action::Encode;
+    if is_encoding && is_terminal && !request.is_hex && !request.is_raw {
+        return Err(Failure::RawOnTerminal);
+    }
     let Some(path) = request.schema else {
         let bytes = input(rt, request.value, request.is_hex)?;
         let (schema, value) = schema_in_front(rt.alloc(), request.value, bytes.as_slice())?;
@@ -122,8 +126,11 @@ fn perform_on_value<'a, R: Files + Env + Input + Print + AllocGlobal>(
         return Err(Failure::TwoInputs);
     }
     let schema = schema_at(rt, path, request.is_schema_hex)?;
-    let is_hex = request.is_hex && request.action != Action::Encode;
-    let value = input(rt, request.value, is_hex)?;
+    let value = if is_encoding {
+        file(rt, request.value)?
+    } else {
+        input(rt, request.value, request.is_hex)?
+    };
     answer_value(rt, request, &schema, value.as_slice(), is_terminal)
 }
 
@@ -253,17 +260,18 @@ pub fn answer_about<'a>(
     }
 }
 
-/// The bytes of a file, or those that its digits say.
+/// The bytes of a file, or those that its digits say; or those that digits behind `0x` say.
 fn input<'a, R: Files + Input + AllocGlobal>(
     rt: &R,
     path: &'a str,
     is_hex: bool,
 ) -> Result<Vec<u8>, Failure<'a>> {
-    let mut bytes = match file(rt, path) {
-        Ok(bytes) => bytes,
-        Err(error) => return Err(Failure::Unreadable(path, error)),
+    let given = path.strip_prefix("0x");
+    let mut bytes = match given {
+        Some(digits) => Vec::from_slice(rt.alloc(), digits.as_bytes())?,
+        None => file(rt, path)?,
     };
-    if !is_hex {
+    if given.is_none() && !is_hex {
         return Ok(bytes);
     }
     bytes.retain(|byte| !byte.is_ascii_whitespace());
@@ -275,7 +283,14 @@ fn input<'a, R: Files + Input + AllocGlobal>(
 }
 
 /// All bytes of a file, or of standard input for `-`.
-fn file<R: Files + Input + AllocGlobal>(rt: &R, path: &str) -> io::Result<Vec<u8>> {
+fn file<'a, R: Files + Input + AllocGlobal>(rt: &R, path: &'a str) -> Result<Vec<u8>, Failure<'a>> {
+    match read_all(rt, path) {
+        Ok(bytes) => Ok(bytes),
+        Err(error) => Err(Failure::Unreadable(path, error)),
+    }
+}
+
+fn read_all<R: Files + Input + AllocGlobal>(rt: &R, path: &str) -> io::Result<Vec<u8>> {
     if path != "-" {
         return fs::read(rt, path);
     }

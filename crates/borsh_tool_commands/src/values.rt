@@ -1,9 +1,12 @@
 // What is asked of a value by its container.
-ghost use Rattle.std.specs.Prelude.{◌≡◌, IfErr, IfOk, OnOk, Decides, Some, false, string_bytes, true};
+ghost use Rattle.std.specs.Prelude.{◌≡◌, IfErr, IfOk, OnOk, Decides, Some, false, flat_map, string_bytes, true};
 ghost use Rattle.borsh.specs.Errors.{error_kind};
+ghost use Rattle.borsh_tool_commands.specs.Answers.{line_of};
 ghost use Rattle.borsh_tool_commands.specs.Colors.{IsPainted};
-ghost use Rattle.borsh_tool_commands.specs.Colored.{has_colors, printed_colors};
+ghost use Rattle.borsh_tool_commands.specs.Colored.{printed_colors};
 ghost use Rattle.borsh_tool_commands.specs.Failures.{IsFailure, IsNoAnswer, IsNoContainer, IsNoContainerInFront, IsNoContainerJson, IsNoJson, IsNoMemory, IsNotShown, IsNoValue};
+ghost use Rattle.borsh_tool_commands.specs.Plain.{digits};
+ghost use Rattle.borsh_tool_commands.specs.Printed.{printed};
 ghost use Rattle.borsh_tool_commands.specs.Sent.{IsContainer, IsSent, schema_encoding};
 ghost use Rattle.borsh_io.specs.declared.error.ErrorKind.TheVariants.{OutOfMemory as NoRoom};
 ghost use Rattle.borsh_json.specs.declared.error.JsonError.TheVariants.{OutOfMemory as NoMemory};
@@ -11,14 +14,15 @@ ghost use Rattle.borsh_walks.specs.Container.{Member};
 ghost use Rattle.borsh_walks.specs.Definitions.{definitions_in};
 
 use super::answers::{Answer, line};
-use super::colors::{Color, ColoredText};
+use super::colors::ColoredText;
+use super::columns::text_of_rows;
 use super::failure::Failure;
 use super::plain_text::PlainText;
 use borsh::io::{Error, ErrorKind};
 use borsh::schema::{BorshSchemaContainer, Definition};
 use borsh::ser::write_two;
 use borsh::{BorshDeserialize, from_slice, schema_container_of, to_vec};
-use borsh_json::{JsonError, Row, Style, check_strict, from_json, rows_of, to_json};
+use borsh_json::{JsonError, Style, check_strict, from_json, rows_of, to_json};
 use borsh_values::{Membership, is_member};
 use std::alloc::{AllocError, Global};
 use std::collections::BTreeMap;
@@ -199,7 +203,7 @@ pub fn bytes_said<'a>(
     };
     match from_json(alloc, schema.root.as_str(), &schema.definitions, text) {
         Ok(bytes) => Ok(bytes),
-        Err(error) => Err(no_value(alloc, path, error)),
+        Err(error) => Err(no_value_said(alloc, path, text, error)),
     }
 }
 
@@ -311,63 +315,36 @@ pub fn shown<'a>(
     }
 }
 
-fn text_of_rows(
-    alloc: Global,
-    rows: &[Row<'_>],
-    is_colored: bool,
-) -> Result<ColoredText, AllocError>
-    ensures { IfOk result (λ t. has_colors t ≡ is_colored) }
+/// Bytes as hexadecimal digits, and a line feed. Left open: memory.
+pub fn hex_line(alloc: Global, bytes: &[u8]) -> Result<PlainText, AllocError>
+    ensures { IfOk result (λ t. printed t ≡ line_of (flat_map digits bytes.now)) }
 {
-    let mut out = ColoredText::new(alloc, is_colored);
-    for row in rows {
-        push_row(alloc, row, &mut out)?;
-    }
-    Ok(out)
-}
-
-/// The offset, the first bytes, the path, the type and the value, as a line.
-fn push_row(alloc: Global, row: &Row<'_>, out: &mut ColoredText) -> Result<(), AllocError>
-    ensures { has_colors out.new ≡ has_colors out.old }
-{
-    let offset = row.offset;
-    let offset = format!(in alloc; "{offset:>8}  ")?;
-    out.push(&plain(alloc, offset.as_str())?)?;
-    let bytes = first_bytes(alloc, row.bytes)?;
-    out.push_in(Color::Yellow, &plain(alloc, bytes.as_str())?)?;
-    let path = &row.path;
-    let path = format!(in alloc; "  {path}  ")?;
-    out.push(&plain(alloc, path.as_str())?)?;
-    let mut name = PlainText::new(alloc);
-    name.push_name(row.name)?;
-    out.push_in(Color::Cyan, &name)?;
-    if !row.value.is_empty() {
-        out.push(&plain(alloc, "  ")?)?;
-        out.push_in(Color::Green, &plain(alloc, row.value.as_str())?)?;
-    }
-    let mut end = PlainText::new(alloc);
-    end.end_line()?;
-    out.push(&end)
-}
-
-/// The first 16 bytes as digits, and two dots where there are more.
-fn first_bytes(alloc: Global, bytes: &[u8]) -> Result<String, AllocError> {
-    let mut digits = hex::encode(alloc, &bytes[..bytes.len().min(16)])?;
-    if bytes.len() > 16 {
-        digits.push_str("..")?;
-    }
-    Ok(digits)
-}
-
-fn plain(alloc: Global, text: &str) -> Result<PlainText, AllocError> {
     let mut out = PlainText::new(alloc);
-    out.push(text)?;
+    out.push_digits(bytes)?;
+    out.end_line()?;
     Ok(out)
 }
 
-/// Bytes as hexadecimal digits, and a line feed. Left open: memory; any text: tested.
-pub fn hex_line(alloc: Global, bytes: &[u8]) -> Result<PlainText, AllocError> {
-    let digits = hex::encode(alloc, bytes)?;
-    line(alloc, digits.as_str())
+/// The failure of JSON that says no value. Where it isn't JSON, the place is a line and a column.
+fn no_value_said<'a>(alloc: Global, path: &'a str, json: &str, error: JsonError<'_>) -> Failure<'a>
+    ensures { IsFailure path.now ⊥ (error.entry ≡ NoMemory → ⊥) ⊥ result }
+{
+    let JsonError::NotJson(offset) = error else {
+        return no_value(alloc, path, error);
+    };
+    let (line, column) = line_and_column(json, offset);
+    match format!(in alloc; "not JSON, near line {line}, column {column}") {
+        Ok(text) => Failure::NotValue(path, text),
+        Err(_) => Failure::OutOfMemory,
+    }
+}
+
+/// The line and the column of a byte of a text, which count lines and characters from 1 on.
+fn line_and_column(text: &str, offset: usize) -> (usize, usize) {
+    let before = text.get(..offset).unwrap_or(text);
+    let line = before.split('\n').count();
+    let last = before.rsplit('\n').next().unwrap_or(before);
+    (line, last.chars().count().saturating_add(1))
 }
 
 fn no_value<'a>(alloc: Global, path: &'a str, error: JsonError<'_>) -> Failure<'a>

@@ -1,5 +1,7 @@
 // Values of types of one's own, which are marked in `example_generated`.
+use borsh::schema::BorshSchema;
 use borsh::{from_slice, schema_container_of, to_vec};
+use borsh_json::check_strict;
 use example_generated::readme::{Pair, Request, Stock};
 use std::collections::BTreeMap;
 
@@ -23,6 +25,26 @@ pub fn show(rt: &(impl Print + AllocGlobal)) -> Result<(), anyhow::Error> {
     println!(rt; "{} is made of", container.declaration())?;
     for (name, _definition) in container.definitions() {
         println!(rt; "  {name}")?;
+    }
+
+    // Two refused stocks: a note that is cut short, and pieces whose names descend.
+    show_fault::<Stock>(rt, b"\0\0\0\0\x01\x03\0\0\0cu".as_slice())?;
+    show_fault::<Stock>(
+        rt,
+        b"\x02\0\0\0\x01\0\0\0b\x07\0\0\0\x01\0\0\0a\x07\0\0\0\0".as_slice(),
+    )
+}
+
+/// Prints why bytes that `from_slice` refuses are no value of the type: where they are no member of its container, or else
+/// which part its type refuses. Nothing where only the type knows, as of keys of a struct of one's own.
+fn show_fault<T: BorshSchema>(
+    rt: &(impl Print + AllocGlobal),
+    bytes: &[u8],
+) -> Result<(), anyhow::Error> {
+    let container = schema_container_of::<T>(rt.alloc())?;
+    let root = container.declaration().as_str();
+    if let Err(fault) = check_strict(rt.alloc(), root, container.as_map(), bytes) {
+        println!(rt; "{fault}")?;
     }
     Ok(())
 }
