@@ -20,7 +20,7 @@ mod writing;
 
 pub use error::{JsonError, Refusal};
 pub use output::{Layout, LongNumbers, Style};
-pub use reading::from_json;
-pub use rows::{Row, rows_of};
-pub use strict::check_strict;
-pub use writing::to_json;
+pub use reading::{from_json, from_json_by};
+pub use rows::{Row, rows_by, rows_of};
+pub use strict::{check_strict, check_strict_by};
+pub use writing::{to_json, to_json_by};
