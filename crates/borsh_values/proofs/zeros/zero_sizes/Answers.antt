@@ -1,4 +1,4 @@
-use Rattle.std.proofs.Common.{[], ◌∷◌, ◌++◌, length, length-append, sym, ◌∙◌, ap, subst, arith}
+use Rattle.std.proofs.Common.{[], ◌∷◌, length, length-append, sym, ◌∙◌, ap, subst, arith}
 use Rattle.borsh_walks.specs.Definitions.{definitions_in}
 use Rattle.borsh_walks.proofs.RulesGlue.{empty_table}
 use Rattle.borsh_values.specs.Zeros.{ZeroAt}
