@@ -1,96 +1,148 @@
-// Definitions, and what was found out about them.
-ghost use Rattle.borsh_walks.specs.Definitions.{definitions_in};
-ghost use Rattle.borsh_walks.specs.ZeroAnswer.{ZeroTable};
-ghost use Rattle.std.specs.Prelude.{OnOk};
-
+// A layout, and what was found out about its names. Names are known by their places.
 use crate::kinds::{Kind, kind_of};
 use crate::order::{Ordered, ordered_as};
-use borsh_walks::zero::is_zero;
-use borsh_walks::{Counted, Definition, Expansions};
+use borsh_values::{Layout, Node};
+use borsh_walks::Definition;
 use std::alloc::{AllocError, Global};
-use std::collections::BTreeMap;
 
-/// Definitions by name, and what was found out about them.
-#[derive(Drop)]
-pub struct Definitions<'a> {
-    pub alloc: Global,
-    map: &'a BTreeMap<String, Definition>,
-    zeros: BTreeMap<&'a str, bool>,
-    kinds: BTreeMap<&'a str, Kind<'a>>,
-    orders: BTreeMap<&'a str, Option<Ordered<'a>>>,
+/// What was found out about the order of the values of a name.
+#[derive(Clone, Copy)]
+enum Known {
+    Nothing,
+    /// The order; none where names and definitions don't tell it.
+    Order(Option<Ordered>),
 }
 
-impl<'a> Definitions<'a> {
-    pub fn new(
-        alloc: Global,
-        map: &'a BTreeMap<String, Definition>,
-    ) -> Result<Definitions<'a>, AllocError> {
+/// A layout, and what was found out about its names.
+#[derive(Drop)]
+pub struct Definitions<'a, 'l> {
+    pub alloc: Global,
+    layout: &'l Layout<'a>,
+    /// Empty where there is one name: its kind is asked for once, unless it contains itself.
+    kinds: Vec<Option<Kind<'a>>>,
+    /// Empty until an order is asked for.
+    orders: Vec<Known>,
+}
+
+impl<'a, 'l> Definitions<'a, 'l> {
+    pub fn new(alloc: Global, layout: &'l Layout<'a>) -> Result<Definitions<'a, 'l>, AllocError> {
+        let count = layout.names.len();
+        let kinds = if count == 1 {
+            Vec::new(alloc)
+        } else {
+            vec![in alloc; None; count]?
+        };
         Ok(Definitions {
             alloc,
-            map,
-            zeros: zero_sizes(alloc, map)?,
-            kinds: BTreeMap::new(alloc),
-            orders: BTreeMap::new(alloc),
+            layout,
+            kinds,
+            orders: Vec::new(alloc),
         })
     }
 
-    pub fn get(&self, name: &str) -> Option<&'a Definition> {
-        self.map.get(name)
-    }
-
-    /// Whether the values of the name have no bytes.
-    pub fn is_zero_size(&self, name: &str) -> bool {
-        matches!(self.zeros.get(name), Some(true))
-    }
-
-    /// How the values of the name, which has this definition, are written.
-    pub fn kind(
-        &mut self,
-        name: &'a str,
-        definition: &'a Definition,
-    ) -> Result<Kind<'a>, AllocError> {
-        if let Some(kind) = self.kinds.get(name) {
-            return Ok(*kind);
-        }
-        let kind = kind_of(self, name, definition)?;
-        self.kinds.insert(name, kind)?;
-        Ok(kind)
-    }
-
-    /// How the values of the name are ordered; none where that isn't known.
-    pub fn order_of(&mut self, name: &'a str) -> Result<Option<Ordered<'a>>, AllocError> {
-        if !self.orders.contains_key(name) {
-            self.find_order(name)?;
-        }
-        Ok(self.known_order(name))
-    }
-
-    /// How the values of the name are ordered, where [`Definitions::order_of`] found that for it or for a name that needs it.
-    pub fn known_order(&self, name: &str) -> Option<Ordered<'a>> {
-        match self.orders.get(name) {
-            Some(order) => *order,
+    /// The definition of the name at a place, if it has one.
+    pub fn get(&self, at: usize) -> Option<&'a Definition> {
+        match self.layout.names.as_slice().get(at).copied() {
+            Some(named) => named.definition,
             None => None,
         }
     }
 
+    /// The name at a place.
+    pub fn name(&self, at: usize) -> &'a str {
+        match self.layout.names.as_slice().get(at).copied() {
+            Some(named) => named.name,
+            None => "",
+        }
+    }
+
+    /// The place of a part of the definition at a place; past its parts a place that no name has.
+    pub fn part(&self, at: usize, index: usize) -> usize {
+        match self.layout.parts.as_slice().get(at) {
+            Some(parts) => parts.as_slice().get(index).copied().unwrap_or(usize::MAX),
+            None => usize::MAX,
+        }
+    }
+
+    /// Whether the values of the name at a place have no bytes.
+    pub fn is_zero_size(&self, at: usize) -> bool {
+        self.layout
+            .zeros
+            .as_slice()
+            .get(at)
+            .copied()
+            .unwrap_or(false)
+    }
+
+    /// How the value of a node is written.
+    pub fn kind_of_node(&mut self, node: &Node<'a>) -> Result<Kind<'a>, AllocError> {
+        let at = self.layout.places.get(node.name).copied();
+        self.kind(at.unwrap_or(usize::MAX), node.definition)
+    }
+
+    /// How the values of the name at a place, which has this definition, are written.
+    pub fn kind(&mut self, at: usize, definition: &'a Definition) -> Result<Kind<'a>, AllocError> {
+        if let Some(Some(kind)) = self.kinds.as_slice().get(at).copied() {
+            return Ok(kind);
+        }
+        let kind = kind_of(self, at, definition)?;
+        if let Some(known) = self.kinds.get_mut(at) {
+            *known = Some(kind);
+        }
+        Ok(kind)
+    }
+
+    /// How the values of the name at a place are ordered; none where that isn't known.
+    pub fn order_of(&mut self, at: usize) -> Result<Option<Ordered>, AllocError> {
+        if self.orders.is_empty() {
+            self.orders = vec![in self.alloc; Known::Nothing; self.layout.names.len()]?;
+        }
+        if matches!(self.known_at(at), Known::Nothing) {
+            self.find_order(at)?;
+        }
+        Ok(self.known_order(at))
+    }
+
+    /// How the values of the name are ordered, where [`Definitions::order_of`] found that for it or for a name that needs it.
+    pub fn known_order(&self, at: usize) -> Option<Ordered> {
+        match self.known_at(at) {
+            Known::Order(order) => order,
+            Known::Nothing => None,
+        }
+    }
+
+    fn known_at(&self, at: usize) -> Known {
+        self.orders
+            .as_slice()
+            .get(at)
+            .copied()
+            .unwrap_or(Known::Order(None))
+    }
+
+    fn set_order(&mut self, at: usize, order: Option<Ordered>) {
+        if let Some(known) = self.orders.get_mut(at) {
+            *known = Known::Order(order);
+        }
+    }
+
     /// Finds the order of a name and of those that it needs. It isn't known if that of one of them isn't, as in a circle of names.
-    fn find_order(&mut self, name: &'a str) -> Result<(), AllocError> {
-        let mut open: Vec<(&'a str, Ordered<'a>, usize)> = Vec::new(self.alloc);
-        let mut name = name;
+    fn find_order(&mut self, at: usize) -> Result<(), AllocError> {
+        let mut open: Vec<(usize, Ordered, usize)> = Vec::new(self.alloc);
+        let mut at = at;
         for _ in 0..u64::MAX {
-            match self.orders.get(name) {
-                Some(Some(_)) => (),
-                Some(None) => break,
-                None => {
-                    self.orders.insert(name, None)?;
-                    match self.order_by_parts(name) {
-                        Some(order) => open.push((name, order, 0))?,
+            match self.known_at(at) {
+                Known::Order(Some(_)) => (),
+                Known::Order(None) => break,
+                Known::Nothing => {
+                    self.set_order(at, None);
+                    match self.order_by_parts(at) {
+                        Some(order) => open.push((at, order, 0))?,
                         None => break,
                     }
                 }
             }
             match self.next_needed(&mut open)? {
-                Some(needed) => name = needed,
+                Some(needed) => at = needed,
                 None => break,
             }
         }
@@ -100,53 +152,26 @@ impl<'a> Definitions<'a> {
     /// The next name that the last open name needs. An open name that needs no further one has its order.
     fn next_needed(
         &mut self,
-        open: &mut Vec<(&'a str, Ordered<'a>, usize)>,
-    ) -> Result<Option<&'a str>, AllocError> {
+        open: &mut Vec<(usize, Ordered, usize)>,
+    ) -> Result<Option<usize>, AllocError> {
         for _ in 0..u64::MAX {
-            let Some((name, order, index)) = open.pop() else {
+            let Some((at, order, index)) = open.pop() else {
                 break;
             };
-            if let Some(part) = order.part(index) {
-                open.push((name, order, index.saturating_add(1)))?;
+            if let Some(part) = order.part(self, index) {
+                open.push((at, order, index.saturating_add(1)))?;
                 return Ok(Some(part));
             }
-            self.orders.insert(name, Some(order))?;
+            self.set_order(at, Some(order));
         }
         Ok(None)
     }
 
     /// How the values of the name are ordered, if its parts are.
-    fn order_by_parts(&self, name: &'a str) -> Option<Ordered<'a>> {
-        if self.is_zero_size(name) {
+    fn order_by_parts(&self, at: usize) -> Option<Ordered> {
+        if self.is_zero_size(at) {
             return Some(Ordered::Single);
         }
-        ordered_as(self, name, self.get(name)?)
+        ordered_as(self, at, self.get(at)?)
     }
-}
-
-/// Whether the values of each name have no bytes.
-fn zero_sizes<'a>(
-    alloc: Global,
-    map: &'a BTreeMap<String, Definition>,
-) -> Result<BTreeMap<&'a str, bool>, AllocError> {
-    let mut zeros: BTreeMap<&'a str, bool> = BTreeMap::new(alloc);
-    for (name, _) in map.iter() {
-        mark(alloc, map, name.as_str(), &mut zeros)?;
-    }
-    Ok(zeros)
-}
-
-fn mark<'a>(
-    alloc: Global,
-    map: &'a BTreeMap<String, Definition>,
-    name: &'a str,
-    zeros: &mut BTreeMap<&'a str, bool>,
-) -> Result<(), AllocError>
-    requires { ZeroTable (definitions_in map.now) zeros.old }
-    ensures { OnOk result (ZeroTable (definitions_in map.now) zeros.new) }
-{
-    let mut counts = Expansions::NONE;
-    let mut counted = Counted::new(map, &mut counts);
-    let _is_zero = is_zero(alloc, name, zeros, &mut counted)?;
-    Ok(())
 }

@@ -17,12 +17,12 @@ pub fn is_composed(name: &str, pieces: &[&str]) -> bool {
     behind(name, pieces) == Some("")
 }
 
-/// The name of the value of an `Option`; none if the name isn't one.
-pub fn option_part<'a>(
-    definitions: &Definitions<'a>,
-    name: &str,
-    definition: &'a Definition,
-) -> Option<&'a str> {
+/// The place of the value of an `Option`; none if the name at the place isn't one.
+pub fn option_part(
+    definitions: &Definitions<'_, '_>,
+    at: usize,
+    definition: &Definition,
+) -> Option<usize> {
     let Definition::Enum {
         tag_width: 1,
         variants,
@@ -35,27 +35,24 @@ pub fn option_part<'a>(
     };
     let is_option = none.0 == 0
         && none.1.as_str() == "None"
-        && definitions.is_zero_size(none.2.as_str())
+        && definitions.is_zero_size(definitions.part(at, 0))
         && some.0 == 1
         && some.1.as_str() == "Some"
-        && is_composed(name, &["Option<", some.2.as_str(), ">"]);
+        && is_composed(definitions.name(at), &["Option<", some.2.as_str(), ">"]);
     if is_option {
-        Some(some.2.as_str())
+        Some(definitions.part(at, 1))
     } else {
         None
     }
 }
 
-/// The name of the only part of a struct that has one field, without a name.
-pub fn only_part(definition: &Definition) -> Option<&str> {
+/// Whether a struct has one field, without a name.
+pub fn is_newtype(definition: &Definition) -> bool {
     match definition {
         Definition::Struct {
             fields: Fields::UnnamedFields(parts),
-        } => match parts.as_slice() {
-            [part] => Some(part.as_str()),
-            _ => None,
-        },
-        _ => None,
+        } => parts.len() == 1,
+        _ => false,
     }
 }
 
@@ -73,34 +70,35 @@ pub fn is_list(definition: &Definition) -> bool {
 
 /// What the elements of a list are.
 #[derive(Clone, Copy)]
-pub enum Collection<'a> {
+pub enum Collection {
     /// Elements in any order.
     List,
     /// Those of a set.
     Set,
-    /// The entries of a map, with keys and values of these names.
-    Map(&'a str, &'a str),
+    /// The entries of a map, with keys and values of the names at these places.
+    Map(usize, usize),
 }
 
 /// What the elements of a sequence are.
-pub fn collection_of<'a>(
-    definitions: &Definitions<'a>,
-    name: &str,
-    definition: &'a Definition,
-) -> Collection<'a> {
+pub fn collection_of(
+    definitions: &Definitions<'_, '_>,
+    at: usize,
+    definition: &Definition,
+) -> Collection {
     let Definition::Sequence { elements, .. } = definition else {
         return Collection::List;
     };
     if !is_list(definition) {
         return Collection::List;
     }
-    let element = elements.as_str();
+    let (name, element) = (definitions.name(at), elements.as_str());
     if is_composed(name, &["BTreeSet<", element, ">"])
         || is_composed(name, &["HashSet<", element, ">"])
     {
         return Collection::Set;
     }
-    let Some(Definition::Tuple { elements: parts }) = definitions.get(element) else {
+    let pair = definitions.part(at, 0);
+    let Some(Definition::Tuple { elements: parts }) = definitions.get(pair) else {
         return Collection::List;
     };
     let [key, value] = parts.as_slice() else {
@@ -110,7 +108,7 @@ pub fn collection_of<'a>(
     if is_composed(name, &["BTreeMap<", key, ", ", value, ">"])
         || is_composed(name, &["HashMap<", key, ", ", value, ">"])
     {
-        return Collection::Map(key, value);
+        return Collection::Map(definitions.part(pair, 0), definitions.part(pair, 1));
     }
     Collection::List
 }

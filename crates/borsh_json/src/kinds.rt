@@ -1,7 +1,7 @@
 // How the values of a name are written in JSON.
 use crate::definitions::Definitions;
 use crate::floats::is_float;
-use crate::formats::{Collection, collection_of, only_part, option_part};
+use crate::formats::{Collection, collection_of, is_newtype, option_part};
 use crate::numbers::Number;
 use crate::order::Ordered;
 use borsh_walks::{Declaration, Definition, DiscriminantValue, FieldName, Fields, VariantName};
@@ -14,14 +14,14 @@ pub type NamedFields = Vec<(FieldName, Declaration)>;
 /// The variants of an enum.
 pub type Variants = Vec<(DiscriminantValue, VariantName, Declaration)>;
 
-/// The elements of a list.
+/// The elements of a list, whose name is at a place.
 #[derive(Clone, Copy)]
-pub struct Elements<'a> {
-    pub name: &'a str,
+pub struct Elements {
+    pub at: usize,
     /// How many bytes each has, if they are primitives; otherwise 0.
     pub size: u8,
     /// How they have to ascend, or their keys, if the list is a set or a map whose order is known.
-    pub order: Option<Ordered<'a>>,
+    pub order: Option<Ordered>,
     /// Whether the list is refused, since its elements or keys have no bytes.
     pub is_refused: bool,
 }
@@ -33,17 +33,16 @@ pub enum KeyKind {
     Number(Number),
 }
 
-/// The entries of a map that is an object.
+/// The entries of a map that is an object, with the places of the names of its keys and values.
 #[derive(Clone, Copy)]
 pub struct Entries<'a> {
-    /// The name of the keys, and their definition.
-    pub key: &'a str,
+    pub key: usize,
     pub key_definition: &'a Definition,
     pub key_kind: KeyKind,
-    pub value: &'a str,
+    pub value: usize,
 }
 
-/// How the values of a name are written in JSON.
+/// How the values of a name are written in JSON. Parts are known by the places of their names.
 #[derive(Clone, Copy)]
 pub enum Kind<'a> {
     /// `7`, or `"7"` for more than 64 bits.
@@ -57,44 +56,42 @@ pub enum Kind<'a> {
     /// The bits of a float of so many bytes, as bytes; no NaN.
     Float(u8),
     /// `"0x0a1f"`, of any number of bytes; also taken from `[10, 31]`.
-    ByteList(Elements<'a>),
+    ByteList(Elements),
     /// `[..]`, of elements that are primitives.
-    Numbers(Elements<'a>),
+    Numbers(Elements),
     /// `[..]`, of other elements.
-    List(Elements<'a>),
+    List(Elements),
     /// `{..}`, of keys that are texts or numbers, and ascend so.
-    Map(Entries<'a>, Ordered<'a>),
+    Map(Entries<'a>, Ordered),
     /// `[..]`, of as many elements as the definition has parts.
     Row(usize),
-    /// What its only part is, which has this name.
-    Newtype(&'a str),
+    /// What its only part is.
+    Newtype(usize),
     /// `{..}`
     Object(&'a NamedFields),
-    /// `null`, or what the part of this name is, which is never `null`.
-    Optional(&'a str),
+    /// `null`, or what this part is, which is never `null`.
+    Optional(usize),
     /// `"Name"`, or `{"Name": ..}` where the variant's value has bytes, with a tag of so many bytes.
     Choice(u8, &'a Variants),
     /// Not at all: two of its fields or variants have this name.
     Repeated(&'a str),
 }
 
-/// How the values of a name with this definition are written. Their bytes are at least one.
+/// How the values of the name at a place, which has this definition, are written. Their bytes are at least one.
 pub fn kind_of<'a>(
-    definitions: &mut Definitions<'a>,
-    name: &'a str,
+    definitions: &mut Definitions<'a, '_>,
+    at: usize,
     definition: &'a Definition,
 ) -> Result<Kind<'a>, AllocError> {
     match definition {
-        Definition::Primitive(size) => Ok(kind_of_primitive(name, *size)),
-        Definition::Sequence { elements, .. } => {
-            kind_of_sequence(definitions, name, definition, elements.as_str())
-        }
+        Definition::Primitive(size) => Ok(kind_of_primitive(definitions.name(at), *size)),
+        Definition::Sequence { .. } => kind_of_sequence(definitions, at, definition),
         Definition::Tuple { elements } => Ok(Kind::Row(elements.len())),
-        Definition::Struct { fields } => kind_of_struct(definitions.alloc, fields),
+        Definition::Struct { fields } => kind_of_struct(definitions, at, fields),
         Definition::Enum {
             tag_width,
             variants,
-        } => match option_part(definitions, name, definition) {
+        } => match option_part(definitions, at, definition) {
             Some(part) if !may_be_null(definitions, part) => Ok(Kind::Optional(part)),
             _ => match repeated_variant(definitions.alloc, variants)? {
                 Some(name) => Ok(Kind::Repeated(name)),
@@ -118,16 +115,20 @@ pub fn kind_of_primitive<'a>(name: &str, size: u8) -> Kind<'a> {
     }
 }
 
-fn kind_of_struct<'a>(alloc: Global, fields: &'a Fields) -> Result<Kind<'a>, AllocError> {
+fn kind_of_struct<'a>(
+    definitions: &Definitions<'a, '_>,
+    at: usize,
+    fields: &'a Fields,
+) -> Result<Kind<'a>, AllocError> {
     match fields {
-        Fields::NamedFields(fields) => match repeated_field(alloc, fields)? {
+        Fields::NamedFields(fields) => match repeated_field(definitions.alloc, fields)? {
             Some(name) => Ok(Kind::Repeated(name)),
             None => Ok(Kind::Object(fields)),
         },
-        Fields::UnnamedFields(parts) => match parts.as_slice() {
-            [part] => Ok(Kind::Newtype(part.as_str())),
-            _ => Ok(Kind::Row(parts.len())),
-        },
+        Fields::UnnamedFields(parts) if parts.len() == 1 => {
+            Ok(Kind::Newtype(definitions.part(at, 0)))
+        }
+        Fields::UnnamedFields(parts) => Ok(Kind::Row(parts.len())),
         Fields::Empty => Ok(Kind::Row(0)),
     }
 }
@@ -161,23 +162,23 @@ fn repeated_variant<'a>(
 }
 
 fn kind_of_sequence<'a>(
-    definitions: &mut Definitions<'a>,
-    name: &'a str,
+    definitions: &mut Definitions<'a, '_>,
+    at: usize,
     definition: &'a Definition,
-    element: &'a str,
 ) -> Result<Kind<'a>, AllocError> {
+    let element = definitions.part(at, 0);
     let element_definition = definitions.get(element);
-    let is_byte = element == "u8" && matches!(element_definition, Some(Definition::Primitive(1)));
-    if is_byte && name == "String" {
+    let is_byte = is_byte(definitions, element);
+    if is_byte && definitions.name(at) == "String" {
         return Ok(Kind::Text);
     }
     let mut elements = Elements {
-        name: element,
+        at: element,
         size: 0,
         order: None,
         is_refused: definitions.is_zero_size(element),
     };
-    match collection_of(definitions, name, definition) {
+    match collection_of(definitions, at, definition) {
         Collection::List => {}
         Collection::Set => elements.order = definitions.order_of(element)?,
         Collection::Map(key, value) => {
@@ -205,18 +206,23 @@ fn kind_of_sequence<'a>(
     }
 }
 
+/// Whether the name at a place is `u8`, of one byte.
+pub fn is_byte(definitions: &Definitions<'_, '_>, at: usize) -> bool {
+    definitions.name(at) == "u8" && matches!(definitions.get(at), Some(Definition::Primitive(1)))
+}
+
 /// The entries of a map whose keys are texts or numbers.
 fn entries_of<'a>(
-    definitions: &Definitions<'a>,
-    key: &'a str,
-    value: &'a str,
-    order: Ordered<'a>,
+    definitions: &Definitions<'a, '_>,
+    key: usize,
+    value: usize,
+    order: Ordered,
 ) -> Option<Entries<'a>> {
     let key_definition = definitions.get(key)?;
     let key_kind = match order {
         Ordered::Text => KeyKind::Text,
         Ordered::Unsigned(size) | Ordered::Signed(size) => {
-            KeyKind::Number(Number::named(key, size)?)
+            KeyKind::Number(Number::named(definitions.name(key), size)?)
         }
         _ => return None,
     };
@@ -231,24 +237,24 @@ fn entries_of<'a>(
 /// How many parts without names of their own are gone through to see whether a value may be `null`.
 const MOST_NEWTYPES: usize = 128;
 
-/// Whether the JSON of a value of this name may be `null`. It says so too of an `Option` that is never written as `null`, and of
+/// Whether the JSON of a value of the name at a place may be `null`. It says so too of an `Option` that is never written as `null`, and of
 /// structs whose only parts lead further than [`MOST_NEWTYPES`]: an `Option` of these is written as a variant.
-fn may_be_null<'a>(definitions: &Definitions<'a>, name: &'a str) -> bool {
-    let mut name = name;
+fn may_be_null(definitions: &Definitions<'_, '_>, at: usize) -> bool {
+    let mut at = at;
     for _ in 0..MOST_NEWTYPES {
-        if definitions.is_zero_size(name) {
+        if definitions.is_zero_size(at) {
             return true;
         }
-        let Some(definition) = definitions.get(name) else {
+        let Some(definition) = definitions.get(at) else {
             return false;
         };
-        if option_part(definitions, name, definition).is_some() {
+        if option_part(definitions, at, definition).is_some() {
             return true;
         }
-        match only_part(definition) {
-            Some(part) => name = part,
-            None => return false,
+        if !is_newtype(definition) {
+            return false;
         }
+        at = definitions.part(at, 0);
     }
     true
 }

@@ -1,4 +1,5 @@
 // Whole numbers as text.
+use itoa::Buffer;
 use std::alloc::{AllocError, Global};
 
 /// The whole numbers of a type.
@@ -56,14 +57,15 @@ impl Number {
         self.size == 8
     }
 
-    /// The number that the bytes encode, in decimal.
-    pub fn decimal(&self, alloc: Global, bytes: &[u8]) -> Result<String, AllocError> {
-        if self.is_signed {
-            let number = i128::from_le_bytes(widened(bytes, sign_byte(bytes)));
-            format!(in alloc; "{number}")
-        } else {
-            let number = u128::from_le_bytes(widened(bytes, 0));
-            format!(in alloc; "{number}")
+    /// The number that the bytes encode, in decimal, as a text in the buffer.
+    pub fn decimal<'b>(&self, buffer: &'b mut Buffer, bytes: &[u8]) -> &'b str {
+        let fill = if self.is_signed { sign_byte(bytes) } else { 0 };
+        let all = widened(bytes, fill);
+        match (self.is_signed, self.size > 8) {
+            (true, true) => buffer.format(i128::from_le_bytes(all)),
+            (true, false) => buffer.format(i64::from_le_bytes(lower_half(all))),
+            (false, true) => buffer.format(u128::from_le_bytes(all)),
+            (false, false) => buffer.format(u64::from_le_bytes(lower_half(all))),
         }
     }
 
@@ -147,6 +149,12 @@ pub fn widened(bytes: &[u8], fill: u8) -> [u8; 16] {
         }
     }
     all
+}
+
+fn lower_half(all: [u8; 16]) -> [u8; 8] {
+    [
+        all[0], all[1], all[2], all[3], all[4], all[5], all[6], all[7],
+    ]
 }
 
 /// Whether a text is digits, perhaps after a minus, as decimal numbers are printed: without a zero in front, and not `-0`.

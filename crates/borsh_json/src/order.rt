@@ -1,6 +1,7 @@
 // The order of the keys of maps and sets, where names and definitions tell it.
 use crate::definitions::Definitions;
 use crate::formats::{behind, is_composed, is_list, option_part};
+use crate::kinds::is_byte;
 use crate::numbers::Number;
 use borsh_walks::{Declaration, Definition};
 use std::alloc::AllocError;
@@ -9,7 +10,7 @@ use std::mem;
 
 /// How the values of a name are ordered.
 #[derive(Clone, Copy)]
-pub enum Ordered<'a> {
+pub enum Ordered {
     /// There is one value, without bytes.
     Single,
     /// As numbers of so many bytes, without a sign; `bool` too.
@@ -18,21 +19,27 @@ pub enum Ordered<'a> {
     Signed(u8),
     /// As texts: by their bytes, a beginning first.
     Text,
-    /// As arrays of so many elements of this name: by the first that differs.
-    Array(u64, &'a str),
-    /// As lists of elements of this name: by the first that differs, a beginning first.
-    List(&'a str),
-    /// As tuples: by the first part that differs.
-    Tuple(&'a Vec<Declaration>),
-    /// As options: none first.
-    Optional(&'a str),
+    /// As arrays of so many elements of the name at this place: by the first that differs.
+    Array(u64, usize),
+    /// As lists of elements of the name at this place: by the first that differs, a beginning first.
+    List(usize),
+    /// As tuples, whose definition is at this place and has so many parts: by the first part that differs.
+    Tuple(usize, usize),
+    /// As options of the name at this place: none first.
+    Optional(usize),
 }
 
-impl<'a> Ordered<'a> {
-    /// A name whose order has to be known too; none if there is no such index.
-    pub fn part(&self, index: usize) -> Option<&'a str> {
+impl Ordered {
+    /// The place of a name whose order has to be known too; none if there is no such index.
+    pub fn part(&self, definitions: &Definitions<'_, '_>, index: usize) -> Option<usize> {
         match self {
-            Ordered::Tuple(parts) => parts.get(index).map(|part| part.as_str()),
+            Ordered::Tuple(at, count) => {
+                if index < *count {
+                    Some(definitions.part(*at, index))
+                } else {
+                    None
+                }
+            }
             Ordered::Array(_, part) | Ordered::List(part) | Ordered::Optional(part) => {
                 if index == 0 { Some(*part) } else { None }
             }
@@ -41,13 +48,14 @@ impl<'a> Ordered<'a> {
     }
 }
 
-/// How the values of a name with this definition are ordered, if its parts are; none where that isn't known: of structs, enums,
-/// and primitives of other names.
-pub fn ordered_as<'a>(
-    definitions: &Definitions<'a>,
-    name: &str,
-    definition: &'a Definition,
-) -> Option<Ordered<'a>> {
+/// How the values of the name at a place are ordered, if its parts are; none where that isn't known: of structs, enums, and
+/// primitives of other names.
+pub fn ordered_as(
+    definitions: &Definitions<'_, '_>,
+    at: usize,
+    definition: &Definition,
+) -> Option<Ordered> {
+    let name = definitions.name(at);
     match definition {
         Definition::Primitive(1) if name == "bool" => Some(Ordered::Unsigned(1)),
         Definition::Primitive(size) => {
@@ -64,51 +72,54 @@ pub fn ordered_as<'a>(
         } => {
             let (start, end) = (length_range.start, length_range.end);
             if start == end && is_array_name(name, elements.as_str(), start) {
-                Some(Ordered::Array(start, elements.as_str()))
+                Some(Ordered::Array(start, definitions.part(at, 0)))
             } else {
                 None
             }
         }
         Definition::Sequence { elements, .. } => {
             if is_list(definition) {
-                list_as(definitions, name, elements.as_str())
+                list_as(definitions, at, elements.as_str())
             } else {
                 None
             }
         }
         Definition::Tuple { elements } => {
             if is_tuple_name(name, elements.as_slice()) {
-                Some(Ordered::Tuple(elements))
+                Some(Ordered::Tuple(at, elements.len()))
             } else {
                 None
             }
         }
         Definition::Enum { .. } => {
-            let part = option_part(definitions, name, definition)?;
+            let part = option_part(definitions, at, definition)?;
             Some(Ordered::Optional(part))
         }
         Definition::Struct { .. } => None,
     }
 }
 
-fn list_as<'a>(definitions: &Definitions<'a>, name: &str, element: &'a str) -> Option<Ordered<'a>> {
+fn list_as(definitions: &Definitions<'_, '_>, at: usize, element: &str) -> Option<Ordered> {
+    let name = definitions.name(at);
+    let part = definitions.part(at, 0);
     if name == "String" {
-        return match definitions.get(element) {
-            Some(Definition::Primitive(1)) if element == "u8" => Some(Ordered::Text),
-            _ => None,
+        return if is_byte(definitions, part) {
+            Some(Ordered::Text)
+        } else {
+            None
         };
     }
     for list in ["Vec<", "VecDeque<", "LinkedList<", "BTreeSet<"] {
         if is_composed(name, &[list, element, ">"]) {
-            return Some(Ordered::List(element));
+            return Some(Ordered::List(part));
         }
     }
-    let Some(Definition::Tuple { elements: parts }) = definitions.get(element) else {
+    let Some(Definition::Tuple { elements: parts }) = definitions.get(part) else {
         return None;
     };
     match parts.as_slice() {
         [key, value] if is_composed(name, &["BTreeMap<", key, ", ", value, ">"]) => {
-            Some(Ordered::List(element))
+            Some(Ordered::List(part))
         }
         _ => None,
     }
@@ -153,11 +164,11 @@ fn is_tuple_name(name: &str, parts: &[Declaration]) -> bool {
 
 /// What is still to be compared.
 #[derive(Clone, Copy)]
-enum Pending<'a> {
-    /// So many values of one name.
-    Copies(&'a str, u64),
-    /// The parts of a tuple, from this one on.
-    Parts(&'a Vec<Declaration>, usize),
+enum Pending {
+    /// So many values of the name at a place.
+    Copies(usize, u64),
+    /// The parts of the tuple at a place, which has so many, from this one on.
+    Parts(usize, usize, usize),
     /// Where all before is the same, this decides.
     Decided(Ordering),
 }
@@ -202,14 +213,14 @@ fn number_of(bytes: &[u8]) -> u64 {
 }
 
 /// How two encodings compare, as the values of a name with this order, which begin the bytes.
-pub fn compare<'a>(
-    definitions: &Definitions<'a>,
-    order: Ordered<'a>,
+pub fn compare(
+    definitions: &Definitions<'_, '_>,
+    order: Ordered,
     left: &[u8],
     right: &[u8],
 ) -> Result<Ordering, AllocError> {
     let mut pair = Pair { left, right };
-    let mut pending: Vec<Pending<'a>> = Vec::new(definitions.alloc);
+    let mut pending: Vec<Pending> = Vec::new(definitions.alloc);
     let first = compare_front(order, &mut pair, &mut pending)?;
     if first != Ordering::Equal {
         return Ok(first);
@@ -218,31 +229,31 @@ pub fn compare<'a>(
         let Some(next) = pending.pop() else {
             break;
         };
-        let name = match next {
+        let at = match next {
             Pending::Decided(ordering) => {
                 if ordering != Ordering::Equal {
                     return Ok(ordering);
                 }
                 continue;
             }
-            Pending::Copies(name, count) => {
-                if count > 1 && !definitions.is_zero_size(name) {
-                    pending.push(Pending::Copies(name, count - 1))?;
+            Pending::Copies(at, count) => {
+                if count > 1 && !definitions.is_zero_size(at) {
+                    pending.push(Pending::Copies(at, count - 1))?;
                 }
                 if count == 0 {
                     continue;
                 }
-                name
+                at
             }
-            Pending::Parts(parts, index) => {
-                let Some(part) = parts.get(index) else {
+            Pending::Parts(at, count, index) => {
+                if index >= count {
                     continue;
-                };
-                pending.push(Pending::Parts(parts, index.saturating_add(1)))?;
-                part.as_str()
+                }
+                pending.push(Pending::Parts(at, count, index.saturating_add(1)))?;
+                definitions.part(at, index)
             }
         };
-        let order = definitions.known_order(name).unwrap_or(Ordered::Single);
+        let order = definitions.known_order(at).unwrap_or(Ordered::Single);
         let ordering = compare_front(order, &mut pair, &mut pending)?;
         if ordering != Ordering::Equal {
             return Ok(ordering);
@@ -252,10 +263,10 @@ pub fn compare<'a>(
 }
 
 /// How two values compare by the bytes that come before their parts; the parts become pending.
-fn compare_front<'a>(
-    order: Ordered<'a>,
+fn compare_front(
+    order: Ordered,
     pair: &mut Pair<'_>,
-    pending: &mut Vec<Pending<'a>>,
+    pending: &mut Vec<Pending>,
 ) -> Result<Ordering, AllocError> {
     match order {
         Ordered::Single => Ok(Ordering::Equal),
@@ -283,8 +294,8 @@ fn compare_front<'a>(
             pending.push(Pending::Copies(element, left.min(right)))?;
             Ok(Ordering::Equal)
         }
-        Ordered::Tuple(parts) => {
-            pending.push(Pending::Parts(parts, 0))?;
+        Ordered::Tuple(at, count) => {
+            pending.push(Pending::Parts(at, count, 0))?;
             Ok(Ordering::Equal)
         }
         Ordered::Optional(part) => {
@@ -313,14 +324,14 @@ pub fn compare_numbers(left: &[u8], right: &[u8], turned: u8) -> Ordering {
 
 /// Of a set or map whose order is known, where its elements begin in the bytes, as they are gone through.
 #[derive(Clone, Copy)]
-pub struct Ascent<'a> {
-    order: Ordered<'a>,
+pub struct Ascent {
+    order: Ordered,
     earlier: Option<usize>,
     last: Option<usize>,
 }
 
-impl<'a> Ascent<'a> {
-    pub fn new(order: Ordered<'a>) -> Ascent<'a> {
+impl Ascent {
+    pub fn new(order: Ordered) -> Ascent {
         Ascent {
             order,
             earlier: None,
@@ -334,7 +345,11 @@ impl<'a> Ascent<'a> {
     }
 
     /// Whether the element that was begun last is above the one before it. All of its bytes are there.
-    pub fn ascends(&self, definitions: &Definitions<'a>, bytes: &[u8]) -> Result<bool, AllocError> {
+    pub fn ascends(
+        &self,
+        definitions: &Definitions<'_, '_>,
+        bytes: &[u8],
+    ) -> Result<bool, AllocError> {
         let (Some(earlier), Some(last)) = (self.earlier, self.last) else {
             return Ok(true);
         };
@@ -349,7 +364,7 @@ fn from(bytes: &[u8], start: usize) -> &[u8] {
 }
 
 /// The first element of a list of primitives of so many bytes that isn't above the one before it.
-pub fn first_descent(order: Ordered<'_>, size: usize, bytes: &[u8]) -> Option<usize> {
+pub fn first_descent(order: Ordered, size: usize, bytes: &[u8]) -> Option<usize> {
     let turned = match order {
         Ordered::Signed(_) => 128,
         _ => 0,

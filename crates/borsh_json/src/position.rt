@@ -2,33 +2,33 @@
 ghost use Rattle.borsh_json.specs.Errors.{IsPartError, IsUnreadable, IsUnwritable};
 ghost use Rattle.std.specs.Prelude.{IfErr};
 
+use crate::definitions::Definitions;
 use crate::error::{PartError, PartResult, Refusal};
 use crate::kinds::{Elements, Entries, NamedFields};
 use crate::order::{Ascent, Ordered, first_descent};
 use borsh_values::{Path, PathStep};
-use borsh_walks::Definition;
-use borsh_walks::parts::referenced_part;
 use json::MAX_DEPTH;
 use std::alloc::{AllocError, Global};
 
-/// The parts of a value.
+/// The parts of a value, by the places of their names.
 #[derive(Clone, Copy)]
 pub enum Parts<'a> {
-    /// The value itself, of this name.
-    Root(&'a str),
+    /// The value itself.
+    Root,
     /// So many elements of one name.
-    List(&'a str, u64),
-    /// Those of a tuple, or of a struct without names.
-    Row(&'a Definition),
-    Object(&'a NamedFields),
+    List(usize, u64),
+    /// Those of the tuple, or of the struct without names, whose definition is at this place, and how many they are.
+    Row(usize, usize),
+    /// Those of the struct whose definition is at this place.
+    Object(usize, &'a NamedFields),
     /// So many values of the entries of a map that is an object.
     Entries(Entries<'a>, u64),
-    /// The only part of a struct, of this name.
-    Newtype(&'a str),
-    /// The value of an option that is there, of this name.
-    Some(&'a str),
-    /// The variant, and the name of its value.
-    Variant(&'a str, &'a str),
+    /// The only part of a struct.
+    Newtype(usize),
+    /// The value of an option that is there.
+    Some(usize),
+    /// The variant, and the place of the name of its value.
+    Variant(&'a str, usize),
 }
 
 /// The parts of a value, and how many of them were begun.
@@ -37,7 +37,7 @@ pub struct Place<'a> {
     pub parts: Parts<'a>,
     pub begun: usize,
     /// Where the parts have to ascend.
-    pub ascent: Option<Ascent<'a>>,
+    pub ascent: Option<Ascent>,
 }
 
 /// The key of a part in an object.
@@ -50,10 +50,10 @@ pub enum Key<'a> {
     Entry(Entries<'a>),
 }
 
-/// A part: the name of its type, its key in an object, and whether it may be without bytes.
+/// A part: the place of the name of its type, its key in an object, and whether it may be without bytes.
 #[derive(Clone, Copy)]
 pub struct Part<'a> {
-    pub name: &'a str,
+    pub at: usize,
     pub key: Key<'a>,
     pub may_be_empty: bool,
 }
@@ -68,7 +68,7 @@ impl<'a> Place<'a> {
     }
 
     /// Parts that have to ascend where their order is known.
-    pub fn in_order(parts: Parts<'a>, order: Option<Ordered<'a>>) -> Place<'a> {
+    pub fn in_order(parts: Parts<'a>, order: Option<Ordered>) -> Place<'a> {
         Place {
             ascent: order.map(Ascent::new),
             ..Place::new(parts)
@@ -76,37 +76,31 @@ impl<'a> Place<'a> {
     }
 
     /// The next part, which is begun; none if there are no more.
-    pub fn next_part(&mut self) -> Option<Part<'a>> {
-        let part = self.part_at(self.begun)?;
+    pub fn next_part(&mut self, definitions: &Definitions<'a, '_>) -> Option<Part<'a>> {
+        let part = self.part_at(definitions, self.begun)?;
         self.begun = self.begun.saturating_add(1);
         Some(part)
     }
 
-    fn part_at(&self, index: usize) -> Option<Part<'a>> {
-        let (count, name, key, may_be_empty) = match self.parts {
-            Parts::Root(name) => (1, name, Key::None, true),
-            Parts::Newtype(name) | Parts::Some(name) => (1, name, Key::None, false),
-            Parts::Variant(variant, name) => (1, name, Key::Name(variant), false),
-            Parts::List(name, count) => (count, name, Key::None, false),
+    fn part_at(&self, definitions: &Definitions<'a, '_>, index: usize) -> Option<Part<'a>> {
+        let (count, at, key, may_be_empty) = match self.parts {
+            Parts::Root => (1, 0, Key::None, true),
+            Parts::Newtype(at) | Parts::Some(at) => (1, at, Key::None, false),
+            Parts::Variant(variant, at) => (1, at, Key::Name(variant), false),
+            Parts::List(at, count) => (count, at, Key::None, false),
             Parts::Entries(entries, count) => (count, entries.value, Key::Entry(entries), true),
-            Parts::Row(definition) => {
-                (
-                    u64::MAX,
-                    referenced_part(definition, index)?,
-                    Key::None,
-                    true,
-                )
-            }
-            Parts::Object(fields) => {
-                let (field, name) = fields.get(index)?;
-                (u64::MAX, name.as_str(), Key::Name(field.as_str()), true)
+            Parts::Row(at, count) => (count as u64, definitions.part(at, index), Key::None, true),
+            Parts::Object(at, fields) => {
+                let (field, _) = fields.get(index)?;
+                let key = Key::Name(field.as_str());
+                (u64::MAX, definitions.part(at, index), key, true)
             }
         };
         if index as u64 >= count {
             return None;
         }
         Some(Part {
-            name,
+            at,
             key,
             may_be_empty,
         })
@@ -116,10 +110,10 @@ impl<'a> Place<'a> {
     fn step(&self) -> Option<PathStep<'a>> {
         let index = self.begun.saturating_sub(1);
         match self.parts {
-            Parts::Root(_) => None,
+            Parts::Root => None,
             Parts::List(_, _) | Parts::Entries(_, _) => Some(PathStep::Element(index as u64)),
-            Parts::Row(_) | Parts::Newtype(_) => Some(PathStep::Place(index)),
-            Parts::Object(fields) => Some(PathStep::Field(fields.get(index)?.0.as_str())),
+            Parts::Row(_, _) | Parts::Newtype(_) => Some(PathStep::Place(index)),
+            Parts::Object(_, fields) => Some(PathStep::Field(fields.get(index)?.0.as_str())),
             Parts::Some(_) => Some(PathStep::Variant("Some")),
             Parts::Variant(variant, _) => Some(PathStep::Variant(variant)),
         }
@@ -142,7 +136,7 @@ impl<'a> Position<'a> {
             alloc,
             root,
             outer: Vec::new(alloc),
-            place: Place::new(Parts::Root(root)),
+            place: Place::new(Parts::Root),
         }
     }
 
@@ -171,7 +165,7 @@ impl<'a> Position<'a> {
     }
 
     /// Refuses a primitive of a list that isn't above the one before it, where these have to ascend.
-    pub fn check_ascent(&self, elements: Elements<'a>, bytes: &[u8]) -> PartResult<'a, ()>
+    pub fn check_ascent(&self, elements: Elements, bytes: &[u8]) -> PartResult<'a, ()>
         ensures reading { IfErr result (IsPartError IsUnreadable) }
         ensures writing { IfErr result (IsPartError IsUnwritable) }
     {

@@ -1,4 +1,6 @@
 // The bytes of a value that JSON says.
+ghost use Rattle.borsh_values.specs.Free.{KnowsSizes};
+ghost use Rattle.borsh_values.specs.Layouts.{IsLaidOut};
 ghost use Rattle.borsh_walks.specs.Container.{Member};
 ghost use Rattle.borsh_walks.specs.Definitions.{definitions_in};
 ghost use Rattle.borsh_json.specs.Errors.{IsBytesReason, IsPartError, IsTextReason, IsUnreadable, TellsNoJson};
@@ -11,8 +13,8 @@ use crate::floats::is_nan;
 use crate::kinds::{Elements, Entries, KeyKind, Kind, NamedFields, Variants};
 use crate::numbers::Number;
 use crate::position::{Key, Part, Parts, Place, Position};
-use borsh_values::{Membership, Path, is_member};
-use borsh_walks::{Declaration, Definition, DiscriminantValue, VariantName};
+use borsh_values::{Layout, Membership, Path, is_member};
+use borsh_walks::Definition;
 use hex::FromHexError;
 use json::{Element, Items, MAX_DEPTH, Members, Reader, Scratch, Tape, Token};
 use std::alloc::{AllocError, Global};
@@ -27,7 +29,7 @@ use std::mem;
 /// elements or keys don't ascend where they have to. The bytes are a member of the root.
 ///
 /// Determined: after `Ok` the bytes are a member of the root, and the text is JSON that nests at most 128 deep. After `NotJson`
-/// it isn't; after any other error but `OutOfMemory` and `TooDeep` it is. `Ambiguous` is as of [`is_member`], and `NoMember`
+/// it isn't; after any other error but `OutOfMemory` and `TooDeep` it is. `Ambiguous` is as of [`borsh_values::is_member`], and `NoMember`
 /// isn't returned. Left open: memory; `TooDeep` for any text; `NoValue` and `Refused` for any such JSON, for any reason that a
 /// text has; the byte of `NotJson`; the bytes of another member: tested, by tables and by round trips.
 ///
@@ -45,8 +47,32 @@ pub fn from_json<'a>(
     ensures json { OnOk result (IsSome (document text.now)) }
     ensures reason { IfErr result (λ e. IsTextReason (definitions_in map.now) root.now text.now e) }
 {
-    let bytes = read_text(alloc, root, map, text)?;
-    check_member(alloc, root, map, bytes.as_slice())?;
+    from_json_by(alloc, &Layout::new(alloc, root, map)?, text)
+}
+
+/// As [`from_json`], for a layout that was made before. Left open: as there.
+///
+/// ```
+/// let layout = Layout::new(alloc, "(u8, bool)", &definitions)?;
+/// for line in text.lines() {
+///     let bytes = from_json_by(alloc, &layout, line)?;
+/// }
+/// ```
+pub fn from_json_by<'a>(
+    alloc: Global,
+    layout: &Layout<'a>,
+    text: &str,
+) -> Result<Vec<u8>, JsonError<'a>>
+    requires laid_out { IsLaidOut layout.now }
+    requires sizes { KnowsSizes layout.now }
+    ensures member { let C = definitions_in layout.now.map.now in
+        IfOk result (λ bytes. Member C layout.now.root.now bytes.items) }
+    ensures json { OnOk result (IsSome (document text.now)) }
+    ensures reason { let C = definitions_in layout.now.map.now in
+        IfErr result (λ e. IsTextReason C layout.now.root.now text.now e) }
+{
+    let bytes = read_text(alloc, layout, text)?;
+    check_member(alloc, layout.root, layout.map, bytes.as_slice())?;
     Ok(bytes)
 }
 
@@ -81,19 +107,15 @@ fn name_in<'a>(map: &'a BTreeMap<String, Definition>, name: &str) -> Option<&'a 
 }
 
 /// The bytes that a text says, which needn't be a member of the root.
-fn read_text<'a>(
-    alloc: Global,
-    root: &'a str,
-    map: &'a BTreeMap<String, Definition>,
-    text: &str,
-) -> Result<Vec<u8>, JsonError<'a>>
+fn read_text<'a>(alloc: Global, layout: &Layout<'a>, text: &str) -> Result<Vec<u8>, JsonError<'a>>
     ensures json { OnOk result (IsSome (document text.now)) }
-    ensures reason { IfErr result (λ e. IsTextReason (definitions_in map.now) root.now text.now e) }
+    ensures reason { let C = definitions_in layout.now.map.now in
+        IfErr result (λ e. IsTextReason C layout.now.root.now text.now e) }
 {
     let mut scratch = Scratch::new(alloc);
     match Tape::parse(text, &mut scratch, Vec::new(alloc)) {
-        Ok(tape) => Ok(read_value(alloc, root, map, tape.root())?),
-        Err(json::Error::Invalid) => Err(why_not_json(alloc, root, text)),
+        Ok(tape) => Ok(read_value(alloc, layout, tape.root())?),
+        Err(json::Error::Invalid) => Err(why_not_json(alloc, layout.root, text)),
         // A text of 4 GiB has more places than a tape can number.
         Err(_) => Err(JsonError::OutOfMemory),
     }
@@ -154,17 +176,16 @@ fn may_follow(is_object: Option<bool>, has_key: bool, token: Token<'_>) -> bool 
 
 fn read_value<'a>(
     alloc: Global,
-    root: &'a str,
-    map: &'a BTreeMap<String, Definition>,
+    layout: &Layout<'a>,
     element: Element<'_, '_>,
 ) -> PartResult<'a, Vec<u8>>
     ensures { IfErr result (IsPartError IsUnreadable) }
 {
     let mut reading = Reading {
         alloc,
-        definitions: Definitions::new(alloc, map)?,
+        definitions: Definitions::new(alloc, layout)?,
         out: Vec::new(alloc),
-        position: Position::new(alloc, root),
+        position: Position::new(alloc, layout.root),
         source: Source::One(Some(element)),
         outer_sources: Vec::new(alloc),
     };
@@ -229,22 +250,22 @@ impl<'t, 's> Source<'t, 's> {
 
 /// The bytes so far, and where the reader is, with the JSON of the parts around it.
 #[derive(Drop)]
-struct Reading<'a, 't, 's> {
+struct Reading<'a, 'l, 't, 's> {
     alloc: Global,
-    definitions: Definitions<'a>,
+    definitions: Definitions<'a, 'l>,
     out: Vec<u8>,
     position: Position<'a>,
     source: Source<'t, 's>,
     outer_sources: Vec<Source<'t, 's>>,
 }
 
-impl<'a, 't, 's> Reading<'a, 't, 's> {
+impl<'a, 'l, 't, 's> Reading<'a, 'l, 't, 's> {
     fn read_all(&mut self) -> PartResult<'a, ()>
         ensures { IfErr result (IsPartError IsUnreadable) }
     {
         for _ in 0..u64::MAX {
             self.check_order()?;
-            match self.position.place.next_part() {
+            match self.position.place.next_part(&self.definitions) {
                 Some(part) => {
                     let Some(taken) = self.source.take(part.key) else {
                         return Err(self.position.refused(Refusal::MissingField));
@@ -267,17 +288,17 @@ impl<'a, 't, 's> Reading<'a, 't, 's> {
     fn read_part(&mut self, part: Part<'a>, element: Element<'t, 's>) -> PartResult<'a, ()>
         ensures { IfErr result (IsPartError IsUnreadable) }
     {
-        if part.may_be_empty && self.definitions.is_zero_size(part.name) {
+        if part.may_be_empty && self.definitions.is_zero_size(part.at) {
             if element.is_null() {
                 return Ok(());
             }
             return Err(self.expected("null"));
         }
-        let Some(definition) = self.definitions.get(part.name) else {
-            let name = String::from_str(self.alloc, part.name)?;
+        let Some(definition) = self.definitions.get(part.at) else {
+            let name = String::from_str(self.alloc, self.definitions.name(part.at))?;
             return Err(self.position.refused(Refusal::Undefined(name)));
         };
-        match self.definitions.kind(part.name, definition)? {
+        match self.definitions.kind(part.at, definition)? {
             Kind::Number(number) => self.read_number(number, &element),
             Kind::Bool => match element.as_bool() {
                 Some(value) => Ok(self.out.push(u8::from(value))?),
@@ -310,9 +331,9 @@ impl<'a, 't, 's> Reading<'a, 't, 's> {
                 self.open_list(definition, elements, &element)
             }
             Kind::Map(entries, _) => self.open_map(definition, entries, &element),
-            Kind::Row(count) => self.open_row(definition, count, &element),
+            Kind::Row(count) => self.open_row(part.at, count, &element),
             Kind::Newtype(part) => self.open(Parts::Newtype(part), Source::One(Some(element))),
-            Kind::Object(fields) => self.open_object(fields, &element),
+            Kind::Object(fields) => self.open_object(part.at, fields, &element),
             Kind::Optional(part) => {
                 if element.is_null() {
                     return Ok(self.out.push(0)?);
@@ -321,7 +342,7 @@ impl<'a, 't, 's> Reading<'a, 't, 's> {
                 self.open(Parts::Some(part), Source::One(Some(element)))
             }
             Kind::Choice(tag_width, variants) => {
-                self.read_variant(tag_width, variants, &element)
+                self.read_variant(part.at, tag_width, variants, &element)
             }
             Kind::Repeated(name) => {
                 let name = String::from_str(self.alloc, name)?;
@@ -473,7 +494,7 @@ impl<'a, 't, 's> Reading<'a, 't, 's> {
     fn open_list(
         &mut self,
         definition: &'a Definition,
-        elements: Elements<'a>,
+        elements: Elements,
         element: &Element<'t, 's>,
     ) -> PartResult<'a, ()>
         ensures { IfErr result (IsPartError IsUnreadable) }
@@ -485,7 +506,7 @@ impl<'a, 't, 's> Reading<'a, 't, 's> {
             return Err(self.expected("an array"));
         };
         self.put_count(definition, count)?;
-        let parts = Parts::List(elements.name, count as u64);
+        let parts = Parts::List(elements.at, count as u64);
         self.open_place(Place::in_order(parts, elements.order), Source::Items(items))
     }
 
@@ -566,17 +587,12 @@ impl<'a, 't, 's> Reading<'a, 't, 's> {
         Ok(found)
     }
 
-    fn open_row(
-        &mut self,
-        definition: &'a Definition,
-        count: usize,
-        element: &Element<'t, 's>,
-    ) -> PartResult<'a, ()>
+    fn open_row(&mut self, at: usize, count: usize, element: &Element<'t, 's>) -> PartResult<'a, ()>
         ensures { IfErr result (IsPartError IsUnreadable) }
     {
         match element.items() {
             Some(items) if count_items(element) == Some(count) => {
-                self.open(Parts::Row(definition), Source::Items(items))
+                self.open(Parts::Row(at, count), Source::Items(items))
             }
             _ => {
                 let wanted = format!(in self.alloc; "an array of {count}")?;
@@ -587,17 +603,19 @@ impl<'a, 't, 's> Reading<'a, 't, 's> {
 
     fn open_object(
         &mut self,
+        at: usize,
         fields: &'a NamedFields,
         element: &Element<'t, 's>,
     ) -> PartResult<'a, ()>
         ensures { IfErr result (IsPartError IsUnreadable) }
     {
         let members = self.members_of(element)?;
-        self.open(Parts::Object(fields), Source::Members(members))
+        self.open(Parts::Object(at, fields), Source::Members(members))
     }
 
     fn read_variant(
         &mut self,
+        at: usize,
         tag_width: u8,
         variants: &'a Variants,
         element: &Element<'t, 's>,
@@ -607,16 +625,17 @@ impl<'a, 't, 's> Reading<'a, 't, 's> {
         let Some((name, value)) = variant_in(element) else {
             return Err(self.expected("a variant: \"Name\" or {\"Name\": value}"));
         };
-        let Some((discriminant, variant, part)) = variant_named(variants, name) else {
+        let Some((index, discriminant, variant)) = variant_named(variants, name) else {
             let name = String::from_str(self.alloc, name)?;
             return Err(self.position.refused(Refusal::UnknownName(name)));
         };
-        let is_empty = self.definitions.is_zero_size(part.as_str());
+        let part = self.definitions.part(at, index);
+        let is_empty = self.definitions.is_zero_size(part);
         self.put_tag(tag_width, discriminant)?;
         match value {
             None if is_empty => Ok(()),
             Some(value) if !is_empty => self.open(
-                Parts::Variant(variant.as_str(), part.as_str()),
+                Parts::Variant(variant, part),
                 Source::One(Some(value)),
             ),
             None => Err(self.expected("{\"Name\": value}, since the variant has a value")),
@@ -625,8 +644,8 @@ impl<'a, 't, 's> Reading<'a, 't, 's> {
     }
 
     /// Adds the tag of a variant.
-    fn put_tag(&mut self, width: u8, discriminant: &i64) -> Result<(), AllocError> {
-        let fill = if *discriminant < 0 { 255 } else { 0 };
+    fn put_tag(&mut self, width: u8, discriminant: i64) -> Result<(), AllocError> {
+        let fill = if discriminant < 0 { 255 } else { 0 };
         self.put_wide(width, discriminant.to_le_bytes(), fill)
     }
 
@@ -709,10 +728,14 @@ fn variant_in<'t, 's>(element: &Element<'t, 's>) -> Option<(&'s str, Option<Elem
     }
 }
 
-/// The first variant of this name.
-fn variant_named<'a>(
-    variants: &'a Variants,
-    name: &str,
-) -> Option<&'a (DiscriminantValue, VariantName, Declaration)> {
-    variants.iter().find(|variant| variant.1.as_str() == name)
+/// The index, the tag and the name of the first variant of this name.
+fn variant_named<'a>(variants: &'a Variants, name: &str) -> Option<(usize, i64, &'a str)> {
+    let mut index: usize = 0;
+    for (tag, variant, _) in variants {
+        if variant.as_str() == name {
+            return Some((index, *tag, variant.as_str()));
+        }
+        index = index.saturating_add(1);
+    }
+    None
 }

@@ -1,4 +1,6 @@
 // What each of the bytes of a value is.
+ghost use Rattle.borsh_values.specs.Free.{KnowsSizes};
+ghost use Rattle.borsh_values.specs.Layouts.{IsLaidOut};
 ghost use Rattle.borsh_walks.specs.Container.{Member};
 ghost use Rattle.borsh_walks.specs.Definitions.{definitions_in};
 ghost use Rattle.borsh_json.specs.Errors.{IsNoRowsReason, IsPartError, IsTooDeep};
@@ -8,8 +10,9 @@ use crate::definitions::Definitions;
 use crate::error::{JsonError, PartError, Refusal};
 use crate::floats::shortest;
 use crate::kinds::Kind;
-use borsh_values::{Decoded, Node, Path, Paths, count_of, decode, elements_of, variant_of};
+use borsh_values::{Decoded, Layout, Node, Path, Paths, count_of, elements_of, variant_of};
 use borsh_walks::Definition;
+use itoa::Buffer;
 use json::MAX_DEPTH;
 use std::alloc::{AllocError, Global};
 use std::collections::BTreeMap;
@@ -51,8 +54,29 @@ pub fn rows_of<'a>(
     ensures member { OnOk result (Member (definitions_in map.now) root.now bytes.now) }
     ensures reason { IfErr result (λ e. IsNoRowsReason (definitions_in map.now) root.now bytes.now e) }
 {
-    match decode(alloc, root, map, bytes)? {
-        Decoded::Nodes(nodes) => Ok(list_rows(alloc, root, map, nodes.as_slice())?),
+    rows_by(alloc, &Layout::new(alloc, root, map)?, bytes)
+}
+
+/// As [`rows_of`], for a layout that was made before. Left open: as there.
+///
+/// ```
+/// let layout = Layout::new(alloc, "(u8, bool)", &definitions)?;
+/// let rows = rows_by(alloc, &layout, &[7, 1])?;
+/// ```
+pub fn rows_by<'a>(
+    alloc: Global,
+    layout: &Layout<'a>,
+    bytes: &'a [u8],
+) -> Result<Vec<Row<'a>>, JsonError<'a>>
+    requires laid_out { IsLaidOut layout.now }
+    requires sizes { KnowsSizes layout.now }
+    ensures member { let C = definitions_in layout.now.map.now in
+        OnOk result (Member C layout.now.root.now bytes.now) }
+    ensures reason { let C = definitions_in layout.now.map.now in
+        IfErr result (λ e. IsNoRowsReason C layout.now.root.now bytes.now e) }
+{
+    match layout.decode(alloc, bytes)? {
+        Decoded::Nodes(nodes) => Ok(list_rows(alloc, layout, nodes.as_slice())?),
         Decoded::NoMember(fault) => Err(JsonError::NoMember(fault)),
         Decoded::Ambiguous(name) => Err(JsonError::Ambiguous(name)),
     }
@@ -60,15 +84,14 @@ pub fn rows_of<'a>(
 
 fn list_rows<'a>(
     alloc: Global,
-    root: &'a str,
-    map: &'a BTreeMap<String, Definition>,
+    layout: &Layout<'a>,
     nodes: &[Node<'a>],
 ) -> Result<Vec<Row<'a>>, PartError<'a>>
     ensures { IfErr result (IsPartError IsTooDeep) }
 {
-    let mut definitions = Definitions::new(alloc, map)?;
+    let mut definitions = Definitions::new(alloc, layout)?;
     let mut rows = Vec::new(alloc);
-    let mut paths = Paths::new(alloc, root);
+    let mut paths = Paths::new(alloc, layout.root);
     for node in nodes {
         paths.enter(node)?;
         if node.depth > MAX_DEPTH {
@@ -91,11 +114,14 @@ fn list_rows<'a>(
 /// What the own bytes of a node say.
 fn value_of<'a>(
     alloc: Global,
-    definitions: &mut Definitions<'a>,
+    definitions: &mut Definitions<'a, '_>,
     node: &Node<'a>,
 ) -> Result<String, AllocError> {
-    match definitions.kind(node.name, node.definition)? {
-        Kind::Number(number) => number.decimal(alloc, node.bytes),
+    match definitions.kind_of_node(node)? {
+        Kind::Number(number) => {
+            let mut buffer = Buffer::new();
+            String::from_str(alloc, number.decimal(&mut buffer, node.bytes))
+        }
         Kind::Float(_) => shortest(alloc, node.bytes),
         Kind::Bool => match node.bytes {
             [0] => String::from_str(alloc, "false"),

@@ -1,4 +1,6 @@
 // Whether a type takes a member, as far as names tell.
+ghost use Rattle.borsh_values.specs.Free.{KnowsSizes};
+ghost use Rattle.borsh_values.specs.Layouts.{IsLaidOut};
 ghost use Rattle.borsh_walks.specs.Container.{Member};
 ghost use Rattle.borsh_walks.specs.Definitions.{definitions_in};
 ghost use Rattle.borsh_json.specs.Errors.{IsNoJsonReason, IsPartError, IsUnwritable};
@@ -9,7 +11,7 @@ use crate::error::{JsonError, PartError, Refusal};
 use crate::floats::is_nan;
 use crate::kinds::{Elements, Kind, kind_of_primitive};
 use crate::order::{Ascent, first_descent};
-use borsh_values::{Decoded, Node, PathStep, Paths, decode, elements_of};
+use borsh_values::{Decoded, Layout, Node, PathStep, Paths, elements_of};
 use borsh_walks::Definition;
 use std::alloc::{AllocError, Global};
 use std::collections::BTreeMap;
@@ -38,8 +40,29 @@ pub fn check_strict<'a>(
     ensures member { OnOk result (Member (definitions_in map.now) root.now bytes.now) }
     ensures reason { IfErr result (λ e. IsNoJsonReason (definitions_in map.now) root.now bytes.now e) }
 {
-    match decode(alloc, root, map, bytes)? {
-        Decoded::Nodes(nodes) => Ok(check_nodes(alloc, root, map, bytes, nodes.as_slice())?),
+    check_strict_by(alloc, &Layout::new(alloc, root, map)?, bytes)
+}
+
+/// As [`check_strict`], for a layout that was made before. Left open: as there.
+///
+/// ```
+/// let layout = Layout::new(alloc, "bool", &definitions)?;
+/// assert!(rt; check_strict_by(alloc, &layout, &[1]).is_ok());
+/// ```
+pub fn check_strict_by<'a>(
+    alloc: Global,
+    layout: &Layout<'a>,
+    bytes: &'a [u8],
+) -> Result<(), JsonError<'a>>
+    requires laid_out { IsLaidOut layout.now }
+    requires sizes { KnowsSizes layout.now }
+    ensures member { let C = definitions_in layout.now.map.now in
+        OnOk result (Member C layout.now.root.now bytes.now) }
+    ensures reason { let C = definitions_in layout.now.map.now in
+        IfErr result (λ e. IsNoJsonReason C layout.now.root.now bytes.now e) }
+{
+    match layout.decode(alloc, bytes)? {
+        Decoded::Nodes(nodes) => Ok(check_nodes(alloc, layout, bytes, nodes.as_slice())?),
         Decoded::NoMember(fault) => Err(JsonError::NoMember(fault)),
         Decoded::Ambiguous(name) => Err(JsonError::Ambiguous(name)),
     }
@@ -47,17 +70,16 @@ pub fn check_strict<'a>(
 
 fn check_nodes<'a>(
     alloc: Global,
-    root: &'a str,
-    map: &'a BTreeMap<String, Definition>,
+    layout: &Layout<'a>,
     bytes: &'a [u8],
     nodes: &[Node<'a>],
 ) -> Result<(), PartError<'a>>
     ensures { IfErr result (IsPartError IsUnwritable) }
 {
-    let mut definitions = Definitions::new(alloc, map)?;
-    let mut paths = Paths::new(alloc, root);
+    let mut definitions = Definitions::new(alloc, layout)?;
+    let mut paths = Paths::new(alloc, layout.root);
     // Of each node that the next one is in, where its elements have to ascend.
-    let mut open: Vec<Option<Ascent<'a>>> = Vec::new(alloc);
+    let mut open: Vec<Option<Ascent>> = Vec::new(alloc);
     for node in nodes {
         paths.enter(node)?;
         open.truncate(node.depth);
@@ -67,8 +89,8 @@ fn check_nodes<'a>(
                 return Err(PartError::Refused(paths.path(alloc)?, Refusal::Descends));
             }
         }
-        let kind = definitions.kind(node.name, node.definition)?;
-        if let Some((index, refusal)) = wrong_in(node, kind) {
+        let kind = definitions.kind_of_node(node)?;
+        if let Some((index, refusal)) = wrong_in(&definitions, node, kind) {
             let mut path = paths.path(alloc)?;
             if let Some(index) = index {
                 path.steps.push(PathStep::Element(index as u64))?;
@@ -81,7 +103,7 @@ fn check_nodes<'a>(
 }
 
 /// Where the parts of a value of this kind have to ascend.
-fn ascent_of<'a>(kind: Kind<'a>) -> Option<Ascent<'a>> {
+fn ascent_of(kind: Kind<'_>) -> Option<Ascent> {
     match kind {
         Kind::List(elements) => elements.order.map(Ascent::new),
         Kind::Map(_, order) => Some(Ascent::new(order)),
@@ -93,28 +115,29 @@ fn ascent_of<'a>(kind: Kind<'a>) -> Option<Ascent<'a>> {
 type Wrong = (Option<usize>, Refusal);
 
 /// What a type refuses of the own bytes of a node.
-fn wrong_in(node: &Node<'_>, kind: Kind<'_>) -> Option<Wrong>
+fn wrong_in(definitions: &Definitions<'_, '_>, node: &Node<'_>, kind: Kind<'_>) -> Option<Wrong>
     ensures { IfSome result (λ w. IsUnwritable w.1) }
 {
     match kind {
-        Kind::Number(_) | Kind::Bool | Kind::Float(_) => wrong_number(node.name, node.bytes, None),
+        Kind::Number(_) | Kind::Bool | Kind::Float(_) => wrong_number(kind, node.bytes, None),
         Kind::Text => match str::from_utf8(elements_of(node)) {
             Ok(_) => None,
             Err(_) => Some((None, Refusal::NotUtf8)),
         },
         Kind::ByteList(elements) | Kind::Numbers(elements) => {
-            wrong_element(elements, elements_of(node))
+            let kind = kind_of_primitive(definitions.name(elements.at), elements.size);
+            wrong_element(elements, kind, elements_of(node))
         }
         Kind::List(elements) if elements.is_refused => Some((None, Refusal::EmptyElements)),
         _ => None,
     }
 }
 
-/// What is wrong with a number, float or `bool` of this name.
-fn wrong_number(name: &str, bytes: &[u8], index: Option<usize>) -> Option<Wrong>
+/// What is wrong with a primitive of this kind.
+fn wrong_number(kind: Kind<'_>, bytes: &[u8], index: Option<usize>) -> Option<Wrong>
     ensures { IfSome result (λ w. IsUnwritable w.1) }
 {
-    match kind_of_primitive(name, bytes.len().min(255) as u8) {
+    match kind {
         Kind::Bool if bytes != [0u8].as_slice() && bytes != [1u8].as_slice() => Some((
             index,
             Refusal::NotBool,
@@ -127,8 +150,8 @@ fn wrong_number(name: &str, bytes: &[u8], index: Option<usize>) -> Option<Wrong>
     }
 }
 
-/// What is wrong with the elements of a list, which are primitives.
-fn wrong_element(elements: Elements<'_>, bytes: &[u8]) -> Option<Wrong>
+/// What is wrong with the elements of a list, which are primitives of this kind.
+fn wrong_element(elements: Elements, kind: Kind<'_>, bytes: &[u8]) -> Option<Wrong>
     ensures { IfSome result (λ w. IsUnwritable w.1) }
 {
     let size = usize::from(elements.size);
@@ -142,7 +165,7 @@ fn wrong_element(elements: Elements<'_>, bytes: &[u8]) -> Option<Wrong>
     }
     let mut index: usize = 0;
     for element in bytes.chunks_exact(size) {
-        let wrong = wrong_number(elements.name, element, Some(index));
+        let wrong = wrong_number(kind, element, Some(index));
         if wrong.is_some() {
             return wrong;
         }

@@ -1,4 +1,6 @@
 // A value as JSON.
+ghost use Rattle.borsh_values.specs.Free.{KnowsSizes};
+ghost use Rattle.borsh_values.specs.Layouts.{IsLaidOut};
 ghost use Rattle.borsh_walks.specs.Container.{Member};
 ghost use Rattle.borsh_walks.specs.Definitions.{definitions_in};
 ghost use Rattle.borsh_json.specs.Errors.{IsNoJsonReason, IsPartError, IsUnwritable};
@@ -13,8 +15,9 @@ use crate::numbers::Number;
 use crate::order::Ordered;
 use crate::output::{LongNumbers, Output, Style};
 use crate::position::{Key, Part, Parts, Place, Position};
-use borsh_values::{Decoded, Node, Path, count_of, decode, elements_of, variant_of};
+use borsh_values::{Decoded, Layout, Node, Path, count_of, elements_of, variant_of};
 use borsh_walks::Definition;
+use itoa::Buffer;
 use json::{Scratch, Token, is_valid};
 use std::alloc::{AllocError, Global};
 use std::collections::BTreeMap;
@@ -39,8 +42,8 @@ use std::str;
 /// tuples, arrays, lists, ordered sets and maps, and options of these, and not of structs and enums.
 ///
 /// Determined: after `Ok` the bytes are a member of the root, and the text is JSON. After `NoMember` they are none, and
-/// after `Refused` they are one; `NoMember` and `Ambiguous` are as of [`decode`], and `NoValue` and `NotJson` aren't returned.
-/// Left open: memory; `Refused` for any member, for any reason that a value has; the text of another value, or in another
+/// after `Refused` they are one; `NoMember` and `Ambiguous` are as of [`borsh_values::decode`], and `NoValue` and
+/// `NotJson` aren't returned. Left open: memory; `Refused` for any member, for any reason that a value has; the text of another value, or in another
 /// layout: tested, by tables and by round trips.
 ///
 /// ```
@@ -58,8 +61,33 @@ pub fn to_json<'a>(
     ensures json { IfOk result (λ text. IsSome (document (string_bytes text))) }
     ensures reason { IfErr result (λ e. IsNoJsonReason (definitions_in map.now) root.now bytes.now e) }
 {
-    match decode(alloc, root, map, bytes)? {
-        Decoded::Nodes(nodes) => Ok(write_nodes(alloc, root, map, bytes, nodes.as_slice(), style)?),
+    to_json_by(alloc, &Layout::new(alloc, root, map)?, bytes, style)
+}
+
+/// As [`to_json`], for a layout that was made before. Left open: as there.
+///
+/// ```
+/// let layout = Layout::new(alloc, "(u8, bool)", &definitions)?;
+/// for record in records {
+///     let text = to_json_by(alloc, &layout, record, Style::COMPACT)?;
+/// }
+/// ```
+pub fn to_json_by<'a>(
+    alloc: Global,
+    layout: &Layout<'a>,
+    bytes: &'a [u8],
+    style: Style,
+) -> Result<String, JsonError<'a>>
+    requires laid_out { IsLaidOut layout.now }
+    requires sizes { KnowsSizes layout.now }
+    ensures member { let C = definitions_in layout.now.map.now in
+        OnOk result (Member C layout.now.root.now bytes.now) }
+    ensures json { IfOk result (λ text. IsSome (document (string_bytes text))) }
+    ensures reason { let C = definitions_in layout.now.map.now in
+        IfErr result (λ e. IsNoJsonReason C layout.now.root.now bytes.now e) }
+{
+    match layout.decode(alloc, bytes)? {
+        Decoded::Nodes(nodes) => Ok(write_nodes(alloc, layout, bytes, nodes.as_slice(), style)?),
         Decoded::NoMember(fault) => Err(JsonError::NoMember(fault)),
         Decoded::Ambiguous(name) => Err(JsonError::Ambiguous(name)),
     }
@@ -67,8 +95,7 @@ pub fn to_json<'a>(
 
 fn write_nodes<'a>(
     alloc: Global,
-    root: &'a str,
-    map: &'a BTreeMap<String, Definition>,
+    layout: &Layout<'a>,
     bytes: &'a [u8],
     nodes: &[Node<'a>],
     style: Style,
@@ -76,9 +103,10 @@ fn write_nodes<'a>(
     ensures json { IfOk result (λ text. IsSome (document (string_bytes text))) }
     ensures refusal { IfErr result (IsPartError IsUnwritable) }
 {
+    let root = layout.root;
     let mut writing = Writing {
         alloc,
-        definitions: Definitions::new(alloc, map)?,
+        definitions: Definitions::new(alloc, layout)?,
         long_numbers: style.long_numbers,
         out: Output::new(alloc, style.layout),
         bytes,
@@ -115,9 +143,9 @@ fn no_json<'a>(alloc: Global, root: &'a str) -> PartError<'a>
 
 /// The nodes that are left, and where the writer is.
 #[derive(Drop)]
-struct Writing<'a, 'n> {
+struct Writing<'a, 'l, 'n> {
     alloc: Global,
-    definitions: Definitions<'a>,
+    definitions: Definitions<'a, 'l>,
     long_numbers: LongNumbers,
     out: Output,
     bytes: &'a [u8],
@@ -125,12 +153,12 @@ struct Writing<'a, 'n> {
     position: Position<'a>,
 }
 
-impl<'a, 'n> Writing<'a, 'n> {
+impl<'a, 'l, 'n> Writing<'a, 'l, 'n> {
     fn write_all(&mut self) -> PartResult<'a, ()>
         ensures { IfErr result (IsPartError IsUnwritable) }
     {
         for _ in 0..u64::MAX {
-            match self.position.place.next_part() {
+            match self.position.place.next_part(&self.definitions) {
                 Some(part) => {
                     self.check_order()?;
                     self.write_part(part)?;
@@ -149,9 +177,9 @@ impl<'a, 'n> Writing<'a, 'n> {
     /// Ends the brackets of the place.
     fn close(&mut self) -> Result<(), AllocError> {
         match self.position.place.parts {
-            Parts::Root(_) | Parts::Newtype(_) | Parts::Some(_) => Ok(()),
-            Parts::List(_, _) | Parts::Row(_) => self.out.put(Token::EndArray),
-            Parts::Object(_) | Parts::Entries(_, _) | Parts::Variant(_, _) => self
+            Parts::Root | Parts::Newtype(_) | Parts::Some(_) => Ok(()),
+            Parts::List(_, _) | Parts::Row(_, _) => self.out.put(Token::EndArray),
+            Parts::Object(_, _) | Parts::Entries(_, _) | Parts::Variant(_, _) => self
                 .out
                 .put(Token::EndObject),
         }
@@ -165,33 +193,34 @@ impl<'a, 'n> Writing<'a, 'n> {
             Key::Name(name) => self.out.put(Token::Key(name))?,
             Key::Entry(entries) => self.write_key(entries)?,
         }
-        if part.may_be_empty && self.definitions.is_zero_size(part.name) {
+        if part.may_be_empty && self.definitions.is_zero_size(part.at) {
             return Ok(self.out.put(Token::Null)?);
         }
-        let node = self.take_node(part.name)?;
-        match self.definitions.kind(node.name, node.definition)? {
+        let node = self.take_node(part.at)?;
+        let kind = self.definitions.kind(part.at, node.definition)?;
+        match kind {
             Kind::Number(_) | Kind::Bool | Kind::Bytes(_) | Kind::Float(_) => {
-                self.write_primitive(node.name, node.bytes)
+                self.write_primitive(kind, node.bytes)
             }
             Kind::Text => self.write_text(elements_of(&node)),
             Kind::ByteList(elements) => self.write_byte_list(elements, elements_of(&node)),
             Kind::Numbers(elements) => self.write_numbers(elements, elements_of(&node)),
             Kind::List(elements) => self.open_list(&node, elements),
             Kind::Map(entries, order) => self.open_map(&node, entries, order),
-            Kind::Row(_) => {
+            Kind::Row(count) => {
                 self.out.put(Token::BeginArray)?;
-                self.open(Parts::Row(node.definition))
+                self.open(Parts::Row(part.at, count))
             }
             Kind::Newtype(part) => self.open(Parts::Newtype(part)),
             Kind::Object(fields) => {
                 self.out.put(Token::BeginObject)?;
-                self.open(Parts::Object(fields))
+                self.open(Parts::Object(part.at, fields))
             }
             Kind::Optional(part) => match variant_of(&node) {
                 Some(0) => Ok(self.out.put(Token::Null)?),
                 _ => self.open(Parts::Some(part)),
             },
-            Kind::Choice(_, variants) => self.open_variant(&node, variants),
+            Kind::Choice(_, variants) => self.open_variant(part.at, &node, variants),
             Kind::Repeated(name) => {
                 let name = String::from_str(self.alloc, name)?;
                 Err(self.position.refused(Refusal::RepeatedName(name)))
@@ -215,12 +244,12 @@ impl<'a, 'n> Writing<'a, 'n> {
         Err(self.position.refused_element(Refusal::Descends))
     }
 
-    /// The next node, which has to be of this name.
-    fn take_node(&mut self, name: &str) -> PartResult<'a, Node<'a>>
+    /// The next node, which has to be of the name at this place.
+    fn take_node(&mut self, at: usize) -> PartResult<'a, Node<'a>>
         ensures { IfErr result (IsPartError IsUnwritable) }
     {
         match self.nodes {
-            [node, others @ ..] if node.name == name => {
+            [node, others @ ..] if node.name == self.definitions.name(at) => {
                 self.nodes = others;
                 Ok(*node)
             }
@@ -245,7 +274,7 @@ impl<'a, 'n> Writing<'a, 'n> {
         self.position.enter(Place::new(parts))
     }
 
-    fn open_list(&mut self, node: &Node<'a>, elements: Elements<'a>) -> PartResult<'a, ()>
+    fn open_list(&mut self, node: &Node<'a>, elements: Elements) -> PartResult<'a, ()>
         ensures { IfErr result (IsPartError IsUnwritable) }
     {
         let count = self.count_of(node)?;
@@ -253,7 +282,7 @@ impl<'a, 'n> Writing<'a, 'n> {
             return Err(self.position.refused(Refusal::EmptyElements));
         }
         self.out.put(Token::BeginArray)?;
-        let parts = Parts::List(elements.name, count);
+        let parts = Parts::List(elements.at, count);
         self.position.enter(Place::in_order(parts, elements.order))
     }
 
@@ -261,7 +290,7 @@ impl<'a, 'n> Writing<'a, 'n> {
         &mut self,
         node: &Node<'a>,
         entries: Entries<'a>,
-        order: Ordered<'a>,
+        order: Ordered,
     ) -> PartResult<'a, ()>
         ensures { IfErr result (IsPartError IsUnwritable) }
     {
@@ -286,30 +315,38 @@ impl<'a, 'n> Writing<'a, 'n> {
                 Err(_) => Err(self.position.refused_key(Refusal::NotUtf8)),
             },
             KeyKind::Number(number) => {
-                let text = number.decimal(self.alloc, node.bytes)?;
-                if number.is_non_zero && text.as_str() == "0" {
+                let mut buffer = Buffer::new();
+                let text = number.decimal(&mut buffer, node.bytes);
+                if number.is_non_zero && text == "0" {
                     return Err(self.position.refused_key(Refusal::Zero));
                 }
-                Ok(self.out.put(Token::Key(text.as_str()))?)
+                Ok(self.out.put(Token::Key(text))?)
             }
         }
     }
 
-    fn open_variant(&mut self, node: &Node<'a>, variants: &'a Variants) -> PartResult<'a, ()>
+    fn open_variant(
+        &mut self,
+        at: usize,
+        node: &Node<'a>,
+        variants: &'a Variants,
+    ) -> PartResult<'a, ()>
         ensures { IfErr result (IsPartError IsUnwritable) }
     {
-        let Some((_, variant, name)) = variant_of(node).and_then(|index| variants.get(index)) else {
+        let index = variant_of(node).unwrap_or(usize::MAX);
+        let Some((_, variant, _)) = variants.get(index) else {
             return Err(self.position.refused(Refusal::OtherNodes));
         };
-        if self.definitions.is_zero_size(name.as_str()) {
+        let part = self.definitions.part(at, index);
+        if self.definitions.is_zero_size(part) {
             return Ok(self.out.put(Token::String(variant.as_str()))?);
         }
         self.out.put(Token::BeginObject)?;
-        self.open(Parts::Variant(variant.as_str(), name.as_str()))
+        self.open(Parts::Variant(variant.as_str(), part))
     }
 
     /// Writes a list of primitives.
-    fn write_numbers(&mut self, elements: Elements<'a>, bytes: &[u8]) -> PartResult<'a, ()>
+    fn write_numbers(&mut self, elements: Elements, bytes: &[u8]) -> PartResult<'a, ()>
         ensures { IfErr result (IsPartError IsUnwritable) }
     {
         let size = usize::from(elements.size);
@@ -318,27 +355,27 @@ impl<'a, 'n> Writing<'a, 'n> {
         }
         self.position.check_ascent(elements, bytes)?;
         self.out.put(Token::BeginArray)?;
-        let parts = Parts::List(elements.name, (bytes.len() / size) as u64);
+        let parts = Parts::List(elements.at, (bytes.len() / size) as u64);
         self.open(parts)?;
+        let kind = kind_of_primitive(self.definitions.name(elements.at), elements.size);
         for element in bytes.chunks_exact(size) {
-            let _part = self.position.place.next_part();
-            self.write_primitive(elements.name, element)?;
+            let _part = self.position.place.next_part(&self.definitions);
+            self.write_primitive(kind, element)?;
         }
         Ok(())
     }
 
-    fn write_byte_list(&mut self, elements: Elements<'a>, bytes: &[u8]) -> PartResult<'a, ()>
+    fn write_byte_list(&mut self, elements: Elements, bytes: &[u8]) -> PartResult<'a, ()>
         ensures { IfErr result (IsPartError IsUnwritable) }
     {
         self.position.check_ascent(elements, bytes)?;
         self.write_bytes(bytes)
     }
 
-    fn write_primitive(&mut self, name: &str, bytes: &[u8]) -> PartResult<'a, ()>
+    fn write_primitive(&mut self, kind: Kind<'a>, bytes: &[u8]) -> PartResult<'a, ()>
         ensures { IfErr result (IsPartError IsUnwritable) }
     {
-        let size = bytes.len().min(255) as u8;
-        match kind_of_primitive(name, size) {
+        match kind {
             Kind::Number(number) => self.write_number(number, bytes),
             Kind::Bool => self.write_bool(bytes),
             Kind::Float(_) if is_nan(bytes) => Err(self.position.refused(Refusal::NotNumber)),
@@ -349,14 +386,15 @@ impl<'a, 'n> Writing<'a, 'n> {
     fn write_number(&mut self, number: Number, bytes: &[u8]) -> PartResult<'a, ()>
         ensures { IfErr result (IsPartError IsUnwritable) }
     {
-        let text = number.decimal(self.alloc, bytes)?;
-        if number.is_non_zero && text.as_str() == "0" {
+        let mut buffer = Buffer::new();
+        let text = number.decimal(&mut buffer, bytes);
+        if number.is_non_zero && text == "0" {
             return Err(self.position.refused(Refusal::Zero));
         }
         if number.is_quoted() || number.is_long() && self.long_numbers == LongNumbers::Quoted {
-            Ok(self.out.put(Token::String(text.as_str()))?)
+            Ok(self.out.put(Token::String(text))?)
         } else {
-            Ok(self.out.number(text.as_str())?)
+            Ok(self.out.number(text)?)
         }
     }
 

@@ -13,6 +13,9 @@ use borsh_walks::parts::referenced_part;
 use std::alloc::{AllocError, Global};
 use std::collections::BTreeMap;
 
+// Room for at most so many names is made at once.
+const FIRST_ROOM: usize = 32;
+
 /// A name that a type leads to, and its definition, if it has one.
 #[derive(Clone, Copy)]
 pub struct Named<'a> {
@@ -130,12 +133,13 @@ impl<'a> Layout<'a> {
         ensures sizes { IfOk result (λ l. KnowsSizes l) }
         ensures same { IfOk result (λ l. (l.root ≡ root.entry) × (l.map ≡ map.entry)) }
     {
-        let mut names: Vec<Named<'a>> = Vec::new(alloc);
+        // At most so many of the names have definitions.
+        let definitions = map.len();
+        let room = definitions.min(FIRST_ROOM);
+        let mut names: Vec<Named<'a>> = Vec::with_capacity(alloc, room)?;
         let mut places: BTreeMap<&'a str, usize> = BTreeMap::new(alloc);
-        let mut parts: Vec<Vec<usize>> = Vec::new(alloc);
+        let mut parts: Vec<Vec<usize>> = Vec::with_capacity(alloc, room)?;
         let _first = place_of(map, &mut names, &mut places, root)?;
-        // For the prover: at most so many of the names have definitions.
-        let _definitions = map.len();
         let mut defined: usize = 0;
         while let Some(named) = named_at(&names, parts.len()) {
             match named.definition {

@@ -110,8 +110,8 @@ pub fn zero_sizes<'a>(alloc: Global, layout: &Layout<'a>) -> Result<Vec<bool>, A
         IfOk result (λ v. AreZeros C layout.now.names.items v.items) }
 {
     let mut table: BTreeMap<&'a str, bool> = BTreeMap::new(alloc);
-    let mut zeros: Vec<bool> = Vec::new(alloc);
     let count = layout.names.len();
+    let mut zeros: Vec<bool> = Vec::with_capacity(alloc, count)?;
     let mut at: usize = 0;
     while at < count {
         let zero = find_zero(alloc, layout, &mut table, at)?;

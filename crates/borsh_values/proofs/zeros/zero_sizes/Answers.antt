@@ -8,11 +8,11 @@ use Rattle.borsh_values.proofs.zeros.zero_sizes.Goals as goal
 pub loop-at-init : goal.loop-at-init
 loop-at-init c =
     let l = c.args.layout.now in
-    let e = c.new-zeros.ensures.items in
+    let e = c.in_ok-zeros.ensures.items in
     record {
       at = sym (ap (λ q. length q) e);
       table = empty_table (definitions_in l.map.now) c.new-table.result c.new-table.ensures.empty;
-      zeros = answered_none (definitions_in l.map.now) l.names.items c.new-zeros.result.items e;
+      zeros = answered_none (definitions_in l.map.now) l.names.items c.in_ok-zeros.zeros.items e;
     }
 
 pub loop-at-preserved : goal.loop-at-preserved

@@ -12,10 +12,10 @@ use Rattle.borsh_values.proofs.Building.{Building, building_start, building_miss
 use Rattle.borsh_values.proofs.layout.Layout.new.Goals as goal
 
 pub place_of-requires : goal.place_of-requires
-place_of-requires c = index_start c.args.map.now c.args.root.now c.new-names.ensures.items (marks_none c.new-places.result c.new-places.ensures.empty)
+place_of-requires c = index_start c.args.map.now c.args.root.now c.in_ok-names.ensures.items (marks_none c.new-places.result c.new-places.ensures.empty)
 
 pub loop-named-init : goal.loop-named-init
-loop-named-init c = building_start c.args.map.now c.args.root.now c.in_ok-_first._first c.new-names.ensures.items c.in_ok-_first.ensures.index c.in_ok-_first.ensures.grown c.in_ok-_first.ensures.place c.new-parts.ensures.items
+loop-named-init c = building_start c.args.map.now c.args.root.now c.in_ok-_first._first c.in_ok-names.ensures.items c.in_ok-_first.ensures.index c.in_ok-_first.ensures.grown c.in_ok-_first.ensures.place c.in_ok-parts.ensures.items
 
 next : (ns : List Named) (o : Option Named) (k n : ℕ) → k ≡ n → o ≡ slice_get ns k → slice_get ns n ≡ o
 next ns o k n f h = sym (h ∙ ap (λ i. slice_get ns i) f)
