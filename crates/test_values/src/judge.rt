@@ -149,27 +149,8 @@ impl<'a> Root<'a> {
         expect(alloc, "front", front.as_str(), length.as_str())
     }
 
-    /// How many of the first bytes are a value, with the bytes of as many nodes; or why none are.
     fn front(&self, bytes: &[u8]) -> Result<String, Wrong> {
-        let alloc = self.alloc;
-        let layout = Layout::new(alloc, self.name, self.map)?;
-        let taken = match layout.front(alloc, bytes)? {
-            Front::Value(taken) => taken,
-            Front::TooShort(_) => return text(alloc, "short"),
-            Front::NoMember(fault) => return told(alloc, &JsonError::NoMember(fault)),
-            Front::Ambiguous(name) => return told(alloc, &JsonError::Ambiguous(name)),
-        };
-        match layout.decode_front(alloc, bytes)? {
-            DecodedFront::Value(nodes, same) if same == taken => {
-                let joined = encode(alloc, nodes.as_slice())?;
-                let mut left = bytes;
-                let next = layout.next_value(alloc, &mut left)?;
-                let is_next = matches!(next, Next::Value(value) if value.len() == taken);
-                check(alloc, is_next || taken == 0, "next_value", "another")?;
-                Ok(format!(in alloc; "{}", joined.len())?)
-            }
-            _ => text(alloc, "other nodes"),
-        }
+        front(self.alloc, self.name, self.map, bytes)
     }
 
     /// Whether the bytes are a value.
@@ -250,6 +231,33 @@ impl<'a> Root<'a> {
         }
         Ok(())
     }
+}
+
+/// How many of the first bytes are a value, with the bytes of as many nodes; or why none are.
+fn front<'a>(
+    alloc: Global,
+    name: &'a str,
+    map: &'a Definitions,
+    bytes: &'a [u8],
+) -> Result<String, Wrong> {
+    let layout = Layout::new(alloc, name, map)?;
+    let taken = match layout.front(alloc, bytes)? {
+        Front::Value(taken) => taken,
+        Front::TooShort(_) => return text(alloc, "short"),
+        Front::NoMember(fault) => return told(alloc, &JsonError::NoMember(fault)),
+        Front::Ambiguous(name) => return told(alloc, &JsonError::Ambiguous(name)),
+    };
+    let DecodedFront::Value(nodes, same) = layout.decode_front(alloc, bytes)? else {
+        return text(alloc, "no nodes");
+    };
+    let joined = encode(alloc, nodes.as_slice())?;
+    let is_same = same == taken && joined.len() == taken;
+    check(alloc, is_same, "decode_front", "other nodes")?;
+    let mut left = bytes;
+    let next = layout.next_value(alloc, &mut left)?;
+    let is_next = matches!(next, Next::Value(value) if value.len() == taken);
+    check(alloc, is_next || taken == 0, "next_value", "another")?;
+    Ok(format!(in alloc; "{taken}")?)
 }
 
 /// How many elements a node has, and which of its bytes these are; or its variant. It is known by its index.
