@@ -10,7 +10,6 @@ use std::borrow::{CowSlice, CowStr};
 use std::collections::{BTreeMap, VecDeque};
 use std::net::{IpAddr, Ipv4Addr, Ipv6Addr, SocketAddrV4, SocketAddrV6};
 use std::num::{NonZeroI16, NonZeroI64, NonZeroU8, NonZeroU32, NonZeroUsize};
-use std::ops::{Range, RangeInclusive};
 use std::rc::{Rc, RcSlice};
 use std::test::Fail;
 use uuid::Uuid;
@@ -62,26 +61,14 @@ fn is_enum(alloc: Global) -> Result<bool, Fail> {
     Ok(is_read && is_one && is_written(alloc, &many, bytes)?)
 }
 
-fn are_ranges(alloc: Global) -> Result<bool, Fail> {
-    let Range { start, end } = from_slice::<Range<u8>>(alloc, b"\x03\x04")?;
-    let closed: RangeInclusive<u8> = from_slice(alloc, b"\x03\x04")?;
-    Ok(
-        start == 3
-            && end == 4
-            && *closed.start() == 3
-            && *closed.end() == 4
-            && is_written(alloc, &(3u8..4), b"\x03\x04")?
-            && is_written(alloc, &(3u8..=4), b"\x03\x04")?,
-    )
-}
-
 // Fields of one type that hold different values: were two of them exchanged both ways, no row would show it.
 #[test]
 fn each_field_is_where_its_bytes_are(rt: HostRuntime) -> Result<(), Fail> {
     let alloc = rt.alloc();
     check(are_structs(alloc)?, "structs", 0)?;
     check(is_enum(alloc)?, "enum", 0)?;
-    check(are_ranges(alloc)?, "ranges", 0)?;
+    check_value(alloc, "range", 3u8..4, b"\x03\x04")?;
+    check_value(alloc, "closed range", 3u8..=4, b"\x03\x04")?;
     // An entry whose key and value differ.
     let mut map = BTreeMap::new(alloc);
     map.insert(1u8, 10u8)?;
@@ -177,49 +164,28 @@ fn borrowed_values_are_written(rt: HostRuntime) -> Result<(), Fail> {
     check_written(alloc, "struct", &tagged, bytes)
 }
 
-fn are_shared(alloc: Global) -> Result<bool, Fail> {
-    let bytes = b"\x07\0\0\0\x01\0\0\0\x02\0\0\0\x03\0\0\0\x04\0\0\0\x06\0\0\0\x09\0\0\0\x0a\0\0\0";
-    let numbers = [1i32, 2, 3, 4, 6, 9, 10];
-    let read: RcSlice<i32> = from_slice(alloc, bytes)?;
-    let one: Rc<u8> = from_slice(alloc, b"\x08")?;
-    Ok(
-        read.as_slice() == numbers.as_slice()
-            && *one == 8
-            && is_written(alloc, &numbers.as_slice(), bytes)?
-            && is_written(alloc, &Rc::new(alloc, 8u8)?, b"\x08")?,
-    )
-}
-
 #[test]
 fn shared_values_are_what_they_hold(rt: HostRuntime) -> Result<(), Fail> {
-    check(are_shared(rt.alloc())?, "numbers", 0)
-}
-
-fn is_owned_text(alloc: Global, bytes: &[u8], text: &str) -> Result<bool, Fail> {
-    match from_slice(alloc, bytes)? {
-        CowStr::Owned(read) => Ok(read.as_str() == text),
-        CowStr::Borrowed(_) => Ok(false),
-    }
-}
-
-fn is_owned_slice(alloc: Global, bytes: &[u8], slice: &[u8]) -> Result<bool, Fail> {
-    match from_slice(alloc, bytes)? {
-        CowSlice::Owned(read) => Ok(read.as_slice() == slice),
-        CowSlice::Borrowed(_) => Ok(false),
-    }
+    let alloc = rt.alloc();
+    let bytes = b"\x07\0\0\0\x01\0\0\0\x02\0\0\0\x03\0\0\0\x04\0\0\0\x06\0\0\0\x09\0\0\0\x0a\0\0\0";
+    let numbers = RcSlice::from_slice(alloc, &[1i32, 2, 3, 4, 6, 9, 10])?;
+    check_value(alloc, "numbers", numbers, bytes)?;
+    check_value(alloc, "number", Rc::new(alloc, 8u8)?, b"\x08")
 }
 
 #[test]
 fn a_cow_is_read_as_owned(rt: HostRuntime) -> Result<(), Fail> {
     let alloc = rt.alloc();
-    let text = "static input";
-    let bytes = b"\x0c\0\0\0static input";
-    check_written(alloc, "text", &CowStr::Borrowed(text), bytes)?;
-    check(is_owned_text(alloc, bytes, text)?, "owned text", 0)?;
-    let slice = [1u8, 2, 3].as_slice();
-    let bytes = b"\x03\0\0\0\x01\x02\x03";
-    check_written(alloc, "slice", &CowSlice::Borrowed(slice), bytes)?;
-    check(is_owned_slice(alloc, bytes, slice)?, "owned slice", 0)
+    let text = b"\x0c\0\0\0static input";
+    check_value(alloc, "text", CowStr::Borrowed("static input"), text)?;
+    let slice = b"\x03\0\0\0\x01\x02\x03";
+    check_value(alloc, "slice", CowSlice::Borrowed(&[1u8, 2, 3]), slice)?;
+    let is_text = matches!(from_slice(alloc, text)?, CowStr::Owned(_));
+    let is_slice = matches!(
+        from_slice::<CowSlice<u8>>(alloc, slice)?,
+        CowSlice::Owned(_)
+    );
+    check(is_text && is_slice, "owned", 2)
 }
 
 /// A queue whose last two numbers lie before its first two in memory.

@@ -11,6 +11,8 @@ mod constructed;
 #[cfg(test)]
 mod containers;
 #[cfg(test)]
+mod dropped;
+#[cfg(test)]
 mod errors;
 #[cfg(test)]
 mod floats;

@@ -352,17 +352,7 @@ fn is_sized(rt: HostRuntime, container: &BorshSchemaContainer) -> Result<(), Fai
 fn is_asked(rt: HostRuntime, container: &BorshSchemaContainer) -> Result<(), Fail> {
     is_judged(rt, container)?;
     is_sized(rt, container)?;
-    let alloc = rt.alloc();
-    sweep(rt, "copy of a container", "", |refusal| {
-        refusal.begin(alloc);
-        let copy: Result<BorshSchemaContainer, AllocError> = container.clone();
-        let refused = refusal.end(alloc);
-        let right = match copy {
-            Ok(copy) => copy == *container,
-            Err(_) => refused,
-        };
-        Ok(Round { refused, right })
-    })
+    is_copied(rt, container)
 }
 
 /// Containers by their encodings, as hexadecimal digits: one for each answer that there is. What the answers are, the rows of `test_rows` say.

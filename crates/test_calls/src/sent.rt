@@ -1,10 +1,8 @@
 // Values that are sent with their schema, and types of one name, which have none.
-use super::support::{SHORT, check, check_value, is_invalid, owned_text};
+use super::support::{SHORT, check, check_value, owned_text};
 use super::sweeps::{judge_read, judge_written, sweep};
 use super::unwritten::judge_refused;
-use borsh::schema::{
-    BorshSchema, BorshSchemaContainer, SchemaBuildError, SchemaMaxSerializedSizeError,
-};
+use borsh::schema::{BorshSchema, BorshSchemaContainer, SchemaMaxSerializedSizeError};
 use borsh::{
     BorshDeserialize, BorshSerialize, from_slice, max_serialized_size, schema_container_of,
     try_from_slice_with_schema, try_to_vec_with_schema,
@@ -100,15 +98,10 @@ type Clashing = (ShortA, LongA);
 #[test]
 fn two_types_of_one_name_have_no_schema(rt: HostRuntime) -> Result<(), Fail> {
     let alloc = rt.alloc();
-    let clash = SchemaBuildError::Redefinition(owned_text(alloc, "A")?);
-    let is_right = schema_container_of::<Clashing>(alloc) == Err(clash);
-    check(is_right, "the container", 0)?;
     let clash = SchemaMaxSerializedSizeError::Redefinition(owned_text(alloc, "A")?);
     let is_right = max_serialized_size::<Clashing>(alloc) == Err(clash);
     check(is_right, "the size", 0)?;
     let pair = (ShortA(1), LongA(2));
-    let is_right = is_invalid(&try_to_vec_with_schema(alloc, &pair), CLASH);
-    check(is_right, "a value that is sent", 0)?;
     sweep(rt, "try_to_vec_with_schema, refused", "(A, A)", |refusal| {
         refusal.begin(alloc);
         let made = try_to_vec_with_schema(alloc, &pair);
