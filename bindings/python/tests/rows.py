@@ -87,8 +87,10 @@ def text_of(columns):
 
 
 def rows(file):
-    """The rows of a file that aren't definitions: each with its number, its kind, the schema that its root has, and the columns after these."""
-    definitions, schemas = {}, {}
+    """The rows of a file that aren't definitions: each with its number, its kind, the schema that its root has, and the columns after these.
+
+    Rows by the container of a type, which the file doesn't have, are left out, but for the container of containers."""
+    definitions, schemas, is_there = {}, {}, True
     for number, line in enumerate((DATA / file).read_text(encoding="utf-8").split("\n"), 1):
         kind, *columns = line.split("\t")
         if not line or line.startswith("#"):
@@ -98,10 +100,12 @@ def rows(file):
         if definition is not None:
             definitions[name] = definition
             schemas.clear()
+            is_there = True
         elif kind == "type":
-            definitions = Schema(SCHEMAS.read_bytes()).definitions if name == "container" else {}
+            is_there = name == "container"
+            definitions = Schema(SCHEMAS.read_bytes()).definitions if is_there else {}
             schemas.clear()
-        elif kind not in ("random", "ambiguous"):  # which no call of the library answers
+        elif is_there and kind not in ("random", "ambiguous"):  # which no call of the library answers
             if name not in schemas:
                 schemas[name] = schema_of(name, definitions)
             yield number, kind, schemas[name], columns

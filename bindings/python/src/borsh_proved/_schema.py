@@ -141,11 +141,11 @@ class Schema:
     def decode(self, value: _library.Bytes) -> Any:
         """The value that all of the bytes are, as Python's.
 
-        Whole numbers are `int`; `bool`, `f32` and `f64`, and texts are `bool`, `float` and `str`, but a NaN, which no type takes, is
-        `bytes`; lists of `u8` and other primitives are `bytes`; lists are `list`; maps by texts or numbers are `dict`, and other maps lists of pairs; structs are `dict` by the names
-        of their fields, or `tuple`, or what their only field is if it has no name; tuples are `tuple`; an `Option` is None or its value; a
-        variant is its name, or `{name: value}`; a value without bytes is None. An `Option` whose value may be None is a variant,
-        "None" or `{"Some": value}`.
+        Whole numbers are `int`; `bool`, `f32` and `f64`, and texts are `bool`, `float` and `str`; lists of `u8` and other primitives
+        are `bytes`; lists are `list`; maps by texts or numbers are `dict`, and other maps lists of pairs; structs are `dict` by the
+        names of their fields, or `tuple`, or what their only field is if it has no name; tuples are `tuple`; an `Option` is None or
+        its value; a variant is its name, or `{name: value}`; a value without bytes is None. An `Option` whose value may be None is
+        a variant, "None" or `{"Some": value}`.
 
         Raises an `Error` as `to_json` does.
 

@@ -63,8 +63,7 @@ class Values:
         if not value.startswith("0x"):
             return int(value)
         data = bytes.fromhex(value[2:])
-        number = struct.unpack(_FLOATS[name, size], data)[0] if (name, size) in _FLOATS else data
-        return number if number == number else data  # a NaN
+        return struct.unpack(_FLOATS[name, size], data)[0] if (name, size) in _FLOATS else data
 
     def _elements(self, name: str, element: str, value: Any) -> Any:
         if isinstance(value, str):
