@@ -27,8 +27,16 @@ uint32_t borsh_c_to_json(const uint8_t *schema, size_t schema_length, const uint
                          size_t *needed);
 uint32_t borsh_c_from_json(const uint8_t *schema, size_t schema_length, const uint8_t *json, size_t json_length,
                            struct place *place, uint8_t *room, size_t room_length, size_t *needed);
+uint32_t borsh_c_records(const uint8_t *schema, size_t schema_length, const uint8_t *bytes, size_t length, size_t *lengths,
+                         size_t lengths_room, size_t *count, struct place *place, uint8_t *room, size_t room_length, size_t *needed);
+uint32_t borsh_c_json_lines(const uint8_t *schema, size_t schema_length, const uint8_t *values, size_t length, const size_t *lengths,
+                            size_t lengths_count, bool has_quoted_numbers, size_t *count, struct place *place, uint8_t *room,
+                            size_t room_length, size_t *needed);
+uint32_t borsh_c_members(const uint8_t *schema, size_t schema_length, const uint8_t *values, size_t length, const size_t *lengths,
+                         size_t lengths_count, struct borsh_verdict *verdicts, size_t verdicts_count, uint8_t *room,
+                         size_t room_length, size_t *needed);
 
-enum call { VALID, SIZE, MEMBER, TO_JSON, FROM_JSON };
+enum call { VALID, SIZE, MEMBER, TO_JSON, FROM_JSON, RECORDS, JSON_LINES, MEMBERS };
 
 struct question {
     enum call call;
@@ -38,7 +46,12 @@ struct question {
     size_t value_length;
     bool is_compact;
     bool has_quoted_numbers;
+    /* What a call writes beside its text: a size, or how many values there are. */
     size_t *size;
+    /* Of calls about many values. */
+    size_t *lengths;
+    size_t lengths_count;
+    struct borsh_verdict *verdicts;
 };
 
 static const uint8_t nothing[1] = {0};
@@ -58,7 +71,7 @@ static uint32_t fail(uint32_t code, const char *text, size_t length, struct bors
 
 #define FAIL(code, text, out) fail((code), (text), sizeof(text) - 1, (out))
 
-static bool is_null(const uint8_t *bytes, size_t length) { return bytes == NULL && length != 0; }
+static bool is_null(const void *start, size_t length) { return start == NULL && length != 0; }
 
 /* Where no bytes are: a pointer that isn't null. */
 static const uint8_t *start(const uint8_t *bytes) { return bytes == NULL ? nothing : bytes; }
@@ -66,6 +79,10 @@ static const uint8_t *start(const uint8_t *bytes) { return bytes == NULL ? nothi
 static uint32_t call(const struct question *q, struct place *place, uint8_t *room, size_t room_length, size_t *needed) {
     const uint8_t *schema = start(q->schema);
     const uint8_t *value = start(q->value);
+    size_t no_length = 0;
+    struct borsh_verdict no_verdict;
+    size_t *lengths = q->lengths == NULL ? &no_length : q->lengths;
+    struct borsh_verdict *verdicts = q->verdicts == NULL ? &no_verdict : q->verdicts;
     switch (q->call) {
     case VALID:
         return borsh_c_valid(schema, q->schema_length, room, room_length, needed);
@@ -76,25 +93,35 @@ static uint32_t call(const struct question *q, struct place *place, uint8_t *roo
     case TO_JSON:
         return borsh_c_to_json(schema, q->schema_length, value, q->value_length, q->is_compact, q->has_quoted_numbers, place, room,
                                room_length, needed);
-    default:
+    case FROM_JSON:
         return borsh_c_from_json(schema, q->schema_length, value, q->value_length, place, room, room_length, needed);
+    case RECORDS:
+        return borsh_c_records(schema, q->schema_length, value, q->value_length, lengths, q->lengths_count, q->size, place, room,
+                               room_length, needed);
+    case JSON_LINES:
+        return borsh_c_json_lines(schema, q->schema_length, value, q->value_length, lengths, q->lengths_count, q->has_quoted_numbers,
+                                  q->size, place, room, room_length, needed);
+    default:
+        return borsh_c_members(schema, q->schema_length, value, q->value_length, lengths, q->lengths_count, verdicts,
+                               q->lengths_count, room, room_length, needed);
     }
 }
 
 /* A first room, in which most answers fit. */
 static size_t first_room(const struct question *q) {
-    if ((q->call == TO_JSON || q->call == FROM_JSON) && q->value_length < SIZE_MAX / 8)
-        return 4 * q->value_length + 256;
-    return 256;
+    bool is_long = q->call == TO_JSON || q->call == FROM_JSON || q->call == JSON_LINES;
+    return is_long && q->value_length < SIZE_MAX / 8 ? 4 * q->value_length + 256 : 256;
 }
 
 static uint32_t ask(const struct question *q, struct borsh_buffer *out) {
     if (out == NULL)
         return BORSH_NULL;
-    if (is_null(q->schema, q->schema_length) || is_null(q->value, q->value_length) || q->size == NULL)
+    if (is_null(q->schema, q->schema_length) || is_null(q->value, q->value_length) || q->size == NULL ||
+        is_null(q->lengths, q->lengths_count) || (q->call == MEMBERS && is_null(q->verdicts, q->lengths_count)))
         return FAIL(BORSH_NULL, "null pointer", out);
     size_t room_length = first_room(q);
-    while (room_length < SIZE_MAX) {
+    /* The answer of a second call is as long as the first one's, so that no third is needed. */
+    for (int calls = 0; calls < 2 && room_length < SIZE_MAX; calls++) {
         uint8_t *room = calloc(room_length + 1, 1);
         if (room == NULL)
             break;
@@ -118,33 +145,71 @@ static uint32_t ask(const struct question *q, struct borsh_buffer *out) {
 
 uint32_t borsh_valid(const uint8_t *schema, size_t schema_length, struct borsh_buffer *text) {
     size_t unused = 0;
-    return ask(&(struct question){VALID, schema, schema_length, NULL, 0, false, false, &unused}, text);
+    return ask(&(struct question){.call = VALID, .schema = schema, .schema_length = schema_length, .size = &unused}, text);
 }
 
 uint32_t borsh_size(const uint8_t *schema, size_t schema_length, size_t *size, struct borsh_buffer *text) {
     size_t most = 0;
-    uint32_t code = ask(&(struct question){SIZE, schema, schema_length, NULL, 0, false, false, size == NULL ? NULL : &most}, text);
+    const struct question q = {.call = SIZE, .schema = schema, .schema_length = schema_length, .size = size == NULL ? NULL : &most};
+    uint32_t code = ask(&q, text);
     if (code == BORSH_YES)
         *size = most;
     return code;
 }
 
+/* A question about a value, or about several. */
+static struct question about(enum call call, const uint8_t *schema, size_t schema_length, const uint8_t *value, size_t value_length,
+                             size_t *size) {
+    return (struct question){
+        .call = call, .schema = schema, .schema_length = schema_length, .value = value, .value_length = value_length, .size = size};
+}
+
 uint32_t borsh_member(const uint8_t *schema, size_t schema_length, const uint8_t *value, size_t value_length,
                       struct borsh_buffer *text) {
     size_t unused = 0;
-    return ask(&(struct question){MEMBER, schema, schema_length, value, value_length, false, false, &unused}, text);
+    const struct question q = about(MEMBER, schema, schema_length, value, value_length, &unused);
+    return ask(&q, text);
 }
 
 uint32_t borsh_to_json(const uint8_t *schema, size_t schema_length, const uint8_t *value, size_t value_length,
                        bool is_compact, bool has_quoted_numbers, struct borsh_buffer *json) {
     size_t unused = 0;
-    return ask(&(struct question){TO_JSON, schema, schema_length, value, value_length, is_compact, has_quoted_numbers,
-                                  &unused},
-               json);
+    struct question q = about(TO_JSON, schema, schema_length, value, value_length, &unused);
+    q.is_compact = is_compact;
+    q.has_quoted_numbers = has_quoted_numbers;
+    return ask(&q, json);
 }
 
 uint32_t borsh_from_json(const uint8_t *schema, size_t schema_length, const uint8_t *json, size_t json_length,
                          struct borsh_buffer *value) {
     size_t unused = 0;
-    return ask(&(struct question){FROM_JSON, schema, schema_length, json, json_length, false, false, &unused}, value);
+    const struct question q = about(FROM_JSON, schema, schema_length, json, json_length, &unused);
+    return ask(&q, value);
+}
+
+uint32_t borsh_records(const uint8_t *schema, size_t schema_length, const uint8_t *bytes, size_t length, size_t *lengths,
+                       size_t lengths_room, size_t *count, struct borsh_buffer *text) {
+    struct question q = about(RECORDS, schema, schema_length, bytes, length, count);
+    q.lengths = lengths;
+    q.lengths_count = lengths_room;
+    return ask(&q, text);
+}
+
+uint32_t borsh_json_lines(const uint8_t *schema, size_t schema_length, const uint8_t *values, size_t length, const size_t *lengths,
+                          size_t lengths_count, bool has_quoted_numbers, size_t *count, struct borsh_buffer *lines) {
+    struct question q = about(JSON_LINES, schema, schema_length, values, length, count);
+    q.lengths = (size_t *)lengths; /* which this call only reads */
+    q.lengths_count = lengths_count;
+    q.has_quoted_numbers = has_quoted_numbers;
+    return ask(&q, lines);
+}
+
+uint32_t borsh_members(const uint8_t *schema, size_t schema_length, const uint8_t *values, size_t length, const size_t *lengths,
+                       size_t lengths_count, struct borsh_verdict *verdicts, struct borsh_buffer *text) {
+    size_t unused = 0;
+    struct question q = about(MEMBERS, schema, schema_length, values, length, &unused);
+    q.lengths = (size_t *)lengths; /* so here */
+    q.lengths_count = lengths_count;
+    q.verdicts = verdicts;
+    return ask(&q, text);
 }

@@ -37,13 +37,15 @@ enum borsh_code {
     BORSH_NULL = 4,
     /* The container allows two values for the same bytes, or breaks a rule of widths, so it has no answer. */
     BORSH_UNDECIDED = 5,
+    /* The bytes end within a value, of which more bytes may make one: of `borsh_records` alone. */
+    BORSH_SHORT = 6,
 };
 
 struct borsh_buffer {
     /* Never null after a call, and behind the last byte is a zero byte that isn't counted. */
     const uint8_t *data;
     size_t length;
-    /* After BORSH_NO of a call about a value: the path of the part that the text is about, as `A.y[3]`, which lies in `data`, or null. */
+    /* After BORSH_NO or BORSH_SHORT of a call about values: the path of the part that the text is about, as `A.y[3]`, which lies in `data`, or null. */
     const uint8_t *path;
     size_t path_length;
     /* If `has_offset`, the byte at which the value has no such part, or near which the JSON is wrong. */
@@ -76,6 +78,37 @@ uint32_t borsh_to_json(const uint8_t *schema, size_t schema_length, const uint8_
 /* The bytes of the value that JSON says, which is UTF-8. */
 uint32_t borsh_from_json(const uint8_t *schema, size_t schema_length, const uint8_t *json, size_t json_length,
                          struct borsh_buffer *value);
+
+/* Values one after another, as in a file. Each call decodes the schema once, so that many values cost little more than their bytes.
+ *
+ * `borsh_records` says how long each of the values is that the bytes begin with: the lengths of as many as are whole are written to
+ * `lengths`, at most `lengths_room` of them, and how many those are to `*count`. Each has at least one byte, and no other bytes
+ * could be that value, whatever follows. After BORSH_YES there are some, unless there are no bytes or no room for a length; what is
+ * behind them is for another call, which says what is wrong with it. After any other code `*count` is 0, and
+ * - BORSH_SHORT says that the bytes end within the first value: read on, and call again;
+ * - BORSH_NO says that they begin with no value, whatever bytes follow, or that a value may be empty, so that they may be any number
+ *   of values. */
+uint32_t borsh_records(const uint8_t *schema, size_t schema_length, const uint8_t *bytes, size_t length, size_t *lengths,
+                       size_t lengths_room, size_t *count, struct borsh_buffer *text);
+
+/* The JSON of each of the values that have these lengths and lie one after another at `values`, as of `borsh_to_json` on one line, and a
+ * line end behind each. It stops before a value that has no JSON: `*count` is how many have a line. After BORSH_NO and BORSH_UNDECIDED
+ * the first has none, and `*count` is 0. A length that reaches beyond the bytes is cut. */
+uint32_t borsh_json_lines(const uint8_t *schema, size_t schema_length, const uint8_t *values, size_t length, const size_t *lengths,
+                          size_t lengths_count, bool has_quoted_numbers, size_t *count, struct borsh_buffer *lines);
+
+/* What `borsh_member` says of a value: its code, and the offset of a fault. */
+struct borsh_verdict {
+    uint32_t code;
+    bool has_offset;
+    size_t offset;
+};
+
+/* Whether each of the values that have these lengths and lie one after another at `values` is one of the root: BORSH_YES, BORSH_NO,
+ * BORSH_OUT_OF_MEMORY or BORSH_UNDECIDED, in as many `verdicts` as there are lengths. The call itself returns BORSH_YES, unless the
+ * schema is malformed or an allocation failed; then the verdicts say nothing. A length that reaches beyond the bytes is cut. */
+uint32_t borsh_members(const uint8_t *schema, size_t schema_length, const uint8_t *values, size_t length, const size_t *lengths,
+                       size_t lengths_count, struct borsh_verdict *verdicts, struct borsh_buffer *text);
 
 #ifdef __cplusplus
 }

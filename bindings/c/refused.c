@@ -52,8 +52,13 @@ static const uint8_t json[] = "{\"y\": \"h\\u00e9\", \"x\": 12}";
 
 #define LENGTH(text) (sizeof(text) - 1)
 
+/* Two values, and the beginning of a third. */
+static const uint8_t values[] = "\14\0\0\0\0\0\0\0\3\0\0\0h\303\251\15\0\0\0\0\0\0\0\0\0\0\0\16";
+static const size_t lengths[] = {15, 12, 1};
+
 static uint32_t ask(int call, struct borsh_buffer *out) {
-    size_t size = 0;
+    size_t size = 0, found[3];
+    struct borsh_verdict verdicts[3];
     switch (call) {
     case 0:
         return borsh_valid(schema, LENGTH(schema), out);
@@ -67,13 +72,21 @@ static uint32_t ask(int call, struct borsh_buffer *out) {
         return borsh_to_json(schema, LENGTH(schema), value, LENGTH(value), false, false, out);
     case 5:
         return borsh_from_json(schema, LENGTH(schema), json, LENGTH(json), out);
+    case 6:
+        return borsh_records(schema, LENGTH(schema), values, LENGTH(values), found, 3, &size, out);
+    case 7:
+        return borsh_records(schema, LENGTH(schema), values, 3, found, 3, &size, out);
+    case 8:
+        return borsh_json_lines(schema, LENGTH(schema), values, LENGTH(values), lengths, 2, false, &size, out);
+    case 9:
+        return borsh_members(schema, LENGTH(schema), values, LENGTH(values), lengths, 3, verdicts, out);
     default:
         return borsh_valid(value, LENGTH(value), out);
     }
 }
 
 int main(void) {
-    for (int call = 0; call < 7; call++) {
+    for (int call = 0; call < 11; call++) {
         struct borsh_buffer right, out;
         uint32_t code = ask(call, &right);
         size_t before = blocks;
@@ -83,7 +96,9 @@ int main(void) {
             uint32_t said = ask(call, &out);
             refused = granted == 0;
             granted = SIZE_MAX;
-            bool same = said == code && out.length == right.length && memcmp(out.data, right.data, right.length) == 0;
+            /* Lines may be fewer. */
+            bool same = said == code && out.length <= right.length && memcmp(out.data, right.data, out.length) == 0 &&
+                        (out.length == right.length || (call == 8 && refused && out.length > 0));
             bool none = said == BORSH_OUT_OF_MEMORY && strcmp((const char *)out.data, "out of memory") == 0;
             borsh_free(&out);
             if (!(same || (refused && none)) || blocks != before) {

@@ -1,6 +1,6 @@
 /** What a call has no answer for. */
 export class BorshError extends Error {
-  constructor(kind: ErrorKind, text: string, found?: { path?: string; type?: string; offset?: number | string; reason?: string });
+  constructor(kind: ErrorKind, text: string, found?: { path?: string; type?: string; offset?: number | string; reason?: string; record?: number });
 
   readonly kind: ErrorKind;
   /** The path of the part that the error is about, as `A.y[3]` or `A.y[3]::V.0`. A name is written in it as it is in the schema. */
@@ -9,6 +9,8 @@ export class BorshError extends Error {
   readonly type?: string;
   /** The byte at which bytes stop being a value, or near which a text stops being JSON. */
   readonly offset?: number;
+  /** Of an error of {@link Schema.records}: the byte of the stream at which the value begins. The offset is within the value. */
+  readonly record?: number;
   /** The error without its path, type and offset. */
   readonly reason: string;
 }
@@ -23,6 +25,14 @@ export type ErrorKind = "no" | "malformed" | "undecided" | "out of memory";
 
 /** Bytes, or their hexadecimal digits; white space between digits and a `0x` before them are passed over. */
 export type Source = Uint8Array | ArrayBuffer | string;
+
+/** Bytes in pieces, which are cut anywhere: a stream of the browser's or of Node's, an iterable, or all bytes at once. */
+export type Pieces =
+  | ReadableStream<Uint8Array>
+  | AsyncIterable<Uint8Array | ArrayBuffer>
+  | Iterable<Uint8Array | ArrayBuffer>
+  | Uint8Array
+  | ArrayBuffer;
 
 /**
  * A value, by the table "JSON" of docs/TOOL.md, with these instead of some texts:
@@ -116,6 +126,24 @@ export class Schema {
 
   /** The bytes of the value that JSON describes. The error `"no"` says which part is wrong, or where the text isn't JSON. */
   fromJson(json: string): Uint8Array;
+
+  /**
+   * The values that follow one another to the end of the bytes, each as {@link Schema.decode} returns it. The memory that is taken is that
+   * of a few hundred kilobytes of bytes, or of the longest value, and of some thousand values. The source is read ahead of the values, and
+   * is cancelled where the loop is left.
+   *
+   * The error `"no"` says which bytes are no value, that they end within one, or that one is longer than `maxLength`, by default 64 MiB;
+   * its `record` is the byte at which that value begins, and those before it were given. A schema that has a value without bytes is
+   * refused, since there may be any number of them.
+   *
+   * ```js
+   * for await (const value of schema.records(file.stream())) console.log(value);
+   * ```
+   */
+  records(source: Pieces, options?: { longNumbers?: "bigint" | "string"; maxLength?: number }): AsyncGenerator<Value, void, undefined>;
+
+  /** A copy of the bytes of each of these values, in less time. They are checked as by {@link Schema.check}. */
+  recordBytes(source: Pieces, options?: { maxLength?: number }): AsyncGenerator<Uint8Array, void, undefined>;
 
   /**
    * What each byte of the value is, in order. The error is as of {@link Schema.check}, and `"no"` where it nests more than 128 deep.

@@ -2,8 +2,15 @@
 import { Calls } from "./calls.js";
 import { CONTAINER_OF_CONTAINERS } from "./container.js";
 import { Definitions } from "./definitions.js";
+import { BorshError, answerOf, decoder } from "./errors.js";
+import { batchesOf } from "./records.js";
 import { rowsOf } from "./rows.js";
 import { bytesOfHex, jsonOfValue, valueOfJson } from "./values.js";
+
+export { BorshError };
+
+/** How long a value of a stream may be, unless it is said: 64 MiB. */
+const MAX_LENGTH = 2 ** 26;
 
 let calls;
 
@@ -13,20 +20,6 @@ export function useModule(module) {
   return calls;
 }
 
-/** What a call has no answer for. */
-export class BorshError extends Error {
-  constructor(kind, text, found) {
-    super(text);
-    this.name = "BorshError";
-    this.kind = kind;
-    this.path = found?.path;
-    this.type = found?.type;
-    this.offset = found?.offset;
-    this.reason = found?.reason ?? text;
-  }
-}
-
-const decoder = new TextDecoder("utf-8", { ignoreBOM: true });
 const encoder = new TextEncoder();
 
 /** The bytes of a `Uint8Array`, an `ArrayBuffer` or hexadecimal digits. */
@@ -38,22 +31,9 @@ function bytesFrom(source) {
   return bytes;
 }
 
-/** The bytes of the answer, or else an error. */
-function answerOf(answer) {
-  if (answer.kind === "yes") return answer.bytes;
-  throw new BorshError(answer.kind, decoder.decode(answer.bytes), foundIn(answer));
-}
-
-/** What the text of an answer says: `PATH: REASON`, or of a fault of bytes ``PATH (`TYPE` at byte OFFSET): REASON``. */
-function foundIn({ bytes, offset, path }) {
-  if (path === undefined) return { offset };
-  const rest = decoder.decode(bytes.subarray(path.end));
-  const found = { offset, path: decoder.decode(bytes.subarray(path.start, path.end)), reason: rest.slice(": ".length) };
-  if (offset === undefined) return found;
-  // No reason of a fault has such words.
-  const middle = `\` at byte ${offset}): `;
-  const at = rest.lastIndexOf(middle);
-  return { ...found, type: rest.slice(" (`".length, at), reason: rest.slice(at + middle.length) };
+function takesBigints(longNumbers) {
+  if (longNumbers !== "bigint" && longNumbers !== "string") throw new TypeError('longNumbers is neither "bigint" nor "string"');
+  return longNumbers === "bigint";
 }
 
 export class Schema {
@@ -93,8 +73,9 @@ export class Schema {
   }
 
   maxSize() {
-    const bytes = answerOf(calls.size(this.#bytes));
-    return new DataView(bytes.buffer).getBigUint64(0, true);
+    const answer = calls.size(this.#bytes);
+    answerOf(answer);
+    return answer.number;
   }
 
   check(value) {
@@ -102,9 +83,9 @@ export class Schema {
   }
 
   decode(value, { longNumbers = "bigint" } = {}) {
-    if (longNumbers !== "bigint" && longNumbers !== "string") throw new TypeError('longNumbers is neither "bigint" nor "string"');
+    const isBigint = takesBigints(longNumbers);
     const json = JSON.parse(this.toJson(value, { longNumbers: "string" }));
-    return valueOfJson(this.#defined(), this.root, json, longNumbers === "bigint");
+    return valueOfJson(this.#defined(), this.root, json, isBigint);
   }
 
   encode(value) {
@@ -118,6 +99,35 @@ export class Schema {
 
   fromJson(json) {
     return answerOf(calls.fromJson(this.#bytes, encoder.encode(json)));
+  }
+
+  async *records(source, { longNumbers = "bigint", maxLength } = {}) {
+    const isBigint = takesBigints(longNumbers);
+    for await (const batch of this.#batches(source, maxLength)) {
+      let { start, values, lengths } = batch;
+      while (lengths.length > 0) {
+        const answer = calls.jsonLines(this.#bytes, values, lengths, true);
+        // No text of JSON has a line end in it, which is written as its escape.
+        const lines = decoder.decode(answerOf(answer, start)).slice(0, -1);
+        const list = JSON.parse(`[${lines.replaceAll("\n", ",")}]`);
+        for (const json of list) yield valueOfJson(this.#defined(), this.root, json, isBigint);
+        const size = lengths.slice(0, list.length).reduce((sum, length) => sum + length, 0);
+        start += size;
+        values = values.subarray(size);
+        lengths = lengths.slice(list.length);
+      }
+    }
+  }
+
+  async *recordBytes(source, { maxLength } = {}) {
+    for await (const { values, lengths } of this.#batches(source, maxLength)) {
+      let at = 0;
+      for (const length of lengths) yield values.slice(at, (at += length));
+    }
+  }
+
+  #batches(source, maxLength = MAX_LENGTH) {
+    return batchesOf(source, maxLength, (bytes, most) => calls.records(this.#bytes, bytes, most));
   }
 
   rows(value) {

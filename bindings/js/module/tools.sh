@@ -25,8 +25,8 @@ link() {
         "${exports[@]}" "${objects[@]}" -o "$room/linked.wasm"
     if command -v wasm-opt >/dev/null; then
         "$(dirname "${BASH_SOURCE[0]}")/narrow" "$room/linked.wasm" "$room/narrow.wasm" "${features[@]}"
-        wasm-opt "${features[@]}" -Os "$room/narrow.wasm" -o "$folder/$name.wasm"
-        wasm-opt "${features[@]}" -Os "$room/linked.wasm" -o "$folder/${name}64.wasm"
+        wasm-opt "${features[@]}" -O3 "$room/narrow.wasm" -o "$folder/$name.wasm"
+        wasm-opt "${features[@]}" -O3 "$room/linked.wasm" -o "$folder/${name}64.wasm"
     else
         cp "$room/linked.wasm" "$folder/${name}64.wasm"
     fi

@@ -11,7 +11,7 @@ function part(path) {
 }
 
 const module = read("../out/borsh.wasm").toString("base64");
-const parts = ["container", "definitions", "values", "rows", "calls", "schema"].map((name) => part(`../${name}.js`));
+const parts = ["container", "definitions", "values", "rows", "calls", "errors", "records", "schema"].map((name) => part(`../${name}.js`));
 const script = [...parts, `const MODULE = "${module}";\n`, part("page.js")].join("\n");
 const style = read("page.css").toString();
 const hash = (text) => `sha256-${createHash("sha256").update(text).digest("base64")}`;

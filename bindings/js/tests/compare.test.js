@@ -10,7 +10,7 @@ import { bytesOf, rowsIn, textOf } from "./suite.js";
 
 const CASES = Number(process.env.BORSH_CASES ?? 100000);
 const AT_ONCE = 10000;
-const CODES = ["yes", "no", "malformed", "out of memory", "null", "undecided"];
+const CODES = ["yes", "no", "malformed", "out of memory", "null", "undecided", "short"];
 /** Longer rows are of the tests of values. */
 const MOST_BYTES = 3000;
 
@@ -46,14 +46,16 @@ const CALLS = {
   compact: ({ bytes, value }) => calls.toJson(bytes, value, true, false),
   quoted: ({ bytes, value }) => calls.toJson(bytes, value, false, true),
   from: ({ bytes, json }) => calls.fromJson(bytes, json),
+  records: ({ bytes, value }) => calls.records(bytes, value, MOST_VALUES),
+  lines: ({ bytes, value }) => calls.jsonLines(bytes, value, value.length === 0 ? [] : [value.length >> 1, 1, value.length], true),
 };
+const MOST_VALUES = 64;
 
 /** As the native program prints it. */
 function said(name, answer) {
-  const isSize = name === "size" && answer.kind === "yes";
-  const size = isSize ? new DataView(answer.bytes.buffer).getBigUint64(0, true) : 0n;
+  const number = answer.number ?? 0n;
   const place = `${answer.offset ?? ""}${answer.path ? `:${answer.path.start}+${answer.path.end - answer.path.start}` : ""}`;
-  return `${CODES.indexOf(answer.kind)} ${size} ${place} ${isSize ? "" : hexOf(answer.bytes)}`;
+  return `${CODES.indexOf(answer.kind)} ${number} ${place} ${hexOf(answer.bytes)} ${answer.lengths?.join(" ") ?? ""}`.trimEnd();
 }
 
 function native(cases) {
@@ -61,7 +63,7 @@ function native(cases) {
   const program = fileURLToPath(new URL("../out/native", import.meta.url));
   const { stdout, status } = spawnSync(program, { input: `${lines.join("\n")}\n`, maxBuffer: 2 ** 30 });
   assert.equal(status, 0);
-  return stdout.toString().split("\n");
+  return stdout.toString().split("\n").map((line) => line.trimEnd());
 }
 
 test(`${CASES} changed containers and values: the native library's code and bytes`, () => {

@@ -2,6 +2,7 @@
 import assert from "node:assert/strict";
 import { test } from "node:test";
 import { BorshError, Schema, attempt, compiled, moduleName, repositoryFile } from "./load.js";
+import { answerOf } from "../errors.js";
 import { useModule } from "../schema.js";
 import { schemaOf } from "./suite.js";
 import { readFileSync } from "node:fs";
@@ -29,8 +30,8 @@ function refuseEach(call) {
 /** Without the host's blocks, which `heap_clear` takes back: what the call itself leaves. */
 function blocksLeft(name, ...given) {
   const before = counted.exports.heap_blocks();
-  // The inputs, the room, and where its length and the place are written.
-  const taken = given.filter((it) => it instanceof Uint8Array).length + (name === "valid" ? 2 : 3);
+  // The inputs, the room, and where its length and the place are written; of many values also their lengths and how many they are.
+  const taken = given.filter((it) => it instanceof Uint8Array).length + ({ valid: 2, records: 5, jsonLines: 5 }[name] ?? 3);
   counted[name](...given);
   return counted.exports.heap_blocks() - before - BigInt(taken);
 }
@@ -47,6 +48,8 @@ const calls = {
   "fromJson": () => schema.fromJson('{"y":"h\\u00e9","x":12}'),
   "fromJson, no": () => schema.fromJson('{"y":7,"x":12}'),
   "decode": () => schema.decode(value),
+  "records": () => answerOf(counted.records(schema.bytes, value, 2)),
+  "jsonLines": () => answerOf(counted.jsonLines(schema.bytes, value, [value.length], false)),
 };
 
 for (const [name, call] of Object.entries(calls)) {
@@ -56,7 +59,7 @@ for (const [name, call] of Object.entries(calls)) {
 test("no call leaves a block", () => {
   const bytes = schema.bytes;
   const json = new TextEncoder().encode('{"y":"h\\u00e9","x":12}');
-  for (const granted of [2n ** 64n - 1n, 6n, 8n, 12n, 20n]) {
+  for (const granted of [2n ** 64n - 1n, 7n, 9n, 12n, 20n]) {
     const left = (...words) => {
       counted.exports.heap_refuse_after(granted);
       const count = blocksLeft(...words);
@@ -67,6 +70,8 @@ test("no call leaves a block", () => {
     assert.equal(left("member", bytes, value), 0n);
     assert.equal(left("toJson", bytes, value, true, true), 0n);
     assert.equal(left("fromJson", bytes, json), 0n);
+    assert.equal(left("records", bytes, value, 2), 0n);
+    assert.equal(left("jsonLines", bytes, value, [value.length], true), 0n);
   }
 });
 

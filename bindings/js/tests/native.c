@@ -1,5 +1,5 @@
-/* The answers of the native library: for each line "CALL SCHEMA VALUE", in hexadecimal digits or `-`, the code, the size, the place and the
- * bytes. */
+/* The answers of the native library: for each line "CALL SCHEMA VALUE", in hexadecimal digits or `-`, the code, the number that is given
+ * (the size, or how many values), the place, the bytes, and the lengths that are given. */
 #include "borsh.h"
 
 #include <stdio.h>
@@ -29,6 +29,7 @@ int main(void) {
         const uint8_t *s = (const uint8_t *)schema, *v = (const uint8_t *)value;
         struct borsh_buffer out;
         uint32_t code = 0;
+        size_t lengths[64] = {value_length >> 1, 1, value_length}, found = 0;
         if (strcmp(call, "valid") == 0)
             code = borsh_valid(s, schema_length, &out);
         else if (strcmp(call, "size") == 0)
@@ -39,6 +40,10 @@ int main(void) {
             code = borsh_to_json(s, schema_length, v, value_length, true, false, &out);
         else if (strcmp(call, "quoted") == 0)
             code = borsh_to_json(s, schema_length, v, value_length, false, true, &out);
+        else if (strcmp(call, "records") == 0)
+            code = borsh_records(s, schema_length, v, value_length, lengths, 64, &size, &out), found = size;
+        else if (strcmp(call, "lines") == 0)
+            code = borsh_json_lines(s, schema_length, v, value_length, lengths, value_length == 0 ? 0 : 3, true, &size, &out);
         else
             code = borsh_from_json(s, schema_length, v, value_length, &out);
         printf("%u %zu ", code, size);
@@ -49,6 +54,8 @@ int main(void) {
         printf(" ");
         for (size_t i = 0; i < out.length; i++)
             printf("%02x", out.data[i]);
+        for (size_t i = 0; i < found; i++)
+            printf(" %zu", lengths[i]);
         puts("");
         borsh_free(&out);
     }

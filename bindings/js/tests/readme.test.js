@@ -21,7 +21,7 @@ function printed(example) {
   }
 }
 
-test("there are three examples", () => assert.equal(examples.length, 3));
+test("there are four examples", () => assert.equal(examples.length, 4));
 
 examples.forEach((example, index) => {
   test(`example ${index + 1}`, () => {

@@ -83,6 +83,8 @@ function judge({ kind, columns, schema }) {
     }
     case "nodes":
       return assertNodes(it, bytesOf(first), others);
+    case "records": // records.test.js judges these
+      return undefined;
     default:
       throw new Error(`no row is ${kind}`);
   }

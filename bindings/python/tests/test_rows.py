@@ -1,5 +1,6 @@
 """The suite's rows, by each call."""
 
+import io
 import re
 import unittest
 
@@ -80,8 +81,25 @@ class Rows(unittest.TestCase):
 
     row_nodes = row_member
 
+    def row_records(self, schema, columns):
+        """Where the values begin, each with `+` behind it, and why they end."""
+        data, wanted = rows.bytes_of(columns[0]), rows.text_of(columns[1:])
+        at, told = 0, []
+        try:
+            for record in schema.record_bytes(io.BytesIO(data), max_length=1000):
+                told.append(f"{at}+")
+                at += len(record)
+            told.append("end")
+        except Error as error:
+            told.append(f"! {error}")
+            if error.kind is Kind.UNDECIDED or "may be empty" in str(error):
+                told = ["! " + str(error).split(": ", 1)[1]]
+        if wanted.startswith("! the type has a value without bytes"):
+            wanted = "! a value may be empty" if data else "end"
+        self.assertEqual("".join(told), wanted)
+
     def test_members(self):
-        self.run_file("members.tsv", {"value", "member", "nojson", "refused"})
+        self.run_file("members.tsv", {"value", "member", "nojson", "refused", "records"})
 
     def test_nodes(self):
         self.run_file("nodes.tsv", {"nodes"})

@@ -25,7 +25,10 @@
 //! Calls share nothing, so any thread may make them. None ends the process, whatever it is given. Each call decodes the schema.
 #![deny(missing_docs)]
 
+mod records;
 mod sys;
+
+pub use records::{Record, RecordError, Records};
 
 // The program of the README is run as a test.
 #[cfg(doctest)]
@@ -33,6 +36,7 @@ mod sys;
 mod readme {}
 
 use std::fmt;
+use std::io::Read;
 
 /// What kind of error it is.
 #[derive(Clone, Copy, Debug, PartialEq, Eq, Hash)]
@@ -58,13 +62,38 @@ pub struct Error {
     text: String,
     path: Option<String>,
     offset: Option<usize>,
+    record: Option<u64>,
 }
 
 impl Error {
+    fn new(code: u32, text: String) -> Error {
+        Error {
+            code,
+            text,
+            path: None,
+            offset: None,
+            record: None,
+        }
+    }
+
+    /// The same of a value that begins at this byte of a reader.
+    fn of_record(self, start: u64) -> Error {
+        let how = if self.code == sys::SHORT {
+            "cut short: "
+        } else {
+            ""
+        };
+        Error {
+            text: format!("value at byte {start}: {how}{}", self.text),
+            record: Some(start),
+            ..self
+        }
+    }
+
     /// What kind of error it is.
     pub fn kind(&self) -> ErrorKind {
         match self.code {
-            1 => ErrorKind::No,
+            1 | sys::SHORT => ErrorKind::No,
             2 => ErrorKind::Malformed,
             3 => ErrorKind::OutOfMemory,
             5 => ErrorKind::Undecided,
@@ -80,6 +109,11 @@ impl Error {
     /// The byte at which the value has no such part, or near which the text stops being JSON.
     pub fn offset(&self) -> Option<usize> {
         self.offset
+    }
+
+    /// The byte of the reader at which the value begins, of an error of [`Schema::records`]; the offset is within the value.
+    pub fn record(&self) -> Option<u64> {
+        self.record
     }
 
     /// The code of `borsh.h`.
@@ -189,6 +223,56 @@ impl Schema {
     pub fn from_json(&self, json: &str) -> Result<Vec<u8>, Error> {
         outcome(sys::from_json(&self.encoding, json.as_bytes()))
     }
+
+    /// The bytes of each of the values that follow one another to the end of a reader, in bounded memory. They are checked as by
+    /// [`Schema::check`]. The reader is read ahead of the values, by pieces of 256 KiB, so it needs no buffer.
+    ///
+    /// ```
+    /// # use borsh_proved::Schema;
+    /// # let schema = Schema::new(include_bytes!("../../../crates/borsh_tool/data/readme.borsh").as_slice())?;
+    /// let file: &[u8] = b"\x0c\0\0\0\0\0\0\0\x01\0\0\0a\x0d\0\0\0\0\0\0\0\0\0\0\0";
+    /// for record in schema.records(file) {
+    ///     let record = record?;
+    ///     println!("{}: {} bytes", record.offset, record.bytes.len()); // 0: 13 bytes, and 13: 12 bytes
+    /// }
+    /// # Ok::<(), Box<dyn std::error::Error>>(())
+    /// ```
+    ///
+    /// # Errors
+    ///
+    /// [`RecordError::Read`] if the reader fails. [`RecordError::Value`] with the place [`Error::record`], behind the values before
+    /// it: [`ErrorKind::No`] if bytes are no value, the end is within one, one is longer than [`Records::max_length`], or the schema
+    /// has a value without bytes, of which there may be any number; [`ErrorKind::Undecided`]; [`ErrorKind::OutOfMemory`].
+    pub fn records<R: Read>(&self, reader: R) -> Records<'_, R, Record> {
+        Records::new(self, reader, records::bytes_of)
+    }
+
+    /// The JSON of each of the values, on one line, and with numbers of 64 bits as strings if that is asked for.
+    ///
+    /// ```
+    /// # use borsh_proved::Schema;
+    /// # let schema = Schema::new(include_bytes!("../../../crates/borsh_tool/data/readme.borsh").as_slice())?;
+    /// let file: &[u8] = b"\x0c\0\0\0\0\0\0\0\x01\0\0\0a\x0d\0\0\0\0\0\0\0\0\0\0\0";
+    /// let lines = schema.json_records(file, false).collect::<Result<Vec<String>, _>>()?;
+    /// assert_eq!(lines, [r#"{"x":12,"y":"a"}"#, r#"{"x":13,"y":""}"#]);
+    /// # Ok::<(), borsh_proved::RecordError>(())
+    /// ```
+    ///
+    /// # Errors
+    ///
+    /// As of [`Schema::records`], and [`ErrorKind::No`] where the type refuses a value as far as names tell.
+    pub fn json_records<R: Read>(
+        &self,
+        reader: R,
+        has_quoted_numbers: bool,
+    ) -> Records<'_, R, String> {
+        let make = if has_quoted_numbers {
+            records::json_of::<true>
+        } else {
+            records::json_of::<false>
+        };
+        Records::new(self, reader, make)
+    }
 }
 
 /// The library gives UTF-8.
@@ -203,9 +287,8 @@ fn outcome(answer: sys::Answer) -> Result<Vec<u8>, Error> {
         return Ok(answer.bytes);
     }
     Err(Error {
-        code: answer.code,
-        text: text_of(answer.bytes),
         path: answer.path.map(text_of),
         offset: answer.offset,
+        ..Error::new(answer.code, text_of(answer.bytes))
     })
 }

@@ -2,6 +2,9 @@
 
 use crate::Style;
 
+/// The code of bytes that end within a value.
+pub const SHORT: u32 = 6;
+
 /// A buffer of the library, which is freed when it is dropped.
 #[repr(C)]
 struct Buffer {
@@ -53,6 +56,27 @@ extern "C" {
         json: *const u8,
         json_length: usize,
         value: *mut Buffer,
+    ) -> u32;
+    fn borsh_records(
+        schema: *const u8,
+        schema_length: usize,
+        bytes: *const u8,
+        length: usize,
+        lengths: *mut usize,
+        lengths_room: usize,
+        count: *mut usize,
+        text: *mut Buffer,
+    ) -> u32;
+    fn borsh_json_lines(
+        schema: *const u8,
+        schema_length: usize,
+        values: *const u8,
+        length: usize,
+        lengths: *const usize,
+        lengths_count: usize,
+        has_quoted_numbers: bool,
+        count: *mut usize,
+        lines: *mut Buffer,
     ) -> u32;
 }
 
@@ -133,4 +157,46 @@ pub fn from_json(schema: &[u8], json: &[u8]) -> Answer {
             value,
         )
     })
+}
+
+/// How many values the bytes begin with, whose lengths are written to `lengths`.
+pub fn records(schema: &[u8], bytes: &[u8], lengths: &mut [usize]) -> (usize, Answer) {
+    let mut count = 0;
+    let answer = call(|text| unsafe {
+        borsh_records(
+            schema.as_ptr(),
+            schema.len(),
+            bytes.as_ptr(),
+            bytes.len(),
+            lengths.as_mut_ptr(),
+            lengths.len(),
+            &mut count,
+            text,
+        )
+    });
+    (count, answer)
+}
+
+/// How many of the values with these lengths have a line of JSON.
+pub fn json_lines(
+    schema: &[u8],
+    values: &[u8],
+    lengths: &[usize],
+    has_quoted_numbers: bool,
+) -> (usize, Answer) {
+    let mut count = 0;
+    let answer = call(|lines| unsafe {
+        borsh_json_lines(
+            schema.as_ptr(),
+            schema.len(),
+            values.as_ptr(),
+            values.len(),
+            lengths.as_ptr(),
+            lengths.len(),
+            has_quoted_numbers,
+            &mut count,
+            lines,
+        )
+    });
+    (count, answer)
 }

@@ -111,7 +111,7 @@ module _ {B : Type 0} {name : List ℕ} {ps : DefinitionTree} {c : Codec B} {byt
   read_once l {x = x} {y = y} v w = ((pair-lawful container-lawful l).unambiguous true bytes (v.sent.own, y) (w.sent.own, x) (both_decode v) (both_decode w)).1
 
   pub decodes_err : (e : Error) → WhyNotRead name ps c bytes (error_kind e) → DecodesWithSchema name ps c bytes (Err e)
-  decodes_err e n = record { ok = tt; err = n; exact = λ x w. not_read_is_memory w n }
+  decodes_err e n = record { ok = tt; made = tt; err = n; exact = λ x w. not_read_is_memory w n }
 
-  pub decodes_ok : Lawful B c → {v : B} → IsReadWithSchema name ps c bytes v → DecodesWithSchema name ps c bytes (Ok v)
-  decodes_ok l r = record { ok = r; err = tt; exact = λ x w. read_once l r w }
+  pub decodes_ok : Lawful B c → {v : B} → c.made v → IsReadWithSchema name ps c bytes v → DecodesWithSchema name ps c bytes (Ok v)
+  decodes_ok l m r = record { ok = r; made = m; err = tt; exact = λ x w. read_once l r w }

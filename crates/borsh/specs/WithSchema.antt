@@ -87,6 +87,8 @@ pub data WhyNotRead {A : Type 0} (name : List ℕ) (parts : DefinitionTree) (c :
 pub record DecodesWithSchema {A : Type 0} (name : List ℕ) (parts : DefinitionTree) (c : Codec A) (bytes : List ℕ) (result : Result A Error) : Type 0 where
   -- `Ok`: the bytes are the encoding of the type's container, and then decode to the value
   pub ok : IfOk result (λ v. IsReadWithSchema name parts c bytes v)
+  -- what isn't encoded is as decoding makes it
+  pub made : IfOk result c.made
   -- `Err`: the kind of the error says why there is no such value
   pub err : IfErr result (λ e. WhyNotRead name parts c bytes (error_kind e))
   -- where there is such a value, an equivalent one is returned, unless an allocation fails

@@ -14,7 +14,7 @@ use std::alloc::Global;
 ///
 /// Returns `InvalidData` if they decode to no value of the type, also if bytes are left over, and
 /// `OutOfMemory` if an allocation fails. Keys of maps and sets have to ascend. The bytes are the value's
-/// encoding, if the type is canonical. Left open: memory; what isn't encoded.
+/// encoding, if the type is canonical. Left open: memory; what isn't encoded, but for `made` of the codec.
 ///
 /// ```
 /// let value: (u8, u16) = from_slice(alloc, b"\x05\x07\x00")?;

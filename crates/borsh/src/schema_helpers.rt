@@ -87,7 +87,8 @@ pub fn try_to_vec_with_schema<T: BorshSerialize + BorshSchema>(
 /// Container and value are decoded first, with the errors of [`from_slice`]. Then a container that isn't
 /// the type's is refused with `InvalidData`, "Borsh schema does not match", and so is a type that has a
 /// name with two different definitions. `OutOfMemory` is returned if an allocation fails. Left open: memory;
-/// what isn't encoded; which is found first, malformed bytes or another container: tested by the texts.
+/// what isn't encoded, but for `made` of the codec; which is found first, malformed bytes or another
+/// container: tested by the texts.
 ///
 /// ```
 /// let bytes = try_to_vec_with_schema(alloc, &7u16)?;

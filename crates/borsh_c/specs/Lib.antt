@@ -2,3 +2,4 @@ pub mod Room
 pub mod Places
 pub mod Answers
 pub mod Texts
+pub mod Many

@@ -1,5 +1,5 @@
 // What is asked of a container, and of bytes by it.
-ghost use Rattle.std.specs.Prelude.{◌≡◌, IfErr, IfOk, IsSome, OnOk, Some, string_bytes};
+ghost use Rattle.std.specs.Prelude.{◌≡◌, IfErr, IfOk, IsSome, None, OnOk, Some, string_bytes};
 ghost use Rattle.borsh_c.specs.Answers.{About, HasNoJson, HasNoSize, IsInvalid, IsNoMember, IsNoText, IsRefused, IsUnclear, Never, wherever};
 ghost use Rattle.borsh_c.specs.Texts.{IsNoAt, IsUndecided, TellsBroken, TellsNoSize, TellsNoValue, TellsUnread};
 ghost use Rattle.borsh_definitions.specs.Codecs.{root_and_map};
@@ -28,7 +28,7 @@ use std::str;
 type Container = (String, BTreeMap<String, Definition>);
 
 /// The container whose encoding the bytes are.
-fn container_from(alloc: Global, schema: &[u8]) -> Result<Container, Refusal>
+pub fn container_from(alloc: Global, schema: &[u8]) -> Result<Container, Refusal>
     ensures ok { IfOk result (λ c. root_and_map.encoding c ≡ Some schema.now) }
     ensures err { IfErr result (λ e. IsRefused schema.now (wherever Never) Never e) }
 {
@@ -88,7 +88,7 @@ fn broken(alloc: Global, error: &SchemaContainerValidateError) -> Refusal
 }
 
 /// No, with a text that names no part, if there was memory for it.
-fn no(text: Result<String, AllocError>, offset: Option<usize>) -> Refusal
+pub fn no(text: Result<String, AllocError>, offset: Option<usize>) -> Refusal
     ensures { IsNoAt offset result }
 {
     match text {
@@ -101,22 +101,16 @@ fn no(text: Result<String, AllocError>, offset: Option<usize>) -> Refusal
     }
 }
 
-/// No, with a text that begins with a path behind its first `before` bytes, if there was memory for it.
-fn no_part(
-    alloc: Global,
-    text: Result<String, AllocError>,
-    before: usize,
-    path: &Path<'_>,
-    offset: Option<usize>,
-) -> Refusal
-    ensures { IsNoAt offset result }
+/// No, with a text that begins with a path, if there was memory for it.
+fn no_part(alloc: Global, text: Result<String, AllocError>, path: &Path<'_>) -> Refusal
+    ensures { IsNoAt None result }
 {
     match (text, format!(in alloc; "{path}")) {
         (Ok(text), Ok(path)) => Refusal::No(Said {
             text,
-            offset,
+            offset: None,
             path: Some(Span {
-                start: before,
+                start: 0,
                 length: path.len(),
             }),
         }),
@@ -124,12 +118,30 @@ fn no_part(
     }
 }
 
+/// What is said of a fault, behind other words.
+pub fn said_of(alloc: Global, before: &str, fault: &Fault<'_>) -> Result<Said, AllocError>
+    ensures { IfOk result (λ s. s.offset ≡ Some fault.now.offset) }
+{
+    let text = format!(in alloc; "{before}{fault}")?;
+    let path = format!(in alloc; "{}", fault.path)?;
+    Ok(Said {
+        text,
+        offset: Some(fault.offset),
+        path: Some(Span {
+            start: before.len(),
+            length: path.len(),
+        }),
+    })
+}
+
 /// No, since a fault was found.
-fn no_member(alloc: Global, before: &str, fault: &Fault<'_>) -> Refusal
+pub fn no_member(alloc: Global, before: &str, fault: &Fault<'_>) -> Refusal
     ensures { IsNoAt (Some fault.now.offset) result }
 {
-    let text = format!(in alloc; "{before}{fault}");
-    no_part(alloc, text, before.len(), &fault.path, Some(fault.offset))
+    match said_of(alloc, before, fault) {
+        Ok(said) => Refusal::No(said),
+        Err(AllocError) => Refusal::OutOfMemory,
+    }
 }
 
 /// The greatest size of the root: no encoding is longer.
@@ -186,7 +198,7 @@ pub fn membership(alloc: Global, schema: &[u8], value: &[u8]) -> Result<(), Refu
 }
 
 /// That a definition is ambiguous, or breaks a rule of widths.
-fn unclear(alloc: Global, name: &str) -> Refusal
+pub fn unclear(alloc: Global, name: &str) -> Refusal
     ensures { IsUndecided result }
 {
     match format!(in alloc; "`{name}` is ambiguous") {
@@ -225,7 +237,7 @@ pub fn value_of(alloc: Global, schema: &[u8], json: &[u8]) -> Result<Vec<u8>, Re
 }
 
 /// Why there is no JSON, or no value.
-fn no_value(alloc: Global, error: &JsonError<'_>) -> Refusal
+pub fn no_value(alloc: Global, error: &JsonError<'_>) -> Refusal
     ensures { TellsNoValue error.now result }
 {
     match error {
@@ -233,7 +245,7 @@ fn no_value(alloc: Global, error: &JsonError<'_>) -> Refusal
         JsonError::Ambiguous(name) => unclear(alloc, name),
         JsonError::NoMember(fault) => no_member(alloc, "", fault),
         JsonError::NotJson(offset) => no(format!(in alloc; "{error}"), Some(*offset)),
-        JsonError::Refused(path, _) => no_part(alloc, format!(in alloc; "{error}"), 0, path, None),
+        JsonError::Refused(path, _) => no_part(alloc, format!(in alloc; "{error}"), path),
         JsonError::NoValue => no(format!(in alloc; "{error}"), None),
     }
 }

@@ -12,3 +12,5 @@ pub const OUT_OF_MEMORY: u32 = 3;
 
 /// The definitions allow two values for the same bytes, or break a rule of widths.
 pub const UNDECIDED: u32 = 5;
+/// The bytes end within a value.
+pub const SHORT: u32 = 6;

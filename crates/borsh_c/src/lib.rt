@@ -8,6 +8,7 @@
 
 mod answers;
 mod codes;
+mod many;
 mod place;
 mod refusal;
 mod room;
@@ -16,11 +17,15 @@ mod tests;
 
 ghost use Rattle.std.specs.Prelude.{◌≡◌, ◌≢◌, ◌+◌, ◌≤◌};
 ghost use Rattle.borsh_c.specs.Answers.{AnswersMember, AnswersSize, AnswersValid, GivesBytes, GivesJson};
+ghost use Rattle.borsh_c.specs.Many.{AnswersMembers, AnswersRecords, GivesLines};
 ghost use Rattle.borsh_c.specs.Places.{offset_of};
+ghost use Rattle.borsh_c.specs.Room.{IsKept};
 
 use answers::{greatest_size, json_of, membership, rules, value_of};
 use borsh_json::{Layout, LongNumbers, Style};
-use codes::YES;
+use codes::{SHORT, YES};
+pub use many::Verdict;
+use many::{Whole, judge, lines_of, whole_values};
 use place::NOWHERE;
 pub use place::Place;
 use room::give;
@@ -38,7 +43,8 @@ pub extern "C" fn borsh_c_valid(
     room: &mut [u8],
     needed: &mut usize,
 ) -> u32
-    ensures { AnswersValid schema.now result }
+    ensures answer { AnswersValid schema.now result }
+    ensures kept { IsKept room.old room.new needed.new }
 {
     match rules(alloc, schema) {
         Ok(()) => {
@@ -68,6 +74,7 @@ pub extern "C" fn borsh_c_size(
 ) -> u32
     ensures answer { AnswersSize schema.now size.new result }
     ensures unchanged { result ≢ 0 → size.new ≡ size.old }
+    ensures kept { IsKept room.old room.new needed.new }
 {
     match greatest_size(alloc, schema) {
         Ok(most) => {
@@ -99,6 +106,7 @@ pub extern "C" fn borsh_c_member(
 ) -> u32
     ensures answer { AnswersMember schema.now value.now (offset_of place.new) result }
     ensures within { place.new.path_start + place.new.path_length ≤ needed.new }
+    ensures kept { IsKept room.old room.new needed.new }
 {
     match membership(alloc, schema, value) {
         Ok(()) => {
@@ -133,20 +141,17 @@ pub extern "C" fn borsh_c_to_json(
     ensures answer { let offset = offset_of place.new in
         GivesJson schema.now value.now offset room.new needed.new result }
     ensures within { place.new.path_start + place.new.path_length ≤ needed.new }
+    ensures kept { IsKept room.old room.new needed.new }
 {
     let layout = if is_compact {
         Layout::Compact
     } else {
         Layout::Pretty
     };
-    let long_numbers = if has_quoted_numbers {
-        LongNumbers::Quoted
-    } else {
-        LongNumbers::Plain
-    };
     let style = Style {
         layout,
-        long_numbers,
+        long_numbers: long_numbers(has_quoted_numbers),
+        ..Style::COMPACT
     };
     match json_of(alloc, schema, value, style) {
         Ok(json) => {
@@ -177,6 +182,7 @@ pub extern "C" fn borsh_c_from_json(
     ensures answer { let offset = offset_of place.new in
         GivesBytes schema.now json.now offset room.new needed.new result }
     ensures within { place.new.path_start + place.new.path_length ≤ needed.new }
+    ensures kept { IsKept room.old room.new needed.new }
 {
     match value_of(alloc, schema, json) {
         Ok(bytes) => {
@@ -185,5 +191,131 @@ pub extern "C" fn borsh_c_from_json(
             YES
         }
         Err(refusal) => refusal.tell(place, room, needed),
+    }
+}
+
+fn long_numbers(has_quoted_numbers: bool) -> LongNumbers {
+    if has_quoted_numbers {
+        LongNumbers::Quoted
+    } else {
+        LongNumbers::Plain
+    }
+}
+
+/// Writes how long each of the values is that `bytes` begins with to `lengths`, as many as are whole and as there is room for, and how
+/// many those are to `count`, which is 0 after any other code than [`YES`]. Determined: a value has at least one byte, and no others
+/// begin there, whatever bytes follow; after code 0 there are some, unless there are no bytes or no room; after 6 no first bytes are a
+/// value, and the offset is that of the fault; after 1 none are, whatever bytes follow, or without an offset the root has the empty value.
+/// Left open: code 3; code 5 for a container that breaks a rule or is ambiguous; whether more bytes help after 6; what is behind the
+/// first `count` lengths; the text; the path.
+///
+/// ```c
+/// uint32_t code = borsh_c_records(schema, schema_length, bytes, length, lengths, lengths_room, &count, &place, room, room_length, &needed);
+/// ```
+#[unsafe(no_mangle)]
+pub extern "C" fn borsh_c_records(
+    alloc: Global,
+    schema: &[u8],
+    bytes: &[u8],
+    lengths: &mut [usize],
+    count: &mut usize,
+    place: &mut Place,
+    room: &mut [u8],
+    needed: &mut usize,
+) -> u32
+    ensures answer { let offset = offset_of place.new in
+        AnswersRecords schema.now bytes.now lengths.new count.new offset result }
+    ensures none { result ≢ 0 → count.new ≡ 0 }
+    ensures within { place.new.path_start + place.new.path_length ≤ needed.new }
+    ensures kept { IsKept room.old room.new needed.new }
+{
+    *count = 0;
+    match whole_values(alloc, schema, bytes, lengths) {
+        Ok(Whole::Values(found)) => {
+            *count = found;
+            *place = NOWHERE;
+            give(b"", room, needed);
+            YES
+        }
+        Ok(Whole::Short(said)) => {
+            said.tell(place, room, needed);
+            SHORT
+        }
+        Err(refusal) => refusal.tell(place, room, needed),
+    }
+}
+
+/// Gives the JSON of each of the values that lie one after another in `values` and have these lengths, and a line end behind it, up to one
+/// that has none; how many have a line is written to `count`, and is 0 after any other code than [`YES`]. A length that reaches beyond the
+/// bytes is cut. Determined: after code 0 each of the first `count` values is a member of the root, and has JSON; there is one, unless
+/// there are no lengths; after 1 and 5 as of [`borsh_c_to_json`] for the first. Left open: as there; how many have a line, but for the
+/// first; that the JSON has no line end.
+///
+/// ```c
+/// uint32_t code = borsh_c_json_lines(schema, schema_length, values, length, lengths, lengths_count, false, &count, &place, room, room_length, &needed);
+/// ```
+#[unsafe(no_mangle)]
+pub extern "C" fn borsh_c_json_lines(
+    alloc: Global,
+    schema: &[u8],
+    values: &[u8],
+    lengths: &[usize],
+    has_quoted_numbers: bool,
+    count: &mut usize,
+    place: &mut Place,
+    room: &mut [u8],
+    needed: &mut usize,
+) -> u32
+    ensures answer { let offset = offset_of place.new in
+        GivesLines schema.now values.now lengths.now count.new offset room.new needed.new result }
+    ensures none { result ≢ 0 → count.new ≡ 0 }
+    ensures within { place.new.path_start + place.new.path_length ≤ needed.new }
+    ensures kept { IsKept room.old room.new needed.new }
+{
+    *count = 0;
+    let style = Style {
+        long_numbers: long_numbers(has_quoted_numbers),
+        ..Style::COMPACT
+    };
+    match lines_of(alloc, schema, values, lengths, style) {
+        Ok(lines) => {
+            *count = lines.count;
+            *place = NOWHERE;
+            give(lines.text.as_slice(), room, needed);
+            YES
+        }
+        Err(refusal) => refusal.tell(place, room, needed),
+    }
+}
+
+/// Writes whether each of the values that lie one after another in `values` and have these lengths is a value of the container's root: as
+/// many verdicts as there are lengths and as there is room for. A length that reaches beyond the bytes is cut. Determined: after code 0
+/// each verdict is as of [`borsh_c_member`]. Left open: code 3, of a verdict too; as there; the verdicts after another code; the text.
+///
+/// ```c
+/// uint32_t code = borsh_c_members(schema, schema_length, values, length, lengths, count, verdicts, count, room, room_length, &needed);
+/// ```
+#[unsafe(no_mangle)]
+pub extern "C" fn borsh_c_members(
+    alloc: Global,
+    schema: &[u8],
+    values: &[u8],
+    lengths: &[usize],
+    verdicts: &mut [Verdict],
+    room: &mut [u8],
+    needed: &mut usize,
+) -> u32
+    ensures answer { AnswersMembers schema.now values.now lengths.now verdicts.new result }
+    ensures kept { IsKept room.old room.new needed.new }
+{
+    match judge(alloc, schema, values, lengths, verdicts) {
+        Ok(()) => {
+            give(b"", room, needed);
+            YES
+        }
+        Err(refusal) => {
+            let mut nowhere = NOWHERE;
+            refusal.tell(&mut nowhere, room, needed)
+        }
     }
 }

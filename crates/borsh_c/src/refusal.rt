@@ -2,6 +2,7 @@
 ghost use Rattle.std.specs.Prelude.{◌≡◌, ◌+◌, ◌≤◌};
 ghost use Rattle.borsh_c.specs.Answers.{code_of, told_offset};
 ghost use Rattle.borsh_c.specs.Places.{offset_of};
+ghost use Rattle.borsh_c.specs.Room.{IsKept};
 ghost use Rattle.borsh_c.specs.declared.refusal.Refusal.TheVariants.{OutOfMemory};
 
 use super::codes::{MALFORMED, NO, OUT_OF_MEMORY, UNDECIDED};
@@ -39,18 +40,30 @@ impl From<AllocError> for Refusal {
     }
 }
 
+impl Said {
+    /// Gives the text and the place.
+    pub fn tell(&self, place: &mut Place, room: &mut [u8], needed: &mut usize)
+        ensures offset { offset_of place.new ≡ self.now.offset }
+        ensures within { place.new.path_start + place.new.path_length ≤ needed.new }
+        ensures kept { IsKept room.old room.new needed.new }
+    {
+        *place = place_in(self.text.len(), self.offset, self.path);
+        give(self.text.as_bytes(), room, needed);
+    }
+}
+
 impl Refusal {
     /// Gives the text and the place, and returns the code.
     pub fn tell(&self, place: &mut Place, room: &mut [u8], needed: &mut usize) -> u32
         ensures code { result ≡ code_of self.now }
         ensures offset { offset_of place.new ≡ told_offset self.now }
         ensures within { place.new.path_start + place.new.path_length ≤ needed.new }
+        ensures kept { IsKept room.old room.new needed.new }
     {
         *place = NOWHERE;
         match self {
             Refusal::No(said) => {
-                *place = place_in(said.text.len(), said.offset, said.path);
-                give(said.text.as_bytes(), room, needed);
+                said.tell(place, room, needed);
                 NO
             }
             Refusal::Malformed(text) => {

@@ -1,12 +1,11 @@
 // How bytes are handed to C: in a room of the caller's.
-ghost use Rattle.std.specs.Prelude.{◌≡◌, length};
-ghost use Rattle.borsh_c.specs.Room.{IsGiven};
+ghost use Rattle.borsh_c.specs.Room.{IsGiven, IsKept};
 
 /// Writes the bytes to the beginning of the room if they fit, and their length to `needed`. If they don't fit, the
 /// room is unchanged.
 pub fn give(bytes: &[u8], room: &mut [u8], needed: &mut usize)
     ensures given { IsGiven bytes.now room.new needed.new }
-    ensures size { length room.new ≡ length room.old }
+    ensures kept { IsKept room.old room.new needed.new }
 {
     *needed = bytes.len();
     if bytes.len() <= room.len() {

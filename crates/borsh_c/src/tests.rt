@@ -1,7 +1,11 @@
 //! Worked examples: each call with each code that it returns, and rooms that are too small.
-use super::codes::{MALFORMED, NO, UNDECIDED, YES};
+use super::codes::{MALFORMED, NO, SHORT, UNDECIDED, YES};
+use super::many::Verdict;
 use super::place::{NOWHERE, Place};
-use super::{borsh_c_from_json, borsh_c_member, borsh_c_size, borsh_c_to_json, borsh_c_valid};
+use super::{
+    borsh_c_from_json, borsh_c_json_lines, borsh_c_member, borsh_c_members, borsh_c_records,
+    borsh_c_size, borsh_c_to_json, borsh_c_valid,
+};
 use std::alloc::Global;
 use std::process::Abort;
 use std::str;
@@ -203,5 +207,107 @@ fn only_what_fits_is_written(alloc: Global) -> bool {
 #[test]
 fn a_room_that_is_too_small_is_left_alone(rt: HostRuntime) -> Result<(), Fail> {
     assert!(rt; only_what_fits_is_written(rt.alloc()));
+    Ok(())
+}
+
+/// What is said of the values that bytes begin with.
+fn measured(alloc: Global, schema: &[u8], bytes: &[u8]) -> (u32, usize, [usize; 2], Option<usize>) {
+    let mut lengths = [9; 2];
+    let mut count = 7;
+    let mut place = NOWHERE;
+    let mut room = [0; 64];
+    let (to, mut needed) = (&mut room, 1);
+    let code = borsh_c_records(
+        alloc,
+        schema,
+        bytes,
+        &mut lengths,
+        &mut count,
+        &mut place,
+        to,
+        &mut needed,
+    );
+    let offset = if place.has_offset {
+        Some(place.offset)
+    } else {
+        None
+    };
+    (code, count, lengths, offset)
+}
+
+/// Two values of the first schema of 1 byte each, and the tag of no variant.
+const LIST: &[u8] =
+    b"\x01\0\0\0E\x02\0\0\0\x01\0\0\0E\x03\x01\x01\0\0\0\0\0\0\0\0\0\0\0\x01\0\0\0a\x02\0\0\0u8\x02\0\0\0u8\0\x01";
+
+fn answers_of_records(alloc: Global) -> bool {
+    measured(alloc, BYTE, b"\x07\x08\x09") == (YES, 2, [1, 1], None)
+        && measured(alloc, LIST, b"\0\x07\x01") == (YES, 1, [2, 9], None)
+        && measured(alloc, LIST, b"\x01") == (NO, 0, [9, 9], Some(0))
+        && measured(alloc, LIST, b"\0") == (SHORT, 0, [9, 9], Some(1))
+        && measured(alloc, LIST, b"") == (YES, 0, [9, 9], None)
+        && measured(alloc, SCHEMA, &VALUE[..14]) == (SHORT, 0, [9, 9], Some(8))
+        && measured(alloc, b"", VALUE).0 == MALFORMED
+}
+
+#[test]
+fn answers_how_long_values_are(rt: HostRuntime) -> Result<(), Fail> {
+    assert!(rt; answers_of_records(rt.alloc()));
+    Ok(())
+}
+
+fn lines_of_values(alloc: Global) -> bool {
+    let mut place = NOWHERE;
+    let mut room = [0u8; 64];
+    let (mut count, mut needed) = (7, 0);
+    let code = borsh_c_json_lines(
+        alloc,
+        BYTE,
+        b"\x07\x0c",
+        &[1, 1, 1],
+        false,
+        &mut count,
+        &mut place,
+        &mut room,
+        &mut needed,
+    );
+    code == YES && count == 2 && given(&room, needed) == "7\n12\n"
+}
+
+#[test]
+fn gives_lines_of_json(rt: HostRuntime) -> Result<(), Fail> {
+    assert!(rt; lines_of_values(rt.alloc()));
+    Ok(())
+}
+
+fn verdicts_of_values(alloc: Global) -> bool {
+    let none = Verdict {
+        code: 9,
+        has_offset: false,
+        offset: 0,
+    };
+    let mut verdicts = [none; 3];
+    let mut room = [0u8; 64];
+    let mut needed = 1;
+    let lengths = [2, 1, 2];
+    let code = borsh_c_members(
+        alloc,
+        LIST,
+        b"\0\x01\0\x01\x02",
+        &lengths,
+        &mut verdicts,
+        &mut room,
+        &mut needed,
+    );
+    let at = |offset| Verdict {
+        code: NO,
+        has_offset: true,
+        offset,
+    };
+    code == YES && verdicts[0].code == YES && verdicts[1] == at(1) && verdicts[2] == at(0)
+}
+
+#[test]
+fn answers_of_many_values(rt: HostRuntime) -> Result<(), Fail> {
+    assert!(rt; verdicts_of_values(rt.alloc()));
     Ok(())
 }

@@ -1,5 +1,5 @@
 -- The meanings of types that words name.
-use Rattle.std.specs.Prelude.{ℕ, ℤ, ⊤, Vec, Box, nat_eq}
+use Rattle.std.specs.Prelude.{◌≡◌, ℕ, ℤ, ⊤, Vec, Box, nat_eq, false}
 use Rattle.std.specs.Global.{Global}
 use Rattle.core.specs.declared.num.nonzero.NonZeroI16.{NonZeroI16}
 use Rattle.core.specs.declared.iter.ranges.Range.{Range}
@@ -25,10 +25,10 @@ use Rattle.indexmap.specs.IndexMap.{IndexMap}
 use Rattle.indexmap.specs.IndexSet.{IndexSet}
 use Rattle.std.specs.Box.{boxed_slice_items}
 use Rattle.std.specs.Int.NonZero.{non_zero_i16_get}
-use Rattle.std.specs.Range.{range_inclusive_start, range_inclusive_end}
+use Rattle.std.specs.Range.{range_inclusive_start, range_inclusive_end, range_inclusive_exhausted}
 use Rattle.std.specs.Rc.{rc_str_bytes}
 use Rattle.borsh.specs.Codec.{Codec}
-use Rattle.borsh.specs.Shapes.{contramap, unsigned, signed, unit, pair, allocated, list}
+use Rattle.borsh.specs.Shapes.{contramap, decoded_with, unsigned, signed, unit, pair, allocated, list}
 use Rattle.borsh.specs.Maps.{index_map, index_set, btree_map, btree_set, hash_map, hash_set}
 use Rattle.borsh.specs.Types.Texts.{text}
 use Rattle.borsh_samples.specs.declared.my_struct.MyStruct.{MyStruct}
@@ -43,7 +43,7 @@ abbrev pub range : {X : Type 0} → Codec X → Codec (Range X)
 range c = contramap (λ r. (r.start, r.end)) (pair c c)
 
 abbrev pub range_inclusive : {X : Type 0} → Codec X → Codec (RangeInclusive X)
-range_inclusive c = contramap (λ r. (range_inclusive_start r, range_inclusive_end r)) (pair c c)
+range_inclusive c = decoded_with (λ r. range_inclusive_exhausted r ≡ false) (contramap (λ r. (range_inclusive_start r, range_inclusive_end r)) (pair c c))
 
 abbrev pub range_from : {X : Type 0} → Codec X → Codec (RangeFrom X)
 range_from c = contramap (λ r. r.start) c

@@ -8,12 +8,12 @@ use Rattle.borsh_io.specs.declared.error.ErrorKind.TheVariants.{InvalidData, Out
 use Rattle.borsh_io.specs.Errors.{error_kind}
 use Rattle.borsh_io.specs.Stream.{ReaderState}
 use Rattle.borsh_codec.specs.Codec.{Codec, IsDecodable, Lawful}
-use Rattle.borsh_codec.specs.Shapes.{contramap, allocated, refused_if, pair}
+use Rattle.borsh_codec.specs.Shapes.{contramap, allocated, decoded_with, refused_if, pair}
 use Rattle.borsh_codec.specs.Untouched.{Untouched}
 use Rattle.borsh_codec.specs.Reading.{TakesPrefix, NoPrefix, Decoded, NotDecoded, DecodedAll, NotDecodedAll, ReadFails, WhyNotDecoded, Decodes, DecodesAfterTag, DecodesReader, DecodesAll, IsReEncodable, any_byte}
 use Rattle.borsh_codec.proofs.ReadParts.{reads_contramap, denied_contramap, denied_value, denied_pair_first, denied_pair_second, denied_no_tag, reads_exact, denied_exact, reads_pair, reads_stored, denied_stored, reads_allowed, denied_allowed, denied_refused, reads_tag, denied_tag}
 use Rattle.borsh_codec.proofs.ReadSteps.{took_weaker, refused_map, denied_memory}
-use Rattle.borsh_codec.proofs.ReadWhole.{whole_refused, whole_of_all, not_whole_of_all}
+use Rattle.borsh_codec.proofs.ReadWhole.{whole_refused, whole_of_all, made_of_all, not_whole_of_all}
 
 -- the outcome at the exit of a `?`
 pub decodes_exit : {A R : Type 0} {c : Codec A} {state : R → ReaderState} {a b : R} (e : Error) {r : Result A Error} → IsErrAnd r (λ y. y ≡ e) → Decodes c state a b (Err e) → Decodes c state a b r
@@ -45,6 +45,11 @@ reads_made view {c = c} {s = s} {t = t} e r = reads_contramap view (subst (λ u.
 
 pub decodes_made : {A B R : Type 0} (view : B → A) {c : Codec A} {state : R → ReaderState} {a b : R} {v : A} {w : B} → view w ≡ v → Decodes c state a b (Ok v) → Decodes (contramap view c) state a b (Ok w)
 decodes_made view e d = record { ok = reads_made view e d.ok; err = tt; untouched = λ h. absurd (never_ok d h) }
+
+-- P is true of what was decoded
+pub decodes_with : {A R : Type 0} (P : A → Type 0) {c : Codec A} {state : R → ReaderState} {a b : R} (r : Result A Error) → IfOk r P → Decodes c state a b r → Decodes (decoded_with P c) state a b r
+decodes_with P (Ok v) p d = record { ok = record { took = d.ok.took; made = (p, d.ok.made) }; err = tt; untouched = d.untouched }
+decodes_with P (Err e) p d = record { ok = tt; err = record { refused = d.err.refused }; untouched = d.untouched }
 
 -- no value has the parts that were read
 pub decodes_not_made : {A B R : Type 0} (view : B → A) {c : Codec A} {state : R → ReaderState} {a b : R} {v : A} {e : Error} → Lawful A c → ((w : B) → c.equivalent (view w) v → ⊥) → error_kind e ≡ InvalidData → Decodes c state a b (Ok v) → Decodes (contramap view c) state a b (Err e)
@@ -126,29 +131,30 @@ module _ {A : Type 0} {c : Codec A} (l : Lawful A c) where
       let q = l.round_trip true v h.0 h.1 in
       record { bytes = h.0; is = h.1; decodes = q; once = λ w p. l.unambiguous true h.0 w v p q }
 
-  pub decodes_all : (strict : Bool) (xs : List ℕ) (r : Result A Error) → IfOk r (λ v. c.decodes strict xs v) → IfErr r (λ e. WhyNotDecoded c strict xs (error_kind e)) → (c.refuses ≡ true → IsErrAnd r (λ e. error_kind e ≡ InvalidData)) → DecodesAll c strict xs r
-  decodes_all strict xs (Ok v) p q u = record {
+  pub decodes_all : (strict : Bool) (xs : List ℕ) (r : Result A Error) → IfOk r (λ v. c.decodes strict xs v) → IfOk r c.made → IfErr r (λ e. WhyNotDecoded c strict xs (error_kind e)) → (c.refuses ≡ true → IsErrAnd r (λ e. error_kind e ≡ InvalidData)) → DecodesAll c strict xs r
+  decodes_all strict xs (Ok v) p m q u = record {
     ok = p;
+    made = m;
     err = tt;
     exact = whole_refused strict xs l (Ok v) p tt;
     canonical = λ s e. l.canonical xs v e (subst (λ m. c.decodes m xs v) s p);
     re_encodable = re_encodable strict xs v p;
     refused = u;
   }
-  decodes_all strict xs (Err e) p q u = record { ok = tt; err = q; exact = whole_refused strict xs l (Err e) tt q; canonical = λ s e. tt; re_encodable = tt; refused = u }
+  decodes_all strict xs (Err e) p m q u = record { ok = tt; made = tt; err = q; exact = whole_refused strict xs l (Err e) tt q; canonical = λ s e. tt; re_encodable = tt; refused = u }
 
   -- at the exit of a `?`
   pub decodes_all_exit : {R : Type 0} {state : R → ReaderState} {a b : R} {strict : Bool} {xs : List ℕ} (e : Error) {r : Result A Error} → IsErrAnd r (λ y. y ≡ e) → Decodes c state a b (Err e) → WhyNotDecoded c strict xs (error_kind e) → DecodesAll c strict xs r
   decodes_all_exit {strict = strict} {xs = xs} e {r = r} is d f =
       let p = err_from_is_err_and r is in
-      subst (DecodesAll c strict xs) (sym (p.1 ∙ ap (λ y. Err y) p.2)) (decodes_all strict xs (Err e) tt f (λ h. (d.untouched h).kind))
+      subst (DecodesAll c strict xs) (sym (p.1 ∙ ap (λ y. Err y) p.2)) (decodes_all strict xs (Err e) tt tt f (λ h. (d.untouched h).kind))
 
   -- a value was decoded, and bytes are left
   pub decodes_all_err : {R : Type 0} {state : R → ReaderState} {a b : R} {v : A} {strict : Bool} {xs : List ℕ} {e : Error} → Decodes c state a b (Ok v) → WhyNotDecoded c strict xs (error_kind e) → DecodesAll c strict xs (Err e)
-  decodes_all_err {strict = strict} {xs = xs} {e = e} d f = decodes_all strict xs (Err e) tt f (λ h. absurd (never_ok d h))
+  decodes_all_err {strict = strict} {xs = xs} {e = e} d f = decodes_all strict xs (Err e) tt tt f (λ h. absurd (never_ok d h))
 
   pub decodes_all_ok : {R : Type 0} {state : R → ReaderState} {a b : R} {v : A} {strict : Bool} {xs : List ℕ} → Decodes c state a b (Ok v) → c.decodes strict xs v → DecodesAll c strict xs (Ok v)
-  decodes_all_ok {v = v} {strict = strict} {xs = xs} d f = decodes_all strict xs (Ok v) f tt (λ h. absurd (never_ok d h))
+  decodes_all_ok {v = v} {strict = strict} {xs = xs} d f = decodes_all strict xs (Ok v) f d.ok.made tt (λ h. absurd (never_ok d h))
 
   -- ---- all that a reader has
 
@@ -157,7 +163,7 @@ module _ {A : Type 0} {c : Codec A} (l : Lawful A c) where
     ok = p;
     err = q;
     whole = λ xs told calm. decodes_all (state a).strict_order xs r
-        (IfOk-weaker r _ _ (λ v h. whole_of_all xs told calm h) p) (IfErr-weaker r _ _ (λ e h. not_whole_of_all xs told calm h) q) (λ h. (u h).kind);
+        (IfOk-weaker r _ _ (λ v h. whole_of_all xs told calm h) p) (IfOk-weaker r _ _ (λ v h. made_of_all xs told calm h) p) (IfErr-weaker r _ _ (λ e h. not_whole_of_all xs told calm h) q) (λ h. (u h).kind);
     untouched = u;
   }
 

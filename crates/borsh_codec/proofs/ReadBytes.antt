@@ -25,6 +25,7 @@ length-in_order m x (b ∷ bytes) p =
 pub reads_bytes : {n : ℕ} {s t : ReaderState} {bytes : List ℕ} → length bytes ≡ n → ((i : ℕ) → get_or bytes i 0 < 256) → TakesPrefix (λ x. x ≡ bytes) s t → Decoded (List ℕ) (allocated_array n (unsigned 1)) s t bytes
 reads_bytes {n = n} {s = s} {bytes = bytes} e fit p = record {
   took = took_weaker (λ x i. record { long = e; parts = subst (λ y. DecodesEach ((unsigned 1).decodes s.strict_order) y bytes) (sym i) (bytes_in_order s.strict_order bytes fit) }) p;
+  made = λ k d h. tt;
 }
 
 -- fewer bytes than k are no row of more bytes
@@ -50,7 +51,7 @@ denied_bytes {n = n} {k = k} {s = s} {t = t} {start = start} h p r = record {
 -- ---- a row of bytes that is read where it lies
 
 pub reads_byte_row : {n : ℕ} {s t : ReaderState} {bytes : List ℕ} → length bytes ≡ n → ((i : ℕ) → get_or bytes i 0 < 256) → TakesPrefix (λ x. x ≡ bytes) s t → Decoded (List ℕ) (array n (unsigned 1)) s t bytes
-reads_byte_row e fit p = record { took = (reads_bytes e fit p).took }
+reads_byte_row e fit p = record { took = (reads_bytes e fit p).took; made = λ k d h. tt }
 
 pub denied_byte_row : {n : ℕ} {s t : ReaderState} {kind : ErrorKind} → ReadFails false false (λ x. length x ≡ n) s t kind → NotDecoded (List ℕ) (array n (unsigned 1)) s t kind
 denied_byte_row {s = s} r = record { refused = refused_map (λ e. e) (λ e. e) (λ o none front rest e w. none front rest e (length-in_order s.strict_order front w.0 w.1.parts ∙ w.1.long)) r }

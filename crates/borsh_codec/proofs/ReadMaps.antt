@@ -12,6 +12,7 @@ use Rattle.std.specs.List.{list_any}
 use Rattle.std.specs.List.Sorted.{IsStrictlySortedBy}
 use Rattle.std.proofs.lemmas.Map.Made.{update_all_pairs}
 use Rattle.std.proofs.lemmas.List.{length-map}
+use Rattle.std.proofs.lemmas.List.Elements.{All-map}
 use Rattle.indexmap.specs.IndexMap as index_map
 use Rattle.indexmap.specs.IndexSet as index_set
 use Rattle.borsh_io.specs.declared.error.ErrorKind.{ErrorKind}
@@ -26,8 +27,8 @@ use Rattle.borsh_codec.proofs.Laws.Maps.Ordered.{ascending_back}
 use Rattle.borsh_codec.proofs.ReadSteps.{took_weaker, told_after, refused_map, refused_here}
 
 -- what one meaning reads as v, another one reads as w
-pub reads_as : {A B : Type 0} {c : Codec A} (d : Codec B) {s t : ReaderState} {v : A} (w : B) → ((m : Bool) (x : List ℕ) → c.decodes m x v → d.decodes m x w) → Decoded A c s t v → Decoded B d s t w
-reads_as d {s = s} w f r = record { took = took_weaker (f s.strict_order) r.took }
+pub reads_as : {A B : Type 0} {c : Codec A} (d : Codec B) {s t : ReaderState} {v : A} (w : B) → ((m : Bool) (x : List ℕ) → c.decodes m x v → d.decodes m x w) → (c.made v → d.made w) → Decoded A c s t v → Decoded B d s t w
+reads_as d {s = s} w f g r = record { took = took_weaker (f s.strict_order) r.took; made = g r.made }
 
 -- what one meaning doesn't read, another one doesn't either
 pub denied_as : {A B : Type 0} {c : Codec A} (d : Codec B) {s t : ReaderState} {k : ErrorKind} → (c.decoding_allocates ≡ true → d.decoding_allocates ≡ true) → (c.texts_allocate ≡ true → d.texts_allocate ≡ true) → ((m : Bool) (x : List ℕ) → IsDecodable d m x → IsDecodable c m x) → NotDecoded A c s t k → NotDecoded B d s t k
@@ -38,7 +39,7 @@ module _ {K V : Type 0} {cmp : K → K → Ordering} {item : Codec (K × V)} (re
 
   -- the entries ascend, where that is wanted
   pub reads_entries : {s t : ReaderState} {es : List (K × V)} → (s.strict_order ≡ true → IsStrictlySortedBy cmp (keys_of es)) → Decoded (List (K × V)) (refused_if refused (length_prefixed item)) s t es → Decoded (List (K × V)) (refused_if refused (entries cmp item)) s t es
-  reads_entries up r = record { took = took_weaker (λ x h. record { allowed = h.allowed; decodes = record { bytes = h.decodes; ascending = up } }) r.took }
+  reads_entries up r = record { took = took_weaker (λ x h. record { allowed = h.allowed; decodes = record { bytes = h.decodes; ascending = up } }) r.took; made = r.made }
 
   pub denied_entries : {s t : ReaderState} {k : ErrorKind} → NotDecoded (List (K × V)) (refused_if refused (length_prefixed item)) s t k → NotDecoded (List (K × V)) (refused_if refused (entries cmp item)) s t k
   denied_entries = denied_as (refused_if refused (entries cmp item)) (λ e. e) (λ e. e) (λ m x h. (h.0, record { allowed = h.1.allowed; decodes = h.1.decodes.bytes }))
@@ -57,21 +58,21 @@ module _ {K V : Type 0} {cmp : K → K → Ordering} {item : Codec (K × V)} (re
   -- ---- the map
 
   pub reads_sorted : (S : V → V → Type 0) {s t : ReaderState} {read : List (K × V)} (es : List (K × V)) → HasLastValues cmp read es → Decoded (List (K × V)) (refused_if refused (entries cmp item)) s t read → Decoded (List (K × V)) (refused_if refused (hash_entries cmp S item)) s t es
-  reads_sorted S {read = read} es values = reads_as (refused_if refused (hash_entries cmp S item)) es (λ m x h. record { allowed = h.allowed; decodes = record { read = read; entries = h.decodes; values = values } })
+  reads_sorted S {read = read} es values = reads_as (refused_if refused (hash_entries cmp S item)) es (λ m x h. record { allowed = h.allowed; decodes = record { read = read; entries = h.decodes; values = values } }) (λ h. tt)
 
   pub denied_sorted : (S : V → V → Type 0) {s t : ReaderState} {k : ErrorKind} → NotDecoded (List (K × V)) (refused_if refused (entries cmp item)) s t k → NotDecoded (List (K × V)) (refused_if refused (hash_entries cmp S item)) s t k
   denied_sorted S = denied_as (refused_if refused (hash_entries cmp S item)) (λ e. e) (λ e. e) (λ m x h. (h.1.decodes.read, record { allowed = h.1.allowed; decodes = h.1.decodes.entries }))
 
   pub reads_ordered : {s t : ReaderState} {read : List (K × V)} (es : List (K × V)) → HasLastValues cmp read es → IsStrictlySortedBy cmp (keys_of es) → Decoded (List (K × V)) (refused_if refused (entries cmp item)) s t read
       → Decoded (List (K × V)) (refused_if refused (btree_entries cmp item)) s t es
-  reads_ordered {read = read} es values up = reads_as (refused_if refused (btree_entries cmp item)) es (λ m x h. record { allowed = h.allowed; decodes = record { ordered = up; decodes = record { read = read; entries = h.decodes; values = values } } })
+  reads_ordered {read = read} es values up = reads_as (refused_if refused (btree_entries cmp item)) es (λ m x h. record { allowed = h.allowed; decodes = record { ordered = up; decodes = record { read = read; entries = h.decodes; values = values } } }) (λ h. tt)
 
   pub denied_ordered : {s t : ReaderState} {k : ErrorKind} → NotDecoded (List (K × V)) (refused_if refused (entries cmp item)) s t k → NotDecoded (List (K × V)) (refused_if refused (btree_entries cmp item)) s t k
   denied_ordered = denied_as (refused_if refused (btree_entries cmp item)) (λ e. e) (λ e. e) (λ m x h. (h.1.decodes.decodes.read, record { allowed = h.1.allowed; decodes = h.1.decodes.decodes.entries }))
 
 module _ {K V : Type 0} {item : Codec (K × V)} (refused : Bool) where
   pub reads_inserted : {eq : K → K → Bool} {s t : ReaderState} {read : List (K × V)} (es : List (K × V)) → es ≡ after_inserts eq read → Decoded (List (K × V)) (refused_if refused (length_prefixed item)) s t read → Decoded (List (K × V)) (refused_if refused (index_entries eq item)) s t es
-  reads_inserted {eq = eq} {read = read} es e = reads_as (refused_if refused (index_entries eq item)) es (λ m x h. record { allowed = h.allowed; decodes = record { read = read; bytes = h.decodes; entries = e } })
+  reads_inserted {eq = eq} {read = read} es e = reads_as (refused_if refused (index_entries eq item)) es (λ m x h. record { allowed = h.allowed; decodes = record { read = read; bytes = h.decodes; entries = e } }) (λ h. tt)
 
   pub denied_inserted : (eq : K → K → Bool) {s t : ReaderState} {k : ErrorKind} → NotDecoded (List (K × V)) (refused_if refused (length_prefixed item)) s t k → NotDecoded (List (K × V)) (refused_if refused (index_entries eq item)) s t k
   denied_inserted eq = denied_as (refused_if refused (index_entries eq item)) (λ e. e) (λ e. e) (λ m x h. (h.1.decodes.read, record { allowed = h.1.allowed; decodes = h.1.decodes.bytes }))
@@ -124,7 +125,7 @@ module _ {K : Type 0} where
 
     -- a list of keys is one of entries
     pub reads_bare : (refused : Bool) {s t : ReaderState} (ks : List K) → Decoded (List K) (refused_if refused (length_prefixed c)) s t ks → Decoded (List (K × ⊤)) (refused_if refused (length_prefixed (key_only c))) s t (unit_entries ks)
-    reads_bare refused ks = reads_as (refused_if refused (length_prefixed (key_only c))) (unit_entries ks) (λ m x h. record { allowed = h.allowed; decodes = counted_bare m x ks h.decodes })
+    reads_bare refused ks = reads_as (refused_if refused (length_prefixed (key_only c))) (unit_entries ks) (λ m x h. record { allowed = h.allowed; decodes = counted_bare m x ks h.decodes }) (All-map (key_only c).made (λ k. (k, tt)) ks)
 
     pub denied_bare : (refused : Bool) {s t : ReaderState} {k : ErrorKind} → NotDecoded (List K) (refused_if refused (length_prefixed c)) s t k → NotDecoded (List (K × ⊤)) (refused_if refused (length_prefixed (key_only c))) s t k
     denied_bare refused = denied_as (refused_if refused (length_prefixed (key_only c))) (λ e. e) (λ e. e) (λ m x h. (keys_of h.0, record { allowed = h.1.allowed; decodes = counted_keys m x h.0 h.1.decodes }))

@@ -14,10 +14,10 @@ use Rattle.borsh_codec.proofs.ReadSteps.{took_weaker, took_nothing, took_then, t
 -- ---- a value seen as another one
 
 pub reads_contramap : {A B : Type 0} (view : B → A) {c : Codec A} {s t : ReaderState} {v : B} → Decoded A c s t (view v) → Decoded B (contramap view c) s t v
-reads_contramap view r = record { took = r.took }
+reads_contramap view r = record { took = r.took; made = r.made }
 
 pub reads_of : {A B : Type 0} (view : B → A) {c : Codec A} {s t : ReaderState} {v : B} → Decoded B (contramap view c) s t v → Decoded A c s t (view v)
-reads_of view r = record { took = r.took }
+reads_of view r = record { took = r.took; made = r.made }
 
 pub denied_contramap : {A B : Type 0} (view : B → A) {c : Codec A} {s t : ReaderState} {k : ErrorKind} → NotDecoded A c s t k → NotDecoded B (contramap view c) s t k
 denied_contramap view r = record { refused = refused_map (λ e. e) (λ e. e) (λ o none front rest e p. none front rest e (view p.0, p.1)) r.refused }
@@ -40,19 +40,19 @@ denied_value view {c = c} {s = s} {t = t} {v = v} l p r none = record {
 -- ---- values that are decoded from their encodings alone
 
 pub reads_exact : {A : Type 0} (f : A → Option (List ℕ)) (b : Bool) {s t : ReaderState} {v : A} {y : List ℕ} → f v ≡ Some y → TakesPrefix (λ x. x ≡ y) s t → Decoded A (by_encoding f b) s t v
-reads_exact f b e p = record { took = took_weaker (λ x h. e ∙ ap Some (sym h)) p }
+reads_exact f b e p = record { took = took_weaker (λ x h. e ∙ ap Some (sym h)) p; made = tt }
 
 -- encodings have a length, and there are fewer bytes
 pub denied_exact : {A : Type 0} (f : A → Option (List ℕ)) (n : ℕ) (b : Bool) {s t : ReaderState} {k : ErrorKind} → ((a : A) (x : List ℕ) → f a ≡ Some x → length x ≡ n) → ReadFails false false (λ x. length x ≡ n) s t k → NotDecoded A (by_encoding f b) s t k
 denied_exact f n b sized r = record { refused = refused_map (λ e. e) (λ e. e) (λ o none front rest e p. none front rest e (sized p.0 front p.1)) r }
 
 pub reads_unit : (s : ReaderState) → Decoded ⊤ unit s s tt
-reads_unit s = record { took = took_nothing s refl }
+reads_unit s = record { took = took_nothing s refl; made = tt }
 
 -- ---- refused values
 
 pub reads_allowed : {A : Type 0} (refused : Bool) {c : Codec A} {s t : ReaderState} {v : A} → refused ≡ false → Decoded A c s t v → Decoded A (refused_if refused c) s t v
-reads_allowed refused e r = record { took = took_weaker (λ x p. record { allowed = e; decodes = p }) r.took }
+reads_allowed refused e r = record { took = took_weaker (λ x p. record { allowed = e; decodes = p }) r.took; made = r.made }
 
 pub denied_allowed : {A : Type 0} (refused : Bool) {c : Codec A} {s t : ReaderState} {k : ErrorKind} → NotDecoded A c s t k → NotDecoded A (refused_if refused c) s t k
 denied_allowed refused r = record { refused = refused_map (λ e. e) (λ e. e) (λ o none front rest e p. none front rest e (p.0, p.1.decodes)) r.refused }
@@ -64,7 +64,7 @@ denied_refused refused c s e r = record { refused = refused_here {P = λ _. ⊤}
 -- ---- values that pass a test
 
 pub reads_passed : {A : Type 0} (texts : Bool) (test : A → Bool) {c : Codec A} {s t : ReaderState} {v : A} → test v ≡ true → Decoded A c s t v → Decoded A (filtered texts test c) s t v
-reads_passed texts test e r = record { took = took_weaker (λ x p. record { passed = e; decodes = p }) r.took }
+reads_passed texts test e r = record { took = took_weaker (λ x p. record { passed = e; decodes = p }) r.took; made = r.made }
 
 pub denied_passed : {A : Type 0} (texts : Bool) (test : A → Bool) {c : Codec A} {s t : ReaderState} {k : ErrorKind} → NotDecoded A c s t k → NotDecoded A (filtered texts test c) s t k
 denied_passed texts test {c = c} r = record { refused = refused_map (λ e. e) (or_right texts c.texts_allocate) (λ o none front rest e p. none front rest e (p.0, p.1.decodes)) r.refused }
@@ -82,7 +82,7 @@ denied_failed texts test {c = c} {s = s} {t = t} {v = v} respects l p r failed =
 -- ---- values in memory of their own
 
 pub reads_stored : {A : Type 0} {c : Codec A} {s t : ReaderState} {v : A} → Decoded A c s t v → Decoded A (allocated c) s t v
-reads_stored r = record { took = r.took }
+reads_stored r = record { took = r.took; made = r.made }
 
 pub denied_stored : {A : Type 0} {c : Codec A} {s t : ReaderState} {k : ErrorKind} → NotDecoded A c s t k → NotDecoded A (allocated c) s t k
 denied_stored r = record { refused = refused_map (λ e. refl) (λ e. e) (λ o none. none) r.refused }
@@ -90,7 +90,7 @@ denied_stored r = record { refused = refused_map (λ e. refl) (λ e. e) (λ o no
 -- ---- two parts in order
 
 pub reads_pair : {A B : Type 0} {a : Codec A} {b : Codec B} {s t u : ReaderState} {v : A} {w : B} → Decoded A a s t v → Decoded B b t u w → Decoded (A × B) (pair a b) s u (v, w)
-reads_pair {s = s} p q = record { took = took_then p.took (reads_at s p.took.takes.strict_order q) }
+reads_pair {s = s} p q = record { took = took_then p.took (reads_at s p.took.takes.strict_order q); made = (p.made, q.made) }
 
 pub denied_pair_first : {A B : Type 0} {a : Codec A} (b : Codec B) {s t : ReaderState} {k : ErrorKind} → NotDecoded A a s t k → NotDecoded (A × B) (pair a b) s t k
 denied_pair_first {a = a} b r = record {
@@ -118,7 +118,7 @@ denied_pair_second {a = a} {b = b} {s = s} {v = v} l p r = record {
 pub reads_tag : {A : Type 0} {c : Codec A} {j : ℕ} {s t u : ReaderState} {v : A} → TakesPrefix (λ x. x ≡ j ∷ []) s t → DecodedAfterTag j A c t u v → Decoded A c s u v
 reads_tag {c = c} {j = j} {s = s} {t = t} {u = u} {v = v} p q =
     let q' = subst (λ m. TakesPrefix (λ x. c.decodes m (j ∷ x) v) t u) p.takes.strict_order q.took in
-    record { took = took_weaker (λ x i. (let e : x ≡ j ∷ i.second = i.whole ∙ ap (λ z. z ++ i.second) i.left in subst (λ z. c.decodes s.strict_order z v) (sym e) i.right)) (took_then p q') }
+    record { took = took_weaker (λ x i. (let e : x ≡ j ∷ i.second = i.whole ∙ ap (λ z. z ++ i.second) i.left in subst (λ z. c.decodes s.strict_order z v) (sym e) i.right)) (took_then p q'); made = q.made }
 
 tag_past : {A : Type 0} {c : Codec A} → Lawful A c → c.is_zero_width ≡ false → (m : Bool) (j : ℕ) (f r front rest : List ℕ) → f ≡ j ∷ [] → IsDecodable c m front → f ++ r ≡ front ++ rest
     → Past (λ x. IsDecodable c m (j ∷ x)) r rest
@@ -142,18 +142,18 @@ pub denied_no_tag : {A : Type 0} {c : Codec A} {s t : ReaderState} {k : ErrorKin
 denied_no_tag {s = s} l full r = record { refused = refused_map (λ e. absurd (true≢false (sym e))) (λ e. absurd (true≢false (sym e))) (no_tag l full s.strict_order) r }
 
 pub behind_contramap : {A B : Type 0} (view : B → A) {c : Codec A} {j : ℕ} {s t : ReaderState} {v : B} → DecodedAfterTag j A c s t (view v) → DecodedAfterTag j B (contramap view c) s t v
-behind_contramap view r = record { took = r.took }
+behind_contramap view r = record { took = r.took; made = r.made }
 
 pub denied_behind_contramap : {A B : Type 0} (view : B → A) {c : Codec A} {j : ℕ} {s t : ReaderState} {k : ErrorKind} → NotDecodedAfterTag j A c s t k → NotDecodedAfterTag j B (contramap view c) s t k
 denied_behind_contramap view r = record { refused = refused_map (λ e. e) (λ e. e) (λ o none front rest e p. none front rest e (view p.0, p.1)) r.refused }
 
 -- the tag is that of the first variant
 pub reads_here : {A B : Type 0} (j : ℕ) {a : Codec A} (b : Codec B) {s t : ReaderState} {v : A} → Decoded A a s t v → DecodedAfterTag j (A ⊎ B) (variant j a b) s t (inl v)
-reads_here j b r = record { took = took_weaker (λ x p. record { part = x; whole = refl; holds = p }) r.took }
+reads_here j b r = record { took = took_weaker (λ x p. record { part = x; whole = refl; holds = p }) r.took; made = r.made }
 
 -- the tag is that of a later variant
 pub reads_there : {A B : Type 0} (j k : ℕ) (a : Codec A) {b : Codec B} {s t : ReaderState} {v : B} → DecodedAfterTag j B b s t v → DecodedAfterTag j (A ⊎ B) (variant k a b) s t (inr v)
-reads_there j k a r = record { took = r.took }
+reads_there j k a r = record { took = r.took; made = r.made }
 
 here : {A B : Type 0} (j : ℕ) (a : Codec A) (b : Codec B) → Avoids j b → (m : Bool) (x : List ℕ) (v : A ⊎ B) → (variant j a b).decodes m (j ∷ x) v → IsDecodable a m x
 here j a b avoids m x (inl v) p = (v, (let e : p.part ≡ x = (let w = p.whole in cc) in subst (λ z. a.decodes m z v) e p.holds))

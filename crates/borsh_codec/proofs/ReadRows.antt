@@ -1,5 +1,7 @@
 -- Elements that are read one after another, and behind a count.
 use Rattle.std.proofs.Common.{◌≡◌, ℕ, ◌<◌, Bool, true, List, [], ◌∷◌, ◌++◌, length, Option, Some, refl, sym, ◌∙◌, ap, subst, append-nil, append_assoc, arith, true≢false}
+use Rattle.std.specs.List.{All}
+use Rattle.std.proofs.lemmas.List.Elements.{All-nil, All-push}
 use Rattle.borsh_io.specs.declared.error.ErrorKind.{ErrorKind}
 use Rattle.borsh_io.specs.Stream.{ReaderState}
 use Rattle.borsh_codec.specs.Codec.{Codec, IsDecodable, Lawful}
@@ -22,21 +24,23 @@ in_order_one P (b ∷ xs) a x y p q = record {
 -- these elements were read so far
 pub record RowSoFar (A : Type 0) (c : Codec A) (s t : ReaderState) (xs : List A) : Type 0 where
   pub took : TakesPrefix (λ x. DecodesEach (c.decodes s.strict_order) x xs) s t
+  pub made : All c.made xs
 
 pub row_none : {A : Type 0} (c : Codec A) (s : ReaderState) → RowSoFar A c s s []
-row_none c s = record { took = took_nothing s refl }
+row_none c s = record { took = took_nothing s refl; made = All-nil c.made }
 
 pub row_more : {A : Type 0} {c : Codec A} {s t u : ReaderState} {xs : List A} {a : A} → RowSoFar A c s t xs → Decoded A c t u a → RowSoFar A c s u (xs ++ a ∷ [])
 row_more {c = c} {s = s} {xs = xs} {a = a} p q = record {
   took = took_weaker (λ x i. subst (λ z. DecodesEach (c.decodes s.strict_order) z (xs ++ a ∷ [])) (sym i.whole) (in_order_one (c.decodes s.strict_order) xs a i.first i.second i.left i.right))
       (took_then p.took (reads_at s p.took.takes.strict_order q));
+  made = All-push c.made xs a p.made q.made;
 }
 
 pub row_all : {A : Type 0} {c : Codec A} {n : ℕ} {s t : ReaderState} {xs : List A} → length xs ≡ n → RowSoFar A c s t xs → Decoded (List A) (array n c) s t xs
-row_all e p = record { took = took_weaker (λ x i. record { long = e; parts = i }) p.took }
+row_all e p = record { took = took_weaker (λ x i. record { long = e; parts = i }) p.took; made = p.made }
 
 pub listed_all : {A : Type 0} {c : Codec A} {n : ℕ} {s t : ReaderState} {xs : List A} → length xs ≡ n → RowSoFar A c s t xs → Decoded (List A) (allocated_array n c) s t xs
-listed_all e p = record { took = took_weaker (λ x i. record { long = e; parts = i }) p.took }
+listed_all e p = record { took = took_weaker (λ x i. record { long = e; parts = i }) p.took; made = p.made }
 
 -- after fewer elements than there are, the next is to come
 next_in_order : {A : Type 0} {c : Codec A} → Lawful A c → (m : Bool) (xs ys : List A) (x r y rest : List ℕ) → length xs < length ys → DecodesEach (c.decodes m) x xs → DecodesEach (c.decodes m) y ys → x ++ r ≡ y ++ rest
@@ -85,7 +89,7 @@ pub reads_counted : {A : Type 0} {c : Codec A} {n : ℕ} {s t u : ReaderState} {
 reads_counted {c = c} {n = n} {s = s} {t = t} {u = u} {xs = xs} p q =
     let q' = reads_at s p.took.takes.strict_order q in
     let p' : TakesPrefix (λ y. unsigned_encoding 4 (length xs) ≡ Some y) s t = subst (λ k. TakesPrefix (λ y. unsigned_encoding 4 k ≡ Some y) s t) (sym q'.holds.long) p.took in
-    record { took = took_weaker (λ x i. record { first = i.first; second = i.second; whole = i.whole; left = i.left; right = i.right.parts }) (took_then p' q') }
+    record { took = took_weaker (λ x i. record { first = i.first; second = i.second; whole = i.whole; left = i.left; right = i.right.parts }) (took_then p' q'); made = q.made }
 
 pub denied_count : {A : Type 0} (c : Codec A) {s t : ReaderState} {k : ErrorKind} → NotDecoded ℕ (unsigned 4) s t k → NotDecoded (List A) (length_prefixed c) s t k
 denied_count c r = record {

@@ -107,6 +107,7 @@ module _ {A : Type 0} {c : Codec A} {s t u : ReaderState} {v : A} (p : Decoded A
         };
         holds = p.took.holds;
       };
+      made = p.made;
     };
     whole = whole s.bytes refl x.1;
     ended = at_end s.bytes refl x.1;
@@ -119,6 +120,10 @@ module _ {A : Type 0} {c : Codec A} {s t : ReaderState} (xs : List ℕ) (told : 
   pub whole_of_all : {v : A} → DecodedAll A c s t v → c.decodes s.strict_order xs v
   whole_of_all {v = v} (inl r) = subst (λ o. IfSome o (λ ys. c.decodes s.strict_order ys v)) told r.whole
   whole_of_all (inr r) = absurd (calm r.failed)
+
+  pub made_of_all : {v : A} → DecodedAll A c s t v → c.made v
+  made_of_all (inl r) = r.decoded.made
+  made_of_all (inr r) = r.decoded.made
 
   why : {k : ErrorKind} → ReadFailure c.decoding_allocates c.texts_allocate (IsDecodable c s.strict_order) s t k → WhyNotDecoded c s.strict_order xs k
   why (malformed r e none) = not_reading r (none xs [] (told ∙ ap Some (sym (append-nil xs))))

@@ -9,6 +9,8 @@ pub record Codec (A : Type 0) : Type 1 where
   pub equivalent : A → A → Type 0
   -- the bytes decode to the value; the mode is true if keys must come in ascending order
   pub decodes : Bool → List ℕ → A → Type 0
+  -- what is true of each decoded value though its bytes don't say it
+  pub made : A → Type 0
   -- every encoding is the empty list; otherwise none is
   pub is_zero_width : Bool
   -- in strict mode the encodings alone decode

@@ -1,5 +1,5 @@
 -- What a call that reads takes from its reader, and why it fails.
-use Rattle.std.specs.Prelude.{◌≡◌, ◌≢◌, ℕ, Bool, true, false, List, [], ◌∷◌, ◌++◌, Some, IfSome, OnSome, ◌⊎◌, Option, Result, IfOk, IfErr, IsErrAnd, MatchOption, MatchResult, Vec, length}
+use Rattle.std.specs.Prelude.{◌≡◌, ◌≢◌, ℕ, Bool, true, false, List, [], ◌∷◌, ◌++◌, Some, IfSome, OnSome, ◌⊎◌, Option, Result, IfOk, IfErr, IsErrAnd, MatchOption, MatchResult, Vec}
 use Rattle.std.specs.Global.{Global}
 use Rattle.std.specs.Io.KnownBytes.{IsAtEnd}
 use Rattle.borsh_io.specs.declared.error.Error.{Error}
@@ -46,9 +46,10 @@ pub record ReadFails (memory text : Bool) (P : List ℕ → Type 0) (old new : R
 
 -- ---- a value
 
--- bytes that decode to the value were taken, and the rest is left
+-- bytes that decode to the value were taken, and the rest is left; what isn't encoded is as decoding makes it
 pub record Decoded (A : Type 0) (c : Codec A) (old new : ReaderState) (v : A) : Type 0 where
   pub took : TakesPrefix (λ x. c.decodes old.strict_order x v) old new
+  pub made : c.made v
 
 -- no value was decoded
 pub record NotDecoded (A : Type 0) (c : Codec A) (old new : ReaderState) (kind : ErrorKind) : Type 0 where
@@ -57,6 +58,7 @@ pub record NotDecoded (A : Type 0) (c : Codec A) (old new : ReaderState) (kind :
 -- the same where one byte, the tag, was taken before
 pub record DecodedAfterTag (tag : ℕ) (A : Type 0) (c : Codec A) (old new : ReaderState) (v : A) : Type 0 where
   pub took : TakesPrefix (λ x. c.decodes old.strict_order (tag ∷ x) v) old new
+  pub made : c.made v
 
 pub record NotDecodedAfterTag (tag : ℕ) (A : Type 0) (c : Codec A) (old new : ReaderState) (kind : ErrorKind) : Type 0 where
   pub refused : ReadFails c.decoding_allocates c.texts_allocate (λ x. IsDecodable c old.strict_order (tag ∷ x)) old new kind
@@ -149,6 +151,8 @@ pub record IsReEncodable {A : Type 0} (c : Codec A) (v : A) : Type 0 where
 pub record DecodesAll {A : Type 0} (c : Codec A) (strict : Bool) (bytes : List ℕ) (result : Result A Error) : Type 0 where
   -- `Ok`: the bytes decode to the value
   pub ok : IfOk result (λ v. c.decodes strict bytes v)
+  -- what isn't encoded is as decoding makes it
+  pub made : IfOk result c.made
   -- `Err`: they decode to none, or the type's decoding allocates and an allocation failed
   pub err : IfErr result (λ e. WhyNotDecoded c strict bytes (error_kind e))
   -- where they decode to `v`, the result is equivalent to `v`, unless an allocation fails

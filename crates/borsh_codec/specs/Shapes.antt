@@ -1,6 +1,6 @@
 -- How the meaning of a type comes from those of its parts.
 use Rattle.std.specs.Prelude.{◌≡◌, ℕ, zero, suc, ℤ, pos, negsuc, ◌-◌, ◌/◌, ◌%◌, ◌^◌, Bool, true, false, ◌&&◌, ◌||◌, List, [], ◌∷◌, ◌++◌, length, Option, Some, None, nat_lt, nat_eq, cond, ◌⊎◌, ⊤}
-use Rattle.std.specs.List.{AllZip}
+use Rattle.std.specs.List.{All, AllZip}
 use mathlib.Core.Logic.{inl, inr}
 use Rattle.borsh_codec.specs.Codec.{Codec}
 
@@ -12,6 +12,7 @@ contramap view c = record {
   encoding = λ b. c.encoding (view b);
   equivalent = λ a b. c.equivalent (view a) (view b);
   decodes = λ strict x b. c.decodes strict x (view b);
+  made = λ b. c.made (view b);
   is_zero_width = c.is_zero_width;
   is_canonical = c.is_canonical;
   decoding_allocates = c.decoding_allocates;
@@ -28,6 +29,7 @@ by_encoding f empty = record {
   encoding = f;
   equivalent = λ a b. a ≡ b;
   decodes = λ _ x a. f a ≡ Some x;
+  made = λ _. ⊤;
   is_zero_width = empty;
   is_canonical = true;
   decoding_allocates = false;
@@ -83,6 +85,7 @@ refused_if {A = A} refused c = record {
   encoding = λ a. cond refused None (c.encoding a);
   equivalent = c.equivalent;
   decodes = RefusedIfDecodes A refused c;
+  made = c.made;
   is_zero_width = c.is_zero_width;
   is_canonical = c.is_canonical;
   decoding_allocates = c.decoding_allocates;
@@ -105,6 +108,7 @@ filtered {A = A} texts test c = record {
   encoding = λ a. cond (test a) (c.encoding a) None;
   equivalent = c.equivalent;
   decodes = FilteredDecodes A test c;
+  made = c.made;
   is_zero_width = c.is_zero_width;
   is_canonical = c.is_canonical;
   decoding_allocates = c.decoding_allocates;
@@ -118,6 +122,12 @@ filtered {A = A} texts test c = record {
 -- the same, read into memory
 abbrev pub allocated : {A : Type 0} → Codec A → Codec A
 allocated c = record c { decoding_allocates = true }
+
+-- ---- what isn't encoded
+
+-- the same, and P is true of each decoded value
+abbrev pub decoded_with : {A : Type 0} → (A → Type 0) → Codec A → Codec A
+decoded_with P c = record c { made = λ a. P a × c.made a }
 
 -- ---- two parts in order
 
@@ -140,6 +150,7 @@ pair a b = record {
   encoding = λ v. append_encodings (a.encoding v.0) (b.encoding v.1);
   equivalent = λ v w. a.equivalent v.0 w.0 × b.equivalent v.1 w.1;
   decodes = λ strict x v. SplitsInto (λ y. a.decodes strict y v.0) (λ y. b.decodes strict y v.1) x;
+  made = λ v. a.made v.0 × b.made v.1;
   is_zero_width = a.is_zero_width && b.is_zero_width;
   is_canonical = a.is_canonical && b.is_canonical;
   decoding_allocates = a.decoding_allocates || b.decoding_allocates;
@@ -178,12 +189,17 @@ abbrev pub variant_decodes : {A B : Type 0} → ℕ → Codec A → Codec B → 
 variant_decodes tag a b strict x (inl v) = IsTagged tag (λ y. a.decodes strict y v) x
 variant_decodes tag a b strict x (inr v) = b.decodes strict x v
 
+abbrev pub variant_made : {A B : Type 0} → Codec A → Codec B → A ⊎ B → Type 0
+variant_made a b (inl v) = a.made v
+variant_made a b (inr v) = b.made v
+
 -- the tag, one byte, and a value of a; or a value of b
 abbrev pub variant : {A B : Type 0} → ℕ → Codec A → Codec B → Codec (A ⊎ B)
 variant tag a b = record {
   encoding = variant_encoding tag a b;
   equivalent = variant_equivalent a b;
   decodes = variant_decodes tag a b;
+  made = variant_made a b;
   is_zero_width = false;
   is_canonical = a.is_canonical && b.is_canonical;
   decoding_allocates = a.decoding_allocates || b.decoding_allocates;
@@ -215,6 +231,7 @@ array {A = A} n c = record {
   encoding = λ xs. cond (nat_eq (length xs) n) (concat_encodings c.encoding xs) None;
   equivalent = AllZip c.equivalent;
   decodes = ArrayDecodes A n c;
+  made = All c.made;
   is_zero_width = is_zero n || c.is_zero_width;
   is_canonical = c.is_canonical;
   decoding_allocates = c.decoding_allocates;
@@ -233,6 +250,7 @@ length_prefixed c = record {
   encoding = λ xs. append_encodings (unsigned_encoding 4 (length xs)) (concat_encodings c.encoding xs);
   equivalent = AllZip c.equivalent;
   decodes = λ strict x xs. SplitsInto (λ y. unsigned_encoding 4 (length xs) ≡ Some y) (λ y. DecodesEach (c.decodes strict) y xs) x;
+  made = All c.made;
   is_zero_width = false;
   is_canonical = c.is_canonical;
   decoding_allocates = true;

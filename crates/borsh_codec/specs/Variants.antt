@@ -2,7 +2,7 @@
 use Rattle.std.specs.Prelude.{ℕ, Bool, true, false, not, ◌&&◌, ◌||◌, List, [], Option, nat_eq, ◌⊎◌}
 use mathlib.Core.Logic.{inl, inr}
 use Rattle.borsh_codec.specs.Codec.{Codec}
-use Rattle.borsh_codec.specs.Shapes.{contramap, variant, never}
+use Rattle.borsh_codec.specs.Shapes.{contramap, variant, variant_made, never}
 
 -- a tag, one byte, and a value of c; `view` shows that value
 abbrev pub case_codec : {A B : Type 0} → (B → A) → ℕ → Codec A → Codec B
@@ -28,6 +28,7 @@ either a b = record {
   encoding = either_encoding a b;
   equivalent = either_equivalent a b;
   decodes = either_decodes a b;
+  made = variant_made a b;
   is_zero_width = false;
   is_canonical = a.is_canonical && b.is_canonical;
   decoding_allocates = a.decoding_allocates || b.decoding_allocates;

@@ -1,6 +1,8 @@
 -- Arrays whose elements are taken from pieces of their bytes.
 use Rattle.std.proofs.Common.{◌≡◌, ℕ, zero, suc, ◌+◌, ◌*◌, ◌<◌, ◌≤◌, true, List, [], ◌∷◌, ◌++◌, length, replicate, Option, Result, Ok, Err, IfOk, IfErr, refl, sym, ◌∙◌, ap, subst, append-nil, append_assoc, arith, length-append}
+use Rattle.std.specs.List.{All}
 use Rattle.std.proofs.lemmas.List.{length-replicate}
+use Rattle.std.proofs.lemmas.List.Elements.{All-nil, All-cons}
 use Rattle.std.proofs.Math.Nat.{mul-le-mul_right}
 use Rattle.borsh_arrays.specs.Made.{MadeInOrder, IsMade, IsGivenUp}
 use Rattle.borsh_codec.specs.Codec.{Codec}
@@ -31,10 +33,11 @@ module _ {S A : Type 0} (width : S → ℕ) (rest : S → List ℕ) (c : Codec A
     whole : rest s ≡ front ++ rest t
     long : length front ≡ length xs * width s
     parts : DecodesEach (c.decodes true) front xs
+    made : All c.made xs
     same_width : width t ≡ width s
 
   cuts_of : (s t : S) (xs : List A) → MadeInOrder ByPiece s xs t → Cuts s t xs
-  cuts_of s t [] m = record { front = []; whole = ap rest m; long = omega arith; parts = refl; same_width = ap width (sym m) }
+  cuts_of s t [] m = record { front = []; whole = ap rest m; long = omega arith; parts = refl; made = All-nil c.made; same_width = ap width (sym m) }
   cuts_of s t (x ∷ xs) m =
       let p = m.1 in
       let r = cuts_of m.0 t xs m.2 in
@@ -43,6 +46,7 @@ module _ {S A : Type 0} (width : S → ℕ) (rest : S → List ℕ) (c : Codec A
         whole = p.whole ∙ ap (λ z. p.piece ++ z) r.whole ∙ sym (append_assoc p.piece r.front (rest t));
         long = (let e : length xs * width m.0 ≡ length xs * width s = ap (λ k. length xs * k) p.same_width in omega (arith, length-append p.piece r.front, p.long, r.long, e));
         parts = record { first = p.piece; second = r.front; whole = refl; left = p.decodes; right = r.parts };
+        made = All-cons c.made x xs p.made r.made;
         same_width = r.same_width ∙ p.same_width;
       }
 
@@ -67,5 +71,5 @@ module _ {S A : Type 0} (width : S → ℕ) (rest : S → List ℕ) (c : Codec A
   -- what is answered then
   pub array_gets : {E : Type 0} {n : ℕ} {s : S} (t : S) (r : Result (List A) E) (o : Option (List A)) → length (rest s) ≡ n * width s
       → IfOk r (λ xs. IsMade ByPiece n s xs t) → IfErr r (λ _. IsGivenUp ByPiece (λ u v. IsFixedWidth c (width u) → length (rest u) < width u) n s t) → o ≡ result_ok r → GetsValue (array n c) (rest s) o
-  array_gets {n = n} {s = s} t (Ok xs) o l m u e = subst (GetsValue (array n c) (rest s)) (sym e) (record { value = array_made l m })
-  array_gets {n = n} {s = s} t (Err x) o l m u e = subst (GetsValue (array n c) (rest s)) (sym e) (record { value = λ f. array_given_up l u f })
+  array_gets {n = n} {s = s} t (Ok xs) o l m u e = subst (GetsValue (array n c) (rest s)) (sym e) (record { value = array_made l m; made = (cuts_of s t xs m.in_order).made })
+  array_gets {n = n} {s = s} t (Err x) o l m u e = subst (GetsValue (array n c) (rest s)) (sym e) (record { value = λ f. array_given_up l u f; made = tt })

@@ -1,6 +1,7 @@
 -- Types of which every so many bytes are an encoding.
 use Rattle.std.proofs.Common.{◌≡◌, ℕ, zero, suc, ◌+◌, ◌*◌, ◌-◌, ◌^◌, ◌<◌, ◌≤◌, Bool, true, false, List, [], ◌∷◌, ◌++◌, length, get_or, take, drop, replicate, Option, Some, inl, inr, refl, sym, ◌∙◌, ap, subst, append_assoc, arith, length-append, true≢false}
 use Rattle.std.proofs.lemmas.List.{take-append-drop, length-take-le, length-drop, length-replicate}
+use Rattle.std.proofs.lemmas.List.Elements.{All-append}
 use Rattle.std.proofs.Math.Nat.{mul-le-mul_right, mul_comm}
 use Rattle.std.specs.Int.{Width, byte_worth, sum_through}
 use mir.Val.{bits, hbits}
@@ -49,6 +50,7 @@ unsigned_fixed n = record {
   only = λ m x v p. length-number (suc n) v x p;
   either_mode = λ x v p. p;
   without_memory = refl;
+  made = λ v. tt;
 }
 
 -- numbers of one byte are bytes
@@ -63,6 +65,7 @@ signed_fixed w n whole low even = record {
   only = λ m x v p. length-signed (suc n) v x p;
   either_mode = λ x v p. p;
   without_memory = refl;
+  made = λ v. tt;
 }
 
 -- ---- parts
@@ -74,6 +77,7 @@ pair_fixed {n = n} {m = m} f g = record {
   only = λ s x v p. omega (arith, ap length p.whole, length-append p.first p.second, f.only s p.first v.0 p.left, g.only s p.second v.1 p.right);
   either_mode = λ x v p. record { first = p.first; second = p.second; whole = p.whole; left = f.either_mode p.first v.0 p.left; right = g.either_mode p.second v.1 p.right };
   without_memory = rw (f.without_memory, g.without_memory) refl;
+  made = λ v. (f.made v.0, g.made v.1);
 }
 
 -- what has these parts is seen as them
@@ -83,6 +87,7 @@ contramap_fixed {c = c} view made f = record {
   only = λ s x v p. f.only s x (view v) p;
   either_mode = λ x v p. f.either_mode x (view v) p;
   without_memory = f.without_memory;
+  made = λ v. f.made (view v);
 }
 
 -- ---- elements
@@ -114,6 +119,7 @@ module _ {A : Type 0} {c : Codec A} {w : ℕ} (f : IsFixedWidth c w) where
     only = λ s x v p. length-each s x v p.parts ∙ ap (λ k. k * w) p.long;
     either_mode = λ x v p. record { long = p.long; parts = each_mode x v p.parts };
     without_memory = f.without_memory;
+    made = λ v k d h. f.made (get_or v k d);
   }
 
 -- as many bytes are as many elements
@@ -203,6 +209,7 @@ module _ {A : Type 0} (c : Codec A) (n m : ℕ) (f : IsFixedWidth (array (suc n)
           let same : q.parts.first ≡ x = front_same q.parts.first q.parts.second x (copies n x) (only false q.parts.first v q.parts.left ∙ sym (only true x v p)) (sym q.parts.whole) in
           subst (λ z. c.decodes false z v) same q.parts.left);
       without_memory = f.without_memory;
+      made = λ v. f.made (replicate (suc n) v) 0 v (omega arith);
     };
   }
 
@@ -228,6 +235,7 @@ each_append P x y (a ∷ xs) ys p q = record {
 pub row_many : {A : Type 0} {c : Codec A} {w : ℕ} {s t u : ReaderState} {bytes : List ℕ} {xs : List A} (ys : List A) → IsFixedWidth c w → RowSoFar A c s t xs → TakesPrefix (λ x. x ≡ bytes) t u → DecodesEach (c.decodes true) bytes ys → RowSoFar A c s u (xs ++ ys)
 row_many {c = c} {s = s} {bytes = bytes} {xs = xs} ys f p q e = record {
   took = took_weaker (λ x i. subst (λ z. DecodesEach (c.decodes s.strict_order) z (xs ++ ys)) (sym (i.whole ∙ ap (λ z. i.first ++ z) i.right)) (each_append (c.decodes s.strict_order) i.first bytes xs ys i.left (in_mode f s.strict_order bytes ys e))) (took_then p.took q);
+  made = All-append c.made xs ys p.made (λ k d h. f.made (get_or ys k d));
 }
 
 -- fewer bytes than k are no front with more bytes

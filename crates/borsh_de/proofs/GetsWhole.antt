@@ -14,4 +14,4 @@ module _ {A : Type 0} {c : Codec A} where
   why xs b f (no_memory r m) = true≢false (sym m ∙ f.without_memory)
 
   pub gets_none : (xs ys : List ℕ) {k : ErrorKind} → AreBytes xs → NotDecoded A c (slice_state xs) (slice_state ys) k → GetsValue c xs None
-  gets_none xs ys b p = record { value = λ f. why xs b f (whole_denied xs ys p) }
+  gets_none xs ys b p = record { value = λ f. why xs b f (whole_denied xs ys p); made = tt }

@@ -1,5 +1,5 @@
 -- Types of which every so many bytes are an encoding: numbers, and what is made of them.
-use Rattle.std.specs.Prelude.{◌≡◌, ℕ, ◌<◌, Bool, true, false, List, ◌++◌, length, get_or, Option, MatchOption, Result, OnOk, IfErr}
+use Rattle.std.specs.Prelude.{◌≡◌, ℕ, ◌<◌, Bool, true, false, List, ◌++◌, length, get_or, Option, IfSome, MatchOption, Result, OnOk, IfErr}
 use Rattle.borsh_io.specs.declared.error.Error.{Error}
 use Rattle.borsh_io.specs.Errors.{error_kind}
 use Rattle.borsh_io.specs.Stream.{ReaderState}
@@ -17,11 +17,15 @@ pub record IsFixedWidth {A : Type 0} (c : Codec A) (n : ℕ) : Type 0 where
   pub only : (strict : Bool) (x : List ℕ) (v : A) → c.decodes strict x v → length x ≡ n
   pub either_mode : (x : List ℕ) (v : A) → c.decodes true x v → c.decodes false x v
   pub without_memory : c.decoding_allocates ≡ false
+  -- all is encoded
+  pub made : (v : A) → c.made v
 
 -- the outcome of a call that is to decode a value of a type of fixed width from all of the bytes
 pub record GetsValue {A : Type 0} (c : Codec A) (bytes : List ℕ) (result : Option A) : Type 0 where
   -- `Some`: the bytes decode to the value; `None`: the type isn't of this width
   pub value : MatchOption result (IsFixedWidth c (length bytes) → ⊥) (λ v. c.decodes true bytes v)
+  -- what isn't encoded is as decoding makes it
+  pub made : IfSome result c.made
 
 -- the list grew by the values that the bytes decode to, one after another
 pub record AppendsDecoded {A : Type 0} (c : Codec A) (bytes : List ℕ) (before after : List A) : Type 0 where
@@ -36,6 +40,7 @@ pub record TakesPiece {A : Type 0} (c : Codec A) (n : ℕ) (old : List ℕ) (m :
   pub long : length piece ≡ n
   pub same_width : m ≡ n
   pub decodes : c.decodes true piece v
+  pub made : c.made v
 
 -- the outcome of a call that is to decode values over those of a slice; `state` says what is known of a reader
 pub record DecodesOver {A R : Type 0} (c : Codec A) (state : R → ReaderState) (old new : R) (before after : List A) (result : Result (Unit {0}) Error) : Type 0 where

@@ -1,8 +1,5 @@
 // Addresses: their octets, and a tag where there are two kinds.
-ghost use Rattle.std.specs.Prelude.{◌≡◌, IfOk};
-ghost use Rattle.std.specs.Net.Socket.{v6_flowinfo, v6_scope_id, socket_flowinfo, socket_scope_id};
-ghost use Rattle.borsh_codec.specs.Types.Addresses.{socket_v4_view, socket_v6, socket};
-ghost use Rattle.borsh_codec.specs.Reading.{Decodes};
+ghost use Rattle.borsh_codec.specs.Types.Addresses.{socket_v4_view};
 
 use super::deserialize::BorshDeserialize;
 use super::parts::{FromParts, read_parts};
@@ -68,10 +65,7 @@ impl BorshDeserialize for SocketAddrV4 {
 impl BorshDeserialize for SocketAddrV6 {
     /// The flow and the scope are no part of the encoding: they are 0.
     #[inline]
-    fn deserialize_reader<R: Read>(alloc: Global, reader: &mut R) -> Result<SocketAddrV6>
-        ensures outcome { Decodes socket_v6 R.stream reader.old reader.new result }
-        ensures plain { IfOk result (λ a. (v6_flowinfo a ≡ 0) × (v6_scope_id a ≡ 0)) }
-    {
+    fn deserialize_reader<R: Read>(alloc: Global, reader: &mut R) -> Result<SocketAddrV6> {
         let (ip, port) = <(Ipv6Addr, u16)>::deserialize_reader(alloc, reader)?;
         Ok(SocketAddrV6::new(ip, port, 0, 0))
     }
@@ -80,10 +74,7 @@ impl BorshDeserialize for SocketAddrV6 {
 impl BorshDeserialize for SocketAddr {
     /// The flow and the scope are no part of the encoding: they are 0.
     #[inline]
-    fn deserialize_reader<R: Read>(alloc: Global, reader: &mut R) -> Result<SocketAddr>
-        ensures outcome { Decodes socket R.stream reader.old reader.new result }
-        ensures plain { IfOk result (λ a. (socket_flowinfo a ≡ 0) × (socket_scope_id a ≡ 0)) }
-    {
+    fn deserialize_reader<R: Read>(alloc: Global, reader: &mut R) -> Result<SocketAddr> {
         match read_tag(reader)? {
             0 => Ok(SocketAddr::V4(SocketAddrV4::deserialize_reader(alloc, reader)?)),
             1 => Ok(SocketAddr::V6(SocketAddrV6::deserialize_reader(alloc, reader)?)),

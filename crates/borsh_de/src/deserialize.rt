@@ -20,7 +20,7 @@ use std::alloc::Global;
 /// - the reader's error if it fails.
 ///
 /// A type that refuses all of its values returns `InvalidData` before anything is read. Left open of each
-/// call: memory; what isn't encoded; after an error, how many bytes are left.
+/// call: memory; what isn't encoded, but for `made` of the codec; after an error, how many bytes are left.
 ///
 /// If your type has no implementation, put `// derive: borsh` above it and run derive/borsh_derive.py, or
 /// write one by hand, as docs/IMPLEMENTING.md shows.
@@ -64,7 +64,8 @@ pub trait BorshDeserialize: BorshType + Sized + Drop {
     }
 
     /// The value that all of the bytes decode to, for a type of fixed [`width`](BorshDeserialize::width).
-    /// Left open: what isn't encoded; `None`, of a type or bytes of another width.
+    /// Left open: what isn't encoded, but for `made` of the codec; `None`, of a type or bytes of another
+    /// width.
     fn get(alloc: Global, bytes: &[u8]) -> Option<Self>
         ensures { GetsValue Self.codec bytes.now result }
     {
@@ -91,7 +92,7 @@ pub trait BorshDeserialize: BorshType + Sized + Drop {
     }
 
     /// Decodes a value from all of the slice. If bytes are left over, the error is `InvalidData`, "Not
-    /// all bytes read". Left open: memory; what isn't encoded.
+    /// all bytes read". Left open: memory; what isn't encoded, but for `made` of the codec.
     ///
     /// ```
     /// assert_eq!(rt; u16::try_from_slice(alloc, b"\x07\x00")?, 7);
@@ -110,8 +111,9 @@ pub trait BorshDeserialize: BorshType + Sized + Drop {
     /// Decodes a value from all of the bytes to come, and looks for one more byte. If there is one, or if
     /// the reader fails then, the error is `InvalidData`, "Not all bytes read"; but a failure of kind
     /// `UnexpectedEof` is taken as the end. After an error of the value itself no further byte is read.
-    /// Left open: memory; what isn't encoded; how many bytes are left after an error; if the reader fails
-    /// after the value, whether the value or an error is returned, and of which kind.
+    /// Left open: memory; what isn't encoded, but for `made` of the codec; how many bytes are left after an
+    /// error; if the reader fails after the value, whether the value or an error is returned, and of which
+    /// kind.
     ///
     /// ```
     /// let mut input = StdReader::new(rt.stdin(), 1000);

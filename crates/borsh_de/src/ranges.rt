@@ -1,9 +1,4 @@
 // Ranges: their start, where they have one, and then their end, where they have one.
-ghost use Rattle.std.specs.Prelude.{◌≡◌, IfOk, false};
-ghost use Rattle.std.specs.Range.{range_inclusive_start, range_inclusive_end, range_inclusive_exhausted};
-ghost use Rattle.borsh_codec.specs.Reading.{Decodes};
-ghost use Rattle.borsh_codec.specs.Shapes.{contramap, pair};
-
 use super::deserialize::BorshDeserialize;
 use super::parts::{FromParts, read_parts};
 use borsh_io::{Read, Result};
@@ -31,11 +26,7 @@ impl<T: BorshDeserialize> BorshDeserialize for Range<T> {
 impl<T: BorshDeserialize> BorshDeserialize for RangeInclusive<T> {
     /// Whether the range is exhausted is no part of the encoding: it isn't.
     #[inline]
-    fn deserialize_reader<R: Read>(alloc: Global, reader: &mut R) -> Result<RangeInclusive<T>>
-        ensures outcome { Decodes (contramap (λ r. (range_inclusive_start r, range_inclusive_end r)) (pair T.codec T.codec))
-            R.stream reader.old reader.new result }
-        ensures plain { IfOk result (λ r. range_inclusive_exhausted r ≡ false) }
-    {
+    fn deserialize_reader<R: Read>(alloc: Global, reader: &mut R) -> Result<RangeInclusive<T>> {
         let (start, end) = <(T, T)>::deserialize_reader(alloc, reader)?;
         Ok(start..=end)
     }

@@ -1,2 +1,3 @@
 pub mod FormsLaws
 pub mod RepresentsLaws
+pub mod RowsLaws

@@ -1,5 +1,5 @@
 -- Whether the elements of sets and the keys of maps ascend in a value's bytes, where names and definitions tell their order.
-use Rattle.std.specs.Prelude.{◌≡◌, ◌⊎◌, ℕ, suc, ℤ, pos, List, [], ◌∷◌, ◌++◌, length, map, replicate, Bool, codes, Option, Some}
+use Rattle.std.specs.Prelude.{◌≡◌, ◌⊎◌, ℕ, suc, ◌≤◌, ℤ, pos, List, [], ◌∷◌, ◌++◌, length, map, replicate, Bool, codes, Option, Some}
 use Rattle.std.specs.Fmt.{decimal}
 use Rattle.std.specs.List.{concat, join_by}
 use Rattle.std.specs.List.Sorted.{IsStrictlySortedBy}
@@ -17,7 +17,8 @@ tuple_name (p ∷ []) = codes "(" ++ p ++ codes ",)"
 tuple_name (p ∷ q ∷ ps) = codes "(" ++ join_by (λ x. x) (codes ", ") (p ∷ q ∷ ps) ++ codes ")"
 
 module _ (F : List ℕ → Option Form) where
-  -- `Vec<T>`, `VecDeque<T>`, `LinkedList<T>`, `BTreeSet<T>` or `BTreeMap<K, V>`, whose elements are e
+  -- `Vec<T>`, `VecDeque<T>`, `LinkedList<T>`, `BTreeSet<T>` or `BTreeMap<K, V>`, whose elements are e. The types of hash sets and hash maps have no
+  -- order of their own, so they aren't among these, though their elements and keys ascend in the bytes
   abbrev pub IsOrderedList : List ℕ → List ℕ → Type 0
   IsOrderedList x e =
       IsList F x e
@@ -84,7 +85,7 @@ module _ (F : List ℕ → Option Form) where
       in_primitive : {x bs : List ℕ} → shapes F x ≡ Some (shape.primitive (length bs)) → InOrder x bs
       in_parts : {x : List ℕ} (ps ts : List (List ℕ)) → shapes F x ≡ Some (shape.product ps) → AllInOrder ps ts → InOrder x (concat ts)
       in_variant : {x bs : List ℕ} (w : ℕ) (vs : List (ℤ × List ℕ)) (k : ℤ) (p : List ℕ) → shapes F x ≡ Some (shape.choice w vs) → IsListedVariant k p vs → InOrder p bs → InOrder x (tag w k ++ bs)
-      in_sequence : {x : List ℕ} (w lo hi : ℕ) (e : List ℕ) (ts : List (List ℕ)) → shapes F x ≡ Some (shape.sequence w lo hi e) → AllInOrder (replicate (length ts) e) ts → AreInOrder x e ts → InOrder x (tag w (pos (length ts)) ++ concat ts)
+      in_sequence : {x : List ℕ} (w lo hi : ℕ) (e : List ℕ) (ts : List (List ℕ)) → shapes F x ≡ Some (shape.sequence w lo hi e) → lo ≤ length ts → length ts ≤ hi → AllInOrder (replicate (length ts) e) ts → AreInOrder x e ts → InOrder x (tag w (pos (length ts)) ++ concat ts)
 
     -- and so are values of several names
     pub data AllInOrder : List (List ℕ) → List (List ℕ) → Type 0 where

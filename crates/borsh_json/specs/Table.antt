@@ -66,14 +66,15 @@ primitive_kind x n =
     else number_kind number_types x n
 
 module _ (F : List ℕ → Option Form) where
-  -- the JSON of the name may be `null`: it has no bytes or is an `Option`, or so is the field of the newtype that it is; after n newtypes it counts as one that may
+  -- the JSON of the name may be `null`: the name has no bytes; or it is an `Option`, even one that is never written as `null`; or it is a
+  -- newtype of a name that may. After n newtypes, as many as values may nest, a name counts as one that may, so that circles end
   pub data MayBeNull : ℕ → List ℕ → Type 0 where
     too_far : {x : List ℕ} → MayBeNull zero x
     without_bytes : {n : ℕ} {x : List ℕ} → HasNoBytes F x → MayBeNull (suc n) x
     an_option : {n : ℕ} {x : List ℕ} (p : List ℕ) → IsOption F x p → MayBeNull (suc n) x
     in_newtype : {n : ℕ} {x : List ℕ} (p : List ℕ) → F x ≡ Some (newtype p) → MayBeNull n p → MayBeNull (suc n) x
 
-  -- `Option<T>`, whose `T` is never `null`
+  -- `Option<T>`, whose `T` is never `null`, as far as 128 newtypes tell
   abbrev pub IsNullable : List ℕ → List ℕ → Type 0
   IsNullable x p = IsOption F x p × (MayBeNull 128 p → ⊥)
 
@@ -215,7 +216,7 @@ module _ (F : List ℕ → Option Form) where
   Says (utf8 l) j own ps = (s : List ℕ) × (j ≡ string s) × IsUtf8 s × IsPrefixed l (length s) s own × (ps ≡ [])
   -- a list or array of `u8`: `"0x0a1f"`, or `[10, 31]`
   Says (byte_list l e) j own ps = ((bs : List ℕ) × IsHex j bs × IsPrefixed l (length bs) bs own × (ps ≡ [])) ⊎ IsArray l e j own ps
-  -- another list, set or array, or a map with other keys: `[1, 2]`
+  -- another list, set or array: `[1, 2]`; or a map with other keys: `[[k, v], ..]`. The elements of a set and the keys of a map ascend: `InOrder` says so
   Says (list l e) j own ps = IsArray l e j own ps
   -- a tuple, or a struct with several fields without names: `[1, 2]`
   Says (row xs) j own ps = (own ≡ []) × (js : Items) × (j ≡ array js) × (row_parts xs js ≡ Some ps)

@@ -75,7 +75,7 @@ impl<'a, 'l> Definitions<'a, 'l> {
     }
 
     /// How the value of a node is written.
-    pub fn kind_of_node(&mut self, node: &Node<'a>) -> Result<Kind<'a>, AllocError> {
+    pub fn kind_of_node(&mut self, node: &Node<'a, '_>) -> Result<Kind<'a>, AllocError> {
         let at = self.layout.places.get(node.name).copied();
         self.kind(at.unwrap_or(usize::MAX), node.definition)
     }

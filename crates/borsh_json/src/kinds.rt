@@ -6,7 +6,6 @@ use crate::numbers::Number;
 use crate::order::Ordered;
 use borsh_walks::{Declaration, Definition, DiscriminantValue, FieldName, Fields, VariantName};
 use std::alloc::{AllocError, Global};
-use std::collections::BTreeSet;
 
 /// The fields of a struct with their names.
 pub type NamedFields = Vec<(FieldName, Declaration)>;
@@ -138,13 +137,11 @@ fn repeated_field<'a>(
     alloc: Global,
     fields: &'a NamedFields,
 ) -> Result<Option<&'a str>, AllocError> {
-    let mut names: BTreeSet<&'a str> = BTreeSet::new(alloc);
+    let mut names: Vec<&'a str> = Vec::with_capacity(alloc, fields.len())?;
     for (field, _) in fields {
-        if !names.insert(field.as_str())? {
-            return Ok(Some(field.as_str()));
-        }
+        names.push(field.as_str())?;
     }
-    Ok(None)
+    Ok(repeated_name(names))
 }
 
 /// A name that two variants have.
@@ -152,13 +149,24 @@ fn repeated_variant<'a>(
     alloc: Global,
     variants: &'a Variants,
 ) -> Result<Option<&'a str>, AllocError> {
-    let mut names: BTreeSet<&'a str> = BTreeSet::new(alloc);
+    let mut names: Vec<&'a str> = Vec::with_capacity(alloc, variants.len())?;
     for (_, variant, _) in variants {
-        if !names.insert(variant.as_str())? {
-            return Ok(Some(variant.as_str()));
+        names.push(variant.as_str())?;
+    }
+    Ok(repeated_name(names))
+}
+
+/// A name that is there twice.
+fn repeated_name<'a>(mut names: Vec<&'a str>) -> Option<&'a str> {
+    names.sort_unstable();
+    for pair in names.as_slice().windows(2) {
+        if let [name, other] = pair
+            && name == other
+        {
+            return Some(*name);
         }
     }
-    Ok(None)
+    None
 }
 
 fn kind_of_sequence<'a>(

@@ -4,6 +4,7 @@
 //! text says; [`rows_of`] says what each of the bytes is. Each takes any definitions, any bytes and any text, and none recurses.
 #![tactic(auto)]
 
+mod ascii;
 mod definitions;
 mod error;
 mod floats;
@@ -19,9 +20,10 @@ mod rows;
 mod strict;
 mod writing;
 
+pub use ascii::in_ascii;
 pub use error::{JsonError, Refusal};
 pub use laws::text_determines_bytes;
-pub use output::{Layout, LongNumbers, Style};
+pub use output::{Characters, Layout, LongNumbers, Style};
 pub use reading::{from_json, from_json_by};
 pub use rows::{Row, rows_by, rows_of};
 pub use strict::{check_strict, check_strict_by};

@@ -23,24 +23,36 @@ pub enum LongNumbers {
     Quoted,
 }
 
+/// Which characters JSON has.
+#[derive(Clone, Copy, Debug, PartialEq, Eq)]
+pub enum Characters {
+    /// Those of the value's texts and names.
+    Any,
+    /// Printable ASCII and line feeds; in strings any other character is `\u` and four digits, or two of these.
+    Ascii,
+}
+
 /// How JSON is written.
 #[derive(Clone, Copy, Debug, PartialEq, Eq)]
 pub struct Style {
     pub layout: Layout,
     pub long_numbers: LongNumbers,
+    pub characters: Characters,
 }
 
 impl Style {
-    /// With plain numbers, without white space.
+    /// With plain numbers and any characters, without white space.
     pub const COMPACT: Style = Style {
         layout: Layout::Compact,
         long_numbers: LongNumbers::Plain,
+        characters: Characters::Any,
     };
 
-    /// With plain numbers, in lines.
+    /// With plain numbers and any characters, in lines.
     pub const PRETTY: Style = Style {
         layout: Layout::Pretty,
         long_numbers: LongNumbers::Plain,
+        characters: Characters::Any,
     };
 }
 

@@ -5,7 +5,7 @@ ghost use Rattle.borsh_walks.specs.Container.{Member};
 ghost use Rattle.borsh_walks.specs.Definitions.{definitions_in};
 ghost use Rattle.borsh_json.specs.Errors.{IsBytesReason, IsPartError, IsTextReason, IsUnreadable, TellsNoJson};
 ghost use Rattle.json.specs.Json.{document};
-ghost use Rattle.std.specs.Prelude.{◌≡◌, IfErr, IfOk, IfSome, IsSome, OnOk};
+ghost use Rattle.std.specs.Prelude.{IfErr, IfOk, IsSome, OnOk};
 
 use crate::definitions::Definitions;
 use crate::error::{JsonError, PartError, PartResult, Refusal};
@@ -13,7 +13,7 @@ use crate::floats::is_nan;
 use crate::kinds::{Elements, Entries, KeyKind, Kind, NamedFields, Variants};
 use crate::numbers::Number;
 use crate::position::{Key, Part, Parts, Place, Position};
-use borsh_values::{Layout, Membership, Path, is_member};
+use borsh_values::{Layout, Membership, Path};
 use borsh_walks::Definition;
 use hex::FromHexError;
 use json::{Element, Items, MAX_DEPTH, Members, Reader, Scratch, Tape, Token};
@@ -72,37 +72,23 @@ pub fn from_json_by<'a>(
         IfErr result (λ e. IsTextReason C layout.now.root.now text.now e) }
 {
     let bytes = read_text(alloc, layout, text)?;
-    check_member(alloc, layout.root, layout.map, bytes.as_slice())?;
+    check_member(alloc, layout, bytes.as_slice())?;
     Ok(bytes)
 }
 
 /// Refuses bytes that are no member of the root.
-fn check_member<'a>(
-    alloc: Global,
-    root: &'a str,
-    map: &'a BTreeMap<String, Definition>,
-    bytes: &[u8],
-) -> Result<(), JsonError<'a>>
-    ensures member { OnOk result (Member (definitions_in map.now) root.now bytes.now) }
-    ensures reason { IfErr result (λ e. IsBytesReason (definitions_in map.now) root.now e) }
+fn check_member<'a>(alloc: Global, layout: &Layout<'a>, bytes: &[u8]) -> Result<(), JsonError<'a>>
+    requires laid_out { IsLaidOut layout.now }
+    requires sizes { KnowsSizes layout.now }
+    ensures member { let C = definitions_in layout.now.map.now in
+        OnOk result (Member C layout.now.root.now bytes.now) }
+    ensures reason { let C = definitions_in layout.now.map.now in
+        IfErr result (λ e. IsBytesReason C layout.now.root.now e) }
 {
-    match is_member(alloc, root, map, bytes)? {
+    match layout.is_member(alloc, bytes)? {
         Membership::Member => Ok(()),
         Membership::NoMember(_) => Err(JsonError::NoValue),
-        Membership::Ambiguous(name) => match name_in(map, name) {
-            Some(name) => Err(JsonError::Ambiguous(name)),
-            None => Err(JsonError::NoValue),
-        },
-    }
-}
-
-/// The name as the definitions have it; none if they don't.
-fn name_in<'a>(map: &'a BTreeMap<String, Definition>, name: &str) -> Option<&'a str>
-    ensures { IfSome result (λ found. found.now ≡ name.now) }
-{
-    match map.get_key_value(name) {
-        Some((found, _)) => Some(found.as_str()),
-        None => None,
+        Membership::Ambiguous(name) => Err(JsonError::Ambiguous(name)),
     }
 }
 

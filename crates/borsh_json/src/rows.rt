@@ -3,8 +3,10 @@ ghost use Rattle.borsh_values.specs.Free.{KnowsSizes};
 ghost use Rattle.borsh_values.specs.Layouts.{IsLaidOut};
 ghost use Rattle.borsh_walks.specs.Container.{Member};
 ghost use Rattle.borsh_walks.specs.Definitions.{definitions_in};
+ghost use Rattle.borsh_values.specs.Nodes.{AreOffsets, joined_bytes, views};
 ghost use Rattle.borsh_json.specs.Errors.{IsNoRowsReason, IsPartError, IsTooDeep};
-ghost use Rattle.std.specs.Prelude.{IfErr, OnOk};
+ghost use Rattle.borsh_json.specs.Rows.{AreRowsOf};
+ghost use Rattle.std.specs.Prelude.{◌≡◌, IfErr, IfOk, OnOk};
 
 use crate::definitions::Definitions;
 use crate::error::{JsonError, PartError, Refusal};
@@ -21,12 +23,12 @@ use std::str;
 /// What some of the bytes of a value are: the count of a list, with its elements if these are primitives; the tag of an
 /// enum; or a primitive.
 #[derive(Drop)]
-pub struct Row<'a> {
+pub struct Row<'a, 'b> {
     /// How many bytes of the value come before these.
     pub offset: usize,
     /// How many values the part is in: 0 for the whole value.
     pub depth: usize,
-    pub bytes: &'a [u8],
+    pub bytes: &'b [u8],
     pub path: Path<'a>,
     /// The name of the type.
     pub name: &'a str,
@@ -37,21 +39,23 @@ pub struct Row<'a> {
 /// What each of `bytes` is, in order, in the value of `root` that they are by the definitions of `map` alone. Each byte is
 /// in one row. Values that nest more than 128 deep are refused.
 ///
-/// Determined: after `Ok` the bytes are a member of the root; the errors are as of [`to_json`](crate::to_json), with `TooDeep`
-/// as the only refusal. Left open: memory; `TooDeep` for any member; any rows: tested.
+/// Determined: after `Ok` the bytes are a member of the root, the bytes of the rows, one after another, are these, and each
+/// row's offset is right; the errors are as of [`to_json`](crate::to_json), with `TooDeep` as the only refusal. Left open: memory;
+/// `TooDeep` for any member; how the bytes are cut into rows, and what a row says of its own: tested.
 ///
 /// ```
 /// for row in rows_of(alloc, "(u8, bool)", &definitions, &[7, 1])?.as_slice() {
 ///     println!(rt; "{}: {} {}", row.offset, row.path, row.value)?;
 /// }
 /// ```
-pub fn rows_of<'a>(
+pub fn rows_of<'a, 'b>(
     alloc: Global,
     root: &'a str,
     map: &'a BTreeMap<String, Definition>,
-    bytes: &'a [u8],
-) -> Result<Vec<Row<'a>>, JsonError<'a>>
+    bytes: &'b [u8],
+) -> Result<Vec<Row<'a, 'b>>, JsonError<'a>>
     ensures member { OnOk result (Member (definitions_in map.now) root.now bytes.now) }
+    ensures rows { IfOk result (λ rows. AreRowsOf bytes.now rows.items) }
     ensures reason { IfErr result (λ e. IsNoRowsReason (definitions_in map.now) root.now bytes.now e) }
 {
     rows_by(alloc, &Layout::new(alloc, root, map)?, bytes)
@@ -63,15 +67,16 @@ pub fn rows_of<'a>(
 /// let layout = Layout::new(alloc, "(u8, bool)", &definitions)?;
 /// let rows = rows_by(alloc, &layout, &[7, 1])?;
 /// ```
-pub fn rows_by<'a>(
+pub fn rows_by<'a, 'b>(
     alloc: Global,
     layout: &Layout<'a>,
-    bytes: &'a [u8],
-) -> Result<Vec<Row<'a>>, JsonError<'a>>
+    bytes: &'b [u8],
+) -> Result<Vec<Row<'a, 'b>>, JsonError<'a>>
     requires laid_out { IsLaidOut layout.now }
     requires sizes { KnowsSizes layout.now }
     ensures member { let C = definitions_in layout.now.map.now in
         OnOk result (Member C layout.now.root.now bytes.now) }
+    ensures rows { IfOk result (λ rows. AreRowsOf bytes.now rows.items) }
     ensures reason { let C = definitions_in layout.now.map.now in
         IfErr result (λ e. IsNoRowsReason C layout.now.root.now bytes.now e) }
 {
@@ -82,12 +87,15 @@ pub fn rows_by<'a>(
     }
 }
 
-fn list_rows<'a>(
+fn list_rows<'a, 'b>(
     alloc: Global,
     layout: &Layout<'a>,
-    nodes: &[Node<'a>],
-) -> Result<Vec<Row<'a>>, PartError<'a>>
-    ensures { IfErr result (IsPartError IsTooDeep) }
+    nodes: &[Node<'a, 'b>],
+) -> Result<Vec<Row<'a, 'b>>, PartError<'a>>
+    requires placed { AreOffsets 0 nodes.now }
+    ensures rows { let bytes = joined_bytes (views nodes.now) in
+        IfOk result (λ rows. AreRowsOf bytes rows.items) }
+    ensures refusal { IfErr result (IsPartError IsTooDeep) }
 {
     let mut definitions = Definitions::new(alloc, layout)?;
     let mut rows = Vec::new(alloc);
@@ -98,24 +106,33 @@ fn list_rows<'a>(
             return Err(PartError::Refused(paths.path(alloc)?, Refusal::TooDeep));
         }
         if !node.bytes.is_empty() {
-            rows.push(Row {
-                offset: node.offset,
-                depth: node.depth,
-                bytes: node.bytes,
-                path: paths.path(alloc)?,
-                name: node.name,
-                value: value_of(alloc, &mut definitions, node)?,
-            })?;
+            let path = paths.path(alloc)?;
+            let value = value_of(alloc, &mut definitions, node)?;
+            rows.push(row_of(node, path, value))?;
         }
     }
     Ok(rows)
+}
+
+/// The row of a node.
+fn row_of<'a, 'b>(node: &Node<'a, 'b>, path: Path<'a>, value: String) -> Row<'a, 'b>
+    ensures { (result.bytes.now ≡ node.now.bytes.now) × (result.offset ≡ node.now.offset) }
+{
+    Row {
+        offset: node.offset,
+        depth: node.depth,
+        bytes: node.bytes,
+        path,
+        name: node.name,
+        value,
+    }
 }
 
 /// What the own bytes of a node say.
 fn value_of<'a>(
     alloc: Global,
     definitions: &mut Definitions<'a, '_>,
-    node: &Node<'a>,
+    node: &Node<'a, '_>,
 ) -> Result<String, AllocError> {
     match definitions.kind_of_node(node)? {
         Kind::Number(number) => {
@@ -145,7 +162,7 @@ fn value_of<'a>(
 }
 
 /// The name of the variant of an enum; of other nodes nothing.
-fn variant_name(alloc: Global, node: &Node<'_>) -> Result<String, AllocError> {
+fn variant_name(alloc: Global, node: &Node<'_, '_>) -> Result<String, AllocError> {
     let Definition::Enum { variants, .. } = node.definition else {
         return Ok(String::new(alloc));
     };

@@ -35,7 +35,7 @@ pub fn check_strict<'a>(
     alloc: Global,
     root: &'a str,
     map: &'a BTreeMap<String, Definition>,
-    bytes: &'a [u8],
+    bytes: &[u8],
 ) -> Result<(), JsonError<'a>>
     ensures member { OnOk result (Member (definitions_in map.now) root.now bytes.now) }
     ensures reason { IfErr result (λ e. IsNoJsonReason (definitions_in map.now) root.now bytes.now e) }
@@ -52,7 +52,7 @@ pub fn check_strict<'a>(
 pub fn check_strict_by<'a>(
     alloc: Global,
     layout: &Layout<'a>,
-    bytes: &'a [u8],
+    bytes: &[u8],
 ) -> Result<(), JsonError<'a>>
     requires laid_out { IsLaidOut layout.now }
     requires sizes { KnowsSizes layout.now }
@@ -71,8 +71,8 @@ pub fn check_strict_by<'a>(
 fn check_nodes<'a>(
     alloc: Global,
     layout: &Layout<'a>,
-    bytes: &'a [u8],
-    nodes: &[Node<'a>],
+    bytes: &[u8],
+    nodes: &[Node<'a, '_>],
 ) -> Result<(), PartError<'a>>
     ensures { IfErr result (IsPartError IsUnwritable) }
 {
@@ -115,7 +115,7 @@ fn ascent_of(kind: Kind<'_>) -> Option<Ascent> {
 type Wrong = (Option<usize>, Refusal);
 
 /// What a type refuses of the own bytes of a node.
-fn wrong_in(definitions: &Definitions<'_, '_>, node: &Node<'_>, kind: Kind<'_>) -> Option<Wrong>
+fn wrong_in(definitions: &Definitions<'_, '_>, node: &Node<'_, '_>, kind: Kind<'_>) -> Option<Wrong>
     ensures { IfSome result (λ w. IsUnwritable w.1) }
 {
     match kind {

@@ -3,17 +3,20 @@ ghost use Rattle.borsh_values.specs.Free.{KnowsSizes};
 ghost use Rattle.borsh_values.specs.Layouts.{IsLaidOut};
 ghost use Rattle.borsh_walks.specs.Container.{Member};
 ghost use Rattle.borsh_walks.specs.Definitions.{definitions_in};
+ghost use Rattle.borsh_json.specs.Ascii.{IsPlain};
 ghost use Rattle.borsh_json.specs.Errors.{IsNoJsonReason, IsPartError, IsUnwritable};
+ghost use Rattle.borsh_json.specs.declared.output.Characters.TheVariants.{Ascii};
 ghost use Rattle.json.specs.Json.{document};
-ghost use Rattle.std.specs.Prelude.{IfErr, IfOk, IsSome, OnOk, string_bytes};
+ghost use Rattle.std.specs.Prelude.{◌≡◌, All, IfErr, IfOk, IsSome, OnOk, string_bytes};
 
+use crate::ascii::{in_ascii, is_ascii};
 use crate::definitions::Definitions;
 use crate::error::{JsonError, PartError, PartResult, Refusal};
 use crate::floats::is_nan;
 use crate::kinds::{Elements, Entries, KeyKind, Kind, Variants, kind_of_primitive};
 use crate::numbers::Number;
 use crate::order::Ordered;
-use crate::output::{LongNumbers, Output, Style};
+use crate::output::{Characters, LongNumbers, Output, Style};
 use crate::position::{Key, Part, Parts, Place, Position};
 use borsh_values::{Decoded, Layout, Node, Path, count_of, elements_of, variant_of};
 use borsh_walks::Definition;
@@ -41,7 +44,7 @@ use std::str;
 /// whose keys have none, and values that nest more than 128 deep. The order of keys is known of numbers, `bool`, texts, and of
 /// tuples, arrays, lists, ordered sets and maps, and options of these, and not of structs and enums.
 ///
-/// Determined: after `Ok` the bytes are a member of the root, and the text is JSON. After `NoMember` they are none, and
+/// Determined: after `Ok` the bytes are a member of the root, and the text is JSON, of the characters of the style. After `NoMember` they are none, and
 /// after `Refused` they are one; `NoMember` and `Ambiguous` are as of [`borsh_values::decode`], and `NoValue` and
 /// `NotJson` aren't returned. Left open: memory; `Refused` for any member, for any reason that a value has; the text of another value, or in another
 /// layout: tested, by tables and by round trips.
@@ -54,11 +57,12 @@ pub fn to_json<'a>(
     alloc: Global,
     root: &'a str,
     map: &'a BTreeMap<String, Definition>,
-    bytes: &'a [u8],
+    bytes: &[u8],
     style: Style,
 ) -> Result<String, JsonError<'a>>
     ensures member { OnOk result (Member (definitions_in map.now) root.now bytes.now) }
     ensures json { IfOk result (λ text. IsSome (document (string_bytes text))) }
+    ensures ascii { style.characters ≡ Ascii → IfOk result (λ text. All IsPlain (string_bytes text)) }
     ensures reason { IfErr result (λ e. IsNoJsonReason (definitions_in map.now) root.now bytes.now e) }
 {
     to_json_by(alloc, &Layout::new(alloc, root, map)?, bytes, style)
@@ -75,7 +79,7 @@ pub fn to_json<'a>(
 pub fn to_json_by<'a>(
     alloc: Global,
     layout: &Layout<'a>,
-    bytes: &'a [u8],
+    bytes: &[u8],
     style: Style,
 ) -> Result<String, JsonError<'a>>
     requires laid_out { IsLaidOut layout.now }
@@ -83,6 +87,7 @@ pub fn to_json_by<'a>(
     ensures member { let C = definitions_in layout.now.map.now in
         OnOk result (Member C layout.now.root.now bytes.now) }
     ensures json { IfOk result (λ text. IsSome (document (string_bytes text))) }
+    ensures ascii { style.characters ≡ Ascii → IfOk result (λ text. All IsPlain (string_bytes text)) }
     ensures reason { let C = definitions_in layout.now.map.now in
         IfErr result (λ e. IsNoJsonReason C layout.now.root.now bytes.now e) }
 {
@@ -96,11 +101,12 @@ pub fn to_json_by<'a>(
 fn write_nodes<'a>(
     alloc: Global,
     layout: &Layout<'a>,
-    bytes: &'a [u8],
-    nodes: &[Node<'a>],
+    bytes: &[u8],
+    nodes: &[Node<'a, '_>],
     style: Style,
 ) -> Result<String, PartError<'a>>
     ensures json { IfOk result (λ text. IsSome (document (string_bytes text))) }
+    ensures ascii { style.characters ≡ Ascii → IfOk result (λ text. All IsPlain (string_bytes text)) }
     ensures refusal { IfErr result (IsPartError IsUnwritable) }
 {
     let root = layout.root;
@@ -114,11 +120,37 @@ fn write_nodes<'a>(
         position: Position::new(alloc, root),
     };
     writing.write_all()?;
-    let Ok(text) = String::from_utf8(writing.out.into_bytes()) else {
-        return Err(no_json(alloc, root));
-    };
+    let text = text_of(alloc, root, writing.out.into_bytes())?;
+    let text = in_characters(alloc, root, text, style.characters)?;
     check_json(alloc, root, text.as_str())?;
     Ok(text)
+}
+
+/// The text, with these characters alone.
+fn in_characters<'a>(
+    alloc: Global,
+    root: &'a str,
+    text: String,
+    characters: Characters,
+) -> Result<String, PartError<'a>>
+    ensures ascii { characters ≡ Ascii → IfOk result (λ text. All IsPlain (string_bytes text)) }
+    ensures refusal { IfErr result (IsPartError IsUnwritable) }
+{
+    if characters == Characters::Any || is_ascii(text.as_str()) {
+        return Ok(text);
+    }
+    text_of(alloc, root, in_ascii(alloc, text.as_str())?)
+}
+
+/// The text of bytes, which are UTF-8.
+fn text_of<'a>(alloc: Global, root: &'a str, bytes: Vec<u8>) -> Result<String, PartError<'a>>
+    ensures same { IfOk result (λ text. string_bytes text ≡ bytes.items) }
+    ensures refusal { IfErr result (IsPartError IsUnwritable) }
+{
+    match String::from_utf8(bytes) {
+        Ok(text) => Ok(text),
+        Err(_) => Err(no_json(alloc, root)),
+    }
 }
 
 /// Refuses a text that isn't JSON.
@@ -143,17 +175,17 @@ fn no_json<'a>(alloc: Global, root: &'a str) -> PartError<'a>
 
 /// The nodes that are left, and where the writer is.
 #[derive(Drop)]
-struct Writing<'a, 'l, 'n> {
+struct Writing<'a, 'l, 'b, 'n> {
     alloc: Global,
     definitions: Definitions<'a, 'l>,
     long_numbers: LongNumbers,
     out: Output,
-    bytes: &'a [u8],
-    nodes: &'n [Node<'a>],
+    bytes: &'b [u8],
+    nodes: &'n [Node<'a, 'b>],
     position: Position<'a>,
 }
 
-impl<'a, 'l, 'n> Writing<'a, 'l, 'n> {
+impl<'a, 'l, 'b, 'n> Writing<'a, 'l, 'b, 'n> {
     fn write_all(&mut self) -> PartResult<'a, ()>
         ensures { IfErr result (IsPartError IsUnwritable) }
     {
@@ -245,7 +277,7 @@ impl<'a, 'l, 'n> Writing<'a, 'l, 'n> {
     }
 
     /// The next node, which has to be of the name at this place.
-    fn take_node(&mut self, at: usize) -> PartResult<'a, Node<'a>>
+    fn take_node(&mut self, at: usize) -> PartResult<'a, Node<'a, 'b>>
         ensures { IfErr result (IsPartError IsUnwritable) }
     {
         match self.nodes {
@@ -258,7 +290,7 @@ impl<'a, 'l, 'n> Writing<'a, 'l, 'n> {
     }
 
     /// How many elements a list has.
-    fn count_of(&self, node: &Node<'a>) -> PartResult<'a, u64>
+    fn count_of(&self, node: &Node<'a, '_>) -> PartResult<'a, u64>
         ensures { IfErr result (IsPartError IsUnwritable) }
     {
         match count_of(node) {
@@ -274,7 +306,7 @@ impl<'a, 'l, 'n> Writing<'a, 'l, 'n> {
         self.position.enter(Place::new(parts))
     }
 
-    fn open_list(&mut self, node: &Node<'a>, elements: Elements) -> PartResult<'a, ()>
+    fn open_list(&mut self, node: &Node<'a, '_>, elements: Elements) -> PartResult<'a, ()>
         ensures { IfErr result (IsPartError IsUnwritable) }
     {
         let count = self.count_of(node)?;
@@ -288,7 +320,7 @@ impl<'a, 'l, 'n> Writing<'a, 'l, 'n> {
 
     fn open_map(
         &mut self,
-        node: &Node<'a>,
+        node: &Node<'a, '_>,
         entries: Entries<'a>,
         order: Ordered,
     ) -> PartResult<'a, ()>
@@ -328,7 +360,7 @@ impl<'a, 'l, 'n> Writing<'a, 'l, 'n> {
     fn open_variant(
         &mut self,
         at: usize,
-        node: &Node<'a>,
+        node: &Node<'a, '_>,
         variants: &'a Variants,
     ) -> PartResult<'a, ()>
         ensures { IfErr result (IsPartError IsUnwritable) }

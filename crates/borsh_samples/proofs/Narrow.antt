@@ -16,6 +16,11 @@ narrower m tag x Zero other p = p
 narrower m tag x (One n) other p = p
 narrower m tag x (Many v) other p = absurd (other (let e = p.whole in cc))
 
+narrower_made : (v : MyEnum) → my_enum.made v → one_or_zero.made (record { 0 = v })
+narrower_made Zero p = p
+narrower_made (One n) p = p
+narrower_made (Many v) p = p
+
 wider : (m : Bool) (x : List ℕ) (v : MyEnum) → one_or_zero.decodes m x (record { 0 = v }) → my_enum.decodes m x v
 wider m x Zero p = p
 wider m x (One n) p = p
@@ -27,7 +32,7 @@ none_many m x (One n) p = let e = p.whole in absurd (cc)
 none_many m x (Many v) p = true≢false p.holds.allowed
 
 pub reads_narrow : {tag : ℕ} {s t : ReaderState} {v : MyEnum} → (tag ≡ 2 → ⊥) → DecodedAfterTag tag MyEnum my_enum s t v → DecodedAfterTag tag OneOrZero one_or_zero s t (record { 0 = v })
-reads_narrow {tag = tag} {s = s} {v = v} other r = record { took = took_weaker (λ x p. narrower s.strict_order tag x v other p) r.took }
+reads_narrow {tag = tag} {s = s} {v = v} other r = record { took = took_weaker (λ x p. narrower s.strict_order tag x v other p) r.took; made = narrower_made v r.made }
 
 pub denied_narrow : {tag : ℕ} {s t : ReaderState} {k : ErrorKind} → NotDecodedAfterTag tag MyEnum my_enum s t k → NotDecodedAfterTag tag OneOrZero one_or_zero s t k
 denied_narrow {tag = tag} {s = s} r = record { refused = refused_map (λ e. e) (λ e. e) (λ o none front rest e p. none front rest e (p.0.0, wider s.strict_order (tag ∷ front) p.0.0 p.1)) r.refused }

@@ -2,6 +2,7 @@
 //! library's public contracts alone; and the schemas of two of them.
 #![tactic(auto)]
 
+pub mod generic;
 pub mod my_enum;
 pub mod my_struct;
 pub mod namesakes;
@@ -11,6 +12,7 @@ pub mod one_or_zero;
 pub mod readme;
 mod schemas;
 
+pub use generic::B;
 pub use my_enum::MyEnum;
 pub use my_struct::MyStruct;
 pub use namesakes::{LongA, ShortA};

@@ -1,11 +1,11 @@
 // Ranges: their ends.
-ghost use Rattle.std.specs.Prelude.{codes, refl};
-ghost use Rattle.std.specs.Range.{range_inclusive_start, range_inclusive_end};
+ghost use Rattle.std.specs.Prelude.{◌≡◌, codes, false, refl};
+ghost use Rattle.std.specs.Range.{range_inclusive_start, range_inclusive_end, range_inclusive_exhausted};
 ghost use Rattle.borsh_definitions.specs.Described.{defined, both, none};
-ghost use Rattle.borsh_definitions.proofs.Laws.Members.{describes_contramap, describes_parts, all_one, all_more};
+ghost use Rattle.borsh_definitions.proofs.Laws.Members.{describes_contramap, describes_decoded_with, describes_parts, all_one, all_more};
 ghost use Rattle.borsh_definitions.specs.Names.{applied};
 ghost use Rattle.borsh_definitions.specs.Types.{range_of, range_from, range_to};
-ghost use Rattle.borsh_definitions.proofs.Laws.Quoted.{fields_described, no_fields_described, range_described, struct_described};
+ghost use Rattle.borsh_definitions.proofs.Laws.Quoted.{decoded_with_described, fields_described, no_fields_described, range_described, struct_described};
 
 use super::definitions::{DefinitionMap, SchemaResult};
 use super::parts::{add_with_parts, field};
@@ -45,8 +45,9 @@ impl<T: BorshSchema> BorshSchema for RangeInclusive<T> {
     ghost parts = { defined (applied (codes "RangeInclusive<") T.name) (range_of T.name)
         (both T.parts none) };
 
-    ghost described = { range_described (λ r. (range_inclusive_start r, range_inclusive_end r))
-        (codes "RangeInclusive<") T.described };
+    ghost described = { decoded_with_described (λ r. range_inclusive_exhausted r ≡ false)
+        (range_described (λ r. (range_inclusive_start r, range_inclusive_end r))
+        (codes "RangeInclusive<") T.described) };
 
     fn declaration(alloc: Global) -> SchemaResult<Declaration> {
         let start = T::declaration(alloc)?;
@@ -62,9 +63,9 @@ impl<T: BorshSchema> BorshSchema for RangeInclusive<T> {
         add_with_parts::<(T, ())>(alloc, Self::declaration(alloc)?, definition, map)
     }
 
-    ghost describes = { λ C h. describes_contramap
-        (λ r. (range_inclusive_start r, range_inclusive_end r))
-        (describes_parts h.0 (all_more (T.describes C h.1.0) (all_one (T.describes C h.1.0)))) };
+    ghost describes = { λ C h. describes_decoded_with (λ r. range_inclusive_exhausted r ≡ false)
+        (describes_contramap (λ r. (range_inclusive_start r, range_inclusive_end r))
+        (describes_parts h.0 (all_more (T.describes C h.1.0) (all_one (T.describes C h.1.0))))) };
 }
 
 impl<T: BorshSchema> BorshSchema for RangeFrom<T> {

@@ -17,7 +17,7 @@ use Rattle.borsh_json.specs.declared.error.JsonError.{JsonError}
 use Rattle.borsh_json.specs.declared.error.JsonError.TheVariants.{OutOfMemory as NoMemory}
 use Rattle.borsh_walks.specs.declared.definition.Definition.{Definition}
 use Rattle.borsh_tool_commands.specs.declared.failure.Failure.{Failure}
-use Rattle.borsh_tool_commands.specs.declared.failure.Failure.TheVariants.{NoCommand, Unreadable, NotHexadecimal, NotContainer, NotValue, NotText, TwoInputs, RawOnTerminal, Unwritable, OutOfMemory}
+use Rattle.borsh_tool_commands.specs.declared.failure.Failure.TheVariants.{NoCommand, Unreadable, NotHexadecimal, NotContainer, NotValue, NotText, TwoInputs, RawOnTerminal, Unwritable, Unread, Unwritten, LongLine, OutOfMemory}
 use Rattle.borsh_tool_commands.specs.Failures.{BeginsWithContainer, HasReason, IsFailure, IsNoMemory}
 use Rattle.borsh_tool_commands.specs.declared.values.Schema.{Schema}
 use Rattle.borsh_tool_commands.specs.Sent.{IsContainer}
@@ -33,6 +33,9 @@ led path f g h (NotText p) k = (k.0, h k.1)
 led path f g h TwoInputs k = absurd k
 led path f g h RawOnTerminal k = absurd k
 led path f g h (Unwritable e) k = absurd k
+led path f g h (Unread p e) k = absurd k
+led path f g h (Unwritten e) k = absurd k
+led path f g h (LongLine p) k = absurd k
 led path f g h OutOfMemory k = tt
 
 -- the same of what a call returns
@@ -51,6 +54,9 @@ only_memory path f g h (NotText p) k = absurd (h k.1)
 only_memory path f g h TwoInputs k = absurd k
 only_memory path f g h RawOnTerminal k = absurd k
 only_memory path f g h (Unwritable e) k = absurd k
+only_memory path f g h (Unread p e) k = absurd k
+only_memory path f g h (Unwritten e) k = absurd k
+only_memory path f g h (LongLine p) k = absurd k
 only_memory path f g h OutOfMemory k = tt
 
 -- the bytes are those of a container, so a call that reads one from them fails only by an allocation

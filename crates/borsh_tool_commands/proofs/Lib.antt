@@ -2,3 +2,4 @@ mod Told
 mod Painting
 mod Sending
 mod Failing
+mod ManyLaws

@@ -3,7 +3,7 @@ use Rattle.std.proofs.Common.{◌≡◌, ℕ, Bool, true, false, List, [], ◌�
 use Rattle.std.specs.List.{All, AllByRecursion}
 use Rattle.std.proofs.lemmas.List.Elements.{recursion_from_All}
 use Rattle.std.proofs.Math.Logic.{∥∥₁_elim, ∥∥₁_prop, ∥∥₁_map}
-use Rattle.borsh_tool_commands.specs.Plain.{IsPlain}
+use Rattle.borsh_json.specs.Ascii.{IsPlain}
 use Rattle.borsh_tool_commands.specs.Colors.{Painted, IsPainted, color_code}
 use Rattle.borsh_tool_commands.specs.Colors.Painted.{nothing, plain, code}
 use Rattle.borsh_tool_commands.specs.declared.colors.Color.{Color}

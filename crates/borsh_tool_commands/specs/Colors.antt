@@ -1,6 +1,6 @@
 -- Text in colours.
 use Rattle.std.specs.Prelude.{◌≡◌, ℕ, Bool, true, List, [], ◌∷◌, ◌++◌, if◌then◌else◌}
-use Rattle.borsh_tool_commands.specs.Plain.{IsPlain}
+use Rattle.borsh_json.specs.Ascii.{IsPlain}
 use Rattle.borsh_tool_commands.specs.declared.colors.Color.{Color}
 use Rattle.borsh_tool_commands.specs.declared.colors.Color.TheVariants.{Green, Yellow, Cyan, Default}
 

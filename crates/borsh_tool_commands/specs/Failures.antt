@@ -6,7 +6,7 @@ use Rattle.borsh_json.specs.declared.error.JsonError.{JsonError}
 use Rattle.borsh_json.specs.declared.error.JsonError.TheVariants.{OutOfMemory as NoMemory}
 use Rattle.borsh_json.specs.Errors.{IsNoJsonReason, IsNoRowsReason, IsTextReason}
 use Rattle.borsh_tool_commands.specs.declared.failure.Failure.{Failure}
-use Rattle.borsh_tool_commands.specs.declared.failure.Failure.TheVariants.{NoCommand, Unreadable, NotHexadecimal, NotContainer, NotValue, NotText, TwoInputs, RawOnTerminal, Unwritable, OutOfMemory}
+use Rattle.borsh_tool_commands.specs.declared.failure.Failure.TheVariants.{NoCommand, Unreadable, NotHexadecimal, NotContainer, NotValue, NotText, TwoInputs, RawOnTerminal, Unwritable, Unread, Unwritten, LongLine, OutOfMemory}
 use Rattle.borsh_tool_commands.specs.declared.values.Schema.{Schema}
 use Rattle.borsh_tool_commands.specs.Sent.{IsContainer, IsSent}
 
@@ -21,6 +21,9 @@ IsFailure path no_container no_value no_text (NotText p) = (p.now ≡ path) × n
 IsFailure path no_container no_value no_text TwoInputs = ⊥
 IsFailure path no_container no_value no_text RawOnTerminal = ⊥
 IsFailure path no_container no_value no_text (Unwritable e) = ⊥
+IsFailure path no_container no_value no_text (Unread p e) = ⊥
+IsFailure path no_container no_value no_text (Unwritten e) = ⊥
+IsFailure path no_container no_value no_text (LongLine p) = ⊥
 IsFailure path no_container no_value no_text OutOfMemory = ⊤
 
 -- ---- containers

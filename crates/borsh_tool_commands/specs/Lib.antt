@@ -7,3 +7,4 @@ pub mod Answers
 pub mod Definitions
 pub mod Sent
 pub mod Failures
+pub mod Many

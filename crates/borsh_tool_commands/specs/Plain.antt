@@ -1,14 +1,8 @@
 -- Text that a terminal shows as it is.
-use Rattle.std.specs.Prelude.{◌≡◌, ℕ, ◌+◌, ◌/◌, ◌%◌, ◌==◌, ◌&&◌, ◌||◌, not, Bool, true, false, ltb, leb, List, [], ◌∷◌, ◌++◌, flat_map, if◌then◌else◌}
+use Rattle.std.specs.Prelude.{ℕ, ◌+◌, ◌/◌, ◌%◌, ◌==◌, ◌&&◌, ◌||◌, not, Bool, false, ltb, List, [], ◌∷◌, ◌++◌, flat_map, if◌then◌else◌}
 use Rattle.std.specs.List.{list_all}
 use Rattle.std.specs.Char.{is_ascii_digit, is_ascii_alphanumeric}
-
-abbrev pub is_printable : ℕ → Bool
-is_printable b = leb 32 b && ltb b 127
-
--- a line feed or printable ASCII
-abbrev pub IsPlain : ℕ → Type 0
-IsPlain b = (b == 10 || is_printable b) ≡ true
+use Rattle.borsh_json.specs.Ascii.{is_printable}
 
 -- a hexadecimal digit
 abbrev pub digit : ℕ → ℕ

@@ -1,7 +1,7 @@
 // Text that a terminal shows in colours.
 ghost use Rattle.std.specs.Prelude.{◌≡◌, ◌++◌, [], All, OnOk, true};
 ghost use Rattle.borsh_tool_commands.specs.Colors.{IsPainted, color_code, color_digit, painted as painted_text};
-ghost use Rattle.borsh_tool_commands.specs.Plain.{IsPlain};
+ghost use Rattle.borsh_json.specs.Ascii.{IsPlain};
 ghost use Rattle.borsh_tool_commands.specs.Printed.{printed};
 
 use super::plain_text::PlainText;

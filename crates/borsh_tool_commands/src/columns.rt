@@ -25,7 +25,7 @@ struct Widths {
 /// A line for each row.
 pub(crate) fn text_of_rows(
     alloc: Global,
-    rows: &[Row<'_>],
+    rows: &[Row<'_, '_>],
     is_colored: bool,
 ) -> Result<ColoredText, AllocError>
     ensures { IfOk result (λ t. has_colors t ≡ is_colored) }
@@ -40,7 +40,7 @@ pub(crate) fn text_of_rows(
 }
 
 /// `text` is room for the texts of the columns.
-fn widths_of(rows: &[Row<'_>], text: &mut PlainText) -> Result<Widths, AllocError> {
+fn widths_of(rows: &[Row<'_, '_>], text: &mut PlainText) -> Result<Widths, AllocError> {
     let mut widths = Widths {
         bytes: 0,
         path: 0,
@@ -67,7 +67,7 @@ fn wider(width: usize, text: &PlainText) -> usize {
 
 /// Adds the offset, the first bytes, the path, the type and the value, as a line.
 fn push_row(
-    row: &Row<'_>,
+    row: &Row<'_, '_>,
     widths: Widths,
     text: &mut PlainText,
     out: &mut ColoredText,
@@ -102,7 +102,7 @@ fn push_row(
     out.push(text)
 }
 
-fn push_offset(row: &Row<'_>, text: &mut PlainText) -> Added {
+fn push_offset(row: &Row<'_, '_>, text: &mut PlainText) -> Added {
     let offset = row.offset;
     match write!(text, "{offset:>8}  ") {
         Ok(()) => Ok(()),
@@ -111,7 +111,7 @@ fn push_offset(row: &Row<'_>, text: &mut PlainText) -> Added {
 }
 
 /// Adds the first bytes as digits, and two dots where there are more.
-fn push_bytes(row: &Row<'_>, text: &mut PlainText) -> Added {
+fn push_bytes(row: &Row<'_, '_>, text: &mut PlainText) -> Added {
     let shown = row.bytes.len().min(SHOWN_BYTES);
     text.push_digits(&row.bytes[..shown])?;
     if row.bytes.len() > shown {
@@ -120,7 +120,7 @@ fn push_bytes(row: &Row<'_>, text: &mut PlainText) -> Added {
     Ok(())
 }
 
-fn push_path(row: &Row<'_>, text: &mut PlainText) -> Added {
+fn push_path(row: &Row<'_, '_>, text: &mut PlainText) -> Added {
     let path = &row.path;
     match write!(text, "{path}") {
         Ok(()) => Ok(()),

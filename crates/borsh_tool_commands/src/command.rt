@@ -55,6 +55,15 @@ pub enum Action {
     Show,
 }
 
+/// How an input has many values.
+#[derive(Clone, Copy, Debug, PartialEq, Eq)]
+pub enum Form {
+    /// One after another.
+    Records,
+    /// One a line.
+    Lines,
+}
+
 /// What is asked of a value, and where its container and the value are.
 #[derive(Clone, Copy, Debug)]
 pub struct ValueRequest<'a> {
@@ -64,6 +73,8 @@ pub struct ValueRequest<'a> {
     pub schema: Option<&'a str>,
     /// A file, or `-` for standard input; or digits behind `0x`, but of JSON.
     pub value: &'a str,
+    /// The form of many values; none where there is one value.
+    pub form: Option<Form>,
     /// Whether the container is written as hexadecimal digits.
     pub is_schema_hex: bool,
     /// Whether the bytes of the value are.
@@ -74,7 +85,7 @@ pub struct ValueRequest<'a> {
     pub is_compact: bool,
     /// Whether numbers of 64 bits are printed as JSON strings.
     pub has_quoted_numbers: bool,
-    /// Whether a member that the type refuses is none.
+    /// Whether a member that the type refuses is none, and whether the first line that is no value ends the run.
     pub is_strict: bool,
     /// Whether no colours are wanted.
     pub is_plain: bool,
@@ -128,7 +139,16 @@ fn decode_command<'a>(alloc: Global) -> Result<Command<'a>, AllocError> {
             alloc,
             "quoted",
             "Prints numbers of 64 bits as strings, since JavaScript rounds them",
-        ))
+        ))?
+        .arg(records(
+            alloc,
+            "The bytes are values one after another; prints a line for each",
+        )?)?
+        .arg(lines(
+            alloc,
+            "Each line is the digits of a value, or `-`; answers each by a line",
+        )?)?
+        .arg(strict_lines(alloc)?)
 }
 
 fn member_command<'a>(alloc: Global) -> Result<Command<'a>, AllocError> {
@@ -138,7 +158,12 @@ fn member_command<'a>(alloc: Global) -> Result<Command<'a>, AllocError> {
             alloc,
             "strict",
             "Says no to bytes that the type refuses, as far as names tell",
-        ))
+        ))?
+        .arg(records(
+            alloc,
+            "The bytes are values one after another; prints how many",
+        )?
+        .conflicts_with("strict")?)
 }
 
 fn show_command<'a>(alloc: Global) -> Result<Command<'a>, AllocError> {
@@ -197,11 +222,12 @@ fn encode_command<'a>(alloc: Global) -> Result<Command<'a>, AllocError> {
         .about("Prints the bytes of a value in JSON")
         .after_help(AFTER_ENCODE)
         .arg(schema(alloc).required(true))?
-        .arg(value(
-            alloc,
-            "JSON",
-            "The value: a file, or `-` for standard input",
-        ))?
+        .arg(
+            Arg::new(alloc, "JSON")
+                .help("The value: a file, or `-` for standard input")
+                .required_unless_present("records")?
+                .required_unless_present("lines")?,
+        )?
         .arg(flag(alloc, "hex", "Prints hexadecimal digits"))?
         .arg(flag(
             alloc,
@@ -213,7 +239,17 @@ fn encode_command<'a>(alloc: Global) -> Result<Command<'a>, AllocError> {
             alloc,
             "with-schema",
             "Prints the bytes of the container in front",
-        ))
+        ))?
+        .arg(records(
+            alloc,
+            "Each line is the JSON of a value; prints their bytes one after another",
+        )?
+        .conflicts_with("hex")?)?
+        .arg(lines(
+            alloc,
+            "Each line is the JSON of a value; answers each by a line of digits, or `-`",
+        )?)?
+        .arg(strict_lines(alloc)?)
 }
 
 /// An argument that has to be given.
@@ -225,6 +261,8 @@ fn value<'a>(alloc: Global, name: &'a str, help: &'a str) -> Arg<'a> {
 fn schema_unless_sent<'a>(alloc: Global) -> Result<Arg<'a>, AllocError> {
     schema(alloc)
         .required_unless_present("with-schema")?
+        .required_unless_present("records")?
+        .required_unless_present("lines")?
         .conflicts_with("with-schema")
 }
 
@@ -236,6 +274,26 @@ fn schema<'a>(alloc: Global) -> Arg<'a> {
 
 fn schema_hex<'a>(alloc: Global) -> Arg<'a> {
     flag(alloc, "schema-hex", "The container is hexadecimal digits")
+}
+
+/// That the bytes are values one after another.
+fn records<'a>(alloc: Global, help: &'a str) -> Result<Arg<'a>, AllocError> {
+    flag(alloc, "records", help).conflicts_with("with-schema")
+}
+
+/// That there is a value a line.
+fn lines<'a>(alloc: Global, help: &'a str) -> Result<Arg<'a>, AllocError> {
+    flag(alloc, "lines", help).conflicts_with_all(&["records", "with-schema", "hex"])
+}
+
+/// That a line that is no value ends the run.
+fn strict_lines<'a>(alloc: Global) -> Result<Arg<'a>, AllocError> {
+    flag(
+        alloc,
+        "strict",
+        "With --lines, ends the run at the first line that is no value",
+    )
+    .requires_arg("lines")
 }
 
 /// An option without a value.
@@ -261,10 +319,16 @@ pub fn request_from<'a>(matches: &ArgMatches<'a>) -> Option<Request<'a>> {
 pub fn value_request_from<'a>(matches: &ArgMatches<'a>) -> Option<ValueRequest<'a>> {
     let (name, inner) = matches.subcommand()?;
     let (action, value) = action_named(name)?;
+    let form = form_in(inner);
+    let (schema, value) = match (inner.get_str("SCHEMA"), inner.get_str(value)) {
+        (None, only) | (only, None) if form.is_some() => (only, "-"),
+        (schema, value) => (schema, value?),
+    };
     Some(ValueRequest {
         action,
-        schema: inner.get_str("SCHEMA"),
-        value: inner.get_str(value)?,
+        schema,
+        value,
+        form,
         is_schema_hex: inner.get_flag("schema-hex"),
         is_hex: inner.get_flag("hex"),
         with_schema: inner.get_flag("with-schema"),
@@ -274,6 +338,16 @@ pub fn value_request_from<'a>(matches: &ArgMatches<'a>) -> Option<ValueRequest<'
         is_plain: inner.get_flag("plain"),
         is_raw: inner.get_flag("raw"),
     })
+}
+
+fn form_in(matches: &ArgMatches<'_>) -> Option<Form> {
+    if matches.get_flag("records") {
+        Some(Form::Records)
+    } else if matches.get_flag("lines") {
+        Some(Form::Lines)
+    } else {
+        None
+    }
 }
 
 /// The action, and the name of its argument with the value.

@@ -2,6 +2,7 @@
 ghost use Rattle.borsh_tool_commands.specs.declared.failure.Failure.TheVariants.{OutOfMemory};
 ghost use Rattle.std.specs.Prelude.{◌≡◌};
 
+use super::lines::MOST_LINE;
 use super::plain_text::PlainText;
 use hex::FromHexError;
 use std::alloc::{AllocError, Global};
@@ -28,6 +29,12 @@ pub enum Failure<'a> {
     RawOnTerminal,
     /// The answer can't be written.
     Unwritable(io::Error),
+    /// Reading stopped by an error.
+    Unread(&'a str, borsh::io::Error),
+    /// Writing did.
+    Unwritten(borsh::io::Error),
+    /// A line has too many bytes.
+    LongLine(&'a str),
     /// An allocation failed.
     OutOfMemory,
 }
@@ -36,7 +43,10 @@ impl<'a> Failure<'a> {
     /// The exit status: 1 for bytes that are no container, and for bytes and texts that are no value; else 2.
     pub fn status(&self) -> u8 {
         match self {
-            Failure::NotContainer(_, _) | Failure::NotValue(_, _) | Failure::NotText(_) => 1,
+            Failure::NotContainer(_, _)
+            | Failure::NotValue(_, _)
+            | Failure::NotText(_)
+            | Failure::LongLine(_) => 1,
             _ => 2,
         }
     }
@@ -69,6 +79,11 @@ impl<'a> fmt::Display for Failure<'a> {
                 )
             }
             Failure::Unwritable(error) => write!(f, "{error}"),
+            Failure::Unread(path, error) => write!(f, "{}: {error}", Named(path)),
+            Failure::Unwritten(error) => write!(f, "{error}"),
+            Failure::LongLine(path) => {
+                write!(f, "{}: a line has more than {MOST_LINE} bytes", Named(path))
+            }
             Failure::OutOfMemory => write!(f, "out of memory"),
         }
     }

@@ -1,8 +1,8 @@
 //! The commands of the tool `borsh`: what a schema container says, and what bytes mean by it.
 //!
 //! [`run`] is a run of the tool over the words of its command line. The modules have what it is made of: the command line
-//! ([`command`]), the answers about a container ([`answers`], [`definitions`]) and about a value ([`values`]), the text that is
-//! printed ([`plain_text`], [`colors`]), and why there is no answer ([`failure`]).
+//! ([`command`]), the answers about a container ([`answers`], [`definitions`]), about a value ([`values`]) and about many
+//! ([`many`]), what is printed ([`plain_text`], [`colors`]), and why there is no answer ([`failure`]).
 #![tactic(auto)]
 
 pub mod answers;
@@ -11,6 +11,8 @@ mod columns;
 pub mod command;
 pub mod definitions;
 pub mod failure;
+mod lines;
+pub mod many;
 pub mod plain_text;
 pub mod runner;
 pub mod values;

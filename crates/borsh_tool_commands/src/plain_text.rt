@@ -1,7 +1,8 @@
 // Text that a terminal shows as it is.
 ghost use Rattle.std.specs.Prelude.{◌≡◌, ◌++◌, ◌∷◌, ◌<◌, ◌≤◌, [], All, OnOk, decimal, flat_map};
 ghost use Rattle.std.specs.Fmt.{signed_decimal};
-ghost use Rattle.borsh_tool_commands.specs.Plain.{IsPlain, digit as digit_of, digits, escaped, quoted, name_text, is_word as is_word_byte, is_identifier as is_identifier_text};
+ghost use Rattle.borsh_json.specs.Ascii.{IsPlain};
+ghost use Rattle.borsh_tool_commands.specs.Plain.{digit as digit_of, digits, escaped, quoted, name_text, is_word as is_word_byte, is_identifier as is_identifier_text};
 ghost use Rattle.std.specs.List.{list_all};
 
 use std::alloc::{AllocError, Global};
@@ -26,6 +27,14 @@ impl PlainText {
         PlainText {
             text: Vec::new(alloc),
         }
+    }
+
+    /// A text of printable ASCII and line feeds.
+    pub fn of(text: Vec<u8>) -> PlainText
+        requires { All IsPlain text.items }
+        ensures { result.text.items ≡ text.items }
+    {
+        PlainText { text }
     }
 
     /// The text.
@@ -100,42 +109,6 @@ impl PlainText {
     {
         self.put(digit(byte / 16))?;
         self.put(digit(byte % 16))
-    }
-
-    /// Adds JSON. Left open: memory; any text: tested.
-    ///
-    /// A character that isn't printable ASCII, but for line feeds, appears as `\u` and four digits, or
-    /// as two of these. Only strings of JSON have such characters, and the texts say the same.
-    pub fn push_json(&mut self, json: &str) -> Added {
-        for character in json.chars() {
-            self.push_character(character)?;
-        }
-        Ok(())
-    }
-
-    fn push_character(&mut self, character: char) -> Added {
-        let number = u32::from(character);
-        if number == 10 {
-            return self.end_line();
-        }
-        if 32 <= number && number < 127 {
-            return self.put(number as u8);
-        }
-        if number < 65536 {
-            return self.push_unit(number);
-        }
-        self.push_unit(55296 + (number - 65536) / 1024)?;
-        self.push_unit(56320 + number % 1024)
-    }
-
-    /// `\u` and four digits.
-    fn push_unit(&mut self, unit: u32) -> Added {
-        self.put(b'\\')?;
-        self.put(b'u')?;
-        self.put(digit((unit / 4096 % 16) as u8))?;
-        self.put(digit((unit / 256 % 16) as u8))?;
-        self.put(digit((unit / 16 % 16) as u8))?;
-        self.put(digit((unit % 16) as u8))
     }
 
     /// Adds the bytes of a name that is in quotation marks.

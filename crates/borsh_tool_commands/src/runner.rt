@@ -1,24 +1,32 @@
 // A run of the tool.
 ghost use Rattle.std.specs.Prelude.{IfErr, IfOk};
+ghost use Rattle.borsh_values.specs.Free.{KnowsSizes};
+ghost use Rattle.borsh_values.specs.Layouts.{IsLaidOut};
 ghost use Rattle.borsh_tool_commands.specs.Failures.{IsNoContainer};
 ghost use Rattle.borsh_tool_commands.specs.Printed.{printed};
 ghost use Rattle.borsh_tool_commands.specs.Questions.{AnswersRequest};
 
 use super::answers::{Answer, answer_to, container_from};
-use super::command::{Action, Request, ValueRequest, command, request_from, value_request_from};
-use super::failure::{Failure, failure_line, usage_line};
-use super::values::{
-    Schema, bytes_said, hex_line, json_text, member, no_container, own_schema, schema_from,
-    schema_in_front, schema_json, shown, strict_member, with_schema,
+use super::command::{
+    Action, Form, Request, ValueRequest, command, request_from, value_request_from,
 };
-use borsh_json::{Layout, LongNumbers, Style};
+use super::failure::{Failure, failure_line, usage_line};
+use super::many::{Many, answer_lines, count_records, decode_records, encode_records};
+use super::values::{
+    Schema, encoded, hex_line, json_text, member, no_container, own_schema, schema_from,
+    schema_in_front, schema_json, shown, strict_member,
+};
+use borsh::io::{Read, StdReader, Write};
+use borsh_json::{Characters, Layout, LongNumbers, Style};
 use clap::ArgMatches;
 use hex::FromHexError;
 use std::alloc::{AllocError, Global};
 use std::env::VarError;
-use std::io::Read;
 use std::rt::{Env, Files};
 use std::{env, fs, io};
+
+/// How often an input may be interrupted.
+const INTERRUPTIONS: u32 = 1000;
 
 /// Runs the command that the words name, the first of which is the program's own name, and returns the
 /// exit status: 0 for yes, 1 for no or for bytes that are no container, 2 for anything else that failed.
@@ -32,13 +40,14 @@ use std::{env, fs, io};
 /// let words: Vec<String> = env::args(&rt)?.collect(rt.alloc())?;
 /// let status = run(&rt, words.as_slice(), rt.stdout().is_terminal());
 /// ```
-pub fn run<R: Files + Env + Input + Print + Eprint + AllocGlobal>(
+pub fn run<R: Files + Env + Input + Print + Eprint + AllocGlobal, W: Write>(
     rt: &R,
     words: &[String],
     is_terminal: bool,
+    out: &mut W,
 ) -> u8 {
     match matches_of(rt.alloc(), words) {
-        Ok(matches) => match perform(rt, &matches, is_terminal) {
+        Ok(matches) => match perform(rt, &matches, is_terminal, out) {
             Ok(true) => 0,
             Ok(false) => 1,
             Err(failure) => {
@@ -85,12 +94,16 @@ fn tell_failure<R: Eprint + AllocGlobal>(rt: &R, failure: &Failure<'_>) -> io::R
 }
 
 /// Prints the answer, and returns whether it is yes.
-fn perform<'a, R: Files + Env + Input + Print + AllocGlobal>(
+fn perform<'a, R: Files + Env + Input + Print + AllocGlobal, W: Write>(
     rt: &R,
     matches: &ArgMatches<'a>,
     is_terminal: bool,
+    out: &mut W,
 ) -> Result<bool, Failure<'a>> {
     if let Some(request) = value_request_from(matches) {
+        if let Some(form) = request.form {
+            return perform_on_many(rt, &request, form, is_terminal, out);
+        }
         return perform_on_value(rt, &request, is_terminal);
     }
     let Some(request) = request_from(matches) else {
@@ -114,9 +127,7 @@ fn perform_on_value<'a, R: Files + Env + Input + Print + AllocGlobal>(
     is_terminal: bool,
 ) -> Result<bool, Failure<'a>> {
     let is_encoding = request.action == Action::Encode;
-    if is_encoding && is_terminal && !request.is_hex && !request.is_raw {
-        return Err(Failure::RawOnTerminal);
-    }
+    refuse_raw(request, is_terminal)?;
     let Some(path) = request.schema else {
         let bytes = input(rt, request.value, request.is_hex)?;
         let (schema, value) = schema_in_front(rt.alloc(), request.value, bytes.as_slice())?;
@@ -132,6 +143,88 @@ fn perform_on_value<'a, R: Files + Env + Input + Print + AllocGlobal>(
         input(rt, request.value, request.is_hex)?
     };
     answer_value(rt, request, &schema, value.as_slice(), is_terminal)
+}
+
+/// Refuses to print raw bytes on a terminal.
+fn refuse_raw<'a>(request: &ValueRequest<'a>, is_terminal: bool) -> Result<(), Failure<'a>> {
+    let is_raw = request.action == Action::Encode && request.form != Some(Form::Lines);
+    if is_raw && is_terminal && !request.is_hex && !request.is_raw {
+        return Err(Failure::RawOnTerminal);
+    }
+    Ok(())
+}
+
+/// Does a request about many values, which are read as they come.
+fn perform_on_many<'a, R: Files + Input + AllocGlobal, W: Write>(
+    rt: &R,
+    request: &ValueRequest<'a>,
+    form: Form,
+    is_terminal: bool,
+    out: &mut W,
+) -> Result<bool, Failure<'a>> {
+    refuse_raw(request, is_terminal)?;
+    let Some(path) = request.schema else {
+        return Err(Failure::NoCommand);
+    };
+    if path == "-" && request.value == "-" {
+        return Err(Failure::TwoInputs);
+    }
+    let alloc = rt.alloc();
+    let schema = schema_at(rt, path, request.is_schema_hex)?;
+    let layout = borsh_values::Layout::new(alloc, schema.root.as_str(), &schema.definitions)?;
+    let many = Many {
+        alloc,
+        layout: &layout,
+        path: request.value,
+        style: Style {
+            layout: Layout::Compact,
+            characters: Characters::Ascii,
+            ..style_of(request)
+        },
+        is_strict: request.is_strict,
+    };
+    if request.is_hex || request.action != Action::Encode && request.value.starts_with("0x") {
+        let bytes = input(rt, request.value, request.is_hex)?;
+        return answer_many(request.action, form, &many, bytes.as_slice(), out);
+    }
+    if request.value == "-" {
+        let input = StdReader::new(rt.reader(), INTERRUPTIONS);
+        return answer_many(request.action, form, &many, input, out);
+    }
+    match fs::File::open(rt, request.value) {
+        Ok(file) => {
+            let input = StdReader::new(file, INTERRUPTIONS);
+            answer_many(request.action, form, &many, input, out)
+        }
+        Err(error) => Err(Failure::Unreadable(request.value, error)),
+    }
+}
+
+/// Writes what is asked of many values, and returns whether the answer is yes.
+fn answer_many<'a, R: Read + Drop, W: Write>(
+    action: Action,
+    form: Form,
+    many: &Many<'a, '_, '_>,
+    input: R,
+    out: &mut W,
+) -> Result<bool, Failure<'a>>
+    requires laid_out { IsLaidOut many.now.layout.now }
+    requires sizes { KnowsSizes many.now.layout.now }
+{
+    match (action, form) {
+        (Action::Decode, Form::Records) => decode_records(many, input, out)?,
+        (Action::Decode, Form::Lines) => answer_lines(many, false, input, out)?,
+        (Action::Encode, Form::Records) => encode_records(many, input, out)?,
+        (Action::Encode, Form::Lines) => answer_lines(many, true, input, out)?,
+        (_, _) => {
+            let Answer { is_yes, text } = count_records(many, input)?;
+            return match out.write_all(text.as_bytes()) {
+                Ok(()) => Ok(is_yes),
+                Err(error) => Err(Failure::Unwritten(error)),
+            };
+        }
+    }
+    Ok(true)
 }
 
 /// The container in a file, or that of containers for `self`.
@@ -163,7 +256,7 @@ fn answer_value<'a, R: Env + Print + AllocGlobal>(
             Ok(true)
         }
         Action::Encode => {
-            let bytes = encoded(alloc, request, schema, value)?;
+            let bytes = encoded(alloc, schema, request.value, request.with_schema, value)?;
             if request.is_hex {
                 let text = hex_line(alloc, bytes.as_slice())?;
                 print_bytes(rt, text.as_bytes())?;
@@ -203,21 +296,7 @@ fn style_of(request: &ValueRequest<'_>) -> Style {
         } else {
             LongNumbers::Plain
         },
-    }
-}
-
-/// The bytes of the value that JSON says, behind their container if that is asked for.
-fn encoded<'a>(
-    alloc: Global,
-    request: &ValueRequest<'a>,
-    schema: &Schema,
-    json: &[u8],
-) -> Result<Vec<u8>, Failure<'a>> {
-    let bytes = bytes_said(alloc, schema, request.value, json)?;
-    if request.with_schema {
-        Ok(with_schema(alloc, schema, bytes.as_slice())?)
-    } else {
-        Ok(bytes)
+        ..Style::COMPACT
     }
 }
 
@@ -295,6 +374,6 @@ fn read_all<R: Files + Input + AllocGlobal>(rt: &R, path: &str) -> io::Result<Ve
         return fs::read(rt, path);
     }
     let mut bytes = Vec::new(rt.alloc());
-    rt.reader().read_to_end(&mut bytes)?;
+    io::Read::read_to_end(&mut rt.reader(), &mut bytes)?;
     Ok(bytes)
 }

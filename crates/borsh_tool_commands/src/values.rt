@@ -7,7 +7,7 @@ ghost use Rattle.borsh_tool_commands.specs.Colored.{printed_colors};
 ghost use Rattle.borsh_tool_commands.specs.Failures.{IsFailure, IsNoAnswer, IsNoContainer, IsNoContainerInFront, IsNoContainerJson, IsNoJson, IsNoMemory, IsNotShown, IsNoValue};
 ghost use Rattle.borsh_tool_commands.specs.Plain.{digits};
 ghost use Rattle.borsh_tool_commands.specs.Printed.{printed};
-ghost use Rattle.borsh_tool_commands.specs.Sent.{IsContainer, IsSent, schema_encoding};
+ghost use Rattle.borsh_tool_commands.specs.Sent.{EncodesMember, IsContainer, IsJsonLine, IsOwnSchema, IsSent, schema_encoding};
 ghost use Rattle.borsh_io.specs.declared.error.ErrorKind.TheVariants.{OutOfMemory as NoRoom};
 ghost use Rattle.borsh_json.specs.declared.error.JsonError.TheVariants.{OutOfMemory as NoMemory};
 ghost use Rattle.borsh_walks.specs.Container.{Member};
@@ -22,7 +22,7 @@ use borsh::io::{Error, ErrorKind};
 use borsh::schema::{BorshSchemaContainer, Definition};
 use borsh::ser::write_two;
 use borsh::{BorshDeserialize, from_slice, schema_container_of, to_vec};
-use borsh_json::{JsonError, Style, check_strict, from_json, rows_of, to_json};
+use borsh_json::{Characters, JsonError, Style, check_strict, from_json, rows_of, to_json};
 use borsh_values::{Membership, is_member};
 use std::alloc::{AllocError, Global};
 use std::collections::BTreeMap;
@@ -97,9 +97,10 @@ pub fn with_schema(alloc: Global, schema: &Schema, value: &[u8]) -> Result<Vec<u
     Ok(sent)
 }
 
-/// The container of containers. Returns `OutOfMemory` if an allocation fails. Left open: memory; any container: tested.
+/// The container of containers. Returns `OutOfMemory` if an allocation fails. Left open: memory.
 pub fn own_schema<'a>(alloc: Global) -> Result<Schema, Failure<'a>>
-    ensures { IfErr result IsNoMemory }
+    ensures ok { IfOk result IsOwnSchema }
+    ensures err { IfErr result IsNoMemory }
 {
     let Ok(container) = schema_container_of::<BorshSchemaContainer>(alloc) else {
         return Err(Failure::OutOfMemory);
@@ -143,8 +144,8 @@ pub(crate) fn no_container<'a>(path: &'a str, error: Error) -> Failure<'a>
 /// The value that the bytes are as JSON, and a line feed.
 ///
 /// Returns `NotValue` with the path and the reason if the bytes are no value of the root or one without JSON, and
-/// `OutOfMemory` if an allocation fails. Determined: after `Ok` the bytes are a member of the root; `NotValue` only where
-/// [`to_json`] may return an error. Left open: as of [`to_json`]; any text: tested.
+/// `OutOfMemory` if an allocation fails. Determined: what [`to_json`] determines of the text in front of the line feed;
+/// `NotValue` only where [`to_json`] may return an error. Left open: as of [`to_json`].
 ///
 /// ```
 /// let text = json_text(alloc, &schema, "value.borsh", bytes.as_slice(), Style::COMPACT)?;
@@ -156,11 +157,14 @@ pub fn json_text<'a>(
     bytes: &[u8],
     style: Style,
 ) -> Result<PlainText, Failure<'a>>
-    ensures ok { OnOk result (Member (definitions_in schema.now.definitions)
-        (string_bytes schema.now.root) bytes.now) }
+    ensures ok { IfOk result (λ t. IsJsonLine schema.now bytes.now (printed t)) }
     ensures err { IfErr result (IsNoJson (definitions_in schema.now.definitions)
         (string_bytes schema.now.root) path.now bytes.now) }
 {
+    let style = Style {
+        characters: Characters::Ascii,
+        ..style
+    };
     match to_json(
         alloc,
         schema.root.as_str(),
@@ -169,8 +173,7 @@ pub fn json_text<'a>(
         style,
     ) {
         Ok(json) => {
-            let mut out = PlainText::new(alloc);
-            out.push_json(json.as_str())?;
+            let mut out = PlainText::of(json.into_bytes());
             out.end_line()?;
             Ok(out)
         }
@@ -204,6 +207,32 @@ pub fn bytes_said<'a>(
     match from_json(alloc, schema.root.as_str(), &schema.definitions, text) {
         Ok(bytes) => Ok(bytes),
         Err(error) => Err(no_value_said(alloc, path, text, error)),
+    }
+}
+
+/// The bytes of the value that JSON says, behind those of its container if `is_sent` is true. The errors are those of
+/// [`bytes_said`]. Left open: as there.
+///
+/// ```
+/// let sent = encoded(alloc, &schema, "value.json", true, b"{\"x\": 12}".as_slice())?;
+/// let (again, value) = schema_in_front(alloc, "sent.borsh", sent.as_slice())?;
+/// ```
+pub fn encoded<'a>(
+    alloc: Global,
+    schema: &Schema,
+    path: &'a str,
+    is_sent: bool,
+    json: &[u8],
+) -> Result<Vec<u8>, Failure<'a>>
+    ensures ok { IfOk result (λ out. EncodesMember is_sent schema.now out.items) }
+    ensures err { IfErr result (IsNoValue (definitions_in schema.now.definitions)
+        (string_bytes schema.now.root) path.now json.now) }
+{
+    let bytes = bytes_said(alloc, schema, path, json)?;
+    if is_sent {
+        Ok(with_schema(alloc, schema, bytes.as_slice())?)
+    } else {
+        Ok(bytes)
     }
 }
 

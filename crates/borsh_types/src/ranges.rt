@@ -1,7 +1,8 @@
 // Ranges: their start, where they have one, and then their end, where they have one.
-ghost use Rattle.std.specs.Range.{range_inclusive_start, range_inclusive_end};
-ghost use Rattle.borsh_codec.specs.Shapes.{contramap, pair};
-ghost use Rattle.borsh_codec.proofs.Laws.Exact.{contramap-lawful};
+ghost use Rattle.std.specs.Prelude.{◌≡◌, false};
+ghost use Rattle.std.specs.Range.{range_inclusive_start, range_inclusive_end, range_inclusive_exhausted};
+ghost use Rattle.borsh_codec.specs.Shapes.{contramap, decoded_with, pair};
+ghost use Rattle.borsh_codec.proofs.Laws.Exact.{contramap-lawful, decoded_with-lawful};
 ghost use Rattle.borsh_codec.proofs.Laws.Pairs.{pair-lawful};
 ghost use Rattle.borsh_codec.proofs.Laws.Conditional.{from};
 
@@ -25,9 +26,11 @@ impl<T: BorshType> BorshType for Range<T> {
 }
 
 impl<T: BorshType> BorshType for RangeInclusive<T> {
-    ghost codec = { contramap (λ r. (range_inclusive_start r, range_inclusive_end r)) (pair T.codec T.codec) };
+    ghost codec = { decoded_with (λ r. range_inclusive_exhausted r ≡ false)
+        (contramap (λ r. (range_inclusive_start r, range_inclusive_end r)) (pair T.codec T.codec)) };
 
-    ghost lawful_if = { from (λ l. contramap-lawful (λ r. (range_inclusive_start r, range_inclusive_end r)) (pair-lawful l l)) T.lawful_if };
+    ghost lawful_if = { from (λ l. decoded_with-lawful (λ r. range_inclusive_exhausted r ≡ false)
+        (contramap-lawful (λ r. (range_inclusive_start r, range_inclusive_end r)) (pair-lawful l l))) T.lawful_if };
 
     ghost premises = { T.premises };
 

@@ -10,10 +10,10 @@ use borsh_io::{Error, ErrorKind, Result};
 /// A type with a Borsh encoding.
 ///
 /// An implementation says by the ghost member `codec` which bytes encode a value, which values are
-/// equivalent, which bytes decode to a value, and whether encoding or decoding allocates, and proves by
-/// `lawful` the laws of codecs: equivalent values have one encoding, no accepted input is a proper
-/// beginning of another, an encoding decodes to the value that was encoded, and bytes decode to one
-/// value.
+/// equivalent, which bytes decode to a value, what is true of each decoded value though its bytes don't say
+/// it (`made`), and whether encoding or decoding allocates, and proves by `lawful` the laws of codecs:
+/// equivalent values have one encoding, no accepted input is a proper beginning of another, an encoding
+/// decodes to the value that was encoded, and bytes decode to one value.
 ///
 /// If your type has no implementation, put `// derive: borsh` above it and run derive/borsh_derive.py, or
 /// write one by hand, as docs/IMPLEMENTING.md shows.

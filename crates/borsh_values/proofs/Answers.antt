@@ -1,17 +1,19 @@
 -- Answers of the loop over the bytes.
-use Rattle.std.proofs.Common.{◌≡◌, ℕ, suc, zero, ◌+◌, ◌-◌, ◌<◌, ◌≤◌, List, [], ◌∷◌, ◌++◌, length, take, drop, Ok, Err, refl, sym, ◌∙◌, ap, subst, arith, append_assoc, append-nil, length-append, length-drop, drop-drop, take-add, take-append-drop, length-take-le, inl, inr}
+use Rattle.std.proofs.Common.{◌≡◌, ℕ, suc, zero, Some, None, ◌+◌, ◌-◌, ◌<◌, ◌≤◌, List, [], ◌∷◌, ◌++◌, length, take, drop, Ok, Err, refl, sym, ◌∙◌, ap, subst, arith, append_assoc, append-nil, length-append, length-drop, drop-drop, take-add, take-append-drop, length-take-le, inl, inr}
 use Rattle.std.specs.Prelude.{Option, Result, IfOk}
 use Rattle.std.proofs.lemmas.Bool.{cases_lt}
-use Rattle.borsh_walks.specs.Container.{Shape, Member, Reached, stays}
+use Rattle.borsh_walks.specs.Container.{Shape, primitive, sequence, product, choice, Member, Reached, stays}
 use Rattle.borsh_values.specs.declared.faults.Fault.{Fault}
 use Rattle.borsh_values.specs.declared.faults.Reason.{Reason}
 use Rattle.borsh_values.specs.declared.faults.Reason.TheVariants.{BytesLeft, TooShort as IsShort, Count, Tag, MissingDefinition, Recursive}
 use Rattle.borsh_values.specs.declared.fronts.Front.{Front}
 use Rattle.borsh_values.specs.declared.fronts.Front.TheVariants.{Value, TooShort, NoMember, Ambiguous}
-use Rattle.borsh_values.specs.Faults.{BeginsWith, Fails, IsFault}
-use Rattle.borsh_values.specs.Fronts.{IsAt, NeedsMore, StopsAt, IsFront, HasNoFront, IsFrontAnswer}
+use Rattle.borsh_values.specs.Faults.{BeginsWith, Refuses, HasOtherCount, HasOtherTag, IsRefused, LeadsTo, IsWhy, Stops, IsFault}
+use Rattle.borsh_values.specs.Nodes.{Reads}
+use Rattle.borsh_values.specs.Fronts.{IsAt, StopsAt, IsFront, HasNoFront, IsFrontAnswer}
 use Rattle.borsh_values.specs.Steps.{NoneBegins}
 use Rattle.borsh_values.proofs.FrontLaws.{Begun, begun_end}
+use Rattle.borsh_values.proofs.TakesLaws.{take_front}
 
 -- ---- bytes that are read, and those that are left
 -- the bytes before those that are left
@@ -42,35 +44,70 @@ drop_front (suc k) [] ys h = absurd (omega arith)
 drop_front (suc k) (x ∷ xs) ys h = drop_front k xs ys (omega arith)
 
 module _ (C : List ℕ → Option Shape) (root bytes : List ℕ) where
-  fails : (r : Reason) (offset : ℕ) (name : List ℕ) → (r ≡ BytesLeft → ⊥) → (BeginsWith C name (drop offset bytes) → ⊥) → Fails C root bytes r offset name
-  fails BytesLeft offset name f g = absurd (f refl)
-  fails IsShort offset name f g = g
-  fails Count offset name f g = g
-  fails Tag offset name f g = g
-  fails MissingDefinition offset name f g = g
-  fails Recursive offset name f g = g
-
-  pub at_fault : (f : Fault) {offset : ℕ} {name : List ℕ} {r : Reason} → f.offset ≡ offset → f.name.now ≡ name → f.reason ≡ r → offset ≤ length bytes → Reached C root name → Fails C root bytes r offset name → IsFault C root bytes f
-  at_fault f {offset} {name} {r} a b c low l h = record {
+  pub at_fault : (f : Fault) {offset : ℕ} {name : List ℕ} {r : Reason} → f.offset ≡ offset → f.name.now ≡ name → f.reason ≡ r → offset ≤ length bytes → Reached C root name → IsWhy C root bytes r offset name → ((r ≡ BytesLeft → ⊥) → Stops C root bytes offset name) → IsFault C root bytes f
+  at_fault f {offset} {name} {r} a b c low l w s = record {
     within = omega (arith, a, low);
     reached = subst (λ x. Reached C root x) (sym b) l;
-    fails = subst (λ s. Fails C root bytes s f.offset f.name.now) (sym c) (subst (λ o. Fails C root bytes r o f.name.now) (sym a) (subst (λ x. Fails C root bytes r offset x) (sym b) h));
+    why = subst (λ r. IsWhy C root bytes r f.offset f.name.now) (sym c) (subst (λ o. IsWhy C root bytes r o f.name.now) (sym a) (subst (λ x. IsWhy C root bytes r offset x) (sym b) w));
+    stops = λ k. subst (λ o. Stops C root bytes o f.name.now) (sym a) (subst (λ x. Stops C root bytes offset x) (sym b) (s (λ e. k (c ∙ e))));
   }
 
+-- ---- why no member of a name begins at the bytes that are left
+abbrev pub Why : (List ℕ → Option Shape) → Reason → List ℕ → List ℕ → Type 0
+Why C BytesLeft x left = ⊥
+Why C IsShort x left = IsRefused C IsShort x left
+Why C Count x left = IsRefused C Count x left
+Why C Tag x left = IsRefused C Tag x left
+Why C MissingDefinition x left = C x ≡ None
+Why C Recursive x left = LeadsTo C x x
+
+pub refused_why : (C : List ℕ → Option Shape) (r : Reason) (d : Shape) (x left : List ℕ) → C x ≡ Some d → Refuses C r d left → Why C r x left
+refused_why C BytesLeft d x left c h = h
+refused_why C IsShort d x left c h = (d, c, h)
+refused_why C Count d x left c h = (d, c, h)
+refused_why C Tag d x left c h = (d, c, h)
+refused_why C MissingDefinition d x left c h = absurd h
+refused_why C Recursive d x left c h = absurd h
+
+-- more bytes change a reason only where there were too few
+other_count_more : (d : Shape) (xs ys : List ℕ) → HasOtherCount d xs → HasOtherCount d (xs ++ ys)
+other_count_more (primitive n) xs ys h = h
+other_count_more (sequence w lo hi e) xs ys h = let l = length-append xs ys in (omega (arith, l, h.0), λ k low high t. h.1 k low high (t ∙ take_front w xs ys h.0))
+other_count_more (product ps) xs ys h = h
+other_count_more (choice w vs) xs ys h = h
+
+other_tag_more : (d : Shape) (xs ys : List ℕ) → HasOtherTag d xs → HasOtherTag d (xs ++ ys)
+other_tag_more (primitive n) xs ys h = h
+other_tag_more (sequence w lo hi e) xs ys h = h
+other_tag_more (product ps) xs ys h = h
+other_tag_more (choice w vs) xs ys h = let l = length-append xs ys in (omega (arith, l, h.0), λ k p a t. h.1 k p a (t ∙ take_front w xs ys h.0))
+
+why_more : (C : List ℕ → Option Shape) (root bytes : List ℕ) (r : Reason) (offset : ℕ) (x xs ys : List ℕ) → xs ++ ys ≡ drop offset bytes → (r ≡ IsShort → ys ≡ []) → Why C r x xs → IsWhy C root bytes r offset x
+why_more C root bytes BytesLeft offset x xs ys e f w = absurd w
+why_more C root bytes IsShort offset x xs ys e f w = subst (λ l. IsRefused C IsShort x l) (sym (append-nil xs) ∙ ap (λ l. xs ++ l) (sym (f refl)) ∙ e) w
+why_more C root bytes Count offset x xs ys e f w = subst (λ l. IsRefused C Count x l) e (w.0, w.1, other_count_more w.0 xs ys w.2)
+why_more C root bytes Tag offset x xs ys e f w = subst (λ l. IsRefused C Tag x l) e (w.0, w.1, other_tag_more w.0 xs ys w.2)
+why_more C root bytes MissingDefinition offset x xs ys e f w = w
+why_more C root bytes Recursive offset x xs ys e f w = w
+
 -- no member of a name begins at the bytes that are left
-module _ (C : List ℕ → Option Shape) (root bytes rest name : List ℕ) (reason : Reason) (low : length rest ≤ length bytes) (suffix : rest ≡ drop (length bytes - length rest) bytes) (reached : Reached C root name) (other : reason ≡ BytesLeft → ⊥) (deny : NoneBegins C reason name rest) (no : NoneBegins C reason root (before bytes rest ++ rest)) (short : reason ≡ IsShort → NeedsMore C name rest) where
+module _ (C : List ℕ → Option Shape) (root bytes rest name : List ℕ) (reason : Reason) (low : length rest ≤ length bytes) (suffix : rest ≡ drop (length bytes - length rest) bytes) (reached : Reached C root name) (others : List (List ℕ)) (next : Reads C (root ∷ []) (before bytes rest) (name ∷ others)) (why : Why C reason name rest) (deny : NoneBegins C reason name rest) (no : NoneBegins C reason root (before bytes rest ++ rest)) where
   no_front : (f : Fault) → IsAt (length bytes) (length rest) name reason f → (more : List ℕ) → (reason ≡ IsShort → more ≡ []) → HasNoFront C root (bytes ++ more) f
   no_front f h more allowed =
       let left : rest ++ more ≡ drop (length bytes - length rest) (bytes ++ more) = ap (λ l. l ++ more) suffix ∙ sym (drop_front (length bytes - length rest) bytes more (omega arith)) in
       record {
         none = λ m. no more allowed (subst (λ l. BeginsWith C root (l ++ more)) (sym (before_whole bytes rest suffix)) m);
-        fault = at_fault C root (bytes ++ more) f h.0 h.1 h.2 (let l = length-append bytes more in omega (arith, l)) reached (fails C root (bytes ++ more) reason (length bytes - length rest) name other (λ m. deny more allowed (subst (λ l. BeginsWith C name l) (sym left) m)));
-        stops = λ e. other (sym h.2 ∙ e);
+        fault = at_fault C root (bytes ++ more) f h.0 h.1 h.2 (let l = length-append bytes more in omega (arith, l)) reached (why_more C root (bytes ++ more) reason (length bytes - length rest) name rest more left allowed why) (λ _. record {
+          others = others;
+          next = subst (λ l. Reads C (root ∷ []) l (name ∷ others)) (sym (take_front (length bytes - length rest) bytes more (omega arith))) next;
+          none = λ m. deny more allowed (subst (λ l. BeginsWith C name l) (sym left) m);
+        });
+        stops = λ e. subst (λ r. Why C r name rest) (sym h.2 ∙ e) why;
       }
 
   is_no : (a : Front) → StopsAt (length bytes) (length rest) name reason a → IsFrontAnswer C root bytes a
   is_no (Value n) h = absurd h
-  is_no (TooShort f) h = (subst (λ l. HasNoFront C root l f) (append-nil bytes) (no_front f h.0 [] (λ _. refl)), h.0.2 ∙ h.1, subst (λ x. NeedsMore C x (drop f.offset bytes)) (sym h.0.1) (subst (λ i. NeedsMore C name (drop i bytes)) (sym h.0.0) (subst (λ l. NeedsMore C name l) suffix (short h.1))))
+  is_no (TooShort f) h = (subst (λ l. HasNoFront C root l f) (append-nil bytes) (no_front f h.0 [] (λ _. refl)), h.0.2 ∙ h.1)
   is_no (NoMember f) h = λ more. no_front f h.0 more (λ e. absurd (h.1 e))
   is_no (Ambiguous x) h = absurd h
 
@@ -102,7 +139,7 @@ module _ (C : List ℕ → Option Shape) (root bytes : List ℕ) where
   some_left n off h f a b c =
       let low = h.within in (
         (λ m. let k = ap (λ l. length l) (h.only bytes [] [] m refl) ∙ length-take-le n bytes low in off (sym k)),
-        at_fault C root bytes f a b c low stays (less n (length bytes) low off, refl),
+        at_fault C root bytes f a b c low stays (less n (length bytes) low off, refl, h.member) (λ k. absurd (k refl)),
       )
     where
       less : (n k : ℕ) → n ≤ k → (n ≡ k → ⊥) → n < k

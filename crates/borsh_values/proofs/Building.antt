@@ -53,6 +53,7 @@ module _ {A : Type 0} (m : BTreeMap (String A) Definition) (x0 : List ℕ) where
     sound = λ x i e. let n = none x in cc;
     back = λ x i e. (let z : name_of [] i ≡ None = ap (λ o. option_map (λ n. n.name.now) o) (none_here {X = Named} i) in cc);
     defined = λ x i e. (let z : name_of [] i ≡ None = ap (λ o. option_map (λ n. n.name.now) o) (none_here {X = Named} i) in cc);
+    looked_up = λ x i e. (let z : name_of [] i ≡ None = ap (λ o. option_map (λ n. n.name.now) o) (none_here {X = Named} i) in cc);
   }
 
   pub index_start : {ns : List Named} {T : List ℕ → Option ℕ} → ns ≡ [] → ((x : List ℕ) → T x ≡ None) → IsIndex m ns T

@@ -1,7 +1,6 @@
--- Names of free size are passed at once.
-use Rattle.std.proofs.Common.{◌≡◌, ℕ, ◌<◌, ◌≤◌, List, [], ◌∷◌, ◌++◌, length, take, drop, sym, ◌∙◌, ap, subst, arith, append_assoc, length-drop, length-take-le}
-use Rattle.std.specs.Prelude.{Option, All}
-use Rattle.std.proofs.lemmas.List.Elements.{All-take}
+-- Names are passed at once.
+use Rattle.std.proofs.Common.{◌≡◌, ℕ, ◌<◌, List, [], ◌∷◌, ◌++◌, length, take, drop, sym, ◌∙◌, ap, subst, arith, append_assoc, length-drop}
+use Rattle.std.specs.Prelude.{Option}
 use Rattle.borsh_walks.specs.Container.{Shape, IsIn}
 use Rattle.borsh_walks.specs.SizeAnswer.{distinct_none}
 use Rattle.borsh_walks.proofs.Names.{among_right}
@@ -9,9 +8,9 @@ use Rattle.borsh_values.specs.Steps.{remaining, pending}
 use Rattle.borsh_values.specs.declared.frames.Frame.{Frame}
 use Rattle.borsh_values.specs.declared.frames.Rest.{Rest}
 use Rattle.borsh_values.specs.declared.members.Mark.{Mark}
-use Rattle.borsh_values.proofs.FrontLaws.{Begun, begun_free}
+use Rattle.borsh_values.proofs.FrontLaws.{Begun, begun_first}
 use Rattle.borsh_values.proofs.Walk.{Walk, Top, Link, Chain, with_rest}
-use Rattle.borsh_values.specs.Free.{FreeSizes}
+use Rattle.borsh_values.specs.Free.{AreFirst}
 use Rattle.borsh_values.specs.Layouts.{name_at}
 use Rattle.borsh_values.specs.declared.layout.Named.{Named}
 
@@ -26,13 +25,13 @@ module _ (C : List ℕ → Option Shape) (ns : List Named) where
   far_chain [] y s h c = tt
   far_chain (f ∷ fs) y s h c = (far_link f y s (let k = c.0.low in omega (arith, k)), far_chain fs (name_at ns f.at) f.start h c.1)
 
-  -- the next names, of free size, are passed with as many bytes
-  pub walk_free : {root done rest : List ℕ} {T : List ℕ → Option Mark} {fs : List Frame} {f : Frame} {L : List (List ℕ)} (qs : List (List ℕ)) (n : ℕ) (r : Rest) → Walk C ns root done T fs f rest L → FreeSizes C qs n → remaining ns f.rest ≡ qs ++ remaining ns r → 0 < n → n ≤ length rest → All (λ b. b < 256) rest → Walk C ns root (done ++ take n rest) T fs (with_rest f r) (drop n rest) []
-  walk_free {root} {done} {rest} {T} {fs} {f} {L} qs n r w free e more low small =
+  -- the next names are passed with bytes that are their only members
+  pub walk_free : {root done rest : List ℕ} {T : List ℕ → Option Mark} {fs : List Frame} {f : Frame} {L : List (List ℕ)} (qs : List (List ℕ)) (n : ℕ) (r : Rest) → Walk C ns root done T fs f rest L → AreFirst C qs rest n → remaining ns f.rest ≡ qs ++ remaining ns r → 0 < n → Walk C ns root (done ++ take n rest) T fs (with_rest f r) (drop n rest) []
+  walk_free {root} {done} {rest} {T} {fs} {f} {L} qs n r w free e more =
       let same : pending ns (f ∷ fs) ≡ qs ++ (remaining ns r ++ pending ns fs) = ap (λ l. l ++ pending ns fs) e ∙ append_assoc qs (remaining ns r) (pending ns fs) in
-      let less : length (drop n rest) < length rest = (let k = length-drop n rest in omega (arith, k, low, more)) in
+      let less : length (drop n rest) < length rest = (let k = length-drop n rest in omega (arith, k, free.0, more)) in
       record {
-        begun = begun_free C (take n rest) qs (remaining ns r ++ pending ns fs) n free (length-take-le n rest low) (All-take (λ b. b < 256) n rest small) (subst (λ l. Begun C root done l) same w.begun);
+        begun = begun_first C (take n rest) qs (remaining ns r ++ pending ns fs) free.1 (subst (λ l. Begun C root done l) same w.begun);
         reached = λ x a. w.reached x (subst (λ l. IsIn x l) (sym same) (among_right qs (remaining ns r ++ pending ns fs) a));
         empty = w.empty;
         here = λ x h. let k = w.past x (length (drop n rest)) h in absurd (omega (arith, k, less));

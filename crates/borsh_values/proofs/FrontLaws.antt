@@ -1,16 +1,17 @@
 -- Values at the front of bytes that go on.
-use Rattle.std.proofs.Common.{◌≡◌, ℕ, suc, zero, ◌<◌, List, [], ◌∷◌, ◌++◌, length, replicate, Some, refl, sym, ◌∙◌, ap, subst, arith, append_assoc, append-nil, length-append}
-use Rattle.std.specs.Prelude.{Option, All, ℤ, pos}
+use Rattle.std.proofs.Common.{◌≡◌, ℕ, suc, zero, List, [], ◌∷◌, ◌++◌, length, replicate, Some, refl, sym, ◌∙◌, ap, subst, arith, append_assoc, append-nil, length-append}
+use Rattle.std.specs.Prelude.{Option, ℤ, pos}
 use Rattle.borsh_walks.specs.Container.{Shape, primitive, sequence, product, choice, IsListedVariant, tag, Member, Members, no_members, more_members}
 use Rattle.borsh_walks.proofs.Laws.{length-tag}
 use Rattle.borsh_values.specs.Unambiguous.{UnambiguousShape}
 use Rattle.borsh_values.specs.Faults.{BeginsWith}
-use Rattle.borsh_values.specs.Free.{FreeSizes}
-use Rattle.borsh_values.specs.Nodes.{packed_size, OpensElements, Opens}
+use Rattle.borsh_values.specs.Free.{AreOnly}
+use Rattle.borsh_values.specs.Nodes.{packed_size, OpensElements, Opens, Reads, reads_none}
 use Rattle.borsh_values.specs.Steps.{OnlyEmpty, OpensOnce}
 use Rattle.borsh_values.proofs.PrefixFree.{member_as, same_front}
 use Rattle.borsh_values.proofs.NodesLaws.{opens_one, opens_member}
 use Rattle.borsh_values.proofs.Packed.{packed_is, copies_are, no_more}
+use Rattle.borsh_values.proofs.ReadsLaws.{reads_on, reads_one, reads_members, reads_skip}
 use Rattle.borsh_values.proofs.Required.{members_head, pass, unpass, whole, unwhole, joined, parted}
 
 cancel_right : (us bs cs : List ℕ) → us ++ cs ≡ bs ++ cs → us ≡ bs
@@ -24,7 +25,7 @@ module _ (C : List ℕ → Option Shape) where
   elements_open e zero k bs p ms = ([], replicate k e, bs, (refl, refl), ms, refl)
   elements_open e (suc n) k bs p ms = let a = copies_are C n k bs (packed_is n (C e) p) ms in (bs, [], [], (a.0, a.1, refl), no_members, sym (append-nil bs))
 
-  member_opens : (d : Shape) {x bs : List ℕ} → C x ≡ Some d → Member C x bs → (own : List ℕ) × (ns : List (List ℕ)) × (cs : List ℕ) × Opens C d own ns × Members C ns cs × (bs ≡ own ++ cs)
+  pub member_opens : (d : Shape) {x bs : List ℕ} → C x ≡ Some d → Member C x bs → (own : List ℕ) × (ns : List (List ℕ)) × (cs : List ℕ) × Opens C d own ns × Members C ns cs × (bs ≡ own ++ cs)
   member_opens (primitive n) {bs = bs} c m = let b = member_as C (primitive n) c m in (bs, [], [], (b.0, b.1, refl), no_members, sym (append-nil bs))
   member_opens (sequence w lo hi e) {bs = bs} c m =
       let b = member_as C (sequence w lo hi e) c m in
@@ -47,12 +48,14 @@ module _ (C : List ℕ → Option Shape) where
   pub record Begun (root done : List ℕ) (ps : List (List ℕ)) : Type 0 where
     pub forth : (xs ys zs : List ℕ) → Member C root xs → xs ++ ys ≡ done ++ zs → (us : List ℕ) × Members C ps us × (zs ≡ us ++ ys)
     pub back : (us : List ℕ) → Members C ps us → Member C root (done ++ us)
+    pub reads : Reads C (root ∷ []) done ps
 
   module _ {root : List ℕ} where
     pub begun_start : Begun root [] (root ∷ [])
     begun_start = record {
       forth = λ xs ys zs m e. (xs, whole C m, sym e);
       back = λ us ms. unwhole C ms;
+      reads = reads_none;
     }
 
     -- copies of a name with the empty member alone are passed
@@ -60,6 +63,7 @@ module _ (C : List ℕ → Option Shape) where
     begun_skip k h f = record {
       forth = λ xs ys zs m e. let r = f.forth xs ys zs m e in (r.0, pass C k h r.1, r.2);
       back = λ us ms. f.back us (unpass C k h ms);
+      reads = reads_skip C k h.0 f.reads;
     }
 
     -- a name is opened
@@ -77,18 +81,20 @@ module _ (C : List ℕ → Option Shape) where
           let m = more_members (opens_member C d own s.0 ns c o s.2) s.3 in
           let e : (done ++ own) ++ us ≡ done ++ ((own ++ s.0) ++ s.1) = append_assoc done own us ∙ ap (λ l. done ++ l) (ap (λ l. own ++ l) s.4 ∙ sym (append_assoc own s.0 s.1)) in
           subst (λ l. Member C root l) (sym e) (f.back ((own ++ s.0) ++ s.1) m);
+      reads = reads_on C f.reads (reads_one C d ns c o);
     }
 
-    -- names of free size are passed with as many bytes
-    pub begun_free : {done : List ℕ} (own : List ℕ) (qs ps : List (List ℕ)) (n : ℕ) → FreeSizes C qs n → length own ≡ n → All (λ b. b < 256) own → Begun root done (qs ++ ps) → Begun root (done ++ own) ps
-    begun_free {done} own qs ps n f l small w = record {
+    -- names are passed with bytes that are their only members
+    pub begun_first : {done : List ℕ} (own : List ℕ) (qs ps : List (List ℕ)) → AreOnly C qs own → Begun root done (qs ++ ps) → Begun root (done ++ own) ps
+    begun_first {done} own qs ps f w = record {
       forth = λ xs ys zs m e.
           let r = w.forth xs ys (own ++ zs) m (e ∙ append_assoc done own zs) in
           let s = parted C qs r.1 in
-          let a = (f s.0).0 s.2 in
-          let t = same_front own s.0 zs (s.1 ++ ys) (r.2 ∙ ap (λ l. l ++ ys) s.4 ∙ append_assoc s.0 s.1 ys) (l ∙ sym a) in
-          (s.1, s.3, t.1);
-      back = λ us ms. subst (λ z. Member C root z) (sym (append_assoc done own us)) (w.back (own ++ us) (joined C ((f own).1 l small) ms));
+          let joins : s.0 ++ (s.1 ++ ys) ≡ own ++ zs = sym (append_assoc s.0 s.1 ys) ∙ ap (λ l. l ++ ys) (sym s.4) ∙ sym r.2 in
+          let t = same_front s.0 own (s.1 ++ ys) zs joins (ap (λ l. length l) (f.only s.0 (s.1 ++ ys) zs s.2 joins)) in
+          (s.1, s.3, sym t.1);
+      back = λ us ms. subst (λ z. Member C root z) (sym (append_assoc done own us)) (w.back (own ++ us) (joined C f.members ms));
+      reads = reads_on C w.reads (reads_members C f.members);
     }
 
     -- nothing is left to read: these bytes are a member, and no other front is

@@ -1,15 +1,15 @@
 -- The walk over the bytes, by the places of a layout.
 use Rattle.std.proofs.Common.{◌≡◌, ℕ, suc, ◌+◌, ◌<◌, ◌≤◌, List, [], ◌∷◌, ◌++◌, length, take, drop, length-drop, get_or, set, replicate, Some, None, refl, sym, ◌∙◌, ap, subst, arith, add-one, append_assoc}
-use Rattle.std.specs.Prelude.{Option, All}
+use Rattle.std.specs.Prelude.{Option}
 use Rattle.std.specs.BTreeMap.{btree_map_len}
 use Rattle.std.proofs.lemmas.List.{length-replicate, length-set}
 use Rattle.borsh_walks.specs.Container.{Shape, Reached, references}
 use Rattle.borsh_walks.specs.Definitions.{definitions_in, shape_of}
 use Rattle.borsh_walks.proofs.Names.{names_within}
 use Rattle.borsh_walks.proofs.Measure.{work}
-use Rattle.borsh_values.specs.Faults.{BeginsWith}
+use Rattle.borsh_values.specs.Faults.{BeginsWith, LeadsTo}
 use Rattle.borsh_values.specs.declared.faults.Reason.{Reason}
-use Rattle.borsh_values.specs.Nodes.{Opens, NodeView, Nodes, views, ListsNode}
+use Rattle.borsh_values.specs.Nodes.{Opens, NodeView, Nodes, views, ListsNode, Reads}
 use Rattle.borsh_values.specs.declared.nodes.Node.{Node}
 use Rattle.borsh_values.specs.Layouts.{name_at, shape_at, IsLaidOut}
 use Rattle.borsh_values.specs.Steps.{NoneBegins, OpensAs, remaining, pending, step_count, GoesOn, AllFit, KnownAs, past_copies, mark_at}
@@ -30,6 +30,7 @@ use Rattle.borsh_values.proofs.FrontLaws.{Begun}
 use Rattle.borsh_values.proofs.Listing.{front_listed}
 use Rattle.borsh_values.proofs.Measure.{left, left_moved, left_up, left_still, left_on, left_past, some_step}
 use Rattle.borsh_values.proofs.NodesLaws.{nodes_skip}
+use Rattle.borsh_values.proofs.Required.{not_required}
 use Rattle.borsh_values.proofs.Places.{defined_at, root_there, marked, mark_here, none_marked, passes}
 use Rattle.borsh_values.proofs.Walk.{Walk, walk_start, walk_skip, walk_still, walk_on, walk_up, walk_up_empty, undefined_none, denied, leads_back, part_reached, with_rest}
 
@@ -95,7 +96,14 @@ module _ (l : Layout) where
     going_reached = part_reached (definitions_in l.map.now) l.names.items w.state s.others g.parts
 
     pub going_back : {r : Reason} → get_or ms s.at None ≡ Some (Open (length rest)) → NoneBegins (definitions_in l.map.now) r (name_at l.names.items s.at) rest
-    going_back k more f = leads_back (definitions_in l.map.now) l.names.items w.state s.others g.parts (mark_is ∙ k)
+    going_back k more f m = not_required (definitions_in l.map.now) m.2 (leads_back (definitions_in l.map.now) l.names.items w.state s.others g.parts (mark_is ∙ k)).0
+
+    pub going_leads : get_or ms s.at None ≡ Some (Open (length rest)) → LeadsTo (definitions_in l.map.now) (name_at l.names.items s.at) (name_at l.names.items s.at)
+    going_leads k = (leads_back (definitions_in l.map.now) l.names.items w.state s.others g.parts (mark_is ∙ k)).1
+
+    -- the name is the next to be read
+    pub going_next : Reads (definitions_in l.map.now) (l.root.now ∷ []) done (name_at l.names.items s.at ∷ (remaining l.names.items s.others ++ pending l.names.items fs))
+    going_next = subst (λ ps. Reads (definitions_in l.map.now) (l.root.now ∷ []) done ps) next_names w.state.begun.reads
 
     pub going_denied : (r : Reason) → NoneBegins (definitions_in l.map.now) r (name_at l.names.items s.at) rest → NoneBegins (definitions_in l.map.now) r l.root.now (done ++ rest)
     going_denied r deny more f m = denied (definitions_in l.map.now) l.names.items w.state s.others g.parts (deny more f) (subst (λ b. BeginsWith (definitions_in l.map.now) l.root.now b) (append_assoc done rest more) m)
@@ -171,20 +179,20 @@ module _ (l : Layout) where
           front_listed C l.root.now done node old new n rest (remaining l.names.items r) (remaining l.names.items s.others ++ pending l.names.items fs) o.0.within c own opens lists
           (λ ds fs2 m. before ds fs2 (subst (λ ps. Nodes C ps ds fs2) (sym next_names) (subst (λ x. Nodes C (x ∷ (remaining l.names.items s.others ++ pending l.names.items fs)) ds fs2) name m))) cs es h
 
-  -- names of free size are passed
-  module _ {done rest : List ℕ} {ms : List (Option Mark)} {fs : List Frame} {f : Frame} {idle : ℕ} (w : Going l done ms fs f rest idle) (p : Passed) (g : IsFreeFront (definitions_in l.map.now) l.names.items f.rest (length rest) p) where
-    pub going_pass : All (λ b. b < 256) rest → Going l (done ++ take p.taken rest) ms fs (with_rest f p.rest) (drop p.taken rest) 0
-    going_pass small = record {
+  -- names are passed
+  module _ {done rest : List ℕ} {ms : List (Option Mark)} {fs : List Frame} {f : Frame} {idle : ℕ} (w : Going l done ms fs f rest idle) (p : Passed) (g : IsFreeFront (definitions_in l.map.now) l.names.items f.rest rest p) where
+    pub going_pass : Going l (done ++ take p.taken rest) ms fs (with_rest f p.rest) (drop p.taken rest) 0
+    going_pass = record {
       laid = w.laid;
       names = [];
-      state = walk_free (definitions_in l.map.now) l.names.items g.names p.taken p.rest w.state g.free g.parts g.some g.within small;
+      state = walk_free (definitions_in l.map.now) l.names.items g.names p.taken p.rest w.state g.first g.parts g.some;
       count = refl;
       long = w.long;
       fits = (w.fits.0, g.fits, w.fits.2);
     }
 
     pub fewer_pass : length (drop p.taken rest) < length rest
-    fewer_pass = let d = length-drop p.taken rest in let a = g.some in let b = g.within in omega (arith, d, a, b)
+    fewer_pass = let d = length-drop p.taken rest in let a = g.some in let b = g.first.0 in omega (arith, d, a, b)
 
     pub less_pass : left l.map.now l.names.items (length (drop p.taken rest)) 0 (with_rest f p.rest ∷ fs) < left l.map.now l.names.items (length rest) idle (f ∷ fs)
     less_pass = left_past l.map.now l.names.items (length (drop p.taken rest)) (length rest) idle f (with_rest f p.rest) fs fewer_pass g.steps

@@ -1,13 +1,13 @@
 -- Names by their places.
 use Rattle.std.proofs.Common.{◌≡◌, ℕ, suc, zero, List, [], ◌∷◌, ◌++◌, length, map, Some, None, refl, sym, ◌∙◌, ap, subst, arith, length-append, ◌⊎◌, inl, inr}
 use Rattle.std.specs.Prelude.{Option, option_map, slice_get, String}
-use Rattle.std.specs.BTreeMap.{BTreeMap}
+use Rattle.std.specs.BTreeMap.{BTreeMap, get_by_text}
 use Rattle.borsh_walks.specs.declared.definition.Definition.{Definition}
 use Rattle.borsh_walks.specs.Container.{IsIn, first}
 use Rattle.borsh_walks.specs.Definitions.{definitions_in}
 use Rattle.borsh_walks.proofs.Names.{name_cases, among_left, among_right}
 use Rattle.borsh_walks.proofs.Tables.{Updated}
-use Rattle.borsh_values.specs.Layouts.{name_of, named_shape, shape_at, AreParts, IsIndex, Grows}
+use Rattle.borsh_values.specs.Layouts.{name_of, named_shape, named_definition, shape_at, AreParts, IsIndex, Grows}
 use Rattle.borsh_values.specs.declared.layout.Named.{Named}
 
 -- ---- a list and one more
@@ -85,8 +85,8 @@ grows_on {xs} {ys} g h = record {
 
 -- ---- one name more
 module _ {A : Type 0} (m : BTreeMap (String A) Definition) where
-  pub index_more : {ns : List Named} {T U : List ℕ → Option ℕ} (n : Named) → IsIndex m ns T → T n.name.now ≡ None → named_shape (Some n) ≡ definitions_in m n.name.now → Updated T U n.name.now (length ns) → IsIndex m (ns ++ n ∷ []) U
-  index_more {ns} {T} {U} n s none d u = record {
+  pub index_more : {ns : List Named} {T U : List ℕ → Option ℕ} (n : Named) → IsIndex m ns T → T n.name.now ≡ None → named_shape (Some n) ≡ definitions_in m n.name.now → named_definition (Some n) ≡ get_by_text m n.name.now → Updated T U n.name.now (length ns) → IsIndex m (ns ++ n ∷ []) U
+  index_more {ns} {T} {U} n s none d l u = record {
     sound = λ x i e. elim (name_cases x n.name.now) [
       | inl q ↦ (let g : i ≡ length ns = (let a = u.here in let b = ap U q in cc) in named_is (ns ++ n ∷ []) i n (ap (λ k. slice_get (ns ++ n ∷ []) k) g ∙ get_last n ns) ∙ ap (λ y. Some y) (sym q))
       | inr q ↦ name_kept (grows_one ns n) i x (s.sound x i (sym (u.others x q) ∙ e))
@@ -98,6 +98,10 @@ module _ {A : Type 0} (m : BTreeMap (String A) Definition) where
     defined = λ x i e. let k = some_named (ns ++ n ∷ []) i x e in elim (get_more n ns i k.1) [
       | inl h ↦ (let g = named_is ns i k.0 h ∙ ap (λ y. Some y) k.2 in s.defined x i g ∙ sym (shape_kept (grows_one ns n) i x g))
       | inr h ↦ ap (λ y. definitions_in m y) (sym k.2 ∙ ap (λ z. z.name.now) h.1) ∙ sym d ∙ ap (λ z. named_shape (Some z)) (sym h.1) ∙ sym (shape_is (ns ++ n ∷ []) i k.0 k.1)
+    ];
+    looked_up = λ x i e. let k = some_named (ns ++ n ∷ []) i x e in elim (get_more n ns i k.1) [
+      | inl h ↦ (let g = named_is ns i k.0 h ∙ ap (λ y. Some y) k.2 in s.looked_up x i g ∙ ap named_definition (h ∙ sym k.1))
+      | inr h ↦ ap (λ y. get_by_text m y) (sym k.2 ∙ ap (λ z. z.name.now) h.1) ∙ sym l ∙ ap (λ z. named_definition (Some z)) (sym h.1) ∙ ap named_definition (sym k.1)
     ];
   }
 

@@ -24,6 +24,9 @@ pub mod Places
 pub mod Going
 pub mod ZeroLaws
 pub mod FreeLaws
+pub mod ReadsLaws
 pub mod FrontLaws
 pub mod NextLaws
+pub mod RecordLaws
 pub mod FreeWalk
+pub mod OnlyLaws

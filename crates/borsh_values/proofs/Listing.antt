@@ -1,10 +1,12 @@
 -- The nodes that were listed, and those of the rest.
 use Rattle.std.proofs.Common.{◌≡◌, ℕ, suc, zero, ◌≤◌, List, [], ◌∷◌, ◌++◌, length, take, drop, Some, refl, sym, ◌∙◌, ap, subst, arith, append_assoc, inl, inr}
-use Rattle.std.specs.Prelude.{Option}
+use Rattle.std.specs.Prelude.{Option, String}
+use Rattle.std.specs.BTreeMap.{BTreeMap, get_by_text}
+use Rattle.borsh_walks.specs.declared.definition.Definition.{Definition}
 use Rattle.borsh_walks.specs.Container.{Shape, IsZeroSize}
 use Rattle.borsh_walks.specs.Definitions.{shape_of}
 use Rattle.borsh_values.specs.declared.nodes.Node.{Node}
-use Rattle.borsh_values.specs.Nodes.{Opens, NodeView, Nodes, nodes_more, view_of, views, ListsNode}
+use Rattle.borsh_values.specs.Nodes.{Opens, NodeView, Nodes, nodes_more, view_of, views, ListsNode, HaveDefinitions}
 use Rattle.borsh_values.proofs.NodesLaws.{opened_zero, nodes_opened_zero}
 
 views_append : (xs : List Node) (n : Node) → views (xs ++ n ∷ []) ≡ views xs ++ view_of n ∷ []
@@ -56,3 +58,14 @@ front_listed C root done n old new k rest ns qs low c b o lists f cs es h =
     let left : List ℕ = take k rest ++ cs in
     let r = list_more C (λ l. Nodes C (root ∷ []) (done ++ left) l) n old new k left ns qs c (b ∙ sym t) (subst (λ l. Opens C (shape_of n.definition.now) l ns) (sym t) o) lists (λ es m. f left es m) es (subst (λ l. Nodes C (ns ++ qs) l es) (sym d) h) in
     subst (λ l. Nodes C (root ∷ []) l (views new ++ es)) (sym (append_assoc done (take k rest) cs)) r
+
+-- the node that may be listed has the definition of its name
+one_more : {A : Type 0} (m : BTreeMap (String A) Definition) (n : Node) (old : List Node) → get_by_text m n.name.now ≡ Some n.definition.now → HaveDefinitions m old → HaveDefinitions m (old ++ n ∷ [])
+one_more m n [] d h = (d, tt)
+one_more m n (x ∷ xs) d h = (h.0, one_more m n xs d h.1)
+
+pub definitions_more : {A : Type 0} (m : BTreeMap (String A) Definition) (C : List ℕ → Option Shape) (n : Node) (old new : List Node) → get_by_text m n.name.now ≡ Some n.definition.now → ListsNode C n old new → HaveDefinitions m old → HaveDefinitions m new
+definitions_more m C n old new d lists h = elim lists [
+  | inl z ↦ subst (λ l. HaveDefinitions m l) (sym z.2) h
+  | inr z ↦ subst (λ l. HaveDefinitions m l) (sym z.1) (one_more m n old d h)
+]

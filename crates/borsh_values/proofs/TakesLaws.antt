@@ -14,7 +14,7 @@ use Rattle.borsh_values.specs.declared.layout.Named.{Named}
 use Rattle.borsh_values.specs.declared.frames.Opened.{Opened}
 use Rattle.borsh_values.specs.declared.frames.Opened.TheVariants.{Undecided, Refused, Taken}
 use Rattle.borsh_values.specs.Nodes.{packed_size, OpensElements, Opens}
-use Rattle.borsh_values.specs.Faults.{BeginsWith}
+use Rattle.borsh_values.specs.Faults.{BeginsWith, Refuses, HasOtherCount, HasOtherTag}
 use Rattle.borsh_values.specs.Steps.{remaining, required_by, OnlyEmpty, AllOnlyEmpty, OpensOnce, NoneBegins, Takes, FoundAs, TakesElements, OpensAs}
 use Rattle.borsh_values.proofs.FoundLaws.{listed_at}
 use Rattle.borsh_values.proofs.Packed.{packed_is, copies_are}
@@ -33,7 +33,7 @@ length_take zero xs h = refl
 length_take (suc n) [] h = absurd (omega arith)
 length_take (suc n) (x ∷ xs) h = ap suc (length_take n xs (omega arith))
 
-take_front : (w : ℕ) (xs ys : List ℕ) → w ≤ length xs → take w (xs ++ ys) ≡ take w xs
+pub take_front : (w : ℕ) (xs ys : List ℕ) → w ≤ length xs → take w (xs ++ ys) ≡ take w xs
 take_front zero xs ys h = refl
 take_front (suc w) [] ys h = absurd (omega arith)
 take_front (suc w) (x ∷ xs) ys h = ap (λ l. x ∷ l) (take_front w xs ys (omega arith))
@@ -216,9 +216,8 @@ elements_opened C ns w lo hi k at bytes u low high within t small zero p Undecid
 elements_opened C ns w lo hi k at bytes u low high within t small (suc n) p Undecided h = absurd h
 elements_opened C ns w lo hi k at bytes u low high within t small zero p (Refused r) h = let f = h.1 in absurd (omega (arith, f, within))
 elements_opened C ns w lo hi k at bytes u low high within t small (suc n) p (Refused r) h = (
-  (λ e. let q = h.0 in cc),
-  λ x c. subst (λ i. NoneBegins C i x bytes) (sym h.0) (too_short C (λ m. no_packed C w lo hi k n (name_at ns at) p u low high h.1 t c m)),
-  λ _. inr (k, t, low, high, subst (λ i. length bytes < w + k * i) (sym p) h.1),
+  (λ x c. subst (λ i. NoneBegins C i x bytes) (sym h.0) (too_short C (λ m. no_packed C w lo hi k n (name_at ns at) p u low high h.1 t c m))),
+  subst (λ i. Refuses C i (sequence w lo hi (name_at ns at)) bytes) (sym h.0) (inr (k, t, low, high, subst (λ i. length bytes < w + k * i) (sym p) h.1)),
 )
 elements_opened C ns w lo hi k at bytes u low high within t small zero p (Taken n r) h =
     let e = name_at ns at in
@@ -272,6 +271,15 @@ small_at w size k bytes z within h = subst (λ i. k < 256 ^ i) (length_take size
 pub count_off : (w lo hi k size : ℕ) (e bytes : List ℕ) → hi < 256 ^ w → size ≡ w → size ≤ length bytes → low_bytes (length (take size bytes)) k ≡ take size bytes → k < 256 ^ length (take size bytes) → (k < lo) ⊎ (hi < k) → (C : List ℕ → Option Shape) (x : List ℕ) → C x ≡ Some (sequence w lo hi e) → (more : List ℕ) → BeginsWith C x (bytes ++ more) → ⊥
 count_off w lo hi k size e bytes fits z within t small off C x c more m = no_count C k fits (small_at w size k bytes z within small) (written_at w size k bytes z within t ∙ sym (take_front w bytes more (omega (arith, z, within)))) off c m
 
+pub other_count : (w lo hi n size : ℕ) (e bytes : List ℕ) → hi < 256 ^ w → size ≡ w → size ≤ length bytes → low_bytes (length (take size bytes)) n ≡ take size bytes → n < 256 ^ length (take size bytes) → (n < lo) ⊎ (hi < n) → HasOtherCount (sequence w lo hi e) bytes
+other_count w lo hi n size e bytes fits z within t small off = (
+  omega (arith, z, within),
+  λ k low high h.
+      let s = small_at w size n bytes z within small in
+      let o : n ≡ k = one_count w 0 (256 ^ w - 1) n k (omega arith) (omega arith) (omega (arith, s)) (omega arith) (omega (arith, high, fits)) (written_at w size n bytes z within t ∙ sym h) in
+      elim off [ inl a ↦ omega (arith, o, a, low) | inr a ↦ omega (arith, o, a, high) ],
+)
+
 single_needs : (w : ℕ) (k : ℤ) (p : List ℕ) (vs : List (ℤ × List ℕ)) → vs ≡ (k, p) ∷ [] → w ≡ 0 → (q : List ℕ) → IsIn q (p ∷ []) → IsIn q (required_by (choice w vs))
 single_needs zero k p vs e z q a = subst (λ l. IsIn q (required_by (choice zero l))) (sym e) a
 single_needs (suc w) k p vs e z q a = absurd (omega arith)
@@ -313,6 +321,11 @@ found_none_choice w size bytes vs z within f C x c more m =
     let t : take size bytes ≡ take w bytes = ap (λ i. take i bytes) z in
     let long = length-append bytes more in
     no_variant C (omega (arith, long, z, within)) (λ j q a b. f.0 j q a (ap (λ i. tag i j) l ∙ b ∙ take_front w bytes more (omega (arith, z, within)) ∙ sym t)) c m
+
+pub other_tag : (w size : ℕ) (bytes : List ℕ) (vs : List (ℤ × List ℕ)) → size ≡ w → size ≤ length bytes → FoundAs vs (take size bytes) Nothing → HasOtherTag (choice w vs) bytes
+other_tag w size bytes vs z within f =
+    let l : length (take size bytes) ≡ w = length_take size bytes within ∙ z in
+    (omega (arith, z, within), λ k p a b. f.0 k p a (ap (λ i. tag i k) l ∙ b ∙ sym (ap (λ i. take i bytes) z)))
 
 pub several_ambiguous : (w size : ℕ) (bytes : List ℕ) (vs : List (ℤ × List ℕ)) → size ≡ w → size ≤ length bytes → (DistinctTags (length (take size bytes)) vs → ⊥) → DistinctTags w vs → ⊥
 several_ambiguous w size bytes vs z within f t = f (subst (λ i. DistinctTags i vs) (sym (length_take size bytes within ∙ z)) t)

@@ -1,9 +1,10 @@
 -- What the loop keeps, and each of its steps.
 use Rattle.std.proofs.Common.{◌≡◌, ℕ, suc, ◌≤◌, ◌<◌, List, [], ◌∷◌, ◌++◌, length, take, drop, replicate, Some, None, sym, ◌∙◌, ap, subst, arith, append_assoc, append-nil, length-drop, ◌⊎◌, inl, inr}
 use Rattle.std.specs.Prelude.{Option, ⊤}
-use Rattle.borsh_walks.specs.Container.{Shape, IsIn, IsDefined, first, later, Member, of_primitive, of_sequence, of_parts, of_choice, references, Reached, Reaches, stays, onward}
+use Rattle.borsh_walks.specs.Container.{Shape, IsIn, IsDefined, first, later, Member, of_primitive, of_sequence, of_parts, of_choice, references, Reached, Reaches, IsOnCycle, stays, onward}
 use Rattle.borsh_walks.specs.SizeAnswer.{Distinct, distinct_none, distinct_more}
-use Rattle.borsh_values.specs.Faults.{BeginsWith}
+use Rattle.borsh_values.specs.Faults.{BeginsWith, LeadsTo}
+use Rattle.borsh_values.specs.Nodes.{Opens, Reads, reads_none}
 use Rattle.borsh_values.specs.Steps.{remaining, pending, required_by, OnlyEmpty, AllOnlyEmpty, Takes}
 use Rattle.borsh_values.specs.Layouts.{name_at}
 use Rattle.borsh_values.specs.declared.layout.Named.{Named}
@@ -14,7 +15,8 @@ use Rattle.borsh_values.specs.declared.members.Mark.TheVariants.{Empty, Open}
 use Rattle.borsh_walks.proofs.Names.{name_cases, also_defined, among_one, among_append}
 use Rattle.borsh_walks.proofs.Tables.{Updated}
 use Rattle.borsh_values.proofs.FrontLaws.{Begun, begun_start, begun_skip, begun_on, begun_denied}
-use Rattle.borsh_values.proofs.Required.{not_required, only_empty_copies}
+use Rattle.borsh_values.proofs.ReadsLaws.{reads_on, reads_member, reads_skip, leads_on}
+use Rattle.borsh_values.proofs.Required.{only_empty_copies}
 
 abbrev pub with_rest : Frame → Rest → Frame
 with_rest f r = record { at = f.at; start = f.start; rest = r }
@@ -29,14 +31,14 @@ module _ (C : List ℕ → Option Shape) (ns : List Named) where
   pub record Top (o : ℕ) (f : Frame) : Type 0 where
     pub low : o ≤ f.start
     pub only_empty : f.start ≡ o → AllOnlyEmpty C (remaining ns f.rest) → OnlyEmpty C (name_at ns f.at)
-    pub needs : f.start ≡ o → (d : Shape) × (C (name_at ns f.at) ≡ Some d) × ((p : List ℕ) → IsIn p (remaining ns f.rest) → IsIn p (required_by d))
+    pub needs : f.start ≡ o → (d : Shape) × (C (name_at ns f.at) ≡ Some d) × ((p : List ℕ) → IsIn p (remaining ns f.rest) → IsIn p (required_by d)) × (qs : List (List ℕ)) × Opens C d [] qs × Reads C qs [] (remaining ns f.rest)
 
   -- the same, above the open name y, that was opened with s bytes left
   pub record Link (o : ℕ) (f : Frame) (y : List ℕ) (s : ℕ) : Type 0 where
     pub low : o ≤ f.start
     pub same : f.start ≡ o → s ≡ o
     pub only_empty : f.start ≡ o → OnlyEmpty C y → AllOnlyEmpty C (remaining ns f.rest) → OnlyEmpty C (name_at ns f.at)
-    pub needs : f.start ≡ o → (d : Shape) × (C (name_at ns f.at) ≡ Some d) × IsIn y (required_by d) × ((p : List ℕ) → IsIn p (remaining ns f.rest) → IsIn p (required_by d))
+    pub needs : f.start ≡ o → (d : Shape) × (C (name_at ns f.at) ≡ Some d) × IsIn y (required_by d) × ((p : List ℕ) → IsIn p (remaining ns f.rest) → IsIn p (required_by d)) × (qs : List (List ℕ)) × Opens C d [] qs × Reads C qs [] (y ∷ remaining ns f.rest)
 
   abbrev pub Chain : ℕ → List Frame → List ℕ → ℕ → Type 0
   Chain o [] y s = ⊤
@@ -89,7 +91,7 @@ module _ (C : List ℕ → Option Shape) (ns : List Named) where
         top = record {
           low = w.top.low;
           only_empty = λ s a. w.top.only_empty s (subst (λ l. AllOnlyEmpty C l) (sym e) (only_empty_copies C (remaining ns r) (suc k) h a));
-          needs = λ s. let n = w.top.needs s in (n.0, n.1, λ q a. n.2 q (subst (λ l. IsIn q l) (sym e) (among_right (replicate (suc k) p) a)));
+          needs = λ s. let n = w.top.needs s in (n.0, n.1, (λ q a. n.2 q (subst (λ l. IsIn q l) (sym e) (among_right (replicate (suc k) p) a))), n.3, n.4, reads_skip C (suc k) h.0 (subst (λ l. Reads C n.3 [] l) e n.5));
         };
         chain = w.chain;
         distinct = w.distinct;
@@ -145,7 +147,7 @@ module _ (C : List ℕ → Option Shape) (ns : List Named) where
         top = record {
           low = w.chain.0.low;
           only_empty = λ s a. w.chain.0.only_empty s is a;
-          needs = λ s. let n = w.chain.0.needs s in (n.0, n.1, n.3);
+          needs = λ s. let n = w.chain.0.needs s in (n.0, n.1, n.3, n.4, n.5, reads_on C n.6 (reads_member C is.0));
         };
         chain = w.chain.1;
         distinct = w.distinct;
@@ -172,7 +174,7 @@ module _ (C : List ℕ → Option Shape) (ns : List Named) where
       low = t.low;
       same = same;
       only_empty = λ q h a. t.only_empty q (subst (λ l. AllOnlyEmpty C l) (sym e) (h, a));
-      needs = λ q. let n = t.needs q in (n.0, n.1, n.2 p (subst (λ l. IsIn p l) (sym e) first), λ z a. n.2 z (subst (λ l. IsIn z l) (sym e) (later a)));
+      needs = λ q. let n = t.needs q in (n.0, n.1, n.2 p (subst (λ l. IsIn p l) (sym e) first), (λ z a. n.2 z (subst (λ l. IsIn z l) (sym e) (later a))), n.3, n.4, subst (λ l. Reads C n.3 [] l) e n.5);
     }
 
     next_reached : Reached C root p
@@ -204,7 +206,7 @@ module _ (C : List ℕ → Option Shape) (ns : List Named) where
           top = record {
             low = omega (arith, start);
             only_empty = λ _ a. subst (λ y. OnlyEmpty C y) (sym name) (t.only_empty zero_is p c a);
-            needs = λ _. (d, ap C name ∙ c, t.needs zero_is);
+            needs = λ _. (d, ap C name ∙ c, t.needs zero_is, remaining ns g.rest, subst (λ i. Opens C d (take i rest) (remaining ns g.rest)) zero_is t.opens, reads_none);
           };
           chain = (subst (λ y. Link (length rest) (with_rest f r) y g.start) (sym name) (above (λ _. start) w.top), w.chain);
           distinct = distinct_more (λ a. elim (w.marked p a) [ inl h ↦ not_empty h | inr h ↦ not_open h ]) w.distinct;
@@ -258,16 +260,18 @@ module _ (C : List ℕ → Option Shape) (ns : List Named) where
     pub denied : {bs : List ℕ} → (BeginsWith C p bs → ⊥) → BeginsWith C root (done ++ bs) → ⊥
     denied deny = begun_denied C (subst (λ l. Begun C root done l) next_is w.begun) deny
 
-    pub leads_back : {bs : List ℕ} → T p ≡ Some (Open (length rest)) → BeginsWith C p bs → ⊥
-    leads_back h m =
+    pub leads_back : T p ≡ Some (Open (length rest)) → IsOnCycle C required_by p × LeadsTo C p p
+    leads_back h =
         let l = on_leads (length rest) fs f w.chain (w.here p h) in
-        let n = w.top.needs l.0 in
-        not_required C m.2 (name_at ns f.at, n.0, l.1, n.1, n.2 p (subst (λ l. IsIn p l) (sym e) first))
+        let n = w.top.needs l.0 in (
+          (name_at ns f.at, n.0, l.1, n.1, n.2 p (subst (λ l. IsIn p l) (sym e) first)),
+          leads_on C n.0 l.2 n.1 n.4 (subst (λ l. Reads C n.3 [] l) e n.5),
+        )
       where
-        on_leads : {x : List ℕ} (o : ℕ) (fs : List Frame) (f : Frame) → Chain o fs (name_at ns f.at) f.start → On ns x o (f ∷ fs) → (f.start ≡ o) × Reaches C required_by x (name_at ns f.at)
-        on_leads o fs f c (inl h) = (h.1, subst (λ y. Reaches C required_by y (name_at ns f.at)) h.0 stays)
+        on_leads : {x : List ℕ} (o : ℕ) (fs : List Frame) (f : Frame) → Chain o fs (name_at ns f.at) f.start → On ns x o (f ∷ fs) → (f.start ≡ o) × Reaches C required_by x (name_at ns f.at) × ((x ≡ name_at ns f.at) ⊎ LeadsTo C x (name_at ns f.at))
+        on_leads o fs f c (inl h) = (h.1, subst (λ y. Reaches C required_by y (name_at ns f.at)) h.0 stays, inl (sym h.0))
         on_leads o [] f c (inr h) = absurd h
         on_leads o (g ∷ fs) f c (inr h) =
             let l = on_leads o fs g c.1 h in
             let n = c.0.needs l.0 in
-            (c.0.same l.0, onward n.0 l.1 n.1 n.2)
+            (c.0.same l.0, onward n.0 l.1 n.1 n.2, inr (leads_on C n.0 l.2 n.1 n.5 n.6))

@@ -1,10 +1,12 @@
 -- What `decode` answers.
-use Rattle.std.specs.Prelude.{◌≡◌, ◌≤◌, ℕ, List, [], length, ◌∷◌, Option, Result, IfOk, ⊤}
+use Rattle.std.specs.Prelude.{◌≡◌, ◌≤◌, ℕ, List, [], length, ◌∷◌, Option, Result, IfOk, ⊤, String}
+use Rattle.std.specs.BTreeMap.{BTreeMap}
+use Rattle.borsh_walks.specs.declared.definition.Definition.{Definition}
 use Rattle.borsh_walks.specs.Container.{Shape, Member, IsValid}
 use Rattle.borsh_values.specs.Unambiguous.{IsUnambiguous}
 use Rattle.borsh_values.specs.Membership.{IsUndecided}
 use Rattle.borsh_values.specs.Faults.{IsFault}
-use Rattle.borsh_values.specs.Nodes.{NodeView, Nodes, views, joined_bytes, AreOffsets}
+use Rattle.borsh_values.specs.Nodes.{NodeView, Nodes, views, joined_bytes, AreOffsets, HaveDefinitions}
 use Rattle.borsh_values.specs.declared.members.Decoded.{Decoded}
 use Rattle.borsh_values.specs.declared.members.Decoded.TheVariants.{Nodes as IsNodes, NoMember, Ambiguous}
 
@@ -19,6 +21,12 @@ abbrev pub HasAtMost : ℕ → Decoded → Type 0
 HasAtMost n (IsNodes ns) = length ns.items ≤ n
 HasAtMost n (NoMember f) = ⊤
 HasAtMost n (Ambiguous x) = ⊤
+
+-- each node has the definition that the map has for its name
+abbrev pub HasDefinitions : {A : Type 0} → BTreeMap (String A) Definition → Decoded → Type 0
+HasDefinitions m (IsNodes ns) = HaveDefinitions m ns.items
+HasDefinitions m (NoMember f) = ⊤
+HasDefinitions m (Ambiguous x) = ⊤
 
 module _ (C : List ℕ → Option Shape) (root bytes : List ℕ) where
   -- each answer is right

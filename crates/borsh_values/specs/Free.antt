@@ -1,10 +1,13 @@
 -- Names whose members are all bytes of one length.
-use Rattle.std.specs.Prelude.{◌≡◌, ◌<◌, ◌≤◌, ◌*◌, ℕ, List, ◌++◌, length, All, Option, Some, get_or, slice_get}
+use Rattle.std.specs.Prelude.{◌≡◌, ◌<◌, ◌≤◌, ◌*◌, ◌-◌, ℕ, suc, List, [], ◌∷◌, ◌++◌, length, take, replicate, All, IfSome, Option, Some, get_or, slice_get}
 use Rattle.borsh_walks.specs.Container.{Shape, Member, Members}
 use Rattle.borsh_walks.specs.Definitions.{definitions_in}
 use Rattle.borsh_values.specs.declared.layout.Layout.{Layout}
 use Rattle.borsh_values.specs.declared.layout.Named.{Named}
 use Rattle.borsh_values.specs.declared.frames.Rest.{Rest}
+use Rattle.borsh_values.specs.declared.frames.Rest.TheVariants.{Copies}
+use Rattle.borsh_values.specs.declared.runs.Run.{Run}
+use Rattle.borsh_values.specs.declared.runs.TagLength.{TagLength}
 use Rattle.borsh_values.specs.declared.free.Passed.{Passed}
 use Rattle.borsh_values.specs.Layouts.{name_at}
 use Rattle.borsh_values.specs.Steps.{remaining, step_count, Fits}
@@ -27,19 +30,42 @@ module _ (C : List ℕ → Option Shape) where
   abbrev pub IsFreeArray : List (List ℕ) → ℕ → ℕ → Type 0
   IsFreeArray ps k all = (e : List ℕ) × (n : ℕ) × (slice_get ps 0 ≡ Some e) × (all ≡ k * n) × FreeSize e n
 
+  -- the bytes are members of the names, one after another, and no others of these begin what begins so
+  pub record AreOnly (ps : List (List ℕ)) (own : List ℕ) : Type 0 where
+    pub members : Members C ps own
+    pub only : (xs ys zs : List ℕ) → Members C ps xs → xs ++ ys ≡ own ++ zs → xs ≡ own
+
+  -- so are the first n of the bytes
+  abbrev pub AreFirst : List (List ℕ) → List ℕ → ℕ → Type 0
+  AreFirst ps bytes n = (n ≤ length bytes) × AreOnly ps (take n bytes)
+
+  -- each member of the name that begins with the byte t has n bytes, and any so many are one
+  abbrev pub IsTagLength : List ℕ → ℕ → ℕ → Type 0
+  IsTagLength x t n = (bs : List ℕ) → All (λ b. b < 256) bs → n ≤ suc (length bs) → AreOnly (x ∷ []) (take n (t ∷ bs))
+
+  abbrev pub IsRight : List ℕ → TagLength → Type 0
+  IsRight x t = IfSome t.length (λ n. IsTagLength x t.tag n)
+
+  -- so many values of the name, at most count, are so many of the first bytes
+  abbrev pub IsRun : List ℕ → List ℕ → ℕ → Run → Type 0
+  IsRun x bytes count r = (r.values ≤ count) × AreFirst (replicate r.values x) bytes r.taken
+
   -- those of the names of a layout
   abbrev pub AreFree : List Named → List ℕ → Type 0
   AreFree ns sizes = (i : ℕ) → i < length ns → IsFree (name_at ns i) (get_or sizes i 0)
 
-  -- the next names have a free size together, and as many bytes are left
-  pub record IsFreeFront (ns : List Named) (r : Rest) (left : ℕ) (p : Passed) : Type 0 where
+  -- members of the next names are the first bytes of those that are left, and at least one byte
+  pub record IsFreeFront (ns : List Named) (r : Rest) (left : List ℕ) (p : Passed) : Type 0 where
     pub names : List (List ℕ)
-    pub free : FreeSizes names p.taken
+    pub first : AreFirst names left p.taken
     pub parts : remaining ns r ≡ names ++ remaining ns p.rest
     pub some : 0 < p.taken
-    pub within : p.taken ≤ left
     pub fits : Fits ns p.rest
     pub steps : step_count ns p.rest ≤ step_count ns r
+
+-- what is passed of copies of the name at a place: a run of some bytes
+abbrev pub Passes : ℕ → ℕ → Run → Passed → Type 0
+Passes at count r p = (0 < r.taken) × (p ≡ record { taken = r.taken; rest = Copies at (count - r.values) })
 
 -- what a layout says of sizes is right: which are free, and which names have values without bytes
 pub record KnowsSizes (l : Layout) : Type 0 where

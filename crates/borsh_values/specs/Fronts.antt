@@ -1,10 +1,9 @@
 -- What is answered of the first value of some bytes.
-use Rattle.std.specs.Prelude.{◌≡◌, ⊤, ℕ, ◌-◌, ◌≤◌, List, [], ◌∷◌, ◌++◌, length, take, drop, Option, Some, Result, IfOk}
+use Rattle.std.specs.Prelude.{◌≡◌, ⊤, ℕ, ◌-◌, ◌≤◌, List, [], ◌∷◌, ◌++◌, length, take, Option, Result, IfOk}
 use Rattle.borsh_walks.specs.Container.{Shape, Member, IsValid}
 use Rattle.borsh_values.specs.Unambiguous.{IsUnambiguous}
 use Rattle.borsh_values.specs.Membership.{IsUndecided}
 use Rattle.borsh_values.specs.Faults.{BeginsWith, IsFault}
-use Rattle.borsh_values.specs.Steps.{TakesMore}
 use Rattle.borsh_values.specs.Nodes.{NodeView, Nodes, views, joined_bytes, AreOffsets}
 use Rattle.borsh_values.specs.declared.faults.Fault.{Fault}
 use Rattle.borsh_values.specs.declared.faults.Reason.{Reason}
@@ -14,10 +13,6 @@ use Rattle.borsh_values.specs.declared.fronts.Front.{Front}
 use Rattle.borsh_values.specs.declared.fronts.Front.TheVariants.{Value, TooShort, NoMember, Ambiguous}
 use Rattle.borsh_values.specs.declared.fronts.DecodedFront.{DecodedFront}
 use Rattle.borsh_values.specs.declared.fronts.DecodedFront.TheVariants.{Value as DecodedValue, TooShort as DecodedShort, NoMember as DecodedNone, Ambiguous as DecodedAmbiguous}
-
--- the definition of the name takes more bytes than these
-abbrev pub NeedsMore : (List ℕ → Option Shape) → List ℕ → List ℕ → Type 0
-NeedsMore C x bytes = (d : Shape) × (C x ≡ Some d) × TakesMore C d bytes
 
 -- the fault is of the name and the reason, where so many of all bytes are left
 abbrev pub IsAt : ℕ → ℕ → List ℕ → Reason → Fault → Type 0
@@ -67,7 +62,7 @@ module _ (C : List ℕ → Option Shape) (root bytes : List ℕ) where
   -- each answer is right: where no front is a member, none is whatever bytes follow, unless the bytes are too short
   abbrev pub IsFrontAnswer : Front → Type 0
   IsFrontAnswer (Value n) = IsFront C root bytes n
-  IsFrontAnswer (TooShort f) = HasNoFront C root bytes f × (f.reason ≡ IsShort) × NeedsMore C f.name.now (drop f.offset bytes)
+  IsFrontAnswer (TooShort f) = HasNoFront C root bytes f × (f.reason ≡ IsShort)
   IsFrontAnswer (NoMember f) = (more : List ℕ) → HasNoFront C root (bytes ++ more) f
   IsFrontAnswer (Ambiguous x) = IsUndecided C root x.now
 

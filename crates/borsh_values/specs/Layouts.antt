@@ -1,7 +1,7 @@
 -- The names that a root leads to, by their places.
 use Rattle.std.specs.Prelude.{◌≡◌, ◌⊎◌, ℕ, ◌+◌, ◌<◌, ◌≤◌, List, [], length, map, Option, Some, None, option_map, unwrap_or, slice_get, MatchOption, String, Vec}
 use Rattle.std.specs.Global.{Global}
-use Rattle.std.specs.BTreeMap.{BTreeMap}
+use Rattle.std.specs.BTreeMap.{BTreeMap, get_by_text}
 use Rattle.borsh_walks.specs.declared.definition.Definition.{Definition}
 use Rattle.borsh_walks.specs.Container.{Shape, IsIn, references, Reached}
 use Rattle.borsh_walks.specs.Definitions.{definitions_in, shape_of}
@@ -23,6 +23,11 @@ named_shape (Some n) = option_map (λ d. shape_of d.now) n.definition
 abbrev pub shape_at : List Named → ℕ → Option Shape
 shape_at ns i = named_shape (slice_get ns i)
 
+-- the definition of a name that was looked up, with the names of its parts
+abbrev pub named_definition : Option Named → Option Definition
+named_definition None = None
+named_definition (Some n) = option_map (λ d. d.now) n.definition
+
 -- the names in a definition, if there is one
 abbrev pub parts_in : Option Shape → List (List ℕ)
 parts_in None = []
@@ -41,6 +46,7 @@ pub record IsIndex {A : Type 0} (m : BTreeMap (String A) Definition) (ns : List 
   pub sound : (x : List ℕ) (i : ℕ) → T x ≡ Some i → name_of ns i ≡ Some x
   pub back : (x : List ℕ) (i : ℕ) → name_of ns i ≡ Some x → T x ≡ Some i
   pub defined : (x : List ℕ) (i : ℕ) → name_of ns i ≡ Some x → definitions_in m x ≡ shape_at ns i
+  pub looked_up : (x : List ℕ) (i : ℕ) → name_of ns i ≡ Some x → get_by_text m x ≡ named_definition (slice_get ns i)
 
 -- each name keeps its place; names that were added are among xs, each at most once
 pub record Grows (xs : List (List ℕ)) (old new : List Named) : Type 0 where

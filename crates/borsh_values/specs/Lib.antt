@@ -15,3 +15,4 @@ pub mod Free
 pub mod Passing
 pub mod Fronts
 pub mod Next
+pub mod Records

@@ -1,5 +1,7 @@
 -- The nodes of a value: its parts in preorder, each with the bytes that it encodes before its own parts.
-use Rattle.std.specs.Prelude.{◌≡◌, ◌⊎◌, ⊤, ℕ, suc, zero, ◌+◌, ◌*◌, ◌<◌, ◌≤◌, ℤ, pos, List, [], ◌∷◌, ◌++◌, length, replicate, take, drop, Option, Some, None, MatchOption, All}
+use Rattle.std.specs.Prelude.{◌≡◌, ◌⊎◌, ⊤, ℕ, suc, zero, ◌+◌, ◌*◌, ◌<◌, ◌≤◌, ℤ, pos, List, [], ◌∷◌, ◌++◌, length, replicate, take, drop, Option, Some, None, MatchOption, All, String}
+use Rattle.std.specs.BTreeMap.{BTreeMap, get_by_text}
+use Rattle.borsh_walks.specs.declared.definition.Definition.{Definition}
 use Rattle.borsh_values.specs.Numbers.{value_of}
 use Rattle.borsh_values.specs.Tags.{IsVariantIndex}
 use Rattle.borsh_walks.specs.Definitions.{shape_of}
@@ -63,6 +65,11 @@ abbrev pub AreOffsets : ℕ → List Node → Type 0
 AreOffsets k [] = ⊤
 AreOffsets k (n ∷ ns) = (n.offset ≡ k) × AreOffsets (k + length n.bytes.now) ns
 
+-- each node has the definition that the map has for its name
+abbrev pub HaveDefinitions : {A : Type 0} → BTreeMap (String A) Definition → List Node → Type 0
+HaveDefinitions m [] = ⊤
+HaveDefinitions m (n ∷ ns) = (get_by_text m n.name.now ≡ Some n.definition.now) × HaveDefinitions m ns
+
 -- all own bytes, one after another
 abbrev pub joined_bytes : List NodeView → List ℕ
 joined_bytes [] = []
@@ -78,3 +85,8 @@ module _ (C : List ℕ → Option Shape) where
     nodes_none : Nodes [] [] []
     nodes_zero : {x bs : List ℕ} {ps : List (List ℕ)} {es : List NodeView} → IsZeroSize C x → Member C x [] → Nodes ps bs es → Nodes (x ∷ ps) bs es
     nodes_more : {x own bs : List ℕ} {ps : List (List ℕ)} {es : List NodeView} (d : Shape) (ns : List (List ℕ)) → (IsZeroSize C x → ⊥) → C x ≡ Some d → Opens C d own ns → Nodes (ns ++ ps) bs es → Nodes (x ∷ ps) (own ++ bs) ((x, d, own) ∷ es)
+
+  -- bytes are read of the names ps and the names qs are left: each definition in turn is opened, and its parts come next
+  pub data Reads : List (List ℕ) → List ℕ → List (List ℕ) → Type 0 where
+    reads_none : {ps : List (List ℕ)} → Reads ps [] ps
+    reads_more : {x bs : List ℕ} {ps qs : List (List ℕ)} (d : Shape) (own : List ℕ) (ns : List (List ℕ)) → C x ≡ Some d → Opens C d own ns → Reads (ns ++ ps) bs qs → Reads (x ∷ ps) (own ++ bs) qs

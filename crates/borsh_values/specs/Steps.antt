@@ -1,12 +1,12 @@
 -- What the loop over the bytes of a value works on.
-use Rattle.std.specs.Prelude.{◌≡◌, ◌⊎◌, ℕ, Bool, true, false, suc, zero, ◌+◌, ◌*◌, ◌≤◌, ◌<◌, ◌^◌, List, [], ◌∷◌, ◌++◌, length, take, drop, replicate, ℤ, pos, Option, Some, None, get_or, slice_get, ⊤}
+use Rattle.std.specs.Prelude.{◌≡◌, ℕ, Bool, true, false, suc, zero, ◌+◌, ◌*◌, ◌≤◌, ◌<◌, ◌^◌, List, [], ◌∷◌, ◌++◌, length, take, drop, replicate, ℤ, Option, Some, None, get_or, slice_get, ⊤}
 use Rattle.borsh_walks.specs.Container.{Shape, primitive, sequence, product, choice, IsIn, IsListedVariant, tag, Member, references, IsZeroSize}
 use Rattle.borsh_walks.specs.RulesAnswer.{KeepsWidths, IsWidth}
 use Rattle.borsh_values.specs.Unambiguous.{DistinctTags, UnambiguousShape}
-use Rattle.borsh_values.specs.Nodes.{Opens, packed_size}
-use Rattle.borsh_values.specs.Faults.{BeginsWith}
+use Rattle.borsh_values.specs.Nodes.{Opens}
+use Rattle.borsh_values.specs.Faults.{BeginsWith, Refuses}
 use Rattle.borsh_values.specs.declared.faults.Reason.{Reason}
-use Rattle.borsh_values.specs.declared.faults.Reason.TheVariants.{BytesLeft, TooShort}
+use Rattle.borsh_values.specs.declared.faults.Reason.TheVariants.{TooShort}
 use Rattle.borsh_values.specs.Layouts.{name_at, shape_at, parts_in}
 use Rattle.borsh_values.specs.declared.layout.Named.{Named}
 use Rattle.borsh_values.specs.declared.frames.Step.{Step}
@@ -113,17 +113,10 @@ pub record Takes (C : List ℕ → Option Shape) (d : Shape) (bytes : List ℕ) 
   -- where no byte is taken, they are required
   pub needs : n ≡ 0 → (p : List ℕ) → IsIn p ns → IsIn p (required_by d)
 
--- the definition takes more bytes than these: as a primitive, for its tag, its count, or the elements that are listed with this
-abbrev pub TakesMore : (List ℕ → Option Shape) → Shape → List ℕ → Type 0
-TakesMore C (primitive n) bytes = length bytes < n
-TakesMore C (sequence w lo hi e) bytes = (length bytes < w) ⊎ ((k : ℕ) × (tag w (pos k) ≡ take w bytes) × (lo ≤ k) × (k ≤ hi) × (length bytes < w + k * packed_size (C e)))
-TakesMore C (product ps) bytes = ⊥
-TakesMore C (choice w vs) bytes = length bytes < w
-
 -- what an opened definition takes from the bytes, or that no member begins here, or that the definition is ambiguous or breaks a rule of widths
 abbrev pub OpensAs : (List ℕ → Option Shape) → List Named → Shape → List ℕ → Opened → Type 0
 OpensAs C ns d bytes Undecided = UnambiguousShape d → KeepsWidths d → ⊥
-OpensAs C ns d bytes (Refused r) = (r ≡ BytesLeft → ⊥) × ((x : List ℕ) → C x ≡ Some d → NoneBegins C r x bytes) × (r ≡ TooShort → TakesMore C d bytes)
+OpensAs C ns d bytes (Refused r) = ((x : List ℕ) → C x ≡ Some d → NoneBegins C r x bytes) × Refuses C r d bytes
 OpensAs C ns d bytes (Taken n r) = Takes C d bytes n (remaining ns r) × (step_count ns r ≤ 2 + length (references d)) × Fits ns r
 
 -- what k elements at a place of the layout take behind w bytes of all, where each has m bytes that are listed with their sequence

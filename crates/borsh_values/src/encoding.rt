@@ -10,21 +10,21 @@ use borsh_walks::Definition;
 use std::alloc::{AllocError, Global};
 use std::collections::BTreeMap;
 
-fn node_at<'a>(nodes: &[Node<'a>], index: usize) -> Option<Node<'a>>
+fn node_at<'a, 'b>(nodes: &[Node<'a, 'b>], index: usize) -> Option<Node<'a, 'b>>
     ensures { result ≡ slice_get nodes.now index }
 {
     nodes.get(index).copied()
 }
 
 // Whether two nodes have the same name and own bytes.
-fn is_same(a: &Node<'_>, b: &Node<'_>) -> bool
+fn is_same(a: &Node<'_, '_>, b: &Node<'_, '_>) -> bool
     ensures { Decides result (name_and_bytes a.now ≡ name_and_bytes b.now) }
 {
     a.name == b.name && a.bytes == b.bytes
 }
 
 // Whether all nodes of two lists have the same names and own bytes.
-fn are_same(a: &[Node<'_>], b: &[Node<'_>]) -> bool
+fn are_same(a: &[Node<'_, '_>], b: &[Node<'_, '_>]) -> bool
     ensures { Decides result (names_and_bytes (views a.now) ≡ names_and_bytes (views b.now)) }
 {
     // For the prover: `index` is at most this length.
@@ -51,7 +51,7 @@ fn have_nodes(
     root: &str,
     map: &BTreeMap<String, Definition>,
     bytes: &[u8],
-    nodes: &[Node<'_>],
+    nodes: &[Node<'_, '_>],
 ) -> Result<bool, AllocError>
     requires { bytes.now ≡ joined_bytes (views nodes.now) }
     ensures { let ns = views nodes.now in
@@ -80,7 +80,7 @@ pub fn encode_value(
     alloc: Global,
     root: &str,
     map: &BTreeMap<String, Definition>,
-    nodes: &[Node<'_>],
+    nodes: &[Node<'_, '_>],
 ) -> Result<Option<Vec<u8>>, AllocError>
     ensures { let ns = views nodes.now in
         IfOk result (λ found. EncodesNodes (definitions_in map.now) root.now ns found) }

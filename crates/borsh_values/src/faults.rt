@@ -80,9 +80,10 @@ impl<'a> fmt::Display for Path<'a> {
     }
 }
 
-/// Where bytes stop being a member: at `offset`, which `path` leads to, no member of `name` begins.
+/// Where bytes stop being a member: behind the first `offset` bytes a part of type `name` comes next, which `path` leads to, and no
+/// member of it begins there, for `reason`.
 ///
-/// Where bytes are left behind a whole value (`Reason::BytesLeft`), `offset` is their beginning and `name` the root.
+/// Where the first `offset` bytes are a whole value and others follow (`Reason::BytesLeft`), `name` is the root.
 #[derive(Drop)]
 pub struct Fault<'a> {
     pub offset: usize,

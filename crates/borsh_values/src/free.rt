@@ -8,6 +8,7 @@ ghost use Rattle.std.specs.Prelude.{IfOk, IfSome, OnOk, ◌*◌, ◌≡◌, ◌<
 use crate::frames::{Rest, part_at};
 use crate::layout::Layout;
 use crate::opening::definition_at;
+use crate::runs::pass_run;
 use borsh_walks::Definition;
 use std::alloc::{AllocError, Global};
 
@@ -18,8 +19,8 @@ pub struct Passed {
     pub rest: Rest,
 }
 
-// The size at a place; 0 where none is known.
-fn size_at(sizes: &Vec<u64>, at: usize) -> u64
+/// The size at a place; 0 where none is known.
+pub fn size_at(sizes: &Vec<u64>, at: usize) -> u64
     ensures { result ≡ get_or sizes.now.items at 0 }
 {
     sizes.as_slice().get(at).copied().unwrap_or(0)
@@ -148,30 +149,30 @@ pub fn free_sizes(alloc: Global, layout: &Layout<'_>) -> Result<Vec<u64>, AllocE
     Ok(sizes)
 }
 
-/// The next names, as many as are passed at once, if they have a free size and that many bytes are left.
-pub fn free_front(layout: &Layout<'_>, rest: Rest, left: usize) -> Option<Passed>
+/// The next names, as many as are passed at once: those of a free size, or a run of values.
+pub fn free_front(layout: &Layout<'_>, rest: Rest, left: &[u8]) -> Option<Passed>
     requires laid_out { IsLaidOut layout.now }
     requires free { KnowsSizes layout.now }
     requires fits { Fits layout.now.names.items rest }
     ensures { let C = definitions_in layout.now.map.now in
-        IfSome result (λ p. IsFreeFront C layout.now.names.items rest left p) }
+        IfSome result (λ p. IsFreeFront C layout.now.names.items rest left.now p) }
 {
     match rest {
         Rest::Copies(at, count) => {
             let all = product(count, size_at(&layout.sizes, at));
-            if all > 0 && all <= left as u64 {
+            if all > 0 && all <= left.len() as u64 {
                 Some(Passed {
                     taken: all as usize,
                     rest: Rest::Copies(at, 0),
                 })
             } else {
-                None
+                pass_run(layout, at, count, left)
             }
         }
         Rest::Parts(at, next) => match part_at(layout, at, next) {
             Some(part) => {
                 let size = size_at(&layout.sizes, part);
-                if size > 0 && size <= left as u64 {
+                if size > 0 && size <= left.len() as u64 {
                     Some(Passed {
                         taken: size as usize,
                         rest: Rest::Parts(at, next + 1),

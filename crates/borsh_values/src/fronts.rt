@@ -3,6 +3,7 @@ ghost use Rattle.borsh_values.specs.Free.{KnowsSizes};
 ghost use Rattle.borsh_values.specs.Fronts.{AnswersFront, DecodesFront, nodes_of};
 ghost use Rattle.borsh_values.specs.Layouts.{IsLaidOut};
 ghost use Rattle.borsh_values.specs.Membership.{most_opened};
+ghost use Rattle.borsh_values.specs.Nodes.{HaveDefinitions};
 ghost use Rattle.borsh_walks.specs.Definitions.{definitions_in};
 ghost use Rattle.std.specs.Prelude.{IfOk, length, ◌≤◌};
 
@@ -27,9 +28,9 @@ pub enum Front<'a> {
 
 /// How bytes begin, with the nodes of their first value.
 #[derive(Drop)]
-pub enum DecodedFront<'a> {
+pub enum DecodedFront<'a, 'b> {
     /// The nodes of the value in preorder, and how many of the first bytes it is.
-    Value(Vec<Node<'a>>, usize),
+    Value(Vec<Node<'a, 'b>>, usize),
     /// As [`Front::TooShort`].
     TooShort(Fault<'a>),
     /// As [`Front::NoMember`].
@@ -51,13 +52,13 @@ impl<'a> Layout<'a> {
     /// let layout = Layout::new(alloc, "Vec<u8>", &definitions)?;
     /// let front = layout.front(alloc, b"\x01\x00\x00\x00\x07\x02\x00")?; // Front::Value(5)
     /// ```
-    pub fn front(&self, alloc: Global, bytes: &'a [u8]) -> Result<Front<'a>, AllocError>
+    pub fn front(&self, alloc: Global, bytes: &[u8]) -> Result<Front<'a>, AllocError>
         requires laid_out { IsLaidOut self.now }
         requires sizes { KnowsSizes self.now }
         ensures { let C = definitions_in self.now.map.now in
             AnswersFront C self.now.root.now bytes.now result }
     {
-        let mut nodes: Vec<Node<'a>> = Vec::new(alloc);
+        let mut nodes: Vec<Node<'a, '_>> = Vec::new(alloc);
         let mut opened = 0;
         decide(alloc, self, bytes, false, &mut nodes, &mut opened)
     }
@@ -70,19 +71,21 @@ impl<'a> Layout<'a> {
     ///     let others = &bytes[taken..];
     /// }
     /// ```
-    pub fn decode_front(
+    pub fn decode_front<'b>(
         &self,
         alloc: Global,
-        bytes: &'a [u8],
-    ) -> Result<DecodedFront<'a>, AllocError>
+        bytes: &'b [u8],
+    ) -> Result<DecodedFront<'a, 'b>, AllocError>
         requires laid_out { IsLaidOut self.now }
         requires sizes { KnowsSizes self.now }
         ensures front { let C = definitions_in self.now.map.now in
             DecodesFront C self.now.root.now bytes.now result }
+        ensures definitions { let map = self.now.map.now in
+            IfOk result (λ a. HaveDefinitions map (nodes_of a)) }
         ensures bounded_work { let most = most_opened bytes.now self.now.map.now in
             IfOk result (λ a. length (nodes_of a) ≤ most) }
     {
-        let mut nodes: Vec<Node<'a>> = Vec::new(alloc);
+        let mut nodes: Vec<Node<'a, 'b>> = Vec::new(alloc);
         let mut opened = 0;
         match decide(alloc, self, bytes, true, &mut nodes, &mut opened)? {
             Front::Value(taken) => Ok(DecodedFront::Value(nodes, taken)),

@@ -4,6 +4,7 @@ ghost use Rattle.borsh_values.specs.Free.{KnowsSizes};
 ghost use Rattle.borsh_walks.specs.Container.{references};
 ghost use Rattle.borsh_walks.specs.Definitions.{definitions_in, shape_of};
 ghost use Rattle.borsh_walks.specs.Tables.{mark_of};
+ghost use Rattle.std.specs.BTreeMap.{get_by_text};
 ghost use Rattle.std.specs.Prelude.{IfOk, OnOk, Some, [], ◌∷◌, ◌≡◌, option_map, slice_get};
 
 use crate::free::free_sizes;
@@ -62,7 +63,8 @@ pub fn name_of<'a>(names: &Vec<Named<'a>>, at: usize) -> &'a str
 
 // The definition of a name.
 fn definition_of<'a>(map: &'a BTreeMap<String, Definition>, name: &str) -> Option<&'a Definition>
-    ensures { option_map (λ d. shape_of d.now) result ≡ definitions_in map.now name.now }
+    ensures shape { option_map (λ d. shape_of d.now) result ≡ definitions_in map.now name.now }
+    ensures definition { option_map (λ d. d.now) result ≡ get_by_text map.now name.now }
 {
     map.get(name)
 }

@@ -7,6 +7,7 @@
 //! without a definition, and 18446744073709551615 elements without bytes. None recurses.
 #![tactic(auto)]
 
+mod buffered;
 mod encoding;
 mod faults;
 mod frames;
@@ -20,11 +21,14 @@ mod nodes;
 mod numbers;
 mod opening;
 mod paths;
+mod records;
+mod runs;
 mod tag_tables;
 mod tags;
 mod unambiguous;
 mod zeros;
 
+pub use buffered::Buffered;
 pub use encoding::encode_value;
 pub use faults::{Fault, Path, PathStep, Reason};
 pub use fronts::{DecodedFront, Front};
@@ -33,4 +37,5 @@ pub use members::{Decoded, Membership, decode, is_member, is_member_counted};
 pub use next::Next;
 pub use nodes::{Node, count_of, elements_of, encode, variant_of};
 pub use paths::Paths;
+pub use records::{MOST_BYTES, RecordError, Records};
 pub use unambiguous::find_ambiguous;

@@ -7,8 +7,8 @@ ghost use Rattle.borsh_values.specs.Passing.{PassesFree};
 ghost use Rattle.borsh_values.specs.Layouts.{IsLaidOut};
 ghost use Rattle.borsh_values.specs.Steps.{Fits, KnownAs};
 ghost use Rattle.borsh_walks.specs.Definitions.{definitions_in};
-ghost use Rattle.borsh_values.specs.Nodes.{AreOffsets};
-ghost use Rattle.borsh_values.specs.Decoding.{DecodesValue, HasAtMost};
+ghost use Rattle.borsh_values.specs.Nodes.{AreOffsets, HaveDefinitions};
+ghost use Rattle.borsh_values.specs.Decoding.{DecodesValue, HasAtMost, HasDefinitions};
 ghost use Rattle.borsh_values.specs.declared.members.Membership.TheVariants.{Member as IsMember};
 ghost use Rattle.std.specs.Prelude.{IfOk, IfSome, None, Some, ◌+◌, ◌-◌, ◌<◌, ◌≤◌, ◌≡◌, ◌∷◌, [], get_or, length, drop, replicate, slice_set, take, true};
 
@@ -126,7 +126,7 @@ fn pass_free<'a>(
     if wanted {
         return None;
     }
-    match free_front(layout, rest, left.len()) {
+    match free_front(layout, rest, left) {
         Some(passed) => Some(Behind {
             rest: passed.rest,
             left: after(left, passed.taken),
@@ -187,7 +187,7 @@ fn whole<'a>(alloc: Global, layout: &Layout<'a>, bytes: &[u8], front: Front<'a>)
 /// [`Fault::offset`], or bytes are left behind a whole value. The answer is never [`Membership::Ambiguous`] where the
 /// definitions that are reached are valid, as [`borsh_walks::check_rules`] says, and unambiguous. The only
 /// error is that an allocation failed. Left open: memory; for other definitions `Ambiguous` in place of yes or no; which
-/// of several faults is answered, its path, and the reason `BytesLeft` where no whole value ends: tested.
+/// of several faults is answered, and its path: tested.
 ///
 /// ```
 /// match is_member(alloc, "Vec<u8>", &definitions, b"\x01\x00\x00\x00\x07")? {
@@ -200,7 +200,7 @@ pub fn is_member<'a>(
     alloc: Global,
     root: &'a str,
     map: &'a BTreeMap<String, Definition>,
-    bytes: &'a [u8],
+    bytes: &[u8],
 ) -> Result<Membership<'a>, AllocError>
     ensures { AnswersMembership (definitions_in map.now) root.now bytes.now result }
 {
@@ -219,7 +219,7 @@ pub fn is_member_counted<'a>(
     alloc: Global,
     root: &'a str,
     map: &'a BTreeMap<String, Definition>,
-    bytes: &'a [u8],
+    bytes: &[u8],
     opened: &mut u64,
 ) -> Result<Membership<'a>, AllocError>
     ensures answer { AnswersMembership (definitions_in map.now) root.now bytes.now result }
@@ -231,9 +231,9 @@ pub fn is_member_counted<'a>(
 
 /// The nodes of a value, where bytes are a member.
 #[derive(Drop)]
-pub enum Decoded<'a> {
+pub enum Decoded<'a, 'b> {
     /// The bytes are a member, and these are its nodes in preorder. A value of a name of zero size has none.
-    Nodes(Vec<Node<'a>>),
+    Nodes(Vec<Node<'a, 'b>>),
     /// The bytes are no member, as [`Membership::NoMember`].
     NoMember(Fault<'a>),
     /// As [`Membership::Ambiguous`].
@@ -244,9 +244,9 @@ pub enum Decoded<'a> {
 ///
 /// The definitions may be any, as for [`is_member`], and the answer is of the same kind. Where they are
 /// unambiguous, as [`crate::find_ambiguous`] says, the bytes have these nodes and no others. The own bytes of all
-/// nodes, one after another, are `bytes`, and each node says where its own begin. There are at most `(n + 1) * (d + 1)` for
-/// `n` bytes and `d` definitions. The only error is that an allocation failed. Left open: as of [`is_member`]; the names of
-/// fields and variants in a node's definition; its depth, which is tested.
+/// nodes, one after another, are `bytes`, each node says where its own begin, and its definition is that of the map. There are at most `(n + 1) * (d + 1)` for
+/// `n` bytes and `d` definitions. The only error is that an allocation failed. Left open: as of [`is_member`]; a
+/// node's depth, which is tested.
 ///
 /// ```
 /// if let Decoded::Nodes(nodes) = decode(alloc, "Vec<u8>", &definitions, bytes)? {
@@ -255,13 +255,14 @@ pub enum Decoded<'a> {
 ///     }
 /// }
 /// ```
-pub fn decode<'a>(
+pub fn decode<'a, 'b>(
     alloc: Global,
     root: &'a str,
     map: &'a BTreeMap<String, Definition>,
-    bytes: &'a [u8],
-) -> Result<Decoded<'a>, AllocError>
+    bytes: &'b [u8],
+) -> Result<Decoded<'a, 'b>, AllocError>
     ensures value { DecodesValue (definitions_in map.now) root.now bytes.now result }
+    ensures definitions { IfOk result (λ a. HasDefinitions map.now a) }
     ensures bounded_work { IfOk result (λ a. HasAtMost (most_opened bytes.now map.now) a) }
 {
     Layout::new(alloc, root, map)?.decode(alloc, bytes)
@@ -274,7 +275,7 @@ impl<'a> Layout<'a> {
     /// let layout = Layout::new(alloc, "Vec<u8>", &definitions)?;
     /// let answer = layout.is_member(alloc, b"\x01\x00\x00\x00\x07")?;
     /// ```
-    pub fn is_member(&self, alloc: Global, bytes: &'a [u8]) -> Result<Membership<'a>, AllocError>
+    pub fn is_member(&self, alloc: Global, bytes: &[u8]) -> Result<Membership<'a>, AllocError>
         requires laid_out { IsLaidOut self.now }
         requires sizes { KnowsSizes self.now }
         ensures { let C = definitions_in self.now.map.now in
@@ -288,7 +289,7 @@ impl<'a> Layout<'a> {
     fn is_member_counted(
         &self,
         alloc: Global,
-        bytes: &'a [u8],
+        bytes: &[u8],
         opened: &mut u64,
     ) -> Result<Membership<'a>, AllocError>
         requires laid_out { IsLaidOut self.now }
@@ -298,7 +299,7 @@ impl<'a> Layout<'a> {
         ensures risen { opened.old ≤ opened.new }
         ensures bounded_work { opened.new ≤ opened.old + most_opened bytes.now self.now.map.now }
     {
-        let mut nodes: Vec<Node<'a>> = Vec::new(alloc);
+        let mut nodes: Vec<Node<'a, '_>> = Vec::new(alloc);
         let front = decide(alloc, self, bytes, false, &mut nodes, opened)?;
         Ok(whole(alloc, self, bytes, front))
     }
@@ -311,14 +312,15 @@ impl<'a> Layout<'a> {
     ///     let decoded = layout.decode(alloc, record)?;
     /// }
     /// ```
-    pub fn decode(&self, alloc: Global, bytes: &'a [u8]) -> Result<Decoded<'a>, AllocError>
+    pub fn decode<'b>(&self, alloc: Global, bytes: &'b [u8]) -> Result<Decoded<'a, 'b>, AllocError>
         requires laid_out { IsLaidOut self.now }
         requires sizes { KnowsSizes self.now }
         ensures value { let C = definitions_in self.now.map.now in
             DecodesValue C self.now.root.now bytes.now result }
+        ensures definitions { IfOk result (λ a. HasDefinitions self.now.map.now a) }
         ensures bounded_work { IfOk result (λ a. HasAtMost (most_opened bytes.now self.now.map.now) a) }
     {
-        let mut nodes: Vec<Node<'a>> = Vec::new(alloc);
+        let mut nodes: Vec<Node<'a, 'b>> = Vec::new(alloc);
         let mut opened = 0;
         let front = decide(alloc, self, bytes, true, &mut nodes, &mut opened)?;
         match whole(alloc, self, bytes, front) {
@@ -331,12 +333,12 @@ impl<'a> Layout<'a> {
 
 /// The loop over the bytes, to the end of their first value, whose nodes it lists if they are asked for. Each frame of `stack`
 /// waits until the one after it was read; `idle` counts the names that were begun since the last byte was taken.
-pub fn decide<'a>(
+pub fn decide<'a, 'b>(
     alloc: Global,
     layout: &Layout<'a>,
-    bytes: &'a [u8],
+    bytes: &'b [u8],
     wanted: bool,
-    nodes: &mut Vec<Node<'a>>,
+    nodes: &mut Vec<Node<'a, 'b>>,
     opened: &mut u64,
 ) -> Result<Front<'a>, AllocError>
     requires laid_out { IsLaidOut layout.now }
@@ -348,6 +350,8 @@ pub fn decide<'a>(
         wanted ≡ true →
         IfOk result (λ a. AreNodesOf C layout.now.root.now bytes.now nodes.new.items a) }
     ensures placed { wanted ≡ true → IfOk result (λ a. AreOffsets 0 nodes.new.items) }
+    ensures definitions { wanted ≡ true →
+        IfOk result (λ a. HaveDefinitions layout.now.map.now nodes.new.items) }
     ensures risen { opened.old ≤ opened.new }
     ensures bounded_work { opened.new ≤ opened.old + most_opened bytes.now layout.now.map.now }
     ensures few_nodes { wanted ≡ true →

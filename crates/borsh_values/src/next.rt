@@ -13,9 +13,9 @@ use std::alloc::{AllocError, Global};
 
 /// What follows in bytes that are values, one after another.
 #[derive(Drop)]
-pub enum Next<'a> {
+pub enum Next<'a, 'b> {
     /// The bytes of the next value.
-    Value(&'a [u8]),
+    Value(&'b [u8]),
     /// No bytes are left.
     End,
     /// The root has the empty value, so that the bytes may be any number of values.
@@ -42,14 +42,18 @@ impl<'a> Layout<'a> {
     ///     let decoded = layout.decode(alloc, value)?;
     /// }
     /// ```
-    pub fn next_value(&self, alloc: Global, left: &mut &'a [u8]) -> Result<Next<'a>, AllocError>
+    pub fn next_value<'b>(
+        &self,
+        alloc: Global,
+        left: &mut &'b [u8],
+    ) -> Result<Next<'a, 'b>, AllocError>
         requires laid_out { IsLaidOut self.now }
         requires sizes { KnowsSizes self.now }
         ensures next { let C = definitions_in self.now.map.now in
             IfOk result (λ n. IsNext C self.now.root.now left.old.now left.new.now n) }
         ensures unchanged { OnErr result (left.new.now ≡ left.old.now) }
     {
-        let bytes: &'a [u8] = *left;
+        let bytes: &'b [u8] = *left;
         if bytes.is_empty() {
             return Ok(Next::End);
         }

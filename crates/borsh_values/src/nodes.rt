@@ -19,10 +19,10 @@ use std::alloc::{AllocError, Global};
 /// [`variant_of`] gives the variant of an enum, [`count_of`] the number of elements of a sequence, [`elements_of`] their
 /// bytes where these are in its node, and [`crate::Paths`] the path of each node in turn.
 #[derive(Clone, Copy)]
-pub struct Node<'a> {
+pub struct Node<'a, 'b> {
     pub name: &'a str,
     pub definition: &'a Definition,
-    pub bytes: &'a [u8],
+    pub bytes: &'b [u8],
     /// How many bytes of the value come before these.
     pub offset: usize,
     /// How many values the part is in: 0 for the whole value, 1 for its parts.
@@ -38,7 +38,7 @@ pub struct Node<'a> {
 ///     _ => "",
 /// };
 /// ```
-pub fn variant_of(node: &Node<'_>) -> Option<usize>
+pub fn variant_of(node: &Node<'_, '_>) -> Option<usize>
     ensures { IsVariantOf (shape_of node.now.definition.now) node.now.bytes.now result }
 {
     match node.definition {
@@ -54,7 +54,7 @@ pub fn variant_of(node: &Node<'_>) -> Option<usize>
 /// // the node of `Vec<u8>` in 01 00 00 00 07
 /// assert_eq!(rt; count_of(&node), Some(1));
 /// ```
-pub fn count_of(node: &Node<'_>) -> Option<u64>
+pub fn count_of(node: &Node<'_, '_>) -> Option<u64>
     ensures { IsCountOf (shape_of node.now.definition.now) node.now.bytes.now result }
 {
     match node.definition {
@@ -82,7 +82,7 @@ pub fn count_of(node: &Node<'_>) -> Option<u64>
 /// // the node of `Vec<u8>` in 01 00 00 00 07
 /// assert_eq!(rt; elements_of(&node), b"\x07".as_slice());
 /// ```
-pub fn elements_of<'a>(node: &Node<'a>) -> &'a [u8]
+pub fn elements_of<'b>(node: &Node<'_, 'b>) -> &'b [u8]
     ensures { AreElementsOf (shape_of node.now.definition.now) node.now.bytes.now result.now }
 {
     match node.definition {
@@ -99,12 +99,12 @@ pub fn elements_of<'a>(node: &Node<'a>) -> &'a [u8]
 }
 
 /// Lists the node of the name at a place, if nodes are wanted and its values have bytes.
-pub fn list_node<'a>(
+pub fn list_node<'a, 'b>(
     layout: &Layout<'a>,
     at: usize,
     wanted: bool,
-    nodes: &mut Vec<Node<'a>>,
-    node: Node<'a>,
+    nodes: &mut Vec<Node<'a, 'b>>,
+    node: Node<'a, 'b>,
 ) -> Result<(), AllocError>
     requires sizes { KnowsSizes layout.now }
     requires within { at < length layout.now.names.items }
@@ -127,7 +127,7 @@ pub fn list_node<'a>(
 /// ```
 /// let bytes = encode(alloc, nodes.as_slice())?;
 /// ```
-pub fn encode(alloc: Global, nodes: &[Node<'_>]) -> Result<Vec<u8>, AllocError>
+pub fn encode(alloc: Global, nodes: &[Node<'_, '_>]) -> Result<Vec<u8>, AllocError>
     ensures { IfOk result (λ bytes. bytes.items ≡ joined_bytes (views nodes.now)) }
 {
     let mut bytes: Vec<u8> = Vec::new(alloc);

@@ -1,12 +1,12 @@
 // What the definition of a name takes from the bytes.
-ghost use Rattle.borsh_values.specs.Layouts.{IsLaidOut, name_at, shape_at};
+ghost use Rattle.borsh_values.specs.Layouts.{IsLaidOut, name_at, named_definition, shape_at};
 ghost use Rattle.borsh_values.specs.Nodes.{packed_size};
 ghost use Rattle.borsh_values.specs.Steps.{FitsWidth, OpensAs, TakesElements};
 ghost use Rattle.borsh_values.specs.TagTables.{AreTagTables, KeepsTables, TableFits};
 ghost use Rattle.borsh_walks.specs.Container.{choice, sequence};
 ghost use Rattle.borsh_walks.specs.Definitions.{definitions_in, shape_of};
 ghost use Rattle.borsh_walks.specs.Tables.{mark_of};
-ghost use Rattle.std.specs.Prelude.{◌≡◌, ◌≤◌, ◌<◌, IfOk, OnOk, Some, length, map, option_map, string_bytes};
+ghost use Rattle.std.specs.Prelude.{◌≡◌, ◌≤◌, ◌<◌, IfOk, OnOk, Some, length, map, option_map, slice_get, string_bytes};
 
 use crate::faults::Reason;
 use crate::frames::{Opened, Rest, part_at};
@@ -33,7 +33,9 @@ fn fits_width(width: u8, end: u64) -> bool
 
 /// The definition of the name at a place, if it has one.
 pub fn definition_at<'a>(names: &Vec<Named<'a>>, at: usize) -> Option<&'a Definition>
-    ensures { option_map (λ d. shape_of d.now) result ≡ shape_at names.now.items at }
+    ensures shape { option_map (λ d. shape_of d.now) result ≡ shape_at names.now.items at }
+    ensures definition { let named = slice_get names.now.items at in
+        option_map (λ d. d.now) result ≡ named_definition named }
 {
     match named_at(names, at) {
         Some(named) => named.definition,
@@ -80,7 +82,7 @@ fn open_elements(
     }
 }
 
-fn open_sequence(
+pub fn open_sequence(
     layout: &Layout<'_>,
     width: u8,
     start: u64,

@@ -7,8 +7,8 @@ use std::alloc::{AllocError, Global};
 
 // A node that the last one is in, or the last one: the step that leads to it, and how many of its parts were passed.
 #[derive(Clone, Copy)]
-struct Around<'a> {
-    node: Node<'a>,
+struct Around<'a, 'b> {
+    node: Node<'a, 'b>,
     step: Option<PathStep<'a>>,
     passed: usize,
 }
@@ -35,14 +35,14 @@ struct Around<'a> {
 /// }
 /// ```
 #[derive(Drop)]
-pub struct Paths<'a> {
+pub struct Paths<'a, 'b> {
     root: &'a str,
-    open: Vec<Around<'a>>,
+    open: Vec<Around<'a, 'b>>,
 }
 
-impl<'a> Paths<'a> {
+impl<'a, 'b> Paths<'a, 'b> {
     /// Of a value of `root`, before its first node. Nothing is allocated.
-    pub fn new(alloc: Global, root: &'a str) -> Paths<'a> {
+    pub fn new(alloc: Global, root: &'a str) -> Paths<'a, 'b> {
         Paths {
             root,
             open: Vec::new(alloc),
@@ -50,7 +50,7 @@ impl<'a> Paths<'a> {
     }
 
     /// Goes on to the next node. After an error, an allocation failure, the paths are to be dropped.
-    pub fn enter(&mut self, node: &Node<'a>) -> Result<(), AllocError> {
+    pub fn enter(&mut self, node: &Node<'a, 'b>) -> Result<(), AllocError> {
         self.open.truncate(node.depth);
         let step = match self.open.last_mut() {
             Some(around) => step_to(around, node.name),
@@ -80,7 +80,7 @@ impl<'a> Paths<'a> {
 }
 
 // The step to the next part that has a node, which is of that name.
-fn step_to<'a>(around: &mut Around<'a>, name: &str) -> Option<PathStep<'a>> {
+fn step_to<'a>(around: &mut Around<'a, '_>, name: &str) -> Option<PathStep<'a>> {
     match around.node.definition {
         Definition::Primitive(_) => None,
         Definition::Sequence { .. } => {

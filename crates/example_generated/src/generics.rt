@@ -1,5 +1,6 @@
 // Types with parameters.
 use borsh::BorshKey;
+use borsh_samples::B;
 use std::collections::{BTreeMap, BTreeSet, HashMap, HashSet, LinkedList, VecDeque};
 use std::hash::Hash;
 use std::marker::PhantomData;
@@ -39,12 +40,12 @@ pub struct Grid<const N: usize> {
 /// An enum with two parameters, which are within a list and a box.
 // derive: borsh
 #[derive(Drop)]
-pub enum B<W, G> {
+pub enum Boxed<W, G> {
     X { f: Vec<W> },
     Y(Box<G>),
 }
 
-/// Parameters in another type with parameters.
+/// Parameters in another type with parameters, one of them by itself there, so that type is by hand.
 // derive: borsh
 #[derive(Drop)]
 pub struct Generic<T, F, G> {

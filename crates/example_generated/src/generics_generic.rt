@@ -1,11 +1,12 @@
 // Written by borsh_derive.py from generics.rt: edit that file, and run the program again.
 ghost use Rattle.borsh.specs.Derived.{contramap, contramap-lawful, from, key_facts};
 
-use super::generics::{B, Generic};
+use super::generics::Generic;
 use borsh::derived::{
     BorshDeserialize, BorshSerialize, BorshType, FromParts, Global, Read, Tuple6, Write,
     read_parts, write_six,
 };
+use borsh_samples::B;
 use std::marker::PhantomData;
 
 /// The fields of [`Generic`], in order.

@@ -8,7 +8,7 @@ mod enums_markers;
 mod enums_message;
 mod enums_xy;
 pub mod generics;
-mod generics_b;
+mod generics_boxed;
 mod generics_generic;
 mod generics_grid;
 mod generics_hashed;

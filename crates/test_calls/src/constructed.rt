@@ -2,8 +2,8 @@
 use super::shapes::named_fields;
 use super::support::{check, check_value, check_written, is_written, owned_text};
 use super::tagged::Tagged;
-use borsh::from_slice;
 use borsh::schema::LengthRange;
+use borsh::{BorshDeserialize, BorshSerialize, from_slice, schema_container_of, to_vec};
 use borsh_samples::{A, MyEnum, MyStruct, ShortA};
 use std::alloc::Global;
 use std::borrow::{CowSlice, CowStr};
@@ -186,6 +186,41 @@ fn a_cow_is_read_as_owned(rt: HostRuntime) -> Result<(), Fail> {
         CowSlice::Owned(_)
     );
     check(is_text && is_slice, "owned", 2)
+}
+
+/// Whether the value is encoded as these bytes. No error is in the result, so it may be a `Cow` of what borrows.
+fn is_encoded<T: BorshSerialize>(alloc: Global, value: &T, bytes: &[u8]) -> bool {
+    to_vec(alloc, value).is_ok_and(|written| written.as_slice() == bytes)
+}
+
+/// The value that the bytes decode to. It too may be a `Cow` of what borrows.
+fn decoded<T: BorshDeserialize>(alloc: Global, bytes: &[u8]) -> Option<T> {
+    from_slice(alloc, bytes).ok()
+}
+
+/// Whether the list and its texts are owned.
+fn are_owned(list: &CowSlice<'_, CowStr<'_>>) -> bool {
+    let are_owned = list.iter().all(|text| matches!(text, CowStr::Owned(_)));
+    are_owned && matches!(list, CowSlice::Owned(_))
+}
+
+#[test]
+fn a_cow_of_cows_is_read_as_owned(rt: HostRuntime) -> Result<(), Fail> {
+    let alloc = rt.alloc();
+    let bytes = b"\x02\0\0\0\x12\0\0\0first static input\x13\0\0\0second static input";
+    let texts = [
+        CowStr::Borrowed("first static input"),
+        CowStr::Owned(owned_text(alloc, "second static input")?),
+    ];
+    let is_written = is_encoded(alloc, &CowSlice::Borrowed(texts.as_slice()), bytes);
+    let is_read = match decoded(alloc, bytes) {
+        Some(list) => are_owned(&list) && is_encoded(alloc, &list, bytes),
+        None => false,
+    };
+    check(is_written && is_read, "texts", 2)?;
+    let own = schema_container_of::<CowSlice<CowStr>>(alloc)?;
+    let is_listed = own == schema_container_of::<Vec<String>>(alloc)?;
+    check(is_listed, "schema of a list of texts", 2)
 }
 
 /// A queue whose last two numbers lie before its first two in memory.

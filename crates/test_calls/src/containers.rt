@@ -24,11 +24,7 @@ fn a_long_chain_needs_no_stack(rt: HostRuntime) -> Result<(), Fail> {
     // A list of at most one of the last name of a chain.
     let mut long = container(alloc, "A", tuples(alloc, 99999, 1)?)?;
     long.insert_definition(owned_text(alloc, "A")?, list(alloc, 0, 1, "L99999")?)?;
-    let mut counts = Expansions {
-        size: 0,
-        zero: 0,
-        rules: 0,
-    };
+    let mut counts = Expansions::NONE;
     let is_valid = long.validate_counted(alloc, &mut counts).is_ok();
     let is_sized = long.max_serialized_size_counted(alloc, &mut counts) == Ok(5);
     check(is_valid && is_sized, "chain", 0)?;

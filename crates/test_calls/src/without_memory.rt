@@ -179,11 +179,7 @@ fn containers(rt: HostRuntime) -> Result<(), Fail> {
     })?;
     let definitions = one_byte(alloc)?;
     asks_for_none(alloc, "Counted", || {
-        let mut counts = Expansions {
-            size: 0,
-            zero: 0,
-            rules: 0,
-        };
+        let mut counts = Expansions::NONE;
         let mut counted = Counted::new(&definitions, &mut counts);
         let right = is_looked_up(&mut counted, Question::Size)
             && is_looked_up(&mut counted, Question::Zero)

@@ -1,6 +1,7 @@
 // The types of `example_generated` that rows name.
+use borsh_samples::B;
 use example_generated::enums::{Level, Markers, Message, XY};
-use example_generated::generics::{B, Generic, Grid, Hashed, Held};
+use example_generated::generics::{Boxed, Generic, Grid, Hashed, Held};
 use example_generated::keys::{Place, Visits};
 use example_generated::library::{Library, Offer, Others};
 use example_generated::readme::{Pair, Request, Stock};
@@ -51,6 +52,7 @@ fn group_2(alloc: Global, name: &str, call: &Call<'_>) -> Result<Report, Fault> 
         "[Code; 3]" => call_at::<[Code; 3]>(alloc, call),
         "Grid<3>" => call_at::<Grid<3>>(alloc, call),
         "Vec<B<String, u64>>" => call_at::<Vec<B<String, u64>>>(alloc, call),
+        "Vec<Boxed<String, u64>>" => call_at::<Vec<Boxed<String, u64>>>(alloc, call),
         "Generic<String, u64, String>" => call_at::<Generic<String, u64, String>>(alloc, call),
         "Vec<Marker>" => call_at::<Vec<Marker>>(alloc, call),
         "Known" => call_at::<Known>(alloc, call),

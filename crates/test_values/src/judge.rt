@@ -1,12 +1,16 @@
 // What is checked of a value by its definitions.
+ghost use Rattle.borsh_values.specs.Free.{KnowsSizes};
+ghost use Rattle.borsh_values.specs.Layouts.{IsLaidOut};
+
 use super::definitions::{Definitions, text};
 use super::wrong::{Wrong, check, expect};
 use borsh_json::{JsonError, LongNumbers, Style, check_strict, from_json, rows_of, to_json};
 use borsh_values::{
-    Decoded, DecodedFront, Front, Layout, Membership, Next, Node, Paths, count_of, decode,
-    elements_of, encode, encode_value, is_member, variant_of,
+    Decoded, DecodedFront, Front, Layout, Membership, Next, Node, Paths, RecordError, Records,
+    count_of, decode, elements_of, encode, encode_value, is_member, variant_of,
 };
 use std::alloc::Global;
+use test_devices::{Course, TestReader, courses};
 
 /// How many beginnings of a value are tried.
 const BEGINNINGS: usize = 300;
@@ -130,7 +134,7 @@ impl<'a> Root<'a> {
         Ok(())
     }
 
-    fn encoded(&self, name: &str, nodes: &[Node<'_>]) -> Result<Option<Vec<u8>>, Wrong> {
+    fn encoded(&self, name: &str, nodes: &[Node<'_, '_>]) -> Result<Option<Vec<u8>>, Wrong> {
         Ok(encode_value(self.alloc, name, self.map, nodes)?)
     }
 
@@ -157,6 +161,40 @@ impl<'a> Root<'a> {
     pub fn has(&self, bytes: &[u8]) -> Result<bool, Wrong> {
         let answer = is_member(self.alloc, self.name, self.map, bytes)?;
         Ok(matches!(answer, Membership::Member))
+    }
+
+    /// That the bytes are values one after another which begin at these offsets, and then end, or why they don't; from readers
+    /// in pieces. A beginning of the bytes ends within a value, or behind one.
+    pub fn judge_records(&self, bytes: &[u8], wanted: &str) -> Result<(), Wrong> {
+        let alloc = self.alloc;
+        for course in courses() {
+            let told = self.records(bytes, course)?;
+            expect(alloc, "records", told.as_str(), wanted)?;
+        }
+        for end in 0..bytes.len() {
+            let told = self.records(&bytes[..end], Course::smooth())?;
+            let (offsets, ending) = told.rsplit_once('+').unwrap_or(("", told.as_str()));
+            let ends = ending == "end" || ending.contains("cut short") || wanted.ends_with(ending);
+            check(
+                alloc,
+                ends && wanted.starts_with(offsets),
+                "a beginning",
+                told.as_str(),
+            )?;
+        }
+        Ok(())
+    }
+
+    fn records(&self, bytes: &[u8], course: Course) -> Result<String, Wrong> {
+        let layout = Layout::new(self.alloc, self.name, self.map)?;
+        let mut told = String::new(self.alloc);
+        let reader = TestReader::new(bytes, course);
+        let outcome = list_records(self.alloc, &layout, reader, &mut told);
+        match outcome {
+            Ok(()) => told.push_str("end")?,
+            Err(error) => told.push_str(format!(in self.alloc; "! {error}")?.as_str())?,
+        }
+        Ok(told)
     }
 
     /// That the JSON is read as these bytes.
@@ -233,6 +271,26 @@ impl<'a> Root<'a> {
     }
 }
 
+/// Adds where each of the values of at most 1000 bytes begins.
+fn list_records<'a>(
+    alloc: Global,
+    layout: &Layout<'a>,
+    reader: TestReader<'_>,
+    told: &mut String,
+) -> Result<(), RecordError<'a>>
+    requires laid_out { IsLaidOut layout.now }
+    requires sizes { KnowsSizes layout.now }
+{
+    let mut records = Records::new(alloc, layout, reader, 1000)?;
+    'values: for _ in 0..u64::MAX {
+        if !records.advance(alloc)? {
+            break;
+        }
+        told.push_str(format!(in alloc; "{}+", records.offset())?.as_str())?;
+    }
+    Ok(())
+}
+
 /// How many of the first bytes are a value, with the bytes of as many nodes; or why none are.
 fn front<'a>(
     alloc: Global,
@@ -261,7 +319,7 @@ fn front<'a>(
 }
 
 /// How many elements a node has, and which of its bytes these are; or its variant. It is known by its index.
-fn detail(alloc: Global, node: &Node<'_>) -> Result<String, Wrong> {
+fn detail(alloc: Global, node: &Node<'_, '_>) -> Result<String, Wrong> {
     let elements = elements_of(node);
     if let Some(count) = count_of(node) {
         let elements = digits_of(alloc, elements)?;

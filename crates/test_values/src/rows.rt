@@ -14,6 +14,7 @@ use std::alloc::Global;
 /// - `refused` ROOT HEX REFUSAL..: a value by the definitions, which the type refuses
 /// - `quoted` ROOT HEX JSON..: a value and its JSON with numbers of 64 bits as texts
 /// - `member` ROOT HEX: a value, whose JSON isn't looked at
+/// - `records` ROOT HEX ANSWER..: where values one after another begin, with `+` behind each, and `end` or why they don't end
 /// - `text` ROOT HEX JSON..: another JSON text of a value; or after `! ` why the text is none
 /// - `nodes` ROOT HEX NODE..: the nodes of a value
 /// - `ambiguous` ROOT NAME: which definition is ambiguous, `-` for none
@@ -63,6 +64,7 @@ fn judge_root(root: &Root<'_>, kind: &str, columns: &[&str]) -> Result<(), Wrong
         "refused" => root.judge_written(bytes, text, text),
         "quoted" => root.judge_quoted(bytes, text),
         "member" => root.judge_member(bytes),
+        "records" => root.judge_records(bytes, text),
         "nodes" => root.judge_nodes(bytes, others),
         _ => Err(Wrong::NoRow),
     }

@@ -12,8 +12,11 @@ use std::alloc::Global;
 /// The first state of random numbers.
 const SEED: u64 = 88172645463325252;
 
-/// How many random values the type of a word has.
+/// How many random values of a type are judged with all that is near them.
 const ROUNDS: u64 = 100;
+
+/// How many come back from their JSON: over 100,000 of all types.
+const VALUES: u64 = 2100;
 
 /// That so many random values of the root come back from their JSON, those that the type takes.
 pub fn judge_random(root: &Root<'_>, count: u64) -> Result<(), Wrong> {
@@ -47,6 +50,7 @@ pub fn judge_type(alloc: Global, word: &str, columns: &[&str]) -> Result<Definit
         judge_typed(word, &root, bytes.as_slice())?;
         judge_strict(word, &root, bytes.as_slice(), columns.is_empty())?;
     }
+    judge_random(&root, VALUES)?;
     Ok(map)
 }
 

@@ -43,9 +43,18 @@ class Error(ValueError):
     offset: Optional[int]
     """The byte of the value at which that part begins, or near which the text stops being JSON; None where the text doesn't tell."""
 
-    def __init__(self, text: str, kind: Kind, path: Optional[str] = None, offset: Optional[int] = None) -> None:
+    record: Optional[int]
+    """The byte of the file at which the value begins, of an error of `Schema.records`; else None."""
+
+    def __init__(
+        self, text: str, kind: Kind, path: Optional[str] = None, offset: Optional[int] = None, record: Optional[int] = None
+    ) -> None:
         super().__init__(text)
-        self.kind, self.path, self.offset = kind, path, offset
+        self.kind, self.path, self.offset, self.record = kind, path, offset, record
 
     def __reduce__(self):  # an exception is pickled by its arguments
-        return (Error, (str(self), self.kind, self.path, self.offset))
+        return (Error, (str(self), self.kind, self.path, self.offset, self.record))
+
+
+class Short(Error):
+    """What bytes raise that end within a value; of the kind `NO`. `Schema.records` reads on."""

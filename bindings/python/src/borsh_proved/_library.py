@@ -7,9 +7,9 @@ from __future__ import annotations
 
 import ctypes
 import os
-from typing import NoReturn, Union
+from typing import NoReturn, Tuple, Union
 
-from ._errors import Error, Kind
+from ._errors import Error, Kind, Short
 
 Bytes = Union[bytes, bytearray, memoryview]
 
@@ -38,19 +38,23 @@ def _load() -> ctypes.CDLL:
 _library = _load()
 _IN = [ctypes.c_char_p, ctypes.c_size_t]
 _OUT = [ctypes.POINTER(_Buffer)]
+_SIZES = [ctypes.POINTER(ctypes.c_size_t), ctypes.c_size_t]
+_COUNT = [ctypes.POINTER(ctypes.c_size_t)]
 for _name, _arguments in {
     "valid": _IN + _OUT,
-    "size": _IN + [ctypes.POINTER(ctypes.c_size_t)] + _OUT,
+    "size": _IN + _COUNT + _OUT,
     "member": _IN + _IN + _OUT,
     "to_json": _IN + _IN + [ctypes.c_bool, ctypes.c_bool] + _OUT,
     "from_json": _IN + _IN + _OUT,
+    "records": _IN + _IN + _SIZES + _COUNT + _OUT,
+    "json_lines": _IN + _IN + _SIZES + [ctypes.c_bool] + _COUNT + _OUT,
 }.items():
     getattr(_library, "borsh_" + _name).argtypes = _arguments
     getattr(_library, "borsh_" + _name).restype = ctypes.c_uint32
 _library.borsh_free.argtypes = _OUT
 _library.borsh_free.restype = None
 
-_KINDS = {1: Kind.NO, 2: Kind.MALFORMED, 5: Kind.UNDECIDED}
+_KINDS = {1: Kind.NO, 2: Kind.MALFORMED, 5: Kind.UNDECIDED, 6: Kind.NO}
 
 
 def _ask(name: str, *arguments: object) -> bytes:
@@ -71,7 +75,7 @@ def _fail(code: int, buffer: _Buffer) -> NoReturn:
     if code not in _KINDS:
         raise RuntimeError(f"another library: code {code}, {text}")
     path = None if buffer.path is None else _text(buffer.path, buffer.path_length)
-    raise Error(text, _KINDS[code], path, buffer.offset if buffer.has_offset else None)
+    raise (Short if code == 6 else Error)(text, _KINDS[code], path, buffer.offset if buffer.has_offset else None)
 
 
 def _text(data: int, length: int) -> str:
@@ -103,3 +107,17 @@ def to_json(schema: bytes, value: bytes, is_compact: bool, has_quoted_numbers: b
 
 def from_json(schema: bytes, json: bytes) -> bytes:
     return _ask("from_json", schema, len(schema), json, len(json))
+
+
+def record_lengths(schema: bytes, data: bytes, lengths: ctypes.Array) -> int:
+    """How many values the data begins with, whose lengths are written to the array; raises `Short` where it ends within the first."""
+    count = ctypes.c_size_t()
+    _ask("records", schema, len(schema), data, len(data), lengths, len(lengths), ctypes.byref(count))
+    return count.value
+
+
+def json_lines(schema: bytes, values: bytes, lengths: ctypes.Array, lengths_count: int) -> Tuple[int, str]:
+    """The JSON of values with these lengths, up to one that has none: how many, and a line of each."""
+    count = ctypes.c_size_t()
+    lines = _ask("json_lines", schema, len(schema), values, len(values), lengths, lengths_count, False, ctypes.byref(count))
+    return count.value, lines.decode()

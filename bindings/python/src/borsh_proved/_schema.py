@@ -4,9 +4,9 @@ from __future__ import annotations
 
 import json
 import pathlib
-from typing import Any, Mapping
+from typing import Any, BinaryIO, Iterator, Mapping
 
-from . import _library
+from . import _library, _records
 from ._errors import Error
 from ._values import Values
 
@@ -171,6 +171,45 @@ class Schema:
         borsh_proved.Error: (bool, u128).1: expected a decimal string of 128 bits, unsigned
         """
         return self.from_json(json.dumps(self._values.to_json(self._root, value)))
+
+    def records(self, file: BinaryIO, *, max_length: int = 2**26) -> Iterator[Any]:
+        """The values in a binary file, which follow one another to its end, each as `decode` gives it; in bounded memory.
+
+        The file is read ahead of the values, by `read1` if it has that, and not closed. Raises an `Error` where the bytes at the
+        place `record` of the file are no value, end within one, or are a value that is longer than `max_length` bytes, and ends;
+        the values before it were given. A schema that has a value without bytes is refused, since there may be any number of them.
+
+        >>> import io
+        >>> numbers = Schema.of("u16", {"u16": {"Primitive": 2}})
+        >>> list(numbers.records(io.BytesIO(bytes([1, 0, 2, 0]))))
+        [1, 2]
+        >>> list(numbers.records(io.BytesIO(bytes([1, 0, 2, 0, 3]))))
+        Traceback (most recent call last):
+            ...
+        borsh_proved.Error: value at byte 4: cut short: u16 (`u16` at byte 0): too few bytes are left
+        """
+        for batch in _records.batches(self._encoding, file, max_length):
+            for text in _records.json_texts(self._encoding, *batch):
+                for value in json.loads(text):
+                    yield self._values.from_json(self._root, value)
+
+    def record_bytes(self, file: BinaryIO, *, max_length: int = 2**26) -> Iterator[bytes]:
+        """The bytes of each of the values in a binary file, which follow one another to its end, as of `records`; in less time.
+
+        What is checked is what `check` checks, so that `decode` may refuse such a value. Errors are as of `records`.
+
+        >>> import io
+        >>> texts = Schema.of("String", {"String": {"Sequence": {
+        ...     "length_width": 4, "length_range": {"start": 0, "end": 4294967295}, "elements": "u8"}}, "u8": {"Primitive": 1}})
+        >>> file = io.BytesIO(texts.encode("one") + texts.encode("two"))
+        >>> [texts.decode(record) for record in texts.record_bytes(file)]
+        ['one', 'two']
+        """
+        for _, data, lengths in _records.batches(self._encoding, file, max_length):
+            at = 0
+            for length in lengths:
+                yield data[at : at + length]
+                at += length
 
     def _takes(self, root: str, text: str) -> bool:
         """Whether the type of this name has a value with this JSON."""

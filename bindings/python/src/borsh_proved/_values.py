@@ -9,6 +9,17 @@ from typing import Any, Callable, Mapping
 _FLOATS = {("f32", 4): "<f", ("f64", 8): "<d"}
 
 
+class _Readers(dict):
+    """Made as they are asked for."""
+
+    def __init__(self, make: Callable[[str], Callable[[Any], Any]]) -> None:
+        super().__init__()
+        self._make = make
+
+    def __missing__(self, name: str) -> Callable[[Any], Any]:
+        return self.setdefault(name, self._make(name))
+
+
 class Values:
     """How values of some definitions are JSON, and values of Python. What a name's JSON is like isn't told from its definition
     but by the library: `takes(name, text)` says whether the type of that name has a value with that JSON."""
@@ -16,6 +27,7 @@ class Values:
     def __init__(self, definitions: Mapping[str, Any], takes: Callable[[str, str], bool]) -> None:
         self._definitions = definitions
         self._takes = lru_cache(maxsize=None)(takes)
+        self._readers = _Readers(self._reader)
 
     def _definition(self, name: Any) -> tuple:
         """The kind of a definition, and what it has; a name without one has none."""
@@ -37,42 +49,41 @@ class Values:
 
     def from_json(self, name: str, value: Any) -> Any:
         """The value that this JSON says, which the library wrote."""
-        if value is None:
-            return None
+        return value if value is None else self._readers[name](value)
+
+    def _reader(self, name: str) -> Callable[[Any], Any]:
+        """How the JSON of a name's values that isn't null is read. Parts are looked up when there is one, since a name may lead back to
+        itself."""
         name = self._inner(name)
         kind, parts = self._definition(name)
+        read = self.from_json
         if kind == "Primitive":
-            return self._primitive(name, parts, value)
+            return lambda value: _primitive(name, parts, value) if isinstance(value, str) else value
         if kind == "Sequence":
-            return self._elements(name, parts["elements"], value)
+            return self._elements_reader(name, parts["elements"])
         if kind == "Tuple":
-            return tuple(map(self.from_json, parts["elements"], value))
-        if kind == "Struct" and isinstance(value, dict):
+            return lambda value: tuple(map(read, parts["elements"], value))
+        if kind == "Struct" and isinstance(parts["fields"], dict) and "NamedFields" in parts["fields"]:
             types = dict(parts["fields"]["NamedFields"])
-            return {field: self.from_json(types[field], part) for field, part in value.items()}
-        if kind == "Struct":
-            return tuple(map(self.from_json, _unnamed(parts), value))
-        if isinstance(value, dict):
-            types = {variant: part for _, variant, part in parts["variants"]}
-            return {variant: self.from_json(types[variant], part) for variant, part in value.items()}
-        return value
+        elif kind == "Struct":
+            return lambda value: tuple(map(read, _unnamed(parts), value))
+        else:
+            types = {variant: part for _, variant, part in parts["variants"]} if kind == "Enum" else {}
+        return lambda value: {field: read(types[field], part) for field, part in value.items()} if isinstance(value, dict) else value
 
-    def _primitive(self, name: str, size: int, value: Any) -> Any:
-        if not isinstance(value, str):
-            return value
-        if not value.startswith("0x"):
-            return int(value)
-        data = bytes.fromhex(value[2:])
-        return struct.unpack(_FLOATS[name, size], data)[0] if (name, size) in _FLOATS else data
+    def _elements_reader(self, name: str, element: str) -> Callable[[Any], Any]:
+        read = self.from_json
 
-    def _elements(self, name: str, element: str, value: Any) -> Any:
-        if isinstance(value, str):
-            return value if self._takes(name, '""') else bytes.fromhex(value[2:])
-        if isinstance(value, dict):
-            key, part = self._definitions[element]["Tuple"]["elements"]
-            has_numbers = self._definition(key)[0] == "Primitive"
-            return {int(k) if has_numbers else k: self.from_json(part, v) for k, v in value.items()}
-        return [self.from_json(element, part) for part in value]
+        def elements(value: Any) -> Any:
+            if isinstance(value, str):
+                return value if self._takes(name, '""') else bytes.fromhex(value[2:])
+            if isinstance(value, dict):
+                key, part = self._definitions[element]["Tuple"]["elements"]
+                has_numbers = self._definition(key)[0] == "Primitive"
+                return {int(k) if has_numbers else k: read(part, v) for k, v in value.items()}
+            return [read(element, part) for part in value]
+
+        return elements
 
     def to_json(self, name: Any, value: Any) -> Any:
         """The JSON of a value; of what fits no definition some JSON that the library refuses."""
@@ -110,6 +121,13 @@ class Values:
         elif kind == "Enum":
             types = {variant: part for _, variant, part in parts["variants"]}
         return {key: self.to_json(types.get(key), part) for key, part in value.items()}
+
+
+def _primitive(name: str, size: int, value: str) -> Any:
+    if not value.startswith("0x"):
+        return int(value)
+    data = bytes.fromhex(value[2:])
+    return struct.unpack(_FLOATS[name, size], data)[0] if (name, size) in _FLOATS else data
 
 
 def _number(name: str, size: int, value: Any) -> Any:

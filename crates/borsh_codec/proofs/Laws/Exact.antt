@@ -2,7 +2,7 @@
 use Rattle.std.proofs.Common.{◌≡◌, ℕ, zero, suc, Bool, true, false, cond, List, [], ◌++◌, length, Option, Some, None, refl, sym, ◌∙◌, ap, arith, true≢false, length-append}
 use Rattle.std.specs.Bool.{⊤}
 use Rattle.borsh_codec.specs.Codec.{Codec, Lawful}
-use Rattle.borsh_codec.specs.Shapes.{is_zero, contramap, by_encoding, unit, never, refused_if, filtered, allocated}
+use Rattle.borsh_codec.specs.Shapes.{is_zero, contramap, by_encoding, unit, never, refused_if, filtered, allocated, decoded_with}
 use Rattle.borsh_codec.proofs.Laws.Lists.{nil_of_length}
 
 pub contramap-lawful : {A B : Type 0} (view : B → A) {c : Codec A} → Lawful A c → Lawful B (contramap view c)
@@ -135,6 +135,21 @@ filtered-lawful texts test {c = c} respects l = record {
 
 pub allocated-lawful : {A : Type 0} {c : Codec A} → Lawful A c → Lawful A (allocated c)
 allocated-lawful l = record {
+  equivalent_encoding = l.equivalent_encoding;
+  prefix_free = l.prefix_free;
+  empty = l.empty;
+  non_empty = l.non_empty;
+  round_trip = l.round_trip;
+  unambiguous = l.unambiguous;
+  re_encodable = l.re_encodable;
+  canonical = l.canonical;
+  refused = l.refused;
+}
+
+-- ---- what isn't encoded
+
+pub decoded_with-lawful : {A : Type 0} (P : A → Type 0) {c : Codec A} → Lawful A c → Lawful A (decoded_with P c)
+decoded_with-lawful P l = record {
   equivalent_encoding = l.equivalent_encoding;
   prefix_free = l.prefix_free;
   empty = l.empty;

@@ -15,8 +15,8 @@ use Rattle.borsh_codec.specs.Shapes.{unsigned, never, length_prefixed}
 use Rattle.borsh_codec.specs.Types.Sums.{two_variants, bool_view, bool, option_view, option, result_view, result_of}
 use Rattle.borsh_codec.specs.Types.Floats.{is_number, float, float32, float64}
 use Rattle.borsh_codec.specs.Types.Texts.{text}
-use Rattle.borsh_codec.specs.Types.Addresses.{octets, ipv4, ipv6, ip_view, ip, socket_v4_view, socket_v4, socket_v6_view, socket_v6, socket_view, socket}
-use Rattle.borsh_codec.proofs.Laws.Exact.{contramap-lawful, unit-lawful, never-lawful, Respects, filtered-lawful}
+use Rattle.borsh_codec.specs.Types.Addresses.{octets, ipv4, ipv6, ip_view, ip, socket_v4_view, socket_v4, IsPlainAddress, socket_v6_view, socket_v6, socket_view, socket}
+use Rattle.borsh_codec.proofs.Laws.Exact.{contramap-lawful, unit-lawful, never-lawful, Respects, filtered-lawful, decoded_with-lawful}
 use Rattle.borsh_codec.proofs.Laws.Variants.{variant-lawful, variant_avoids, nothing_avoids}
 use Rattle.borsh_codec.proofs.Laws.Numbers.{unsigned-lawful}
 use Rattle.borsh_codec.proofs.Laws.Pairs.{pair-lawful}
@@ -70,7 +70,7 @@ pub socket_v4-lawful : Lawful SocketAddrV4 socket_v4
 socket_v4-lawful = contramap-lawful socket_v4_view (pair-lawful ipv4-lawful (unsigned-lawful 2))
 
 pub socket_v6-lawful : Lawful SocketAddrV6 socket_v6
-socket_v6-lawful = contramap-lawful socket_v6_view (pair-lawful ipv6-lawful (unsigned-lawful 2))
+socket_v6-lawful = decoded_with-lawful IsPlainAddress (contramap-lawful socket_v6_view (pair-lawful ipv6-lawful (unsigned-lawful 2)))
 
 pub socket-lawful : Lawful SocketAddr socket
 socket-lawful = contramap-lawful socket_view (two-lawful socket_v4-lawful socket_v6-lawful)

@@ -1,5 +1,5 @@
 -- Addresses: their octets, and a tag where there are two kinds.
-use Rattle.std.specs.Prelude.{ℕ, List, ◌⊎◌}
+use Rattle.std.specs.Prelude.{◌≡◌, ℕ, List, ◌⊎◌}
 use mathlib.Core.Logic.{inl, inr}
 use Rattle.std.specs.declared.net.ipv4_addr.Ipv4Addr.{Ipv4Addr}
 use Rattle.std.specs.declared.net.ipv6_addr.Ipv6Addr.{Ipv6Addr}
@@ -10,9 +10,9 @@ use Rattle.std.specs.declared.net.socket_addr.SocketAddrV6.{SocketAddrV6}
 use Rattle.std.specs.declared.net.socket_addr.SocketAddr.{SocketAddr}
 use Rattle.std.specs.declared.net.socket_addr.SocketAddr.TheVariants as Socket
 use Rattle.std.specs.Net.Addr.{ipv4_octets, ipv6_octets}
-use Rattle.std.specs.Net.Socket.{v4_ip, v4_port, v6_ip, v6_port}
+use Rattle.std.specs.Net.Socket.{v4_ip, v4_port, v6_ip, v6_port, v6_flowinfo, v6_scope_id}
 use Rattle.borsh_codec.specs.Codec.{Codec}
-use Rattle.borsh_codec.specs.Shapes.{contramap, unsigned, pair, array}
+use Rattle.borsh_codec.specs.Shapes.{contramap, unsigned, pair, array, decoded_with}
 use Rattle.borsh_codec.specs.Types.Sums.{two_variants}
 
 -- n bytes
@@ -48,9 +48,13 @@ socket_v4 = contramap socket_v4_view (pair ipv4 (unsigned 2))
 abbrev pub socket_v6_view : SocketAddrV6 → Ipv6Addr × ℕ
 socket_v6_view a = (v6_ip a, v6_port a)
 
--- the same for sixteen octets
+-- the flow and the scope are 0
+abbrev pub IsPlainAddress : SocketAddrV6 → Type 0
+IsPlainAddress a = (v6_flowinfo a ≡ 0) × (v6_scope_id a ≡ 0)
+
+-- the same for sixteen octets; decoding makes a plain address
 abbrev pub socket_v6 : Codec SocketAddrV6
-socket_v6 = contramap socket_v6_view (pair ipv6 (unsigned 2))
+socket_v6 = decoded_with IsPlainAddress (contramap socket_v6_view (pair ipv6 (unsigned 2)))
 
 abbrev pub socket_view : SocketAddr → SocketAddrV4 ⊎ (SocketAddrV6 ⊎ ⊥)
 socket_view (Socket.V4 a) = inl a

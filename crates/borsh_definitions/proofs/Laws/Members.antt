@@ -3,7 +3,7 @@ use Rattle.std.proofs.Common.{◌≡◌, ℕ, zero, suc, ℤ, pos, negsuc, ◌-�
 use Rattle.std.specs.Prelude.{All, ⊤}
 use Rattle.std.proofs.lemmas.Option.{cond_some}
 use Rattle.borsh_codec.specs.Codec.{Codec}
-use Rattle.borsh_codec.specs.Shapes.{contramap, little_endian, unsigned_encoding, unsigned, sign_bound, signed_encoding, signed, unit, never, pair, variant, concat_encodings, array, length_prefixed, list, refused_if, filtered, allocated}
+use Rattle.borsh_codec.specs.Shapes.{contramap, little_endian, unsigned_encoding, unsigned, sign_bound, signed_encoding, signed, unit, never, pair, variant, concat_encodings, array, length_prefixed, list, refused_if, filtered, allocated, decoded_with}
 use Rattle.borsh_codec.specs.Maps.{sorted_by_key, ascends, btree_entries, hash_entries}
 use Rattle.std.specs.declared.cmp.Ordering.{Ordering}
 use Rattle.std.specs.Map.{keys_of}
@@ -76,6 +76,9 @@ module _ {C : List ℕ → Option Shape} where
 
   pub describes_contramap : {A B : Type 0} {m : List ℕ} (view : B → A) {c : Codec A} → Describes A C c m → Describes B C (contramap view c) m
   describes_contramap view d = record { member = λ b x e. d.member (view b) x e }
+
+  pub describes_decoded_with : {A : Type 0} {m : List ℕ} (P : A → Type 0) {c : Codec A} → Describes A C c m → Describes A C (decoded_with P c) m
+  describes_decoded_with P d = record { member = d.member }
 
   pub describes_number : {m : List ℕ} (n : ℕ) → C m ≡ Some (primitive n) → Describes ℕ C (unsigned n) m
   describes_number n h = record { member = λ a x e. little_member n a x h (number_some n a x e).1 }

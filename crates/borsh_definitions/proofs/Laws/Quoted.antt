@@ -2,7 +2,7 @@
 use Rattle.std.proofs.Common.{◌≡◌, ℕ, ℤ, Bool, List, [], ◌∷◌, Option, Some, Result, refl, ◌∙◌, ap}
 use Rattle.std.specs.Prelude.{⊤, codes}
 use Rattle.std.specs.declared.cmp.Ordering.{Ordering}
-use Rattle.borsh_codec.specs.Shapes.{contramap, unsigned, signed, unit, pair, array, length_prefixed, list, allocated}
+use Rattle.borsh_codec.specs.Shapes.{contramap, unsigned, signed, unit, pair, array, length_prefixed, list, allocated, decoded_with}
 use Rattle.borsh_codec.specs.Maps.{unit_entries, btree_map, btree_set, hash_map, hash_set}
 use Rattle.borsh_codec.specs.Types.Sums.{bool, option_view, option, result_view, result_of}
 use Rattle.borsh_codec.specs.Types.Floats.{float32, float64}
@@ -13,7 +13,7 @@ use Rattle.borsh_definitions.specs.Described.{NamedDefinition, shape, list as li
 use Rattle.borsh_definitions.specs.Language.{DescribedCodec, DescribedFields}
 use Rattle.borsh_definitions.specs.Names.{applied, applied_to_two, array_name, beside}
 use Rattle.borsh_definitions.specs.Types.{primitive_definitions, list_definitions, text_definitions, unit_definitions, option_of, range_of, result_of as result_definition, map_definitions, named_struct, unnamed_struct, tuple_definitions}
-use Rattle.borsh_definitions.proofs.Laws.Members.{describes_contramap, describes_number, describes_signed, describes_float, describes_unit, describes_bool, describes_text, describes_stored, describes_counted, describes_elements, describes_row, describes_refused_if, describes_ordered, describes_sorted, describes_parts, describes_choice, choice_more, choice_none, all_none, all_one, all_more, all_contramap}
+use Rattle.borsh_definitions.proofs.Laws.Members.{describes_contramap, describes_decoded_with, describes_number, describes_signed, describes_float, describes_unit, describes_bool, describes_text, describes_stored, describes_counted, describes_elements, describes_row, describes_refused_if, describes_ordered, describes_sorted, describes_parts, describes_choice, choice_more, choice_none, all_none, all_one, all_more, all_contramap}
 
 -- ---- one value
 
@@ -43,6 +43,9 @@ text_described = record { codec = text; describes = λ C h. describes_text h.0 h
 module _ {A : Type 0} {n : List ℕ} {ps : DefinitionTree} where
   abbrev pub contramap_described : {B : Type 0} → (B → A) → DescribedCodec A n ps → DescribedCodec B n ps
   contramap_described view d = record { codec = contramap view d.codec; describes = λ C h. describes_contramap view (d.describes C h) }
+
+  abbrev pub decoded_with_described : (A → Type 0) → DescribedCodec A n ps → DescribedCodec A n ps
+  decoded_with_described P d = record { codec = decoded_with P d.codec; describes = λ C h. describes_decoded_with P (d.describes C h) }
 
   abbrev pub allocated_described : DescribedCodec A n ps → DescribedCodec A n ps
   allocated_described d = record { codec = allocated d.codec; describes = λ C h. describes_stored (d.describes C h) }

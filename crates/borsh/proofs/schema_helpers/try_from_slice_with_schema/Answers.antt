@@ -13,7 +13,7 @@ returns-in_err-is_own g c =
     rw (p.1, p.2) (decodes_err _ (not_read_own (c.in_ok-sent.sent, c.in_ok-sent.ensures.ok) c.in_err-is_own.ensures.err))
 
 pub returns-then-branch : goal.returns-then-branch
-returns-then-branch g c = decodes_ok g.met.T.BorshType.lawful (read_behind (pair_read c.in_ok-sent.ensures.ok) c.in_ok-is_own.ensures.ok c.if-branch.true)
+returns-then-branch g c = decodes_ok g.met.T.BorshType.lawful c.in_ok-sent.ensures.made.1 (read_behind (pair_read c.in_ok-sent.ensures.ok) c.in_ok-is_own.ensures.ok c.if-branch.true)
 
 pub returns-else-branch : goal.returns-else-branch
 returns-else-branch g c = decodes_err _ (not_read_other (pair_read c.in_ok-sent.ensures.ok) c.in_ok-is_own.ensures.ok c.if-branch.false c.other_schema.ensures)

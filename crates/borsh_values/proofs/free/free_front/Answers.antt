@@ -7,6 +7,8 @@ use Rattle.borsh_values.specs.Layouts.{name_at}
 use Rattle.borsh_values.specs.Steps.{remaining}
 use Rattle.borsh_values.specs.Free.{FreeSize, FreeSizes, IsFreeFront}
 use Rattle.borsh_values.proofs.Measure.{some_step}
+use Rattle.borsh_values.proofs.Bytes.{small_bytes}
+use Rattle.borsh_values.proofs.OnlyLaws.{first_free}
 use Rattle.borsh_values.proofs.Places.{parts_on, fits_parts, fits_copies}
 use Rattle.borsh_values.proofs.FreeLaws.{free_copies, free_one, some_factor}
 use Rattle.borsh_values.proofs.free.free_front.Goals as goal
@@ -25,12 +27,12 @@ returns-then-all-left c =
     let f : FreeSize C (name_at ns at) n = c.requires.free.free at low (some_factor k n (subst (λ i. 0 < i) e some)) in
     let step = some_step ns c.args.rest in
     let left = c.if-all-left.true in
+    let small = small_bytes c.args.left.now (λ k. let b = c.type_inv.left k in omega (arith, b)) in
     record {
       names = replicate k (name_at ns at);
-      free = subst (λ i. FreeSizes C (replicate k (name_at ns at)) i) (sym e) (free_copies C k n f);
+      first = first_free C c.args.left.now c.product-all.result (subst (λ i. FreeSizes C (replicate k (name_at ns at)) i) (sym e) (free_copies C k n f)) (omega (arith, left)) small;
       parts = ap (λ r. remaining ns r) c.in-Copies.is ∙ sym (append-nil (replicate k (name_at ns at)));
       some = some;
-      within = omega (arith, left);
       fits = low;
       steps = omega (arith, step);
     }
@@ -50,13 +52,13 @@ returns-then-size-left c =
     let g = parts_on ns at next part low c.in-Some.ensures.place in
     let f : FreeSize C (name_at ns part) size = subst (λ i. FreeSize C (name_at ns part) i) (sym e) (c.requires.free.free part g.within (omega (arith, e, some))) in
     let left = c.if-size-left.true in
+    let small = small_bytes c.args.left.now (λ k. let b = c.type_inv.left k in omega (arith, b)) in
     let p : Passed = record { taken = size; rest = Parts at (next + 1) } in
-    subst (λ r. IsFreeFront C ns r c.args.left p) (sym c.in-Parts.is) (record {
+    subst (λ r. IsFreeFront C ns r c.args.left.now p) (sym c.in-Parts.is) (record {
       names = name_at ns part ∷ [];
-      free = free_one C size f;
+      first = first_free C c.args.left.now size (free_one C size f) (omega (arith, left)) small;
       parts = g.parts;
       some = some;
-      within = omega (arith, left);
       fits = g.fits;
       steps = g.steps;
     })

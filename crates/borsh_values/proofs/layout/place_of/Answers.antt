@@ -13,7 +13,7 @@ pub returns-clause-index : goal.returns-clause-index
 returns-clause-index c =
     let n : Named = record { name = c.args.name; definition = c.definition_of-definition.result } in
     let u = updated_by c.args.name.now c.args.places.now c.insert.new.self c.len-place.result c.in_ok-insert.ensures.updates in
-    subst (λ l. IsIndex c.args.map.now l (mark_of c.insert.new.self)) (sym c.in_ok-push.ensures.items) (index_more c.args.map.now n c.requires (sym c.in_default.ensures.value) c.definition_of-definition.ensures (subst (λ k. Updated (mark_of c.args.places.now) (mark_of c.insert.new.self) c.args.name.now k) (c.len-place.ensures ∙ c.args.names.now.ok.0) u))
+    subst (λ l. IsIndex c.args.map.now l (mark_of c.insert.new.self)) (sym c.in_ok-push.ensures.items) (index_more c.args.map.now n c.requires (sym c.in_default.ensures.value) c.definition_of-definition.ensures.shape c.definition_of-definition.ensures.definition (subst (λ k. Updated (mark_of c.args.places.now) (mark_of c.insert.new.self) c.args.name.now k) (c.len-place.ensures ∙ c.args.names.now.ok.0) u))
 
 pub returns-clause-place : goal.returns-clause-place
 returns-clause-place c =

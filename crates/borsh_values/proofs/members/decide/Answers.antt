@@ -1,8 +1,6 @@
-use Rattle.std.proofs.Common.{◌≡◌, ℕ, suc, ◌+◌, ◌-◌, ◌<◌, ◌≤◌, List, [], ◌∷◌, ◌++◌, length, take, drop, length-drop, append-nil, zero, reverse, replicate, set, Some, None, refl, sym, ◌∙◌, ap, subst, arith, true}
-use Rattle.std.specs.Prelude.{All, Bool, false}
-use Rattle.std.proofs.lemmas.List.Elements.{All-drop}
-use Rattle.borsh_values.proofs.Bytes.{small_bytes}
-use Rattle.std.specs.BTreeMap.{btree_map_len}
+use Rattle.std.proofs.Common.{◌≡◌, ℕ, suc, ◌+◌, ◌<◌, ◌≤◌, List, [], ◌∷◌, ◌++◌, length, take, drop, length-drop, append-nil, zero, reverse, replicate, set, Some, None, Ok, Err, refl, sym, ◌∙◌, ap, subst, arith, true}
+use Rattle.std.specs.Prelude.{Bool, false, IfOk, Result}
+use Rattle.std.specs.BTreeMap.{btree_map_len, get_by_text}
 use Rattle.borsh_walks.specs.Definitions.{definitions_in, shape_of}
 use Rattle.borsh_walks.proofs.Tables.{marks_none, no_items}
 use Rattle.borsh_walks.proofs.Spots.{last_first}
@@ -12,14 +10,14 @@ use Rattle.borsh_values.specs.declared.members.Mark.TheVariants.{Open}
 use Rattle.borsh_values.specs.declared.faults.Reason.TheVariants.{MissingDefinition, Recursive}
 use Rattle.borsh_values.specs.declared.nodes.Node.{Node}
 use Rattle.borsh_values.specs.Layouts.{name_at}
-use Rattle.borsh_values.specs.Nodes.{AreOffsets, Nodes, nodes_none, views}
+use Rattle.borsh_values.specs.Nodes.{AreOffsets, HaveDefinitions, Nodes, nodes_none, views}
 use Rattle.borsh_values.specs.Steps.{NoneBegins, OpensAs, pending, remaining}
-use Rattle.borsh_values.proofs.Answers.{before, before_start, suffix_start, suffix_on, answers_no, is_front}
-use Rattle.borsh_values.proofs.Going.{Going, Listed, defined_in, going_start, skip_listed, going_skip, less_skip, going_reached, going_back, going_denied, going_missing, room, going_new, going_on, going_past, less_new, less_on, less_past, listed_on, going_pass, fewer_pass, less_pass, going_up, going_up_empty, up_listed, less_up, going_end}
-use Rattle.borsh_values.proofs.Listing.{all_views}
+use Rattle.borsh_values.proofs.Answers.{before, before_start, suffix_start, suffix_on, refused_why, answers_no, is_front}
+use Rattle.borsh_values.proofs.Going.{Going, Listed, defined_in, going_start, skip_listed, going_skip, less_skip, going_reached, going_back, going_leads, going_next, going_denied, going_missing, room, going_new, going_on, going_past, less_new, less_on, less_past, listed_on, going_pass, fewer_pass, less_pass, going_up, going_up_empty, up_listed, less_up, going_end}
+use Rattle.borsh_values.proofs.Listing.{all_views, definitions_more}
 use Rattle.borsh_values.proofs.NodesLaws.{nodes_bytes}
 use Rattle.borsh_values.proofs.Offsets.{total, placed_more}
-use Rattle.borsh_values.proofs.Places.{root_there}
+use Rattle.borsh_values.proofs.Places.{root_there, looked_up_at}
 use Rattle.borsh_values.proofs.Walk.{with_rest}
 use Rattle.borsh_values.proofs.Measure.{left, opened_still, opened_on, few_still, few_on, listed_more}
 use Rattle.borsh_values.proofs.TableLaws.{tables_none}
@@ -40,11 +38,16 @@ loop-behind-init c =
       opened = omega arith;
       few = λ _. (let e = ap (λ q. length q) c.requires.empty in omega (arith, e));
       placed = λ _. (subst (λ q. AreOffsets 0 q) (sym c.requires.empty) tt, (let t = ap (λ q. total q) c.requires.empty in omega (arith, t)));
+      definitions = λ _. subst (λ q. HaveDefinitions l.map.now q) (sym c.requires.empty) tt;
       tags = tables_none C c.new-tags.result (marks_none c.new-tags.result c.new-tags.ensures.empty);
       listed = λ w cs es n. subst (λ q. Nodes C (l.root.now ∷ []) (before c.args.bytes.now c.args.bytes.now ++ cs) (views q ++ es)) (sym c.requires.empty) (subst (λ d. Nodes C (l.root.now ∷ []) (d ++ cs) es) (before_start c.args.bytes.now) (subst (λ x. Nodes C (x ∷ []) cs es) (root_there l.map.now l.root.now ns l.parts.items c.requires.laid_out).1 (subst (λ q. Nodes C (name_at ns 0 ∷ pending ns (reverse q)) cs es) c.new-stack.ensures.items n)));
     }
 
--- names of free size are passed
+any_ok : {X E P : Type 0} (r : Result X E) → P → IfOk r (λ _. P)
+any_ok (Ok x) p = p
+any_ok (Err e) p = tt
+
+-- names are passed
 pub loop-behind-smaller-in-Some : goal.loop-behind-smaller-in-Some
 loop-behind-smaller-in-Some c =
     let l = c.args.layout.now in
@@ -72,17 +75,17 @@ loop-behind-preserved-in-Some c =
     let rest = c.loop-behind.left.now in
     let bytes = c.args.bytes.now in
     let D = btree_map_len l.map.now in
-    let small : All (λ b. b < 256) rest = subst (λ b. All (λ b. b < 256) b) (sym i.suffix) (All-drop (λ b. b < 256) (length bytes - length rest) bytes (small_bytes bytes (λ k. let b = c.type_inv.bytes k in omega (arith, b)))) in
-    let ends = suffix_on p.0.taken bytes rest c.in-Some.behind.left.now i.within i.suffix p.4 p.2.within in
+    let ends = suffix_on p.0.taken bytes rest c.in-Some.behind.left.now i.within i.suffix p.4 p.2.first.0 in
     let fewer : length c.in-Some.behind.left.now < length rest = subst (λ b. length b < length rest) (sym p.4) (fewer_pass l i.going p.0 p.2) in
     record {
-      going = subst (λ d. Going l d c.loop-behind.marks.items fs (with_rest c.loop-behind.frame c.in-Some.behind.rest) c.in-Some.behind.left.now 0) ends.2 (subst (λ b. Going l (before bytes rest ++ take p.0.taken rest) c.loop-behind.marks.items fs (with_rest c.loop-behind.frame c.in-Some.behind.rest) b 0) (sym p.4) (subst (λ r. Going l (before bytes rest ++ take p.0.taken rest) c.loop-behind.marks.items fs (with_rest c.loop-behind.frame r) (drop p.0.taken rest) 0) (sym p.3) (going_pass l i.going p.0 p.2 small)));
+      going = subst (λ d. Going l d c.loop-behind.marks.items fs (with_rest c.loop-behind.frame c.in-Some.behind.rest) c.in-Some.behind.left.now 0) ends.2 (subst (λ b. Going l (before bytes rest ++ take p.0.taken rest) c.loop-behind.marks.items fs (with_rest c.loop-behind.frame c.in-Some.behind.rest) b 0) (sym p.4) (subst (λ r. Going l (before bytes rest ++ take p.0.taken rest) c.loop-behind.marks.items fs (with_rest c.loop-behind.frame r) (drop p.0.taken rest) 0) (sym p.3) (going_pass l i.going p.0 p.2)));
       within = ends.0;
       suffix = ends.1;
       risen = i.risen;
       opened = opened_on D (length bytes) c.args.opened.now c.loop-behind.opened c.loop-behind.opened (length c.in-Some.behind.left.now) (length rest) c.loop-behind.idle fewer i.opened (omega arith);
       few = λ w. absurd (no_nodes c.args.wanted p.1 w);
       placed = λ w. absurd (no_nodes c.args.wanted p.1 w);
+      definitions = λ w. absurd (no_nodes c.args.wanted p.1 w);
       tags = i.tags;
       listed = λ w. absurd (no_nodes c.args.wanted p.1 w);
     }
@@ -96,8 +99,8 @@ returns-in_default-clause-answer c =
     let s = c.in-Some-next_part.step in
     let g = c.in-Some-next_part.ensures in
     let fs = reverse c.loop-behind.stack.items in
-    let deny : NoneBegins C MissingDefinition (name_at ns s.at) c.loop-behind.left.now = going_missing l i.going s g (sym c.in_default.ensures) in
-    answers_no C l.root.now c.args.bytes.now c.loop-behind.left.now (name_at ns s.at) MissingDefinition i.within i.suffix (going_reached l i.going s g) (λ e. cc) deny (going_denied l i.going s g MissingDefinition deny) (λ e. cc) c.no_member.result c.no_member.ensures
+    let deny : NoneBegins C MissingDefinition (name_at ns s.at) c.loop-behind.left.now = going_missing l i.going s g (sym c.in_default.ensures.shape) in
+    answers_no C l.root.now c.args.bytes.now c.loop-behind.left.now (name_at ns s.at) MissingDefinition i.within i.suffix (going_reached l i.going s g) (remaining ns s.others ++ pending ns fs) (going_next l i.going s g) (defined_in l i.going.laid s.at g.within ∙ sym c.in_default.ensures.shape) deny (going_denied l i.going s g MissingDefinition deny) c.no_member.result c.no_member.ensures
 
 pub returns-in-Refused-clause-answer : goal.returns-in-Refused-clause-answer
 returns-in-Refused-clause-answer c =
@@ -110,8 +113,9 @@ returns-in-Refused-clause-answer c =
     let fs = reverse c.loop-behind.stack.items in
     let d = shape_of c.in-Some-definition_at.definition.now in
     let o = subst (λ o. OpensAs C ns d c.loop-behind.left.now o) c.in-Refused.is c.in_ok-open_definition-in-Some-next_part.ensures.opened in
-    let deny = o.1 (name_at ns s.at) (defined_in l i.going.laid s.at g.within ∙ sym c.in-Some-definition_at.ensures) in
-    answers_no C l.root.now c.args.bytes.now c.loop-behind.left.now (name_at ns s.at) c.in-Refused.why i.within i.suffix (going_reached l i.going s g) o.0 deny (going_denied l i.going s g c.in-Refused.why deny) (λ e. (d, defined_in l i.going.laid s.at g.within ∙ sym c.in-Some-definition_at.ensures, o.2 e)) c.no_member-in-Refused.result c.no_member-in-Refused.ensures
+    let defined = defined_in l i.going.laid s.at g.within ∙ sym c.in-Some-definition_at.ensures.shape in
+    let deny = o.0 (name_at ns s.at) defined in
+    answers_no C l.root.now c.args.bytes.now c.loop-behind.left.now (name_at ns s.at) c.in-Refused.why i.within i.suffix (going_reached l i.going s g) (remaining ns s.others ++ pending ns fs) (going_next l i.going s g) (refused_why C c.in-Refused.why d (name_at ns s.at) c.loop-behind.left.now defined o.1) deny (going_denied l i.going s g c.in-Refused.why deny) c.no_member-in-Refused.result c.no_member-in-Refused.ensures
 
 pub returns-in-Recursive-clause-answer : goal.returns-in-Recursive-clause-answer
 returns-in-Recursive-clause-answer c =
@@ -123,7 +127,7 @@ returns-in-Recursive-clause-answer c =
     let g = c.in-Some-next_part.ensures in
     let fs = reverse c.loop-behind.stack.items in
     let deny : NoneBegins C Recursive (name_at ns s.at) c.loop-behind.left.now = going_back l i.going s g c.in-Recursive.ensures in
-    answers_no C l.root.now c.args.bytes.now c.loop-behind.left.now (name_at ns s.at) Recursive i.within i.suffix (going_reached l i.going s g) (λ e. cc) deny (going_denied l i.going s g Recursive deny) (λ e. cc) c.no_member-in-Recursive.result c.no_member-in-Recursive.ensures
+    answers_no C l.root.now c.args.bytes.now c.loop-behind.left.now (name_at ns s.at) Recursive i.within i.suffix (going_reached l i.going s g) (remaining ns s.others ++ pending ns fs) (going_next l i.going s g) (going_leads l i.going s g c.in-Recursive.ensures) deny (going_denied l i.going s g Recursive deny) c.no_member-in-Recursive.result c.no_member-in-Recursive.ensures
 
 pub loop-behind-smaller-in-Empty : goal.loop-behind-smaller-in-Empty
 loop-behind-smaller-in-Empty c =
@@ -153,6 +157,7 @@ loop-behind-preserved-in-Empty c =
       opened = i.opened;
       few = i.few;
       placed = i.placed;
+      definitions = i.definitions;
       tags = c.in_ok-open_definition-in-Some-next_part.ensures.tables;
       listed = λ w. subst (λ t. Listed l (before c.args.bytes.now c.loop-behind.left.now) (pending ns (with_rest c.loop-behind.frame t ∷ fs)) c.loop-behind.nodes.items) (sym c.after_copies-frame.ensures) (skip_listed l i.going s g c.in-Empty.ensures c.loop-behind.nodes.items (i.listed w));
     }
@@ -167,7 +172,7 @@ overflow_add-idle c =
     let g = c.in-Some-next_part.ensures in
     let fs = reverse c.loop-behind.stack.items in
     let d = shape_of c.in-Some-definition_at.definition.now in
-    let sh = sym c.in-Some-definition_at.ensures in
+    let sh = sym c.in-Some-definition_at.ensures.shape in
     let o = subst (λ o. OpensAs C ns d c.loop-behind.left.now o) c.in-Taken.is c.in_ok-open_definition-in-Some-next_part.ensures.opened in
     let n = c.in-Taken.taken in
     let r = c.in-Taken.rest in
@@ -184,7 +189,7 @@ loop-behind-smaller-in-New c =
     let g = c.in-Some-next_part.ensures in
     let fs = reverse c.loop-behind.stack.items in
     let d = shape_of c.in-Some-definition_at.definition.now in
-    let sh = sym c.in-Some-definition_at.ensures in
+    let sh = sym c.in-Some-definition_at.ensures.shape in
     let o = subst (λ o. OpensAs C ns d c.loop-behind.left.now o) c.in-Taken.is c.in_ok-open_definition-in-Some-next_part.ensures.opened in
     let n = c.in-Taken.taken in
     let r = c.in-Taken.rest in
@@ -202,7 +207,7 @@ loop-behind-preserved-in-New c =
     let g = c.in-Some-next_part.ensures in
     let fs = reverse c.loop-behind.stack.items in
     let d = shape_of c.in-Some-definition_at.definition.now in
-    let sh = sym c.in-Some-definition_at.ensures in
+    let sh = sym c.in-Some-definition_at.ensures.shape in
     let o = subst (λ o. OpensAs C ns d c.loop-behind.left.now o) c.in-Taken.is c.in_ok-open_definition-in-Some-next_part.ensures.opened in
     let n = c.in-Taken.taken in
     let r = c.in-Taken.rest in
@@ -221,6 +226,7 @@ loop-behind-preserved-in-New c =
       opened = opened_still D all c.args.opened.now c.loop-behind.opened c.count_one.new.count (length c.loop-behind.left.now) c.loop-behind.idle q i.opened c.count_one.ensures.by_one;
       few = λ w. few_still D all (length c.loop-behind.nodes.items) (length c.list_node.new.nodes.items) (length c.loop-behind.left.now) c.loop-behind.idle q (i.few w) (listed_more C node c.loop-behind.nodes.items c.list_node.new.nodes.items (c.in_ok-list_node-in-New.ensures w));
       placed = λ w. placed_more C node c.loop-behind.nodes.items c.list_node.new.nodes.items n all c.loop-behind.left.now c.loop-behind.left.now c.offset_of-offset.ensures c.front.ensures (sym same) (c.in_ok-list_node-in-New.ensures w) (i.placed w);
+      definitions = λ w. definitions_more l.map.now C node c.loop-behind.nodes.items c.list_node.new.nodes.items (ap (λ x. get_by_text l.map.now x) c.name_of-name.ensures ∙ (looked_up_at l.map.now l.root.now ns l.parts.items i.going.laid s.at g.within ∙ sym c.in-Some-definition_at.ensures.definition)) (c.in_ok-list_node-in-New.ensures w) (i.definitions w);
       tags = c.in_ok-open_definition-in-Some-next_part.ensures.tables;
       listed = λ w. subst (λ b. Listed l b (pending ns (f ∷ reverse c.push.new.self.items)) c.list_node.new.nodes.items) (none_taken n c.args.bytes.now c.loop-behind.left.now c.if-taken-eq0.true) (subst (λ q. Listed l (before c.args.bytes.now c.loop-behind.left.now ++ take n c.loop-behind.left.now) (remaining ns r ++ pending ns q) c.list_node.new.nodes.items) (sym back) (listed_on l i.going s g d sh n r o node c.loop-behind.nodes.items c.list_node.new.nodes.items c.name_of-name.ensures refl c.front.ensures (c.in_ok-list_node-in-New.ensures w) (i.listed w)));
     }
@@ -242,7 +248,7 @@ loop-behind-smaller-then-has_parts c =
     let g = c.in-Some-next_part.ensures in
     let fs = reverse c.loop-behind.stack.items in
     let d = shape_of c.in-Some-definition_at.definition.now in
-    let sh = sym c.in-Some-definition_at.ensures in
+    let sh = sym c.in-Some-definition_at.ensures.shape in
     let o = subst (λ o. OpensAs C ns d c.loop-behind.left.now o) c.in-Taken.is c.in_ok-open_definition-in-Some-next_part.ensures.opened in
     let n = c.in-Taken.taken in
     let r = c.in-Taken.rest in
@@ -262,7 +268,7 @@ loop-behind-smaller-else-has_parts c =
     let g = c.in-Some-next_part.ensures in
     let fs = reverse c.loop-behind.stack.items in
     let d = shape_of c.in-Some-definition_at.definition.now in
-    let sh = sym c.in-Some-definition_at.ensures in
+    let sh = sym c.in-Some-definition_at.ensures.shape in
     let o = subst (λ o. OpensAs C ns d c.loop-behind.left.now o) c.in-Taken.is c.in_ok-open_definition-in-Some-next_part.ensures.opened in
     let n = c.in-Taken.taken in
     let r = c.in-Taken.rest in
@@ -279,7 +285,7 @@ loop-behind-preserved-then-has_parts c =
     let g = c.in-Some-next_part.ensures in
     let fs = reverse c.loop-behind.stack.items in
     let d = shape_of c.in-Some-definition_at.definition.now in
-    let sh = sym c.in-Some-definition_at.ensures in
+    let sh = sym c.in-Some-definition_at.ensures.shape in
     let o = subst (λ o. OpensAs C ns d c.loop-behind.left.now o) c.in-Taken.is c.in_ok-open_definition-in-Some-next_part.ensures.opened in
     let n = c.in-Taken.taken in
     let r = c.in-Taken.rest in
@@ -302,6 +308,7 @@ loop-behind-preserved-then-has_parts c =
       opened = opened_on D all c.args.opened.now c.loop-behind.opened c.count_one-else-taken-eq0.new.count (length c.after-left.result.now) (length c.loop-behind.left.now) c.loop-behind.idle fewer i.opened c.count_one-else-taken-eq0.ensures.by_one;
       few = λ w. few_on D all (length old) (length new) (length c.after-left.result.now) (length c.loop-behind.left.now) c.loop-behind.idle fewer (i.few w) (listed_more C node old new (c.in_ok-list_node-in-Taken.ensures w));
       placed = λ w. placed_more C node old new n all c.loop-behind.left.now c.after-left.result.now c.offset_of-offset.ensures c.front.ensures c.after-left.ensures (c.in_ok-list_node-in-Taken.ensures w) (i.placed w);
+      definitions = λ w. definitions_more l.map.now C node old new (ap (λ x. get_by_text l.map.now x) c.name_of-name.ensures ∙ (looked_up_at l.map.now l.root.now ns l.parts.items i.going.laid s.at g.within ∙ sym c.in-Some-definition_at.ensures.definition)) (c.in_ok-list_node-in-Taken.ensures w) (i.definitions w);
       tags = c.in_ok-open_definition-in-Some-next_part.ensures.tables;
       listed = λ w. subst (λ b. Listed l b (pending ns (f ∷ reverse c.push-then-has_parts.new.self.items)) new) ends.2 (subst (λ q. Listed l read (remaining ns r ++ pending ns q) new) (sym back) (listed_on l i.going s g d sh n r o node old new c.name_of-name.ensures refl c.front.ensures (c.in_ok-list_node-in-Taken.ensures w) (i.listed w)));
     }
@@ -316,7 +323,7 @@ loop-behind-preserved-else-has_parts c =
     let g = c.in-Some-next_part.ensures in
     let fs = reverse c.loop-behind.stack.items in
     let d = shape_of c.in-Some-definition_at.definition.now in
-    let sh = sym c.in-Some-definition_at.ensures in
+    let sh = sym c.in-Some-definition_at.ensures.shape in
     let o = subst (λ o. OpensAs C ns d c.loop-behind.left.now o) c.in-Taken.is c.in_ok-open_definition-in-Some-next_part.ensures.opened in
     let n = c.in-Taken.taken in
     let r = c.in-Taken.rest in
@@ -338,6 +345,7 @@ loop-behind-preserved-else-has_parts c =
       opened = opened_on D all c.args.opened.now c.loop-behind.opened c.count_one-else-taken-eq0.new.count (length c.after-left.result.now) (length c.loop-behind.left.now) c.loop-behind.idle fewer i.opened c.count_one-else-taken-eq0.ensures.by_one;
       few = λ w. few_on D all (length old) (length new) (length c.after-left.result.now) (length c.loop-behind.left.now) c.loop-behind.idle fewer (i.few w) (listed_more C node old new (c.in_ok-list_node-in-Taken.ensures w));
       placed = λ w. placed_more C node old new n all c.loop-behind.left.now c.after-left.result.now c.offset_of-offset.ensures c.front.ensures c.after-left.ensures (c.in_ok-list_node-in-Taken.ensures w) (i.placed w);
+      definitions = λ w. definitions_more l.map.now C node old new (ap (λ x. get_by_text l.map.now x) c.name_of-name.ensures ∙ (looked_up_at l.map.now l.root.now ns l.parts.items i.going.laid s.at g.within ∙ sym c.in-Some-definition_at.ensures.definition)) (c.in_ok-list_node-in-Taken.ensures w) (i.definitions w);
       tags = c.in_ok-open_definition-in-Some-next_part.ensures.tables;
       listed = λ w. subst (λ b. Listed l b (remaining ns s.others ++ pending ns fs) new) ends.2 (subst (λ q. Listed l read (q ++ (remaining ns s.others ++ pending ns fs)) new) none (listed_on l i.going s g d sh n r o node old new c.name_of-name.ensures refl c.front.ensures (c.in_ok-list_node-in-Taken.ensures w) (i.listed w)));
     }
@@ -367,6 +375,7 @@ loop-behind-preserved-then-frame-left c =
       opened = i.opened;
       few = i.few;
       placed = i.placed;
+      definitions = i.definitions;
       tags = i.tags;
       listed = λ w. up_listed l (before c.args.bytes.now c.loop-behind.left.now) c.loop-behind.nodes.items (reverse c.pop.new.self.items) c.loop-behind.frame c.in-Some-pop.above c.in-None-next_part.ensures (subst (λ q. Listed l (before c.args.bytes.now c.loop-behind.left.now) (pending ns (c.loop-behind.frame ∷ q)) c.loop-behind.nodes.items) items (i.listed w));
     }
@@ -396,6 +405,7 @@ loop-behind-preserved c =
       opened = i.opened;
       few = i.few;
       placed = i.placed;
+      definitions = i.definitions;
       tags = i.tags;
       listed = λ w. up_listed l (before c.args.bytes.now c.loop-behind.left.now) c.loop-behind.nodes.items (reverse c.pop.new.self.items) c.loop-behind.frame c.in-Some-pop.above c.in-None-next_part.ensures (subst (λ q. Listed l (before c.args.bytes.now c.loop-behind.left.now) (pending ns (c.loop-behind.frame ∷ q)) c.loop-behind.nodes.items) items (i.listed w));
     }
@@ -421,5 +431,17 @@ returns-in-None-pop-clause-listed c = λ w.
     let m = subst (λ q. Nodes C (l.root.now ∷ []) (take c.offset_of.result c.args.bytes.now) q) (all_views (views c.loop-behind.nodes.items)) (subst (λ b. Nodes C (l.root.now ∷ []) b (views c.loop-behind.nodes.items ++ [])) read n) in
     (m, nodes_bytes C m)
 
+pub returns-in-None-pop-clause-definitions : goal.returns-in-None-pop-clause-definitions
+returns-in-None-pop-clause-definitions c = λ w. c.loop-behind.invariant.definitions w
+
 pub returns-in-None-pop-clause-placed : goal.returns-in-None-pop-clause-placed
 returns-in-None-pop-clause-placed c = λ w. (c.loop-behind.invariant.placed w).0
+
+pub returns-in_default-clause-definitions : goal.returns-in_default-clause-definitions
+returns-in_default-clause-definitions c = λ w. any_ok c.no_member.result (c.loop-behind.invariant.definitions w)
+
+pub returns-in-Refused-clause-definitions : goal.returns-in-Refused-clause-definitions
+returns-in-Refused-clause-definitions c = λ w. any_ok c.no_member-in-Refused.result (c.loop-behind.invariant.definitions w)
+
+pub returns-in-Recursive-clause-definitions : goal.returns-in-Recursive-clause-definitions
+returns-in-Recursive-clause-definitions c = λ w. any_ok c.no_member-in-Recursive.result (c.loop-behind.invariant.definitions w)

@@ -1,6 +1,7 @@
 use Rattle.std.proofs.Common.{◌≡◌, ◌≤◌, ◌+◌, ◌-◌, ◌∷◌, length, drop, reverse, true}
 use Rattle.std.specs.BTreeMap.{btree_map_len}
 use Rattle.borsh_walks.specs.Definitions.{definitions_in}
+use Rattle.borsh_values.specs.Nodes.{HaveDefinitions}
 use Rattle.borsh_values.specs.Steps.{pending}
 use Rattle.borsh_values.specs.TagTables.{AreTagTables}
 use Rattle.borsh_values.proofs.Answers.{before}
@@ -18,6 +19,7 @@ invariant-loop-behind l = record {
   opened : l.opened + opens (btree_map_len l.fn.layout.map.now) (length l.left) l.idle ≤ l.fn.opened + opens (btree_map_len l.fn.layout.map.now) (length l.fn.bytes) 0;
   few : l.wanted ≡ true → length l.nodes.items + opens (btree_map_len l.fn.layout.map.now) (length l.left) l.idle ≤ opens (btree_map_len l.fn.layout.map.now) (length l.fn.bytes) 0;
   placed : l.wanted ≡ true → Placed (length l.fn.bytes) l.nodes.items l.left;
+  definitions : l.wanted ≡ true → HaveDefinitions l.fn.layout.map.now l.nodes.items;
   tags : AreTagTables (definitions_in l.fn.layout.map.now) l.tags;
   listed : l.wanted ≡ true → Listed l.fn.layout (before l.fn.bytes l.left) (pending l.fn.layout.names.items (l.frame ∷ reverse l.stack.items)) l.nodes.items;
 }

@@ -4,12 +4,12 @@ use Rattle.borsh_walks.specs.Definitions.{definitions_in}
 use Rattle.borsh_values.specs.Layouts.{IsPlaceOf, parts_in}
 use Rattle.borsh_values.specs.Steps.{FoundAs}
 use Rattle.borsh_values.proofs.FoundLaws.{unnamed}
-use Rattle.borsh_values.proofs.TakesLaws.{found_choice, found_none_choice, found_there, short_choice, several_ambiguous, too_short}
+use Rattle.borsh_values.proofs.TakesLaws.{found_choice, found_none_choice, found_there, other_tag, short_choice, several_ambiguous, too_short}
 use Rattle.borsh_values.proofs.TableLaws.{keeps_same}
 use Rattle.borsh_values.proofs.opening.open_enum.Goals as goal
 
 pub returns-then-bytes-size-clause-opened : goal.returns-then-bytes-size-clause-opened
-returns-then-bytes-size-clause-opened c = ((λ z. cc), λ x e. too_short (definitions_in c.args.layout.now.map.now) (λ m. short_choice (definitions_in c.args.layout.now.map.now) (let h = c.if-bytes-size.true in let s = c.from-size.ensures in omega (arith, h, s)) e m), λ _. (let h = c.if-bytes-size.true in let s = c.from-size.ensures in omega (arith, h, s)))
+returns-then-bytes-size-clause-opened c = ((λ x e. too_short (definitions_in c.args.layout.now.map.now) (λ m. short_choice (definitions_in c.args.layout.now.map.now) (let h = c.if-bytes-size.true in let s = c.from-size.ensures in omega (arith, h, s)) e m)), (let h = c.if-bytes-size.true in let s = c.from-size.ensures in omega (arith, h, s)))
 
 pub returns-then-bytes-size-clause-kept : goal.returns-then-bytes-size-clause-kept
 returns-then-bytes-size-clause-kept c = keeps_same c.args.tables.now c.requires.table
@@ -20,7 +20,7 @@ returns-in-Nothing-clause-opened c =
     let bytes = c.args.bytes.now in
     let size = c.from-size.result in
     let found = subst (λ f. FoundAs vs (take size bytes) f) c.in-Nothing.is c.in_ok-find_variant_of.ensures.found in
-    ((λ z. cc), λ x e more _ m. found_none_choice c.args.width size bytes vs c.from-size.ensures c.if-bytes-size.false found (definitions_in c.args.layout.now.map.now) x e more m, λ e. cc)
+    ((λ x e more _ m. found_none_choice c.args.width size bytes vs c.from-size.ensures c.if-bytes-size.false found (definitions_in c.args.layout.now.map.now) x e more m), other_tag c.args.width size bytes vs c.from-size.ensures c.if-bytes-size.false found)
 
 pub returns-in-Some-clause-opened : goal.returns-in-Some-clause-opened
 returns-in-Some-clause-opened c =

@@ -1,11 +1,11 @@
-use Rattle.std.proofs.Common.{◌≡◌, ℕ, suc, zero, ◌+◌, ◌^◌, ◌<◌, arith, inl, inr, length, subst, sym}
+use Rattle.std.proofs.Common.{◌≡◌, ℕ, suc, zero, ◌+◌, ◌^◌, ◌<◌, ◌⊎◌, arith, inl, inr, length, subst, sym}
 use Rattle.borsh_walks.specs.Definitions.{definitions_in}
 use Rattle.borsh_values.specs.Layouts.{name_at}
 use Rattle.borsh_values.specs.Nodes.{packed_size}
 use Rattle.borsh_values.specs.Steps.{TakesElements}
 use Rattle.borsh_values.proofs.Bytes.{small_bytes}
 use Rattle.borsh_values.proofs.Places.{defined_at}
-use Rattle.borsh_values.proofs.TakesLaws.{array_opened, list_opened, count_off, short_sequence, too_short}
+use Rattle.borsh_values.proofs.TakesLaws.{array_opened, list_opened, count_off, other_count, short_sequence, too_short}
 use Rattle.borsh_values.proofs.opening.open_sequence.Goals as goal
 use Rattle.borsh_values.proofs.opening.open_sequence.Goals.{then-count-start-via-then-count-start, then-count-start-via-else-count-start+then-end-count}
 
@@ -24,15 +24,15 @@ returns-then-width-eq0 c =
     array_opened C ns c.args.width c.args.start c.args.end e c.args.bytes.now c.if-width-eq0.true (omega arith) (small_bytes c.args.bytes.now (λ k. let b = c.type_inv.bytes k in omega (arith, b))) c.open_elements.result t
 
 pub returns-then-bytes-size : goal.returns-then-bytes-size
-returns-then-bytes-size c = ((λ z. cc), λ x e. too_short (definitions_in c.args.layout.now.map.now) (λ m. short_sequence (definitions_in c.args.layout.now.map.now) (let h = c.if-bytes-size.true in let s = c.from-size.ensures in omega (arith, h, s)) e m), λ _. inl (let h = c.if-bytes-size.true in let s = c.from-size.ensures in omega (arith, h, s)))
+returns-then-bytes-size c = ((λ x e. too_short (definitions_in c.args.layout.now.map.now) (λ m. short_sequence (definitions_in c.args.layout.now.map.now) (let h = c.if-bytes-size.true in let s = c.from-size.ensures in omega (arith, h, s)) e m)), inl (let h = c.if-bytes-size.true in let s = c.from-size.ensures in omega (arith, h, s)))
 
 pub returns-then-count-start : goal.returns-then-count-start
 returns-then-count-start c =
-    let f = c.if-not-fits_width.ensures in (
-      (λ z. cc),
-      λ x e more _ m. count_off c.args.width c.args.start c.args.end c.number-count.result c.from-size.result (name_at c.args.layout.now.names.items c.args.element) c.args.bytes.now f.2 c.from-size.ensures c.if-bytes-size.false c.number-count.ensures.written c.number-count.ensures.small
-          (elim c.then-count-start.branch [ then-count-start-via-then-count-start w ↦ inl w.if-count-start.true | then-count-start-via-else-count-start+then-end-count w ↦ inr w.if-end-count.true ]) (definitions_in c.args.layout.now.map.now) x e more m,
-      (λ e. cc),
+    let f = c.if-not-fits_width.ensures in
+    let off : (c.number-count.result < c.args.start) ⊎ (c.args.end < c.number-count.result) = elim c.then-count-start.branch [ then-count-start-via-then-count-start w ↦ inl w.if-count-start.true | then-count-start-via-else-count-start+then-end-count w ↦ inr w.if-end-count.true ] in (
+      (λ x e more _ m. count_off c.args.width c.args.start c.args.end c.number-count.result c.from-size.result (name_at c.args.layout.now.names.items c.args.element) c.args.bytes.now f.2 c.from-size.ensures c.if-bytes-size.false c.number-count.ensures.written c.number-count.ensures.small
+          off (definitions_in c.args.layout.now.map.now) x e more m),
+      other_count c.args.width c.args.start c.args.end c.number-count.result c.from-size.result (name_at c.args.layout.now.names.items c.args.element) c.args.bytes.now f.2 c.from-size.ensures c.if-bytes-size.false c.number-count.ensures.written c.number-count.ensures.small off,
     )
 
 pub returns : goal.returns

@@ -14,4 +14,4 @@ returns-in_err-deserialize_reader-in-2 g c =
 pub returns-in_ok-deserialize_reader-in-2 : goal.returns-in_ok-deserialize_reader-in-2
 returns-in_ok-deserialize_reader-in-2 g c =
     let read = reads_there 2 0 unit (reads_there 2 1 (unsigned 1) (reads_here 2 never c.in_ok-deserialize_reader-in-2.ensures.ok)) in
-    rw c.in-2.is (variant_ok (record { took = read.took }))
+    rw c.in-2.is (variant_ok (record { took = read.took; made = read.made }))

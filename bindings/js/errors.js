@@ -1,0 +1,44 @@
+// What is thrown, and what the answer of a call says of it.
+
+/** What a call has no answer for. */
+export class BorshError extends Error {
+  constructor(kind, text, found) {
+    super(text);
+    this.name = "BorshError";
+    this.kind = kind;
+    this.path = found?.path;
+    this.type = found?.type;
+    this.offset = found?.offset;
+    this.record = found?.record;
+    this.reason = found?.reason ?? text;
+  }
+}
+
+/** Texts of the proved code are UTF-8. */
+export const decoder = new TextDecoder("utf-8", { ignoreBOM: true });
+
+/** The bytes of the answer, or else an error: of values one after another with the byte at which the value begins. */
+export function answerOf(answer, record) {
+  if (answer.kind === "yes") return answer.bytes;
+  const kind = answer.kind === "short" ? "no" : answer.kind;
+  const text = decoder.decode(answer.bytes);
+  if (record === undefined) throw new BorshError(kind, text, foundIn(answer));
+  throw errorOf(record, kind, answer.kind === "short" ? `cut short: ${text}` : text, foundIn(answer));
+}
+
+/** The error of a value that begins at a byte of a stream. */
+export function errorOf(record, kind, text, found) {
+  return new BorshError(kind, `value at byte ${record}: ${text}`, { reason: text, ...found, record });
+}
+
+/** What the text of an answer says: `PATH: REASON`, or of a fault of bytes ``PATH (`TYPE` at byte OFFSET): REASON``. */
+function foundIn({ bytes, offset, path }) {
+  if (path === undefined) return { offset };
+  const rest = decoder.decode(bytes.subarray(path.end));
+  const found = { offset, path: decoder.decode(bytes.subarray(path.start, path.end)), reason: rest.slice(": ".length) };
+  if (offset === undefined) return found;
+  // No reason of a fault has such words.
+  const middle = `\` at byte ${offset}): `;
+  const at = rest.lastIndexOf(middle);
+  return { ...found, type: rest.slice(" (`".length, at), reason: rest.slice(at + middle.length) };
+}

@@ -1,0 +1,309 @@
+// Many values of one schema, which is decoded once.
+ghost use Rattle.borsh_c.specs.Answers.{IsRefused, IsUnclear, Never, wherever};
+ghost use Rattle.borsh_c.specs.Many.{AreVerdicts, AreVerdictsOf, BeginWith, HaveLines, HaveLinesOf, HasNoLine, IsNoLine, IsNoRecord, IsStop, IsVerdict, IsWhole, behind};
+ghost use Rattle.borsh_c.specs.Places.{number_if};
+ghost use Rattle.borsh_values.specs.Free.{KnowsSizes};
+ghost use Rattle.borsh_values.specs.Layouts.{IsLaidOut};
+ghost use Rattle.borsh_walks.specs.Definitions.{definitions_in};
+ghost use Rattle.std.specs.Prelude.{◌≡◌, ◌≤◌, IfErr, IfOk, OnOk, drop, length, take};
+
+use super::answers::{container_from, no, no_member, no_value, said_of, unclear};
+use super::codes::{NO, OUT_OF_MEMORY, UNDECIDED, YES};
+use super::refusal::{Refusal, Said};
+use borsh_json::{JsonError, Style, to_json_by};
+use borsh_values::{Fault, Front, Layout, Membership};
+use std::alloc::{AllocError, Global};
+
+/// The first of the bytes, at most so many.
+fn first(bytes: &[u8], length: usize) -> &[u8]
+    ensures { result.now ≡ take length bytes.now }
+{
+    if length < bytes.len() {
+        &bytes[..length]
+    } else {
+        bytes
+    }
+}
+
+/// The bytes behind those.
+fn others(bytes: &[u8], length: usize) -> &[u8]
+    ensures { result.now ≡ drop length bytes.now }
+{
+    if length < bytes.len() {
+        &bytes[length..]
+    } else {
+        &bytes[..0]
+    }
+}
+
+/// What was found behind values.
+#[derive(Drop)]
+pub enum Stop<'a> {
+    /// No bytes, or no room for another length.
+    End,
+    /// That the root has the empty value.
+    EmptyValue,
+    /// The beginning of a value.
+    Short(Fault<'a>),
+    /// No value, whatever bytes follow.
+    NoMember(Fault<'a>),
+    /// A definition that is ambiguous.
+    Ambiguous(&'a str),
+}
+
+/// How many values bytes begin with, and what is behind them.
+#[derive(Drop)]
+struct Measured<'a> {
+    count: usize,
+    stop: Stop<'a>,
+}
+
+/// Writes the length of each of the values that the bytes begin with.
+fn measure<'a>(
+    alloc: Global,
+    layout: &Layout<'a>,
+    bytes: &[u8],
+    lengths: &mut [usize],
+) -> Result<Measured<'a>, AllocError>
+    requires laid_out { IsLaidOut layout.now }
+    requires sizes { KnowsSizes layout.now }
+    ensures room { IfOk result (λ m. m.count ≤ length lengths.new) }
+    ensures values { let C = definitions_in layout.now.map.now in
+        IfOk result (λ m. BeginWith C layout.now.root.now (take m.count lengths.new) bytes.now) }
+    ensures stop { let C = definitions_in layout.now.map.now in
+        let left = λ (m : Measured). behind (take m.count lengths.new) bytes.now in
+        IfOk result (λ m. IsStop C layout.now.root.now (length lengths.new) m.count (left m) m.stop) }
+{
+    let mut left = bytes;
+    let mut count = 0;
+    while count < lengths.len() && !left.is_empty() {
+        match layout.front(alloc, left)? {
+            Front::Value(length) => {
+                if length == 0 {
+                    return Ok(Measured {
+                        count,
+                        stop: Stop::EmptyValue,
+                    });
+                }
+                lengths[count] = length;
+                left = others(left, length);
+                count += 1;
+            }
+            Front::TooShort(fault) => {
+                return Ok(Measured {
+                    count,
+                    stop: Stop::Short(fault),
+                });
+            }
+            Front::NoMember(fault) => {
+                return Ok(Measured {
+                    count,
+                    stop: Stop::NoMember(fault),
+                });
+            }
+            Front::Ambiguous(name) => {
+                return Ok(Measured {
+                    count,
+                    stop: Stop::Ambiguous(name),
+                });
+            }
+        }
+    }
+    Ok(Measured {
+        count,
+        stop: Stop::End,
+    })
+}
+
+/// How many values bytes begin with, or where the first is cut.
+#[derive(Drop)]
+pub enum Whole {
+    /// So many.
+    Values(usize),
+    /// The bytes end within the first.
+    Short(Said),
+}
+
+/// Writes the length of each of the values that the bytes begin with, as many as are whole and as there is room for.
+pub fn whole_values(
+    alloc: Global,
+    schema: &[u8],
+    bytes: &[u8],
+    lengths: &mut [usize],
+) -> Result<Whole, Refusal>
+    ensures ok { IfOk result (λ w. IsWhole schema.now bytes.now lengths.new w) }
+    ensures err { IfErr result (λ e. IsRefused schema.now (IsNoRecord bytes.now) IsUnclear e) }
+{
+    let (root, definitions) = container_from(alloc, schema)?;
+    let layout = Layout::new(alloc, root.as_str(), &definitions)?;
+    let measured = measure(alloc, &layout, bytes, lengths)?;
+    if measured.count > 0 {
+        return Ok(Whole::Values(measured.count));
+    }
+    match measured.stop {
+        Stop::End => Ok(Whole::Values(0)),
+        Stop::EmptyValue => Err(no(String::from_str(alloc, "a value may be empty"), None)),
+        Stop::Short(fault) => {
+            let said = said_of(alloc, "", &fault)?;
+            Ok(Whole::Short(said))
+        }
+        Stop::NoMember(fault) => Err(no_member(alloc, "", &fault)),
+        Stop::Ambiguous(name) => Err(unclear(alloc, name)),
+    }
+}
+
+/// How many values have a line of JSON, the lines, and why the next value has none.
+#[derive(Drop)]
+struct Written<'a> {
+    count: usize,
+    text: Vec<u8>,
+    stop: Option<JsonError<'a>>,
+}
+
+/// The JSON of each of the values that have these lengths, and a line end behind it, up to one that has none.
+fn write_lines<'a>(
+    alloc: Global,
+    layout: &Layout<'a>,
+    values: &[u8],
+    lengths: &[usize],
+    style: Style,
+) -> Result<Written<'a>, AllocError>
+    requires laid_out { IsLaidOut layout.now }
+    requires sizes { KnowsSizes layout.now }
+    ensures room { IfOk result (λ w. w.count ≤ length lengths.now) }
+    ensures lines { let C = definitions_in layout.now.map.now in
+        let root = layout.now.root.now in
+        IfOk result (λ w. HaveLines C root (take w.count lengths.now) values.now w.text.items) }
+    ensures stop { let C = definitions_in layout.now.map.now in
+        IfOk result (λ w. IsNoLine C layout.now.root.now lengths.now values.now w.count w.stop) }
+{
+    let mut text: Vec<u8> = Vec::new(alloc);
+    let mut left = values;
+    let mut count = 0;
+    while count < lengths.len() {
+        match to_json_by(alloc, layout, first(left, lengths[count]), style) {
+            Ok(json) => {
+                text.extend_from_slice(json.as_bytes())?;
+                text.push(b'\n')?;
+            }
+            Err(error) => {
+                return Ok(Written {
+                    count,
+                    text,
+                    stop: Some(error),
+                });
+            }
+        }
+        left = others(left, lengths[count]);
+        count += 1;
+    }
+    Ok(Written {
+        count,
+        text,
+        stop: None,
+    })
+}
+
+/// How many values have a line of JSON, and the lines.
+#[derive(Drop)]
+pub struct Lines {
+    pub count: usize,
+    pub text: Vec<u8>,
+}
+
+/// The JSON of each of the values that have these lengths, up to one that has none.
+pub fn lines_of(
+    alloc: Global,
+    schema: &[u8],
+    values: &[u8],
+    lengths: &[usize],
+    style: Style,
+) -> Result<Lines, Refusal>
+    ensures ok { IfOk result (λ l. HaveLinesOf schema.now values.now lengths.now l.count l.text.items) }
+    ensures err { IfErr result (λ e. IsRefused schema.now (HasNoLine values.now lengths.now) IsUnclear e) }
+{
+    let (root, definitions) = container_from(alloc, schema)?;
+    let layout = Layout::new(alloc, root.as_str(), &definitions)?;
+    let written = write_lines(alloc, &layout, values, lengths, style)?;
+    let (count, text) = (written.count, written.text);
+    if count > 0 {
+        return Ok(Lines { count, text });
+    }
+    match written.stop {
+        None => Ok(Lines { count, text }),
+        Some(error) => Err(no_value(alloc, &error)),
+    }
+}
+
+/// Whether a value is one of the root: a code, and where it stops being one.
+#[repr(C)]
+#[derive(Clone, Copy, Debug, PartialEq, Eq)]
+pub struct Verdict {
+    pub code: u32,
+    pub has_offset: bool,
+    pub offset: usize,
+}
+
+fn verdict_of(code: u32, offset: Option<usize>) -> Verdict
+    ensures code { result.code ≡ code }
+    ensures offset { number_if result.has_offset result.offset ≡ offset }
+{
+    Verdict {
+        code,
+        has_offset: offset.is_some(),
+        offset: offset.unwrap_or(0),
+    }
+}
+
+fn verdict_on(alloc: Global, layout: &Layout<'_>, value: &[u8]) -> Verdict
+    requires laid_out { IsLaidOut layout.now }
+    requires sizes { KnowsSizes layout.now }
+    ensures { let C = definitions_in layout.now.map.now in
+        let offset = number_if result.has_offset result.offset in
+        IsVerdict C layout.now.root.now value.now offset result.code }
+{
+    match layout.is_member(alloc, value) {
+        Ok(Membership::Member) => verdict_of(YES, None),
+        Ok(Membership::NoMember(fault)) => verdict_of(NO, Some(fault.offset)),
+        Ok(Membership::Ambiguous(_)) => verdict_of(UNDECIDED, None),
+        Err(AllocError) => verdict_of(OUT_OF_MEMORY, None),
+    }
+}
+
+fn judge_each(
+    alloc: Global,
+    layout: &Layout<'_>,
+    values: &[u8],
+    lengths: &[usize],
+    verdicts: &mut [Verdict],
+)
+    requires laid_out { IsLaidOut layout.now }
+    requires sizes { KnowsSizes layout.now }
+    ensures { let C = definitions_in layout.now.map.now in
+        AreVerdicts C layout.now.root.now lengths.now values.now verdicts.new }
+{
+    let mut left = values;
+    let mut next = 0;
+    while next < lengths.len() && next < verdicts.len() {
+        verdicts[next] = verdict_on(alloc, layout, first(left, lengths[next]));
+        left = others(left, lengths[next]);
+        next += 1;
+    }
+}
+
+/// Judges each of the values that have these lengths, as many as there is room for verdicts.
+pub fn judge(
+    alloc: Global,
+    schema: &[u8],
+    values: &[u8],
+    lengths: &[usize],
+    verdicts: &mut [Verdict],
+) -> Result<(), Refusal>
+    ensures ok { OnOk result (AreVerdictsOf schema.now values.now lengths.now verdicts.new) }
+    ensures err { IfErr result (λ e. IsRefused schema.now (wherever Never) Never e) }
+{
+    let (root, definitions) = container_from(alloc, schema)?;
+    let layout = Layout::new(alloc, root.as_str(), &definitions)?;
+    judge_each(alloc, &layout, values, lengths, verdicts);
+    Ok(())
+}

@@ -1,0 +1,12 @@
+-- Text of printable ASCII and line feeds.
+use Rattle.std.specs.Prelude.{◌≡◌, ℕ, ◌==◌, ◌&&◌, ◌||◌, Bool, true, ltb, leb}
+
+abbrev pub is_printable : ℕ → Bool
+is_printable b = leb 32 b && ltb b 127
+
+abbrev pub is_plain : ℕ → Bool
+is_plain b = b == 10 || is_printable b
+
+-- a line feed or printable ASCII
+abbrev pub IsPlain : ℕ → Type 0
+IsPlain b = is_plain b ≡ true

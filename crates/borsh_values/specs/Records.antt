@@ -1,0 +1,157 @@
+-- Values one after another, as a reader gives them.
+use Rattle.std.specs.Prelude.{◌≡◌, ⊤, ℕ, ◌+◌, ◌*◌, ◌-◌, ◌^◌, ◌<◌, ◌≤◌, ◌⊎◌, Bool, true, false, List, [], ◌++◌, length, take, drop, min, Option, Result, Ok, Err, IfOk, OnOk, IfErr}
+use Rattle.std.specs.Io.KnownBytes.{Consumes, IsAtEnd}
+use Rattle.borsh_io.specs.Errors.{error_kind}
+use Rattle.borsh_io.specs.Stream.{ReaderState, CountedUp}
+use Rattle.borsh_io.specs.declared.error.Error.{Error}
+use Rattle.borsh_io.specs.declared.error.ErrorKind.TheVariants.{OutOfMemory as NoRoom}
+use Rattle.borsh_walks.specs.Container.{Shape, Member}
+use Rattle.borsh_values.specs.Faults.{BeginsWith}
+use Rattle.borsh_values.specs.Fronts.{HasNoFront}
+use Rattle.borsh_values.specs.Membership.{IsUndecided}
+use Rattle.borsh_values.specs.Next.{IsFirst}
+use Rattle.borsh_values.specs.declared.buffered.Buffered.{Buffered}
+use Rattle.std.specs.Borrow.{Bor}
+use Rattle.borsh_values.specs.declared.layout.Layout.{Layout}
+use Rattle.borsh_values.specs.declared.records.Records.{Records}
+use Rattle.borsh_values.specs.declared.records.RecordError.{RecordError}
+use Rattle.borsh_values.specs.declared.records.RecordError.TheVariants.{NoMember, CutShort, TooLong, EmptyValue, Ambiguous, Reader, OutOfMemory}
+
+-- ---- a reader, and bytes that are held
+
+abbrev pub reader_of : {R : Type 0} → Buffered R → R
+reader_of b = b.reader
+
+-- the bytes that were read and not yet taken
+abbrev pub held : {R : Type 0} → Buffered R → List ℕ
+held b = drop b.end b.buffer.items
+
+-- the bytes that were taken last
+abbrev pub piece : {R : Type 0} → Buffered R → List ℕ
+piece b = drop b.start (take b.end b.buffer.items)
+
+-- the first n of the bytes that are held were taken
+pub record TakesHeld {R : Type 0} (old new : Buffered R) (n : ℕ) : Type 0 where
+  pub piece : piece new ≡ take n (held old)
+  pub held : held new ≡ drop n (held old)
+  pub reader : reader_of new ≡ reader_of old
+
+-- how many bytes a read gives at most
+abbrev pub most_at_once : ℕ
+most_at_once = 65536
+
+-- these bytes were lost by a reader, after perhaps interruptions
+pub record Lost (before after : ReaderState) (lost : List ℕ) : Type 0 where
+  pub bounded : length lost + most_at_once * after.reads_left ≤ most_at_once * before.reads_left
+  pub bytes : Consumes before.bytes after.bytes lost
+  pub interruptions : after.interruptions ≤ before.interruptions
+  pub reads_left : after.reads_left ≤ before.reads_left
+  pub strict_order : after.strict_order ≡ before.strict_order
+
+-- why no more was read: an allocation failed, or the reader did
+abbrev pub IsUnread : ReaderState → ReaderState → Error → Type 0
+IsUnread before after e = ((error_kind e ≡ NoRoom) × (after.faults ≡ before.faults)) ⊎ CountedUp before.faults after.faults
+
+-- the outcome of a read behind the bytes that are held: n more are held, none only at the end
+pub record ReadsMore {R : Type 0} (state : R → ReaderState) (old new : Buffered R) (result : Result ℕ Error) : Type 0 where
+  pub read : List ℕ
+  pub held : held new ≡ held old ++ read
+  pub lost : Lost (state (reader_of old)) (state (reader_of new)) read
+  pub number : IfOk result (λ n. n ≡ length read)
+  pub faults : OnOk result ((state (reader_of new)).faults ≡ (state (reader_of old)).faults)
+  pub fewer : IfOk result (λ n. 0 < n → (state (reader_of new)).reads_left < (state (reader_of old)).reads_left)
+  pub some : IfOk result (λ n. n ≡ 0 → IsAtEnd (state (reader_of new)).bytes)
+  pub failed : IfErr result (λ e. IsUnread (state (reader_of old)) (state (reader_of new)) e)
+
+-- ---- values
+
+abbrev pub value_of : {R : Type 0} → Records R → List ℕ
+value_of r = piece r.input
+
+-- the bytes that were read and are of no value before
+abbrev pub ahead : {R : Type 0} → Records R → List ℕ
+ahead r = held r.input
+
+-- where the next value begins, in bytes from the first one
+abbrev pub next_offset : {R : Type 0} → Records R → ℕ
+next_offset r = r.next
+
+-- how many bytes a value has at most
+abbrev pub limit_of : {R : Type 0} → Records R → ℕ
+limit_of r = r.limit
+
+abbrev pub source_of : {R : Type 0} → Records R → R
+source_of r = reader_of r.input
+
+-- how many bytes are ahead and may still be read: a number that falls with each value, so that a loop over the values ends
+abbrev pub turns_left : {R : Type 0} → (R → ReaderState) → Records R → ℕ
+turns_left state r = most_at_once * (state (source_of r)).reads_left + length (ahead r)
+
+abbrev pub Falls : {R : Type 0} → (R → ReaderState) → Records R → Records R → Result Bool RecordError → Type 0
+Falls state old new result = result ≡ Ok true → turns_left state new < turns_left state old
+
+-- the layout, by which the values are known
+abbrev pub layout_of : {R : Type 0} → Records R → Bor Layout
+layout_of r = r.layout
+
+-- the root, its definitions and the limit stay
+abbrev pub SameRoot : {R : Type 0} → Records R → Records R → Type 0
+SameRoot old new = (new.layout ≡ old.layout) × (new.limit ≡ old.limit)
+
+-- the first n bytes are the first value, whatever follows the bytes
+pub record IsFirstOf (C : List ℕ → Option Shape) (root : List ℕ) (n : ℕ) (bytes : List ℕ) : Type 0 where
+  pub within : n ≤ length bytes
+  pub first : (more : List ℕ) → IsFirst C root (take n bytes) (bytes ++ more) (drop n bytes ++ more)
+
+-- why a root is refused: it has the empty value, or is undecided
+abbrev pub IsRootError : (List ℕ → Option Shape) → List ℕ → RecordError → Type 0
+IsRootError C root (NoMember o f) = ⊥
+IsRootError C root (CutShort o f) = ⊥
+IsRootError C root (TooLong o) = ⊥
+IsRootError C root EmptyValue = Member C root []
+IsRootError C root (Ambiguous x) = IsUndecided C root x.now
+IsRootError C root (Reader e) = ⊥
+IsRootError C root OutOfMemory = ⊤
+
+module _ (C : List ℕ → Option Shape) (root bytes : List ℕ) (at limit : ℕ) where
+  -- the error is true of the bytes, which begin at that offset; `ended` holds where no others follow, and `unread` where none could be read
+  abbrev pub IsRecordError : Type 0 → (Error → Type 0) → RecordError → Type 0
+  IsRecordError ended unread (NoMember o f) = (o ≡ at) × ((more : List ℕ) → HasNoFront C root (bytes ++ more) f)
+  IsRecordError ended unread (CutShort o f) = (o ≡ at) × HasNoFront C root bytes f × (bytes ≡ [] → ⊥) × ended
+  IsRecordError ended unread (TooLong o) = (o ≡ at) × (limit ≤ length bytes) × (BeginsWith C root (take limit bytes) → ⊥)
+  IsRecordError ended unread EmptyValue = Member C root []
+  IsRecordError ended unread (Ambiguous x) = IsUndecided C root x.now
+  IsRecordError ended unread (Reader e) = unread e
+  IsRecordError ended unread OutOfMemory = ⊤
+
+  -- v is the first value of the bytes, whatever follows them, and others are left; or none is found, where `nothing` holds, or an error returned, and all are left
+  pub record GoesOn (nothing ended : Type 0) (unread : Error → Type 0) (v left : List ℕ) (after : ℕ) (result : Result Bool RecordError) : Type 0 where
+    pub found : result ≡ Ok true → (more : List ℕ) → IsFirst C root v (bytes ++ more) (left ++ more)
+    pub short : result ≡ Ok true → length v ≤ limit
+    pub next : result ≡ Ok true → after ≡ min (at + length v) (2 ^ 64 - 1)
+    pub none : result ≡ Ok false → nothing
+    pub error : IfErr result (λ e. IsRecordError ended unread e)
+    pub kept : (result ≡ Ok true → ⊥) → (left ≡ bytes) × (after ≡ at)
+
+-- an error of the reader is passed on, and no other has one
+abbrev pub FaultsAre : ReaderState → ReaderState → Result Bool RecordError → Type 0
+FaultsAre before after (Err (Reader e)) = IsUnread before after e
+FaultsAre before after result = after.faults ≡ before.faults
+
+-- the next value of the bytes that are ahead or still to come; none only where there are no such bytes
+pub record AdvancesFrom {R : Type 0} (C : List ℕ → Option Shape) (root : List ℕ) (state : R → ReaderState) (source : R) (waiting : List ℕ) (at limit : ℕ) (new : Records R) (result : Result Bool RecordError) : Type 0 where
+  -- the bytes that were read
+  pub read : List ℕ
+  pub lost : Lost (state source) (state (source_of new)) read
+  pub faults : FaultsAre (state source) (state (source_of new)) result
+  pub goes : (let bytes = waiting ++ read in
+      GoesOn C root bytes at limit ((bytes ≡ []) × IsAtEnd (state (source_of new)).bytes) (IsAtEnd (state (source_of new)).bytes)
+      (IsUnread (state source) (state (source_of new))) (value_of new) (ahead new) (next_offset new) result)
+
+abbrev pub Advances : {R : Type 0} → (List ℕ → Option Shape) → List ℕ → (R → ReaderState) → Records R → Records R → Result Bool RecordError → Type 0
+Advances C root state old new result = AdvancesFrom C root state (source_of old) (ahead old) (next_offset old) (limit_of old) new result
+
+-- the next value of the bytes that are ahead, if it is whole there; nothing is read
+pub record AdvancesHeld {R : Type 0} (C : List ℕ → Option Shape) (root : List ℕ) (old new : Records R) (none ended : Type 0) (result : Result Bool RecordError) : Type 0 where
+  pub reader : source_of new ≡ source_of old
+  pub goes : GoesOn C root (ahead old) (next_offset old) (limit_of old) none ended (λ e. ⊥) (value_of new) (ahead new) (next_offset new) result
