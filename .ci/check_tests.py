@@ -1,9 +1,9 @@
 #!/usr/bin/env python3
 """Checks docs/TESTS.md and docs/original-tests.txt against the tests.
 
-The tables of docs/TESTS.md have each file of rows, `| `CRATE/FILE` | NUMBER | ..`, and each crate with test functions,
-`| `CRATE` | NUMBER | ..`, once with the number of its rows or functions, and each reason for which tests of the original are left
-out, `| REASON | NUMBER |`.
+The tables of docs/TESTS.md have each file of rows, `| `CRATE/FILE` | NUMBER/SECTIONS | ..`, and each crate with test
+functions, `| `CRATE` | NUMBER | ..`, once with the number of its rows, and of their sections, or of its functions; and each reason
+for which tests of the original are left out, `| REASON | NUMBER |`.
 
 docs/original-tests.txt has the paths of the original's files of tests; below each, indented by two, names of tests; below these,
 indented by four, where they are tested here: `PATH: SECTION` of a file of rows, `PATH: FUNCTION`, or `left out: REASON`.
@@ -65,17 +65,20 @@ def original_tests():
 
 
 def told():
-    """The first two columns of the rows of the tables in docs/TESTS.md that have a number in the second."""
+    """Of each row of the tables in docs/TESTS.md that has a number: the name, the number, and that of sections, or 0."""
     text = (TOP / "docs/TESTS.md").read_text(encoding="utf-8")
-    return re.findall(r"^\| `?([^`|]+?)`? \| ([\d,]+) \|", text, re.M)
+    rows = re.findall(r"^\| `?([^`|]+?)`? \| ([\d,]+)(?:/(\d+))? \|", text, re.M)
+    return [(name, int(number.replace(",", "")), int(count or 0)) for name, number, count in rows]
 
 
 def main():
     files, originals = tests(), original_tests()
     there = {f"{path}: {name}" for path, names in files.items() for name in names}
-    numbers = {}
+    numbers, in_sections = {}, {}
     for path, counts in files.items():
         numbers[short(path)] = numbers.get(short(path), 0) + sum(counts.values())
+        if path.endswith(".tsv"):
+            in_sections[short(path)] = len(counts)
     left_out = 0
     wrong = []
     for test, places in originals.items():
@@ -88,19 +91,23 @@ def main():
                 left_out += 1
             elif place not in there:
                 wrong.append(f"docs/original-tests.txt: there is no `{place}`")
-    rows = [(name, int(number.replace(",", ""))) for name, number in told()]
-    if len(rows) != len(dict(rows)):
+    rows = told()
+    if len(rows) != len({name for name, *_ in rows}):
         wrong.append("docs/TESTS.md: a name stands there twice")
-    for name, number in sorted(set(rows) ^ set(numbers.items())):
-        wrong.append(f"docs/TESTS.md: {name} has {numbers.get(name, 'nothing')}, and not {number}" if (name, number) in rows
-                     else f"docs/TESTS.md: {name} isn't listed with {number}")
+    are = {(name, number, in_sections.get(name, 0)) for name, number in numbers.items()}
+    for name, number, count in sorted(set(rows) ^ are):
+        what = f"{number} in {count} sections" if count else f"{number}"
+        wrong.append(f"docs/TESTS.md: {name} " + ("is listed with" if (name, number, count) in rows else "has") + f" {what}")
     for problem in dict.fromkeys(wrong):
         print(problem)
     if wrong:
         sys.exit(1)
     data = sum(sum(counts.values()) for path, counts in files.items() if path.endswith(".tsv"))
     functions = sum(len(counts) for path, counts in files.items() if path.endswith(".rt"))
-    print(f"docs/TESTS.md: {data} rows and {functions} functions; {len(originals) - left_out} tests of the original, {left_out} left out")
+    print(
+        f"docs/TESTS.md: {data} rows in {sum(in_sections.values())} sections, {functions} functions; "
+        f"{len(originals) - left_out} tests of the original, {left_out} left out"
+    )
 
 
 main()

@@ -28,30 +28,10 @@ const NAMED: [(Kind, ErrorKind); 18] = [
     (Kind::Other, ErrorKind::Other),
 ];
 
-/// Those that become `Other`. An interruption is no error.
-const OTHERS: [Kind; 23] = [
+/// Some of those that become `Other`. An interruption is no error.
+const OTHERS: [Kind; 3] = [
     Kind::HostUnreachable,
-    Kind::NetworkUnreachable,
-    Kind::NetworkDown,
-    Kind::NotADirectory,
-    Kind::IsADirectory,
-    Kind::DirectoryNotEmpty,
-    Kind::ReadOnlyFilesystem,
-    Kind::FilesystemLoop,
-    Kind::StaleNetworkFileHandle,
     Kind::StorageFull,
-    Kind::NotSeekable,
-    Kind::QuotaExceeded,
-    Kind::FileTooLarge,
-    Kind::ResourceBusy,
-    Kind::ExecutableFileBusy,
-    Kind::Deadlock,
-    Kind::CrossesDevices,
-    Kind::TooManyLinks,
-    Kind::InvalidFilename,
-    Kind::ArgumentListTooLong,
-    Kind::Unsupported,
-    Kind::InProgress,
     Kind::Uncategorized,
 ];
 

@@ -1,16 +1,16 @@
 // Values that a program makes: which of them the bytes mean, and values that no bytes make.
 use super::shapes::named_fields;
 use super::support::{check, check_value, check_written, is_written, owned_text};
-use super::tagged::Tagged;
 use borsh::schema::LengthRange;
 use borsh::{BorshDeserialize, BorshSerialize, from_slice, schema_container_of, to_vec};
-use borsh_samples::{A, MyEnum, MyStruct, ShortA};
+use borsh_samples::{A, MyEnum, ShortA};
 use std::alloc::Global;
-use std::borrow::{CowSlice, CowStr};
+use std::borrow::{Cow, CowSlice, CowStr};
 use std::collections::{BTreeMap, VecDeque};
 use std::net::{IpAddr, Ipv4Addr, Ipv6Addr, SocketAddrV4, SocketAddrV6};
 use std::num::{NonZeroI16, NonZeroI64, NonZeroU8, NonZeroU32, NonZeroUsize};
 use std::rc::{Rc, RcSlice};
+use std::sync::{Arc, ArcSlice, ArcStr};
 use std::test::Fail;
 use uuid::Uuid;
 
@@ -35,38 +35,15 @@ fn non_zero_numbers_are_their_number(rt: HostRuntime) -> Result<(), Fail> {
     check(numbers == (1, 255, 257, -1, i16::MIN), "numbers", 0)
 }
 
-fn are_structs(alloc: Global) -> Result<bool, Fail> {
-    let bytes = b"\xe5\x0c\0\0\0\0\0\0\x0c\0\0\0liber primus";
-    let a: A = from_slice(alloc, bytes)?;
-    let bytes_of_lists = b"\x0a\0\0\0\0\0\0\0\x03\0\0\0\x01\x02\x03";
-    let list: MyStruct = from_slice(alloc, bytes_of_lists)?;
-    let y = owned_text(alloc, "liber primus")?;
-    let b = Vec::from_slice(alloc, &[1u8, 2, 3])?;
-    let are_read = a.x == 3301 && a.y == y && list.a == 10 && list.b == b;
-    let is_a = is_written(alloc, &A { x: 3301, y }, bytes)?;
-    Ok(are_read && is_a && is_written(alloc, &MyStruct { a: 10, b }, bytes_of_lists)?)
-}
-
-fn is_enum(alloc: Global) -> Result<bool, Fail> {
-    let bytes = b"\x02\x02\0\0\0\x08\x09";
-    let is_read = match from_slice(alloc, bytes)? {
-        MyEnum::Many(part) => part.as_slice() == [8u8, 9].as_slice(),
-        _ => false,
-    };
-    let many = MyEnum::Many(Vec::from_slice(alloc, &[8u8, 9])?);
-    let is_one = match from_slice(alloc, b"\x01\x07")? {
-        MyEnum::One(n) => n == 7,
-        _ => false,
-    };
-    Ok(is_read && is_one && is_written(alloc, &many, bytes)?)
-}
-
 // Fields of one type that hold different values: were two of them exchanged both ways, no row would show it.
 #[test]
 fn each_field_is_where_its_bytes_are(rt: HostRuntime) -> Result<(), Fail> {
     let alloc = rt.alloc();
-    check(are_structs(alloc)?, "structs", 0)?;
-    check(is_enum(alloc)?, "enum", 0)?;
+    let y = owned_text(alloc, "liber primus")?;
+    let bytes = b"\xe5\x0c\0\0\0\0\0\0\x0c\0\0\0liber primus";
+    check_written(alloc, "struct", &A { x: 3301, y }, bytes)?;
+    let many = MyEnum::Many(Vec::from_slice(alloc, &[8u8, 9])?);
+    check_written(alloc, "enum", &many, b"\x02\x02\0\0\0\x08\x09")?;
     check_value(alloc, "range", 3u8..4, b"\x03\x04")?;
     check_value(alloc, "closed range", 3u8..=4, b"\x03\x04")?;
     // An entry whose key and value differ.
@@ -89,10 +66,8 @@ fn arrays_are_their_elements(rt: HostRuntime) -> Result<(), Fail> {
     let bytes = b"\x01\0\0\x000\x01\0\0\x001\x01\0\0\x002";
     let [zero, one, two]: [String; 3] = from_slice(alloc, bytes)?;
     let are_texts = zero.as_str() == "0" && one.as_str() == "1" && two.as_str() == "2";
-    let is_array = are_texts && is_written(alloc, &[zero, one, two], bytes)?;
-    let [first, second]: [ShortA; 2] = from_slice(alloc, b"\x07\x08")?;
-    let are_structs = first.0 == 7 && second.0 == 8;
-    check(is_array && are_structs, "arrays", 0)?;
+    check(are_texts, "texts", 3)?;
+    check_written(alloc, "texts", &[zero, one, two], bytes)?;
     check_written(alloc, "array", &[ShortA(7), ShortA(8)], b"\x07\x08")
 }
 
@@ -122,19 +97,6 @@ fn addresses_and_identifiers_are_written_in_order(rt: HostRuntime) -> Result<(),
     check_written(alloc, "flow and scope", &written, bytes)
 }
 
-/// The parts of texts, and how often they are repeated.
-const TEXTS: [(&str, usize); 9] = [
-    ("", 1),
-    ("a", 1),
-    ("hello world", 1),
-    ("x", 1024),
-    ("x", 4096),
-    ("x", 65535),
-    ("hello world!", 30),
-    ("hello world!", 1000),
-    ("\u{1F4A9}", 1),
-];
-
 /// Whether a borrowed text, and a borrowed list of its bytes, are written like the text.
 fn are_borrowed_written(alloc: Global, borrowed: &str) -> Result<bool, Fail> {
     let mut bytes = Vec::from_slice(alloc, &u32::try_from(borrowed.len())?.to_le_bytes())?;
@@ -149,28 +111,24 @@ fn borrowed_values_are_written(rt: HostRuntime) -> Result<(), Fail> {
     check_written(alloc, "number", &&7u16, b"\x07\0")?;
     // A plain slice of elements without bytes isn't refused.
     check_written(alloc, "units", &[(), (), ()].as_slice(), b"\x03\0\0\0")?;
-    for &(part, times) in &TEXTS {
-        let mut repeated = String::new(alloc);
-        for _ in 0..times {
-            repeated.push_str(part)?;
-        }
-        check(are_borrowed_written(alloc, repeated.as_str())?, part, times)?;
+    for text in ["", "a", "hello world", "\u{1F4A9}"] {
+        check(are_borrowed_written(alloc, text)?, text, text.len())?;
     }
-    let tagged = Tagged {
-        tag: owned_text(alloc, "hello")?,
-        value: 42,
-    };
-    let bytes = b"\x05\0\0\0hello\x2a\0\0\0\0\0\0\0";
-    check_written(alloc, "struct", &tagged, bytes)
+    Ok(())
 }
 
 #[test]
 fn shared_values_are_what_they_hold(rt: HostRuntime) -> Result<(), Fail> {
     let alloc = rt.alloc();
-    let bytes = b"\x07\0\0\0\x01\0\0\0\x02\0\0\0\x03\0\0\0\x04\0\0\0\x06\0\0\0\x09\0\0\0\x0a\0\0\0";
-    let numbers = RcSlice::from_slice(alloc, &[1i32, 2, 3, 4, 6, 9, 10])?;
-    check_value(alloc, "numbers", numbers, bytes)?;
-    check_value(alloc, "number", Rc::new(alloc, 8u8)?, b"\x08")
+    let bytes = b"\x02\0\0\0\x01\0\0\0\x02\0\0\0";
+    let numbers = RcSlice::from_slice(alloc, &[1i32, 2])?;
+    check_value(alloc, "RcSlice", numbers, bytes)?;
+    let numbers = ArcSlice::from_slice(alloc, &[1i32, 2])?;
+    check_value(alloc, "ArcSlice", numbers, bytes)?;
+    check_value(alloc, "Rc", Rc::new(alloc, 8u8)?, b"\x08")?;
+    check_value(alloc, "Arc", Arc::new(alloc, 8u8)?, b"\x08")?;
+    let text = ArcStr::from_str(alloc, "hi")?;
+    check_value(alloc, "ArcStr", text, b"\x02\0\0\0hi")
 }
 
 #[test]
@@ -180,12 +138,15 @@ fn a_cow_is_read_as_owned(rt: HostRuntime) -> Result<(), Fail> {
     check_value(alloc, "text", CowStr::Borrowed("static input"), text)?;
     let slice = b"\x03\0\0\0\x01\x02\x03";
     check_value(alloc, "slice", CowSlice::Borrowed(&[1u8, 2, 3]), slice)?;
+    let number = b"\x07\0\0\0\0\0\0\0";
+    check_written(alloc, "number", &Cow::Borrowed(&7u64), number)?;
     let is_text = matches!(from_slice(alloc, text)?, CowStr::Owned(_));
     let is_slice = matches!(
         from_slice::<CowSlice<u8>>(alloc, slice)?,
         CowSlice::Owned(_)
     );
-    check(is_text && is_slice, "owned", 2)
+    let is_number = matches!(from_slice::<Cow<u64>>(alloc, number)?, Cow::Owned(7));
+    check(is_text && is_slice && is_number, "owned", 3)
 }
 
 /// Whether the value is encoded as these bytes. No error is in the result, so it may be a `Cow` of what borrows.
@@ -224,7 +185,7 @@ fn a_cow_of_cows_is_read_as_owned(rt: HostRuntime) -> Result<(), Fail> {
 }
 
 /// A queue whose last two numbers lie before its first two in memory.
-pub(crate) fn wrapped(alloc: Global) -> Result<VecDeque<u8>, Fail> {
+fn wrapped(alloc: Global) -> Result<VecDeque<u8>, Fail> {
     let mut ring = VecDeque::with_capacity(alloc, 4)?;
     for n in 1u8..7 {
         if n > 4 {

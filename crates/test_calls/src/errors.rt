@@ -1,9 +1,9 @@
-// Errors: their kinds, their texts, what is printed of them, and what an allocation failure becomes.
-use super::support::{check, check_text, is_kind_alone, owned_text};
-use borsh::io::{Error, ErrorKind, Result as IoResult, Text};
+// Errors: their kinds, their texts, and what is printed of them.
+use super::support::{check, check_text, owned_text};
+use borsh::io::{Error, ErrorKind};
 use borsh::schema::{SchemaBuildError, SchemaContainerValidateError, SchemaMaxSerializedSizeError};
 use borsh::schema_container_of;
-use std::alloc::{AllocError, Global};
+use std::alloc::Global;
 use std::fmt::Display;
 use std::test::Fail;
 
@@ -46,40 +46,6 @@ fn a_kind_has_a_text_and_a_place(rt: HostRuntime) -> Result<(), Fail> {
         before = Some(kind);
     }
     Ok(())
-}
-
-#[test]
-fn an_error_shows_its_own_text(rt: HostRuntime) -> Result<(), Fail> {
-    let alloc = rt.alloc();
-    let error = Error::new(ErrorKind::InvalidData, "fixed");
-    check_text(error.to_string(alloc)?.as_str(), "fixed")?;
-    let is_kept = matches!(error.into_inner(), Some(Text::Fixed("fixed")));
-    check(is_kept, "fixed", 0)?;
-    let error = Error::other(owned_text(alloc, "owned")?);
-    check(error.kind() == ErrorKind::Other, "other", 0)?;
-    match error.into_inner() {
-        Some(Text::Owned(text)) => check_text(text.as_str(), "owned"),
-        _ => check(false, "owned", 0),
-    }
-}
-
-/// The error of an allocation that is too large.
-fn refusal(alloc: Global) -> Result<AllocError, Fail> {
-    let refused: Result<Vec<u64>, AllocError> = Vec::with_capacity(alloc, usize::MAX);
-    Ok(refused.err().ok_or("granted")?)
-}
-
-#[test]
-fn an_allocation_failure_has_a_kind_and_no_text(rt: HostRuntime) -> Result<(), Fail> {
-    let alloc = rt.alloc();
-    let failed: IoResult<()> = Err(Error::from(refusal(alloc)?));
-    check(is_kind_alone(&failed, ErrorKind::OutOfMemory), "io", 0)?;
-    let build = SchemaBuildError::from(refusal(alloc)?);
-    check(build == SchemaBuildError::OutOfMemory, "build", 0)?;
-    let rule = SchemaContainerValidateError::from(refusal(alloc)?);
-    check(rule == SchemaContainerValidateError::OutOfMemory, "rule", 0)?;
-    let size = SchemaMaxSerializedSizeError::from(refusal(alloc)?);
-    check(size == SchemaMaxSerializedSizeError::OutOfMemory, "size", 0)
 }
 
 fn check_shown<T: Display>(alloc: Global, error: &T, shown: &str) -> Result<(), Fail> {

@@ -1,21 +1,14 @@
 // Values of the types of `example_generated` that no bytes make: fields that aren't encoded, and which field is which in the
-// bytes, of structs, an enum and a key that are put together here.
+// bytes, of structs and an enum that are put together here.
 use super::support::{check, check_written, owned_text as text};
 use borsh::from_slice;
-use borsh_samples::A;
-use bytes::{Bytes, BytesMut};
 use example_generated::enums::Message;
-use example_generated::keys::{Place, Visits};
-use example_generated::library::Others;
+use example_generated::keys::Place;
 use example_generated::readme::{Pair, Request};
 use example_generated::records::{Code, Panel, Session};
 use example_generated::wrappers::Note;
-use indexmap::{IndexMap, IndexSet};
 use std::alloc::Global;
-use std::collections::{BTreeMap, BTreeSet};
-use std::net::{Ipv4Addr, Ipv6Addr, SocketAddr, SocketAddrV4, SocketAddrV6};
 use std::test::Fail;
-use uuid::Uuid;
 
 /// Whether the fields of a decoded variant that aren't encoded have their default.
 fn are_defaults(message: &Message) -> bool {
@@ -68,7 +61,8 @@ fn fields_are_in_order(rt: HostRuntime) -> Result<(), Fail> {
     check_written(alloc, "codes", &codes, b"\0\x01\x02")?;
     let (first, second) = (5u8, 6u8);
     check_written(alloc, "pair", &Pair { first, second }, b"\x05\x06")?;
-    let place = &place(alloc, 1, "b")?;
+    let street = text(alloc, "b")?;
+    let place = &Place { zone: 1, street };
     let note = Note { text: "hi", place };
     check_written(alloc, "note", &note, b"\x02\0\0\0hi\x01\x01\0\0\0b")
 }
@@ -87,60 +81,4 @@ fn variants_are_a_tag_and_their_fields_in_order(rt: HostRuntime) -> Result<(), F
         price: 2,
     };
     check_written(alloc, "buy", &buy, b"\x01\x01\0\0\0n\x01\0\0\0\x02\0\0\0")
-}
-
-fn place(alloc: Global, zone: u8, street: &str) -> Result<Place, Fail> {
-    let street = text(alloc, street)?;
-    Ok(Place { zone, street })
-}
-
-#[test]
-fn keys_are_in_the_order_of_their_fields(rt: HostRuntime) -> Result<(), Fail> {
-    let alloc = rt.alloc();
-    let mut counts = BTreeMap::new(alloc);
-    counts.insert(place(alloc, 2, "a")?, 5u32)?;
-    counts.insert(place(alloc, 1, "b")?, 6)?;
-    let mut closed = BTreeSet::new(alloc);
-    closed.insert(place(alloc, 1, "b")?)?;
-    let y = text(alloc, "n")?;
-    let book = A { x: 3301, y };
-    let visits = Visits {
-        counts,
-        closed,
-        book,
-    };
-    let bytes =
-        b"\x02\0\0\0\x01\x01\0\0\0b\x06\0\0\0\x02\x01\0\0\0a\x05\0\0\0\x01\0\0\0\x01\x01\0\0\0b\
-          \xe5\x0c\0\0\0\0\0\0\x01\0\0\0n";
-    check_written(alloc, "visits", &visits, bytes)
-}
-
-fn others(alloc: Global) -> Result<Others, Fail> {
-    let mut ages = IndexMap::new(alloc);
-    ages.insert(text(alloc, "b")?, 1u8)?;
-    ages.insert(text(alloc, "a")?, 2)?;
-    let mut seen = IndexSet::new(alloc);
-    seen.insert(4u16)?;
-    seen.insert(3)?;
-    let home = Ipv4Addr::new(192, 168, 0, 1);
-    Ok(Others {
-        ages,
-        seen,
-        raw: Bytes::copy_from_slice(alloc, b"r")?,
-        more: BytesMut::copy_from_slice(alloc, b"bu")?,
-        id: Uuid::from_bytes([7; 16]),
-        old: SocketAddrV4::new(home, 80),
-        new: SocketAddrV6::new(Ipv6Addr::new(0x2001, 0xdb8, 0, 0, 0, 0, 0, 1), 258, 7, 9),
-        any: SocketAddr::V4(SocketAddrV4::new(home, 1)),
-    })
-}
-
-/// Maps of `indexmap` keep the order of insertion, and flow and scope aren't written.
-#[test]
-fn types_of_other_libraries_are_what_they_hold(rt: HostRuntime) -> Result<(), Fail> {
-    let bytes =
-        b"\x02\0\0\0\x01\0\0\0b\x01\x01\0\0\0a\x02\x02\0\0\0\x04\0\x03\0\x01\0\0\0r\x02\0\0\0bu\
-          \x07\x07\x07\x07\x07\x07\x07\x07\x07\x07\x07\x07\x07\x07\x07\x07\xc0\xa8\0\x01\x50\0\
-          \x20\x01\x0d\xb8\0\0\0\0\0\0\0\0\0\0\0\x01\x02\x01\0\xc0\xa8\0\x01\x01\0";
-    check_written(rt.alloc(), "others", &others(rt.alloc())?, bytes)
 }

@@ -1,9 +1,9 @@
-// Maps whose keys are of every kind that the library has, and of a user's own: the laws of all of them are found. Nothing is
-// run.
-ghost use Rattle.borsh.specs.Laws.OfParts.{contramap, contramap-lawful, contramap_ordered, from, key_facts};
+// Maps whose keys are of every kind that the library has, and generated: the laws of all of them are found. Nothing is run.
+ghost use Rattle.borsh.specs.Laws.OfParts.{contramap, contramap-lawful, from, key_facts};
 
-use borsh::{BorshKey, BorshType};
+use borsh::BorshType;
 use bytes::{Bytes, BytesMut};
+use example_generated::keys::Place;
 use indexmap::{IndexMap, IndexSet};
 use std::borrow::{CowSlice, CowStr};
 use std::boxed::{BoxedSlice, BoxedStr};
@@ -17,36 +17,6 @@ use std::num::{
 use std::ops::{Range, RangeFrom, RangeFull, RangeTo, RangeToInclusive};
 use std::rc::{Rc, RcSlice, RcStr};
 use uuid::Uuid;
-
-/// A key of a user's own: three fields, compared in order.
-#[derive(Drop, PartialEq, Eq, PartialOrd, Ord, Hash)]
-pub struct Place {
-    pub street: String,
-    pub number: u32,
-    pub floor: u8,
-}
-
-impl BorshType for Place {
-    ghost codec = { contramap (λ p. (p.street, p.number, p.floor)) ⟦<(String, u32, u8) as BorshType>⟧.codec };
-
-    ghost lawful_if = { from (contramap-lawful (λ p. (p.street, p.number, p.floor))) ⟦<(String, u32, u8) as BorshType>⟧.lawful_if };
-
-    ghost premises = { Prim.search key_facts };
-
-    fn encodes_empty() -> bool {
-        false
-    }
-
-    fn element_size() -> usize {
-        size_of::<Place>()
-    }
-}
-
-impl BorshKey for Place {
-    ghost ordered = { contramap_ordered (λ p. (p.street, (p.number, p.floor))) ⟦<(String, (u32, u8)) as BorshKey>⟧.ordered };
-
-    ghost key = { Self.ordered.key };
-}
 
 // Sets whose keys are tuples, so that each part has to be a key: parts of every kind, and tuples of every length.
 type Unsigned = BTreeSet<(u8, u16, u32, u64, u128, usize)>;
@@ -89,13 +59,13 @@ type Twelve = BTreeSet<(u8, u8, u8, u8, u8, u8, u8, u8, u8, u8, u8, u8)>;
 
 type Hashed = (
     HashSet<(u8, String, bool)>,
-    HashMap<Place, HashSet<Option<u8>>>,
+    HashMap<(u8, String), HashSet<Option<u8>>>,
 );
 
 // Keys of index maps need no order.
 type Ranges = (RangeFrom<u8>, RangeTo<u8>, RangeToInclusive<u8>, RangeFull);
 
-type Inserted = (IndexSet<Ranges>, IndexSet<Vec<Place>>);
+type Inserted = (IndexSet<Ranges>, IndexSet<Vec<String>>);
 
 type Nested = IndexMap<Range<u8>, IndexMap<u8, u8>>;
 

@@ -27,10 +27,6 @@ mod keys;
 #[cfg(test)]
 mod members;
 #[cfg(test)]
-mod pointers;
-#[cfg(test)]
-mod readers;
-#[cfg(test)]
 mod runs;
 #[cfg(test)]
 mod schemas_refused;
@@ -39,14 +35,10 @@ mod sent;
 #[cfg(test)]
 mod shapes;
 #[cfg(test)]
+mod slices;
+#[cfg(test)]
 mod support;
 #[cfg(test)]
 mod sweeps;
 #[cfg(test)]
-mod tagged;
-#[cfg(test)]
 mod unwritten;
-#[cfg(test)]
-mod values_refused;
-#[cfg(test)]
-mod without_memory;

@@ -7,6 +7,8 @@ ghost use Rattle.test_calls.specs.Members.{HasOneMember, HasNoMember};
 
 use borsh::schema::{BorshSchema, BorshSchemaContainer};
 use example_generated::enums::Message;
+use example_generated::library::Library;
+use example_generated::readme::Stock;
 
 /// A list of itself that is always empty has one member: the count, in four bytes.
 fn a_list_of_itself_without_elements()
@@ -28,10 +30,14 @@ fn a_name_without_a_definition()
     ensures { (C : List ℕ → Option Shape) (x : List ℕ) → C x ≡ None → HasNoMember C x }
 {}
 
-/// A generated enum, and the schema of schemas: lists, a map, a range, tuples, structs and enums.
+/// A generated enum, and structs of the library's types; the schema of schemas: lists, a map, a range, tuples, structs and enums.
 fn definitions_are_well_formed()
     ensures message { are_well_formed ⟦<Message as BorshSchema>⟧.name
         ⟦<Message as BorshSchema>⟧.parts ≡ true }
+    ensures library { are_well_formed ⟦<Library as BorshSchema>⟧.name
+        ⟦<Library as BorshSchema>⟧.parts ≡ true }
+    ensures stock { are_well_formed ⟦<Stock as BorshSchema>⟧.name
+        ⟦<Stock as BorshSchema>⟧.parts ≡ true }
     ensures schemas { are_well_formed ⟦<BorshSchemaContainer as BorshSchema>⟧.name
         ⟦<BorshSchemaContainer as BorshSchema>⟧.parts ≡ true }
 {}

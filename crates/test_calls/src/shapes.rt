@@ -20,7 +20,7 @@ pub(crate) fn named_fields(alloc: Global) -> Result<Fields, Fail> {
     Ok(Fields::NamedFields(fields))
 }
 
-pub(crate) fn unnamed_fields(alloc: Global) -> Result<Fields, Fail> {
+fn unnamed_fields(alloc: Global) -> Result<Fields, Fail> {
     Ok(Fields::UnnamedFields(names(alloc)?))
 }
 
