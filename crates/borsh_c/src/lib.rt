@@ -225,8 +225,8 @@ pub extern "C" fn borsh_c_records(
     needed: &mut usize,
 ) -> u32
     ensures answer { let offset = offset_of place.new in
-        let lengths = lengths.new in
-        Gives (AnswersRecords schema.now bytes.now lengths count.new offset result)
+        let found = lengths.new in
+        Gives (AnswersRecords schema.now bytes.now found count.new offset result)
         room.new needed.new }
     ensures none { result ≢ 0 → count.new ≡ 0 }
     ensures within { place.new.path_start + place.new.path_length ≤ needed.new }
