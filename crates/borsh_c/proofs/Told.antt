@@ -18,6 +18,7 @@ use Rattle.borsh_json.specs.declared.error.JsonError.TheVariants.{OutOfMemory as
 use Rattle.borsh_json.specs.Errors.{IsNoJsonReason, IsTextReason}
 use Rattle.borsh_c.specs.declared.refusal.Refusal.{Refusal}
 use Rattle.borsh_c.specs.declared.refusal.Refusal.TheVariants.{No, Malformed, OutOfMemory, Undecided}
+use Rattle.borsh_c.specs.declared.refusal.Said.{Said}
 use Rattle.borsh_c.specs.Answers.{Answers, Definitions, Saying, About, Gives, HasNoJson, HasNoSize, IsInvalid, IsNoText, IsRefused, IsUnclear, IsUnsized, Never, Tells, code_of, told_offset, told_text, unclear_text, wherever}
 use Rattle.borsh_c.specs.Answers.Answers.{yes, no, malformed, out_of_memory, undecided}
 use Rattle.borsh_c.specs.Answers.IsUnsized.{overflows, recurs, misses}
@@ -33,13 +34,13 @@ module _ {schema : List ℕ} (c : String Global × Definitions) (encoded : root_
   pub about_told : (P : Saying) → P c.1 root → About schema P
   about_told P p = (c, encoded, subst (λ (r : List ℕ). P c.1 r) named p)
 
-  pub broken_told : {text : List ℕ} (e : SchemaContainerValidateError) → RulesFault C root e → TellsBroken e text → About schema (IsInvalid text)
-  broken_told {text} (ZSTSequence m) f t = about_told (IsInvalid text) (string_bytes m, zst_sequence, f.0, f.1, t)
-  broken_told {text} (TagTooWide m) f t = about_told (IsInvalid text) (string_bytes m, tag_too_wide, f.0, f.1, t)
-  broken_told {text} (TagTooNarrow m) f t = about_told (IsInvalid text) (string_bytes m, tag_too_narrow, f.0, f.1, t)
-  broken_told {text} (TagNotPowerOfTwo m) f t = about_told (IsInvalid text) (string_bytes m, tag_not_power_of_two, f.0, f.1, t)
-  broken_told {text} (MissingDefinition m) f t = about_told (IsInvalid text) (string_bytes m, missing_definition, f.0, f.1, t)
-  broken_told {text} (EmptyLengthRange m) f t = about_told (IsInvalid text) (string_bytes m, empty_length_range, f.0, f.1, t)
+  pub broken_told : {text : List ℕ} (e : SchemaContainerValidateError) → RulesFault C root e → TellsBroken e text → IsInvalid text c.1 root
+  broken_told (ZSTSequence m) f t = (string_bytes m, zst_sequence, f.0, f.1, t)
+  broken_told (TagTooWide m) f t = (string_bytes m, tag_too_wide, f.0, f.1, t)
+  broken_told (TagTooNarrow m) f t = (string_bytes m, tag_too_narrow, f.0, f.1, t)
+  broken_told (TagNotPowerOfTwo m) f t = (string_bytes m, tag_not_power_of_two, f.0, f.1, t)
+  broken_told (MissingDefinition m) f t = (string_bytes m, missing_definition, f.0, f.1, t)
+  broken_told (EmptyLengthRange m) f t = (string_bytes m, empty_length_range, f.0, f.1, t)
   broken_told NoRules f t = absurd t
 
   unsized : {text : List ℕ} (e : SchemaMaxSerializedSizeError) → SizeFault C root e → TellsNoSize e text → IsUnsized C root text
@@ -49,8 +50,8 @@ module _ {schema : List ℕ} (c : String Global × Definitions) (encoded : root_
   unsized NoMemory f t = absurd t
   unsized (Redefinition m) f t = absurd t
 
-  pub size_told : {text : List ℕ} (e : SchemaMaxSerializedSizeError) → ((n : ℕ) → MaxSize C root n → n < 2 ^ 64 → e ≡ NoMemory) → SizeFault C root e → TellsNoSize e text → About schema (HasNoSize text)
-  size_told {text} e answered f t = about_told (HasNoSize text) (λ n m l. subst (λ (e : SchemaMaxSerializedSizeError). TellsNoSize e text) (answered n m l) t, unsized e f t)
+  pub size_told : {text : List ℕ} (e : SchemaMaxSerializedSizeError) → ((n : ℕ) → MaxSize C root n → n < 2 ^ 64 → e ≡ NoMemory) → SizeFault C root e → TellsNoSize e text → HasNoSize text c.1 root
+  size_told {text} e answered f t = (λ n m l. subst (λ (e : SchemaMaxSerializedSizeError). TellsNoSize e text) (answered n m l) t, unsized e f t)
 
   pub no_told : (N : Option ℕ → List ℕ → Saying) (U : List ℕ → Saying) {offset : Option ℕ} {text : List ℕ} → N offset text c.1 root → (r : Refusal) → Tells offset text r → IsRefused schema N U r
   no_told N U {text = text} n (No t) told =
@@ -58,6 +59,10 @@ module _ {schema : List ℕ} (c : String Global × Definitions) (encoded : root_
   no_told N U n (Malformed t) told = absurd told
   no_told N U n OutOfMemory told = absurd told
   no_told N U n (Undecided t) told = absurd told
+
+  -- what is said of a fault
+  pub fault_told : (N : Option ℕ → List ℕ → Saying) (U : List ℕ → Saying) {offset : Option ℕ} (said : Said) → said.offset ≡ offset → N offset (string_bytes said.text) c.1 root → IsRefused schema N U (No said)
+  fault_told N U said same n = about_told (N said.offset (string_bytes said.text)) (subst (λ (o : Option ℕ). N o (string_bytes said.text) c.1 root) (sym same) n)
 
   pub unclear_told : {text x : List ℕ} → IsUndecided C root x → text ≡ unclear_text x → About schema (IsUnclear text)
   unclear_told {text} {x} u t = about_told (IsUnclear text) (λ v d. none_ambiguous C x v d u, (x, u, t))
