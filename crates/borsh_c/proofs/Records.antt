@@ -1,9 +1,9 @@
 -- Values one after another, with one more.
-use Rattle.std.proofs.Common.{◌≡◌, ◌<◌, ◌≤◌, ◌+◌, ℕ, Some, String, string_bytes, List, [], ◌∷◌, ◌++◌, take, drop, set, get_or, length, Option, refl, ap, sym, subst, ◌∙◌, arith, append_assoc, suc, zero, length-take}
+use Rattle.std.proofs.Common.{◌≡◌, ◌<◌, ◌≤◌, ◌+◌, ℕ, Some, String, string_bytes, List, [], ◌∷◌, ◌++◌, take, drop, set, get_or, length, Option, refl, ap, sym, subst, ◌∙◌, arith, append_assoc, suc, zero}
 use Rattle.std.specs.Borrow.{Bor}
 use Rattle.std.specs.Global.{Global}
 use Rattle.std.proofs.lemmas.List.{append-nil, take_more, take_more_set}
-use Rattle.borsh_walks.specs.Container.{Shape, Member}
+use Rattle.borsh_walks.specs.Container.{Shape}
 use Rattle.borsh_walks.specs.Definitions.{definitions_in}
 use Rattle.borsh_definitions.specs.Codecs.{root_and_map}
 use Rattle.borsh_values.specs.Faults.{BeginsWith}
@@ -79,10 +79,10 @@ by_layout P layout {root} {map} same p = subst (λ (m : Bor Definitions). P m.no
 
 -- why the values were gone through no further than to the beginning
 pub stopped : (layout : Layout) {root : Bor (List ℕ)} {map : Bor Definitions} → (layout.root ≡ root) × (layout.map ≡ map) → (lengths bytes : List ℕ) (count : ℕ) {stop here : Stop} → count ≤ 0 → stop ≡ here → IsStop (definitions_in layout.map.now) layout.root.now (length lengths) count (behind (take count lengths) bytes) stop → IsStop (definitions_in map.now) root.now (length lengths) 0 bytes here
-stopped layout {root} {map} same lengths bytes count {stop} {here} none is told =
+stopped layout {root} {map} same lengths bytes count {stop} {here} small is told =
     let all = length lengths in
     let found = by_layout (λ m r. IsStop (definitions_in m) r all count (behind (take count lengths) bytes) stop) layout same told in
-    at_first (definitions_in map.now) root.now lengths bytes all count here none (subst (IsStop (definitions_in map.now) root.now all count (behind (take count lengths) bytes)) is found)
+    at_first (definitions_in map.now) root.now lengths bytes all count here small (subst (IsStop (definitions_in map.now) root.now all count (behind (take count lengths) bytes)) is found)
 
 module _ {schema : List ℕ} (c : String Global × Definitions) (encoded : root_and_map.encoding c ≡ Some schema) (root : List ℕ) (named : root ≡ string_bytes c.0) where
   -- why the first value has no line

@@ -1,10 +1,9 @@
 -- A refusal says what is right.
-use Rattle.std.proofs.Common.{◌≡◌, ◌^◌, ◌<◌, ℕ, List, [], Option, None, Some, IsSome, String, string_bytes, codes, refl, subst, sym}
+use Rattle.std.proofs.Common.{◌≡◌, ◌^◌, ◌<◌, ℕ, List, Option, Some, String, string_bytes, codes, refl, subst, sym}
 use Rattle.std.specs.Global.{Global}
 use Rattle.borsh_definitions.specs.Codecs.{root_and_map}
-use Rattle.borsh_walks.specs.Container.{Shape, IsValid, MaxSize, Member, zst_sequence, tag_too_wide, tag_too_narrow, tag_not_power_of_two, missing_definition, empty_length_range}
+use Rattle.borsh_walks.specs.Container.{Shape, MaxSize, zst_sequence, tag_too_wide, tag_too_narrow, tag_not_power_of_two, missing_definition, empty_length_range}
 use Rattle.borsh_walks.specs.Definitions.{definitions_in}
-use Rattle.borsh_walks.specs.Errors.{broken_rule}
 use Rattle.borsh_walks.specs.RulesAnswer.{RulesFault}
 use Rattle.borsh_walks.specs.SizeAnswer.{SizeFault}
 use Rattle.borsh_walks.specs.declared.error.SchemaContainerValidateError.{SchemaContainerValidateError}
@@ -19,7 +18,7 @@ use Rattle.borsh_json.specs.Errors.{IsNoJsonReason, IsTextReason}
 use Rattle.borsh_c.specs.declared.refusal.Refusal.{Refusal}
 use Rattle.borsh_c.specs.declared.refusal.Refusal.TheVariants.{No, Malformed, OutOfMemory, Undecided}
 use Rattle.borsh_c.specs.declared.refusal.Said.{Said}
-use Rattle.borsh_c.specs.Answers.{Answers, Definitions, Saying, About, Gives, HasNoJson, HasNoSize, IsInvalid, IsNoText, IsRefused, IsUnclear, IsUnsized, Never, Tells, code_of, told_offset, told_text, unclear_text, wherever}
+use Rattle.borsh_c.specs.Answers.{Answers, Definitions, Saying, About, Gives, HasNoJson, HasNoSize, IsInvalid, IsNoText, IsRefused, IsUnclear, IsUnsized, Tells, code_of, told_offset, told_text, unclear_text}
 use Rattle.borsh_c.specs.Answers.Answers.{yes, no, malformed, out_of_memory, undecided}
 use Rattle.borsh_c.specs.Answers.IsUnsized.{overflows, recurs, misses}
 use Rattle.borsh_c.specs.Room.{IsGiven}

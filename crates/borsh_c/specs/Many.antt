@@ -1,5 +1,5 @@
 -- What the calls answer about many values of one container.
-use Rattle.std.specs.Prelude.{◌≡◌, ◌≤◌, ◌<◌, ⊤, ℕ, List, [], ◌∷◌, ◌++◌, length, take, drop, slice_index, Option, None, Some, codes, string_bytes}
+use Rattle.std.specs.Prelude.{◌≡◌, ◌≤◌, ◌<◌, ⊤, ℕ, List, [], ◌∷◌, ◌++◌, length, take, drop, slice_index, Option, None, Some, codes}
 use Rattle.borsh_walks.specs.Container.{Shape, IsValid, Member}
 use Rattle.borsh_walks.specs.Definitions.{definitions_in}
 use Rattle.borsh_values.specs.Faults.{BeginsWith}

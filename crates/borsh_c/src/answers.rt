@@ -1,5 +1,5 @@
 // What is asked of a container, and of bytes by it.
-ghost use Rattle.std.specs.Prelude.{◌≡◌, IfErr, IfOk, None, OnOk, Some, codes, string_bytes};
+ghost use Rattle.std.specs.Prelude.{[], ◌≡◌, IfErr, IfOk, None, OnOk, Some, string_bytes};
 ghost use Rattle.borsh_c.specs.Answers.{About, Alone, AreBytesOf, HasNoJson, HasNoSize, IsInvalid, IsJsonOf, IsNoMember, IsNoText, IsRefused, IsUnclear, Never, Tells, unclear_text, wherever};
 ghost use Rattle.borsh_c.specs.Texts.{TellsBroken, TellsNoSize, TellsNoValue, TellsUnread};
 ghost use Rattle.borsh_definitions.specs.Codecs.{root_and_map};

@@ -7,6 +7,6 @@ pub returns-in-Ok-clause-ok : goal.returns-in-Ok-clause-ok
 returns-in-Ok-clause-ok c =
     about_told (c.in_ok-root.root, c.in_ok-root.definitions) c.in_ok-root.ensures.ok c.as_str.result.now c.as_str.ensures.value (IsJsonOf c.args.value.now (string_bytes c.in-Ok.json)) (c.in-Ok.ensures.member, c.in-Ok.ensures.json)
 
-pub returns-in_ok-no_value-in-Err-clause-err : goal.returns-in_ok-no_value-in-Err-clause-err
-returns-in_ok-no_value-in-Err-clause-err c =
-    bytes_refused (c.in_ok-root.root, c.in_ok-root.definitions) c.in_ok-root.ensures.ok c.as_str.result.now c.as_str.ensures.value c.args.value.now c.in-Err.error c.in-Err.ensures.reason c.in_ok-no_value-in-Err.refusal c.in_ok-no_value-in-Err.ensures
+pub returns-clause-err : goal.returns-clause-err
+returns-clause-err c =
+    bytes_refused (c.in_ok-root.root, c.in_ok-root.definitions) c.in_ok-root.ensures.ok c.as_str.result.now c.as_str.ensures.value c.args.value.now c.in-Err.error c.in-Err.ensures.reason c.in_ok-no_value-in-Err.field-0 c.in_ok-no_value-in-Err.ensures

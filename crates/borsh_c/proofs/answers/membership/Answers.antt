@@ -11,13 +11,13 @@ returns-in-Member-clause-ok c =
     let m = subst (IsAnswer (definitions_in c.in_ok-root.definitions) c.as_str.result.now c.args.value.now) c.in-Member.is c.in_ok-is_member.ensures.answer in
     about_told (c.in_ok-root.root, c.in_ok-root.definitions) c.in_ok-root.ensures.ok c.as_str.result.now c.as_str.ensures.value (Alone (λ C root. Member C root c.args.value.now) []) (m, refl)
 
-pub returns-in_ok-said_of-in-NoMember-clause-err : goal.returns-in_ok-said_of-in-NoMember-clause-err
-returns-in_ok-said_of-in-NoMember-clause-err c =
+pub returns-in-NoMember-clause-err : goal.returns-in-NoMember-clause-err
+returns-in-NoMember-clause-err c =
     let m = subst (IsAnswer (definitions_in c.in_ok-root.definitions) c.as_str.result.now c.args.value.now) c.in-NoMember.is c.in_ok-is_member.ensures.answer in
     fault_told (c.in_ok-root.root, c.in_ok-root.definitions) c.in_ok-root.ensures.ok c.as_str.result.now c.as_str.ensures.value (IsNoMember c.args.value.now) IsUnclear
-    c.in_ok-said_of-in-NoMember.said c.in_ok-said_of-in-NoMember.ensures (m.0, (c.in-NoMember.fault, m.1, refl))
+    c.in_ok-said_of-in-NoMember.field-0 c.in_ok-said_of-in-NoMember.ensures (m.0, (c.in-NoMember.fault, m.1, refl))
 
-pub returns-in_ok-unclear-in-Ambiguous-clause-err : goal.returns-in_ok-unclear-in-Ambiguous-clause-err
-returns-in_ok-unclear-in-Ambiguous-clause-err c =
+pub returns-clause-err : goal.returns-clause-err
+returns-clause-err c =
     let m = subst (IsAnswer (definitions_in c.in_ok-root.definitions) c.as_str.result.now c.args.value.now) c.in-Ambiguous.is c.in_ok-is_member.ensures.answer in
     unclear_told (c.in_ok-root.root, c.in_ok-root.definitions) c.in_ok-root.ensures.ok c.as_str.result.now c.as_str.ensures.value m c.in_ok-unclear-in-Ambiguous.ensures

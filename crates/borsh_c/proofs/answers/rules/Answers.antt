@@ -7,8 +7,7 @@ use Rattle.borsh_c.proofs.answers.rules.Goals as goal
 pub returns-in-Ok-clause-ok : goal.returns-in-Ok-clause-ok
 returns-in-Ok-clause-ok c = about_told (c.in_ok-root.root, c.in_ok-root.definitions) c.in_ok-root.ensures.ok c.as_str.result.now c.as_str.ensures.value (Alone IsValid []) (c.in-Ok.ensures.answer, refl)
 
-pub returns-in_ok-broken-in-Err-clause-err : goal.returns-in_ok-broken-in-Err-clause-err
-returns-in_ok-broken-in-Err-clause-err c =
-    let k = (c.in_ok-root.root, c.in_ok-root.definitions) in
-    no_told k c.in_ok-root.ensures.ok c.as_str.result.now c.as_str.ensures.value (wherever IsInvalid) Never
-    (broken_told k c.in_ok-root.ensures.ok c.as_str.result.now c.as_str.ensures.value c.in-Err.error c.in-Err.ensures.answer c.in_ok-broken-in-Err.ensures) c.no.result c.no.ensures
+pub returns-clause-err : goal.returns-clause-err
+returns-clause-err c =
+    no_told (c.in_ok-root.root, c.in_ok-root.definitions) c.in_ok-root.ensures.ok c.as_str.result.now c.as_str.ensures.value (wherever IsInvalid) Never
+    (broken_told (c.in_ok-root.root, c.in_ok-root.definitions) c.in_ok-root.ensures.ok c.as_str.result.now c.as_str.ensures.value c.in-Err.error c.in-Err.ensures.answer c.in_ok-broken-in-Err.ensures) c.no.result c.no.ensures

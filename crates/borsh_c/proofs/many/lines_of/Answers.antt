@@ -1,4 +1,4 @@
-use Rattle.std.proofs.Common.{Some, arith, length, subst, take}
+use Rattle.std.proofs.Common.{Some, arith, subst, take}
 use Rattle.borsh_c.specs.Answers.{Saying}
 use Rattle.borsh_c.specs.Many.{AreLines, HaveLines, IsNoLine}
 use Rattle.borsh_c.proofs.Records.{by_layout, line_refused}
@@ -27,4 +27,4 @@ returns-clause-err c =
     let w = c.in_ok-written.written in
     let stop = subst (IsNoLine c.in_ok-layout.layout.map.now c.in_ok-layout.layout.root.now c.args.lengths.now c.args.values.now w.count) c.in-Some.is c.in_ok-written.ensures.stop in
     let reason = by_layout (λ m root. IsNoLine m root c.args.lengths.now c.args.values.now w.count (Some c.in-Some.error)) c.in_ok-layout.layout c.in_ok-layout.ensures.same stop in
-    line_refused (c.in_ok-root.root, c.in_ok-root.definitions) c.in_ok-root.ensures.ok c.as_str.result.now c.as_str.ensures.value c.args.values.now c.args.lengths.now w.count c.in-Some.error c.if-count-gt0.false reason c.no_value.result (rw c.in-Some.is at c.no_value.ensures)
+    line_refused (c.in_ok-root.root, c.in_ok-root.definitions) c.in_ok-root.ensures.ok c.as_str.result.now c.as_str.ensures.value c.args.values.now c.args.lengths.now w.count c.in-Some.error c.if-count-gt0.false reason c.in_ok-no_value-in-Some.field-0 (rw c.in-Some.is at c.in_ok-no_value-in-Some.ensures)

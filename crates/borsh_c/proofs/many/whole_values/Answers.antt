@@ -1,10 +1,10 @@
-use Rattle.std.proofs.Common.{◌≡◌, ℕ, Option, Some, arith, length, refl, string_bytes, subst, sym, take}
+use Rattle.std.proofs.Common.{ℕ, Option, arith, length, refl, subst, sym, take}
 use Rattle.borsh_walks.specs.Definitions.{definitions_in}
 use Rattle.borsh_c.specs.Answers.{IsUnclear, Saying}
 use Rattle.borsh_c.specs.Many.{AreLengths, BeginWith, IsCut, IsNoRecord, IsStop, behind}
 use Rattle.borsh_c.specs.Many.NoMore.{done}
 use Rattle.borsh_c.proofs.Records.{by_layout, no_more, stopped}
-use Rattle.borsh_c.proofs.Told.{about_told, no_told, unclear_told}
+use Rattle.borsh_c.proofs.Told.{about_told, fault_told, no_told, unclear_told}
 use Rattle.borsh_c.proofs.many.whole_values.Goals as goal
 
 pub returns-then-measured-gt0-clause-ok : goal.returns-then-measured-gt0-clause-ok
@@ -30,7 +30,7 @@ returns-in-End-clause-ok c =
 pub returns-in-EmptyValue-clause-err : goal.returns-in-EmptyValue-clause-err
 returns-in-EmptyValue-clause-err c =
     let stop = stopped c.in_ok-layout.layout c.in_ok-layout.ensures.same c.measure.new.lengths c.args.bytes.now c.in_ok-measured.measured.count c.if-measured-gt0.false c.in-EmptyValue.is c.in_ok-measured.ensures.stop in
-    no_told (c.in_ok-root.root, c.in_ok-root.definitions) c.in_ok-root.ensures.ok c.as_str.result.now c.as_str.ensures.value (IsNoRecord c.args.bytes.now) IsUnclear (stop, ?) c.no.result c.no.ensures
+    no_told (c.in_ok-root.root, c.in_ok-root.definitions) c.in_ok-root.ensures.ok c.as_str.result.now c.as_str.ensures.value (IsNoRecord c.args.bytes.now) IsUnclear (stop, c.in_ok-from_str-in-EmptyValue.ensures.ok) c.no.result c.no.ensures
 
 pub returns-in-Short-clause-ok : goal.returns-in-Short-clause-ok
 returns-in-Short-clause-ok c =
@@ -40,3 +40,14 @@ returns-in-Short-clause-ok c =
     let m = c.in_ok-root.definitions in
     about_told (c.in_ok-root.root, m) c.in_ok-root.ensures.ok c.as_str.result.now c.as_str.ensures.value (IsCut c.args.bytes.now said.offset)
     (subst (λ (o : Option ℕ). IsCut c.args.bytes.now o m c.as_str.result.now) (sym offset) (c.in-Short.fault, refl, stop))
+
+pub returns-in-NoMember-clause-err : goal.returns-in-NoMember-clause-err
+returns-in-NoMember-clause-err c =
+    let stop = stopped c.in_ok-layout.layout c.in_ok-layout.ensures.same c.measure.new.lengths c.args.bytes.now c.in_ok-measured.measured.count c.if-measured-gt0.false c.in-NoMember.is c.in_ok-measured.ensures.stop in
+    fault_told (c.in_ok-root.root, c.in_ok-root.definitions) c.in_ok-root.ensures.ok c.as_str.result.now c.as_str.ensures.value (IsNoRecord c.args.bytes.now) IsUnclear
+    c.in_ok-said_of-in-NoMember.field-0 (rw c.in-NoMember.is at c.in_ok-said_of-in-NoMember.ensures) (c.in-NoMember.fault, refl, stop)
+
+pub returns-clause-err : goal.returns-clause-err
+returns-clause-err c =
+    let stop = stopped c.in_ok-layout.layout c.in_ok-layout.ensures.same c.measure.new.lengths c.args.bytes.now c.in_ok-measured.measured.count c.if-measured-gt0.false c.in-Ambiguous.is c.in_ok-measured.ensures.stop in
+    unclear_told (c.in_ok-root.root, c.in_ok-root.definitions) c.in_ok-root.ensures.ok c.as_str.result.now c.as_str.ensures.value stop c.in_ok-unclear-in-Ambiguous.ensures

@@ -1,4 +1,4 @@
-use Rattle.std.proofs.Common.{length, ◌-◌, ◌≡◌, ◌≤◌, take, ℕ}
+use Rattle.std.proofs.Common.{length, ◌-◌, ◌≡◌, ◌≤◌, take}
 use Rattle.borsh_c.specs.Many.{HaveLines, behind}
 use Rattle.borsh_c.proofs.many.write_lines.Given as goal
 
