@@ -7,16 +7,16 @@ use Rattle.borsh_c.proofs.many.write_lines.Goals as goal
 
 pub loop-count-preserved : goal.loop-count-preserved
 loop-count-preserved c =
-    let C = definitions_in c.args.layout.now.map.now in
+    let m = c.args.layout.now.map.now in
     let root = c.args.layout.now.root.now in
     let lengths = c.args.lengths.now in
     let text = c.loop-count.text.items in
     let line = ap (λ (bytes : List ℕ). text ++ bytes) c.as_bytes.ensures.value in
     let items = c.in_ok-push-in-Ok.ensures.items ∙ ap (λ (bytes : List ℕ). bytes ++ (10 ∷ [])) (c.in_ok-extend_from_slice-in-Ok.ensures.items ∙ line) in
-    let member = subst (Member C root) c.first.ensures c.in-Ok.ensures.member in
+    let member = subst (Member (definitions_in m) root) c.first.ensures c.in-Ok.ensures.member in
     record {
       within = omega arith;
-      lines = subst (HaveLines C root (take (c.loop-count.count + 1) lengths) c.args.values.now) (sym items)
-          (lined C root lengths c.args.values.now c.loop-count.left.now text c.loop-count.count (string_bytes c.in-Ok.json) (omega arith) c.loop-count.invariant.lines c.loop-count.invariant.rest member c.in-Ok.ensures.json);
-      rest = c.others-left.ensures ∙ passed lengths c.args.values.now c.loop-count.left.now c.loop-count.count (omega arith) c.loop-count.invariant.rest;
+      lines = subst (HaveLines m root (take (c.loop-count.count + 1) lengths) c.args.values.now) (sym items)
+          (lined m root lengths c.args.values.now c.loop-count.left.now text c.loop-count.count (string_bytes c.in-Ok.json) (omega arith) c.loop-count.invariant.lines c.loop-count.invariant.rest (member, c.in-Ok.ensures.json));
+      rest = c.others-left.ensures ∙ passed c.args.lengths.now c.args.values.now c.loop-count.left.now c.loop-count.count (omega arith) c.loop-count.invariant.rest;
     }
