@@ -11,7 +11,7 @@ use Rattle.borsh_walks.specs.Definitions.{shape_of, definitions_in}
 use Rattle.borsh_json.specs.Forms.{form_of, form_of_parts, forms_in, shape_of_form, shapes}
 use Rattle.borsh_json.specs.Represents.{TextRepresents}
 
-twice : {A B C : Type 0} (f : A → B) (g : B → C) (h : A → C) → ((a : A) → g (f a) ≡ h a) → (xs : List A) → map g (map f xs) ≡ map h xs
+pub twice : {A B C : Type 0} (f : A → B) (g : B → C) (h : A → C) → ((a : A) → g (f a) ≡ h a) → (xs : List A) → map g (map f xs) ≡ map h xs
 twice f g h e [] = refl
 twice f g h e (x ∷ xs) = ap (λ y. y ∷ map g (map f xs)) (e x) ∙ ap (λ ys. h x ∷ ys) (twice f g h e xs)
 
@@ -33,7 +33,7 @@ named_shapes : (o : Option Definition) → option_map shape_of_form (option_map 
 named_shapes None = refl
 named_shapes (Some d) = ap (λ s. Some s) (shape_is d)
 
-shapes_are : {A : Type 0} (m : BTreeMap (String A) Definition) → shapes (forms_in m) ≡ definitions_in m
+pub shapes_are : {A : Type 0} (m : BTreeMap (String A) Definition) → shapes (forms_in m) ≡ definitions_in m
 shapes_are m = fun_ext (λ x. named_shapes (get_by_text m x))
 
 -- what a text represents is a member

@@ -1,3 +1,10 @@
 pub mod FormsLaws
 pub mod RepresentsLaws
+pub mod DecimalLaws
+pub mod NumberLaws
+pub mod PlaceLaws
+pub mod FoundLaws
+pub mod NameLaws
+pub mod SeenLaws
+pub mod FrameLaws
 pub mod RowsLaws

@@ -93,20 +93,20 @@ decimal_nat m n p q e = sym (decimal_is_IsNumeral_wide m p).1 ∙ ap (digits_val
 no_minus : (n : ℕ) (ds : List ℕ) → n < 10 ^ 64 → decimal n ≡ 45 ∷ ds → ⊥
 no_minus n ds h e = omega (arith, digit_from_value 45 (subst (AllDigits 10) e (decimal_is_IsNumeral_wide n h).0.1).0)
 
-abbrev IsShort : ℤ → Type 0
+abbrev pub IsShort : ℤ → Type 0
 IsShort (pos n) = n < 2 ^ 128
 IsShort (negsuc n) = n < 2 ^ 128
 
-decimal_one : (y z : ℤ) → IsShort y → IsShort z → signed_decimal y ≡ signed_decimal z → y ≡ z
+pub decimal_one : (y z : ℤ) → IsShort y → IsShort z → signed_decimal y ≡ signed_decimal z → y ≡ z
 decimal_one (pos m) (pos n) p q e = ap pos (decimal_nat m n (omega arith) (omega arith) e)
 decimal_one (pos m) (negsuc n) p q e = absurd (no_minus m (decimal (suc n)) (omega arith) e)
 decimal_one (negsuc m) (pos n) p q e = absurd (no_minus n (decimal (suc m)) (omega arith) (sym e))
 decimal_one (negsuc m) (negsuc n) p q e = ap negsuc (omega (arith, decimal_nat (suc m) (suc n) (omega arith) (omega arith) (ap (drop 1) e)))
 
-power_most : (n : ℕ) → n ≤ 16 → 256 ^ n ≤ 2 ^ 128
+pub power_most : (n : ℕ) → n ≤ 16 → 256 ^ n ≤ 2 ^ 128
 power_most n h = omega (arith, pow-le-pow_right {n = 256} (omega arith) h)
 
-short : (n : ℕ) (s : Bool) (z : ℤ) → n ≤ 16 → InRange n s z → IsShort z
+pub short : (n : ℕ) (s : Bool) (z : ℤ) → n ≤ 16 → InRange n s z → IsShort z
 short n false (pos m) h r = omega (arith, power_most n h)
 short n false (negsuc m) h r = absurd r
 short n true (pos m) h r = omega (arith, power_most n h)
@@ -246,14 +246,14 @@ module _ (F : List ℕ → Option Form) where
       (prefixed_one l (length p.1) (length q.1) [] [] (ap (λ es. length es) e) refl p.5 q.5, p.6 ∙ ap (λ es. entry_parts keys k v es) e ∙ sym q.6)
 
   -- ---- a name has one kind
-  byte_or_map : {x e k v : List ℕ} {w lo hi : ℕ} → F x ≡ Some (sequence w lo hi e) → IsByte F e → IsMap F x k v → ⊥
+  pub byte_or_map : {x e k v : List ℕ} {w lo hi : ℕ} → F x ≡ Some (sequence w lo hi e) → IsByte F e → IsMap F x k v → ⊥
   byte_or_map {e = e} {k = k} {v = v} {w = w} {lo = lo} {hi = hi} f b m =
       let g : Some (sequence w lo hi e) ≡ Some (sequence 4 0 4294967295 m.0) = sym f ∙ m.1 in
       let d : m.0 ≡ e = cc in
       let h : Some (tuple (k ∷ v ∷ [])) ≡ Some (primitive 1) = sym m.2 ∙ ap F d ∙ b.1 in
       cc
 
-  map_one : {x k v l w : List ℕ} → IsMap F x k v → IsMap F x l w → (k ≡ l) × (v ≡ w)
+  pub map_one : {x k v l w : List ℕ} → IsMap F x k v → IsMap F x l w → (k ≡ l) × (v ≡ w)
   map_one {k = k} {v = v} {l = l} {w = w} m n =
       let g : Some (sequence 4 0 4294967295 m.0) ≡ Some (sequence 4 0 4294967295 n.0) = sym m.1 ∙ n.1 in
       let d : m.0 ≡ n.0 = cc in
@@ -292,7 +292,7 @@ module _ (F : List ℕ → Option Form) where
   sequence_one f (some_elements n o z y) (an_object {k = k} {v = v} {keys = a} m i) = absurd (o k v a m i)
   sequence_one f (some_elements n m z y) (some_elements o l u t) = refl
 
-  option_one : {x p q : List ℕ} → IsOption F x p → IsOption F x q → p ≡ q
+  pub option_one : {x p q : List ℕ} → IsOption F x p → IsOption F x q → p ≡ q
   option_one {p = p} {q = q} a b =
       let g : Some (choice 1 ((pos 0, codes "None", a.0) ∷ (pos 1, codes "Some", p) ∷ [])) ≡ Some (choice 1 ((pos 0, codes "None", b.0) ∷ (pos 1, codes "Some", q) ∷ [])) = sym a.1 ∙ b.1 in
       let u : ℤ × List ℕ × List ℕ = (pos 1, codes "Some", p) in
@@ -315,7 +315,7 @@ module _ (F : List ℕ → Option Form) where
   defined_one (named fs) f p q = p ∙ sym q
   defined_one (choice w vs) f p q = choice_one p q
 
-  kind_one : {x : List ℕ} {kind other : Kind} → HasKind F x kind → HasKind F x other → kind ≡ other
+  pub kind_one : {x : List ℕ} {kind other : Kind} → HasKind F x kind → HasKind F x other → kind ≡ other
   kind_one (inl p) (inl q) = p.1 ∙ sym q.1
   kind_one (inl p) (inr q) = absurd (q.0 p.0)
   kind_one (inr p) (inl q) = absurd (p.0 q.0)

@@ -1,4 +1,13 @@
 // A layout, and what was found out about its names. Names are known by their places.
+ghost use Rattle.borsh_json.specs.Forms.{Form, HasNoBytes, form_of, forms_in, shape_of_form};
+ghost use Rattle.borsh_json.specs.Known.{IsKnown};
+ghost use Rattle.borsh_json.specs.Places.{IsAt, IsKindOf};
+ghost use Rattle.borsh_values.specs.Free.{KnowsSizes};
+ghost use Rattle.borsh_values.specs.Layouts.{IsLaidOut};
+ghost use Rattle.borsh_walks.specs.Container.{references};
+ghost use Rattle.borsh_json.specs.declared.kinds.Kind.{Kind as Found};
+ghost use Rattle.std.specs.Prelude.{◌≡◌, ◌⊎◌, ℕ, List, Decides, IfOk, OnOk, Some, option_map, slice_get};
+
 use crate::kinds::{Kind, kind_of};
 use crate::order::{Ordered, ordered_as};
 use borsh_values::{Layout, Node};
@@ -25,7 +34,10 @@ pub struct Definitions<'a, 'l> {
 }
 
 impl<'a, 'l> Definitions<'a, 'l> {
-    pub fn new(alloc: Global, layout: &'l Layout<'a>) -> Result<Definitions<'a, 'l>, AllocError> {
+    pub fn new(alloc: Global, layout: &'l Layout<'a>) -> Result<Definitions<'a, 'l>, AllocError>
+        ensures known { IsLaidOut layout.now → KnowsSizes layout.now → IfOk result (λ d. IsKnown d) }
+        ensures layout { IfOk result (λ d. d.layout ≡ layout.entry) }
+    {
         let count = layout.names.len();
         let kinds = if count == 1 {
             Vec::new(alloc)
@@ -41,7 +53,10 @@ impl<'a, 'l> Definitions<'a, 'l> {
     }
 
     /// The definition of the name at a place, if it has one.
-    pub fn get(&self, at: usize) -> Option<&'a Definition> {
+    pub fn get(&self, at: usize) -> Option<&'a Definition>
+        ensures { IsKnown self.now → (x : List ℕ) → IsAt self.now.layout.now.names.items at x →
+            option_map (λ d. form_of d.now) result ≡ forms_in self.now.layout.now.map.now x }
+    {
         match self.layout.names.as_slice().get(at).copied() {
             Some(named) => named.definition,
             None => None,
@@ -49,7 +64,10 @@ impl<'a, 'l> Definitions<'a, 'l> {
     }
 
     /// The name at a place.
-    pub fn name(&self, at: usize) -> &'a str {
+    pub fn name(&self, at: usize) -> &'a str
+        ensures { IsKnown self.now → (x : List ℕ) → IsAt self.now.layout.now.names.items at x →
+            result.now ≡ x }
+    {
         match self.layout.names.as_slice().get(at).copied() {
             Some(named) => named.name,
             None => "",
@@ -57,7 +75,11 @@ impl<'a, 'l> Definitions<'a, 'l> {
     }
 
     /// The place of a part of the definition at a place; past its parts a place that no name has.
-    pub fn part(&self, at: usize, index: usize) -> usize {
+    pub fn part(&self, at: usize, index: usize) -> usize
+        ensures { let ns = self.now.layout.now.names.items in let F = forms_in self.now.layout.now.map.now in
+            IsKnown self.now → (x y : List ℕ) (f : Form) → IsAt ns at x → F x ≡ Some f →
+            slice_get (references (shape_of_form f)) index ≡ Some y → IsAt ns result y }
+    {
         match self.layout.parts.as_slice().get(at) {
             Some(parts) => parts.as_slice().get(index).copied().unwrap_or(usize::MAX),
             None => usize::MAX,
@@ -65,7 +87,10 @@ impl<'a, 'l> Definitions<'a, 'l> {
     }
 
     /// Whether the values of the name at a place have no bytes.
-    pub fn is_zero_size(&self, at: usize) -> bool {
+    pub fn is_zero_size(&self, at: usize) -> bool
+        ensures { IsKnown self.now → (x : List ℕ) → IsAt self.now.layout.now.names.items at x →
+            Decides result (HasNoBytes (forms_in self.now.layout.now.map.now) x) }
+    {
         self.layout
             .zeros
             .as_slice()
@@ -81,19 +106,37 @@ impl<'a, 'l> Definitions<'a, 'l> {
     }
 
     /// How the values of the name at a place, which has this definition, are written.
-    pub fn kind(&mut self, at: usize, definition: &'a Definition) -> Result<Kind<'a>, AllocError> {
+    pub fn kind(&mut self, at: usize, definition: &'a Definition) -> Result<Kind<'a>, AllocError>
+        ensures kind { let ns = self.old.layout.now.names.items in let F = forms_in self.old.layout.now.map.now in
+            IsKnown self.old → IfOk result (λ kind. (x : List ℕ) → IsAt ns at x → F x ≡ Some (form_of definition.now) →
+            (HasNoBytes F x → ⊥) → IsKindOf F ns x (form_of definition.now) kind) }
+        ensures known { let ns = self.old.layout.now.names.items in let F = forms_in self.old.layout.now.map.now in
+            IsKnown self.old → ((x : List ℕ) → IsAt ns at x → F x ≡ Some (form_of definition.now)) →
+            OnOk result (IsKnown self.new) }
+        ensures same { OnOk result (self.new.layout ≡ self.old.layout) }
+    {
         if let Some(Some(kind)) = self.kinds.as_slice().get(at).copied() {
             return Ok(kind);
         }
         let kind = kind_of(self, at, definition)?;
-        if let Some(known) = self.kinds.get_mut(at) {
-            *known = Some(kind);
-        }
+        self.keep(at, kind);
         Ok(kind)
     }
 
+    fn keep(&mut self, at: usize, kind: Kind<'a>)
+        ensures layout { self.new.layout ≡ self.old.layout }
+        ensures kinds { (i : ℕ) (found : Found) → slice_get self.new.kinds.items i ≡ Some (Some found) →
+            (slice_get self.old.kinds.items i ≡ Some (Some found)) ⊎ ((i ≡ at) × (found ≡ kind.entry)) }
+    {
+        if at < self.kinds.len() {
+            self.kinds[at] = Some(kind);
+        }
+    }
+
     /// How the values of the name at a place are ordered; none where that isn't known.
-    pub fn order_of(&mut self, at: usize) -> Result<Option<Ordered>, AllocError> {
+    pub fn order_of(&mut self, at: usize) -> Result<Option<Ordered>, AllocError>
+        ensures { OnOk result ((self.new.layout ≡ self.old.layout) × (self.new.kinds ≡ self.old.kinds)) }
+    {
         if self.orders.is_empty() {
             self.orders = vec![in self.alloc; Known::Nothing; self.layout.names.len()]?;
         }
@@ -119,14 +162,18 @@ impl<'a, 'l> Definitions<'a, 'l> {
             .unwrap_or(Known::Order(None))
     }
 
-    fn set_order(&mut self, at: usize, order: Option<Ordered>) {
+    fn set_order(&mut self, at: usize, order: Option<Ordered>)
+        ensures { (self.new.layout ≡ self.old.layout) × (self.new.kinds ≡ self.old.kinds) }
+    {
         if let Some(known) = self.orders.get_mut(at) {
             *known = Known::Order(order);
         }
     }
 
     /// Finds the order of a name and of those that it needs. It isn't known if that of one of them isn't, as in a circle of names.
-    fn find_order(&mut self, at: usize) -> Result<(), AllocError> {
+    fn find_order(&mut self, at: usize) -> Result<(), AllocError>
+        ensures { OnOk result ((self.new.layout ≡ self.old.layout) × (self.new.kinds ≡ self.old.kinds)) }
+    {
         let mut open: Vec<(usize, Ordered, usize)> = Vec::new(self.alloc);
         let mut at = at;
         for _ in 0..u64::MAX {
@@ -153,7 +200,9 @@ impl<'a, 'l> Definitions<'a, 'l> {
     fn next_needed(
         &mut self,
         open: &mut Vec<(usize, Ordered, usize)>,
-    ) -> Result<Option<usize>, AllocError> {
+    ) -> Result<Option<usize>, AllocError>
+        ensures { OnOk result ((self.new.layout ≡ self.old.layout) × (self.new.kinds ≡ self.old.kinds)) }
+    {
         for _ in 0..u64::MAX {
             let Some((at, order, index)) = open.pop() else {
                 break;

@@ -6,17 +6,24 @@
 
 mod ascii;
 mod definitions;
+mod digits;
 mod error;
 mod floats;
 mod formats;
 mod kinds;
 mod laws;
+mod maps;
+mod not_json;
 mod numbers;
+mod opening;
 mod order;
 mod output;
+mod parts;
 mod position;
+mod prefixes;
 mod reading;
 mod rows;
+mod sources;
 mod strict;
 mod writing;
 

@@ -225,7 +225,7 @@ impl<'a, 'l, 'b, 'n> Writing<'a, 'l, 'b, 'n> {
             Key::Name(name) => self.out.put(Token::Key(name))?,
             Key::Entry(entries) => self.write_key(entries)?,
         }
-        if part.may_be_empty && self.definitions.is_zero_size(part.at) {
+        if self.definitions.is_zero_size(part.at) {
             return Ok(self.out.put(Token::Null)?);
         }
         let node = self.take_node(part.at)?;
