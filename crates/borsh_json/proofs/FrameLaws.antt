@@ -29,25 +29,25 @@ use Rattle.borsh_json.specs.Places.{IsAt}
 use Rattle.borsh_json.specs.Table.{Entry, entries_of}
 
 -- ---- lists from an index on
-drop_at : {A : Type 0} (xs : List A) (i : ℕ) (a : A) → slice_get xs i ≡ Some a → drop i xs ≡ a ∷ drop (suc i) xs
+pub drop_at : {A : Type 0} (xs : List A) (i : ℕ) (a : A) → slice_get xs i ≡ Some a → drop i xs ≡ a ∷ drop (suc i) xs
 drop_at [] zero a e = cc
 drop_at [] (suc i) a e = cc
 drop_at (x ∷ xs) zero a e = (let h : x ≡ a = cc in ap (λ y. y ∷ xs) h)
 drop_at (x ∷ xs) (suc i) a e = drop_at xs i a e
 
-drop_all : {A : Type 0} (xs : List A) (i : ℕ) → length xs ≤ i → drop i xs ≡ []
+pub drop_all : {A : Type 0} (xs : List A) (i : ℕ) → length xs ≤ i → drop i xs ≡ []
 drop_all [] zero h = refl
 drop_all [] (suc i) h = refl
 drop_all (x ∷ xs) zero h = absurd (omega arith)
 drop_all (x ∷ xs) (suc i) h = drop_all xs i (omega arith)
 
-get_map : {A B : Type 0} (f : A → B) (xs : List A) (i : ℕ) (a : A) → slice_get xs i ≡ Some a → slice_get (map f xs) i ≡ Some (f a)
+pub get_map : {A B : Type 0} (f : A → B) (xs : List A) (i : ℕ) (a : A) → slice_get xs i ≡ Some a → slice_get (map f xs) i ≡ Some (f a)
 get_map f [] zero a e = cc
 get_map f [] (suc i) a e = cc
 get_map f (x ∷ xs) zero a e = (let h : x ≡ a = cc in ap (λ y. Some (f y)) h)
 get_map f (x ∷ xs) (suc i) a e = get_map f xs i a e
 
-get_there : {A : Type 0} (xs : List A) (i : ℕ) → i < length xs → (a : A) × (slice_get xs i ≡ Some a)
+pub get_there : {A : Type 0} (xs : List A) (i : ℕ) → i < length xs → (a : A) × (slice_get xs i ≡ Some a)
 get_there [] i h = absurd (omega arith)
 get_there (x ∷ xs) zero h = (x, refl)
 get_there (x ∷ xs) (suc i) h = get_there xs i (omega arith)
@@ -57,7 +57,7 @@ get_from [] i a h e = absurd (omega arith)
 get_from (x ∷ xs) zero a h e = ap (λ y. Some y) (sym e)
 get_from (x ∷ xs) (suc i) a h e = get_from xs i a (omega arith) e
 
-length_map : {A B : Type 0} (f : A → B) (xs : List A) → length (map f xs) ≡ length xs
+pub length_map : {A B : Type 0} (f : A → B) (xs : List A) → length (map f xs) ≡ length xs
 length_map f [] = refl
 length_map f (x ∷ xs) = ap suc (length_map f xs)
 

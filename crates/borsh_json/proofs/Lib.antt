@@ -8,3 +8,12 @@ pub mod NameLaws
 pub mod SeenLaws
 pub mod FrameLaws
 pub mod RowsLaws
+pub mod ReaderLaws
+pub mod StepLaws
+pub mod OpeningLaws
+pub mod PartsLaws
+pub mod LoopLaws
+pub mod ReadingLaws
+pub mod MemberLaws
+pub mod KeyJson
+pub mod NumberTexts

@@ -115,7 +115,7 @@ short n true (negsuc m) h r = omega (arith, power_most n h)
 whole_one : (n : ℕ) (s z : Bool) {t a b : List ℕ} → n ≤ 16 → IsWhole n s z t a → IsWhole n s z t b → a ≡ b
 whole_one n s z h p q = p.2 ∙ ap (λ k. tag n k) (decimal_one p.0 q.0 (short n s p.0 h p.3) (short n s q.0 h q.3) (sym p.1 ∙ q.1)) ∙ sym q.2
 
-number_one : (n : ℕ) (s t : List ℕ) (j : Json) → IsNumber n s j → IsNumber n t j → s ≡ t
+pub number_one : (n : ℕ) (s t : List ℕ) (j : Json) → IsNumber n s j → IsNumber n t j → s ≡ t
 number_one n s t j (inl p) (inl q) = let e : number s ≡ number t = sym p.1 ∙ q.1 in cc
 number_one n s t j (inl p) (inr q) = let e : number s ≡ string t = sym p.1 ∙ q.1 in cc
 number_one n s t j (inr p) (inl q) = let e : string s ≡ number t = sym p.1 ∙ q.1 in cc
@@ -144,7 +144,7 @@ primitive_small x n =
     small_if (bytes_eq x (codes "bool") && (n == 1)) truth _ (λ m s z e. cc) floats
 
 -- ---- what JSON of a kind says
-hex_one : {j : Json} {a b : List ℕ} → IsHex j a → IsHex j b → a ≡ b
+pub hex_one : {j : Json} {a b : List ℕ} → IsHex j a → IsHex j b → a ≡ b
 hex_one p q =
     let e : string (48 ∷ 120 ∷ p.0) ≡ string (48 ∷ 120 ∷ q.0) = sym p.1 ∙ q.1 in
     let d : p.0 ≡ q.0 = cc in
@@ -171,7 +171,7 @@ named_apart : {k : ℤ} {v p u : List ℕ} {vs : List (ℤ × List ℕ × List �
 named_apart {v = v} {u = u} this e n = differ u v e n.0
 named_apart (that a) e n = named_apart a e n.1
 
-variant_one : {j k : ℤ} {u v p q : List ℕ} {vs : List (ℤ × List ℕ × List ℕ)} → IsDistinct bytes_eq (map (λ (v : ℤ × List ℕ × List ℕ). v.1) vs) → IsVariant j u p vs → IsVariant k v q vs → u ≡ v → (j ≡ k) × (p ≡ q)
+pub variant_one : {j k : ℤ} {u v p q : List ℕ} {vs : List (ℤ × List ℕ × List ℕ)} → IsDistinct bytes_eq (map (λ (v : ℤ × List ℕ × List ℕ). v.1) vs) → IsVariant j u p vs → IsVariant k v q vs → u ≡ v → (j ≡ k) × (p ≡ q)
 variant_one d this this e = (refl, refl)
 variant_one d this (that b) e = absurd (named_apart b e (IsDistinct-head bytes_eq _ _ d))
 variant_one d (that a) this e = absurd (named_apart a (sym e) (IsDistinct-head bytes_eq _ _ d))
@@ -198,7 +198,7 @@ module _ (F : List ℕ → Option Form) where
       a.3 ∙ ap (λ z. (z, a.0) ∷ []) h ∙ ap (λ z. (q, z) ∷ []) d ∙ sym b.3
 
   -- JSON of a kind says one thing
-  says_one : (kind : Kind) (j : Json) {a b : List ℕ} {ps qs : List Part} → IsSmall kind → Says F kind j a ps → Says F kind j b qs → (a ≡ b) × (ps ≡ qs)
+  pub says_one : (kind : Kind) (j : Json) {a b : List ℕ} {ps qs : List Part} → IsSmall kind → Says F kind j a ps → Says F kind j b qs → (a ≡ b) × (ps ≡ qs)
   says_one no_bytes j h p q = (p.1 ∙ sym q.1, p.2 ∙ sym q.2)
   says_one truth j h p q =
       let e : boolean p.0 ≡ boolean q.0 = sym p.1 ∙ q.1 in
@@ -337,7 +337,7 @@ module _ (F : List ℕ → Option Form) where
   defined_small x (choice w vs) (nullable t) = λ m s z e. cc
   defined_small x (choice w vs) (by_name t) = λ m s z e. cc
 
-  kind_small : {x : List ℕ} {kind : Kind} → HasKind F x kind → IsSmall kind
+  pub kind_small : {x : List ℕ} {kind : Kind} → HasKind F x kind → IsSmall kind
   kind_small (inl p) = λ m s z e. let f = p.1 in cc
   kind_small {x = x} (inr p) = defined_small x p.1 p.3
 

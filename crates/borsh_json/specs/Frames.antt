@@ -1,5 +1,5 @@
 -- What the frames of the reader stand for, and what its steps return.
-use Rattle.std.specs.Prelude.{◌≡◌, ◌⊎◌, ⊤, ℕ, suc, ℤ, String, slice_get, List, [], ◌∷◌, ◌++◌, ◌-◌, length, map, drop, replicate, Bool, Option, Some, None, Result, MatchResult, string_bytes}
+use Rattle.std.specs.Prelude.{◌≡◌, ◌⊎◌, ⊤, ℕ, suc, ℤ, String, slice_get, List, [], ◌∷◌, ◌++◌, ◌-◌, length, map, drop, replicate, Bool, true, false, Option, Some, None, Result, MatchResult, string_bytes}
 use Rattle.std.specs.Borrow.{Bor}
 use Rattle.std.specs.Global.{Global}
 use Rattle.std.specs.Str.{bytes_eq}
@@ -37,8 +37,9 @@ use Rattle.borsh_json.specs.declared.sources.Source.TheVariants.{One, Items as T
 use Rattle.borsh_json.specs.Forms.{Form, named, form_of, shape_of_form}
 use Rattle.borsh_json.specs.Places.{IsAt, AreKeysOf}
 use Rattle.borsh_json.specs.Ranks.{HasRank}
+use Rattle.borsh_json.specs.Represents.{HaveBytes}
 use Rattle.borsh_json.specs.Reads.{Left, items_left, fields_left, entries_left, PartsOf, PartsOfAll, SaysFirst, SaysSome, IsOnly, AreRead}
-use Rattle.borsh_json.specs.Table.{Keys, Part as JsonPart, row_parts, Entry, entries_of, IsVariant, list_parts}
+use Rattle.borsh_json.specs.Table.{Keys, Part as JsonPart, row_parts, Entry, entries_of, IsVariant, list_parts, Lengths, Kind, IsArray, Says}
 
 -- ---- errors
 
@@ -112,6 +113,16 @@ IsObject (MapEntries es n) = ⊥
 IsObject (Newtype at) = ⊥
 IsObject (Present at) = ⊥
 IsObject (Variant v at) = ⊥
+
+abbrev pub IsMapPlace : Parts → Type 0
+IsMapPlace Root = ⊥
+IsMapPlace (Elements at n) = ⊥
+IsMapPlace (Row at n) = ⊥
+IsMapPlace (Object at fs) = ⊥
+IsMapPlace (MapEntries es n) = ⊤
+IsMapPlace (Newtype at) = ⊥
+IsMapPlace (Present at) = ⊥
+IsMapPlace (Variant v at) = ⊥
 
 -- the key of a part: the field's name, or the kind of an entry's key
 abbrev pub IsKey : Parts → Key → List ℕ → Type 0
@@ -205,7 +216,7 @@ module _ (F : List ℕ → Option Form) (ns : List Named) where
 
   -- a place, and the JSON of its parts
   abbrev pub HasLeft : Parts → ℕ → Source → Left → Type 0
-  HasLeft p i s (items_left xs js) = (ws : List Wanted) × IsWanted F ns p i ws × (xs ≡ map (λ w. w.1) ws) × HasItems s js × (ps : List JsonPart) × (row_parts xs js ≡ Some ps)
+  HasLeft p i s (items_left xs js) = (ws : List Wanted) × IsWanted F ns p i ws × (xs ≡ map (λ w. w.1) ws) × HasItems s js × (ps : List JsonPart) × (row_parts xs js ≡ Some ps) × (IsMapPlace p → ⊥)
   HasLeft p i s (fields_left fs ms n) = IsObject p × IsWanted F ns p i fs × HasFields s fs ms n
   HasLeft p i s (entries_left keys k v es) = (ws : List Wanted) × IsWanted F ns p i ws × (length ws ≡ length es) × AreEntriesOf p s keys k v es
 
@@ -233,6 +244,12 @@ module _ (F : List ℕ → Option Form) (ns : List Named) where
   IsNext root j ls p s out Missing = SaysSome F root j → ⊥
   IsNext root j ls p s out End = (NoneLeft s → AreRead F root j out (PartsOfAll ls)) × ((NoneLeft s → ⊥) → SaysSome F root j → ⊥)
 
+  -- the same of a map, whose key was added
+  abbrev pub IsNextEntry : List ℕ → Json → Keys → List ℕ → List ℕ → List Entry → List Left → KeyKind → Source → List ℕ → Next → Type 0
+  IsNextEntry root j keys k v es ls kind s out (Part at e) = (t : List ℕ) × (i : Json) × (rest : List Entry) × (es ≡ (t, i) ∷ rest) × IsAt ns at v × BeginsWith e i × HasEntries kind s rest × AreRead F root j out (λ ps. (more : List JsonPart) × PartsOfAll (entries_left keys k v rest ∷ ls) more × (ps ≡ (v, i) ∷ more))
+  IsNextEntry root j keys k v es ls kind s out Missing = es ≡ []
+  IsNextEntry root j keys k v es ls kind s out End = ⊥
+
 -- for any definitions and places: the JSON of a name of this kind was opened
 abbrev pub Opens : ((List ℕ → Option Form) → List Named → List ℕ → Type 0) → List Token → List ℕ → List ℕ → Result (Option Frame) ReadError → Type 0
 Opens K e old new result = (F : List ℕ → Option Form) (ns : List Named) (x : List ℕ) (j : Json) → K F ns x → BeginsWith e j → IsOpened F ns x j old new result
@@ -257,3 +274,20 @@ abbrev pub IsArrayOf : Json → Array → Type 0
 IsArrayOf j No = as_array j ≡ None
 IsArrayOf j TooLong = ⊤
 IsArrayOf j (Of ts n) = (js : Items) × (j ≡ array js) × InItems ts js × (n ≡ length (list_parts [] js))
+
+-- the JSON says a value of the kind as an array of these elements, and not otherwise
+abbrev pub SaysArray : (List ℕ → Option Form) → Json → Kind → Lengths → List ℕ → Type 0
+SaysArray F j kind l e = (own : List ℕ) (ps : List JsonPart) → (IsArray l e j own ps → Says F kind j own ps) × (Says F kind j own ps → IsArray l e j own ps)
+
+-- what was read, and the frames that are left, where the parts of the innermost are so many begun of a place
+pub record IsReading (F : List ℕ → Option Form) (ns : List Named) (root : List ℕ) (j : Json) (p : Parts) (b : ℕ) (s : Source) (ps : List Place) (ss : List Source) (out : List ℕ) : Type 0 where
+  pub inner : Left
+  pub around : List Left
+  pub here : HasLeft F ns p b s inner
+  pub there : HaveLeft F ns ps ss around
+  pub read : AreRead F root j out (PartsOfAll (inner ∷ around))
+
+-- more is to be read; or all was, and the root's JSON says these bytes and no others
+abbrev pub IsReadOn : (List ℕ → Option Form) → List Named → List ℕ → Json → Bool → Place → Source → List Place → List Source → List ℕ → Type 0
+IsReadOn F ns root j true p s ps ss out = IsReading F ns root j p.parts p.begun s ps ss out
+IsReadOn F ns root j false p s ps ss out = HaveBytes F ((root, j) ∷ []) out × ((all : List ℕ) → HaveBytes F ((root, j) ∷ []) all → all ≡ out)

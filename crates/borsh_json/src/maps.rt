@@ -1,6 +1,11 @@
 // The members of an object, by their keys.
-ghost use Rattle.borsh_json.specs.Errors.{IsReadRefusal};
-ghost use Rattle.std.specs.Prelude.{IfErr};
+ghost use Rattle.borsh_json.specs.Frames.{DeniesRead, HasEntries};
+ghost use Rattle.borsh_json.specs.Table.{Entry, entries_of};
+ghost use Rattle.borsh_walks.specs.Tables.{mark_of};
+ghost use Rattle.json.specs.Find.{BeginsWith, Finds, get_member};
+ghost use Rattle.json.specs.Json.{Json, Members as JsonMembers, object};
+ghost use Rattle.std.specs.BTreeMap.{btree_map_len};
+ghost use Rattle.std.specs.Prelude.{◌≡◌, ℕ, List, MatchResult, length};
 
 use crate::error::{ReadError, Refusal};
 use crate::kinds::KeyKind;
@@ -16,14 +21,18 @@ pub fn members_of<'t, 's>(
     alloc: Global,
     element: &Element<'t, 's>,
 ) -> Result<BTreeMap<&'s str, Element<'t, 's>>, ReadError>
-    ensures { IfErr result IsReadRefusal }
+    ensures { (j : Json) → BeginsWith element.now j → MatchResult result
+        (λ m. (ms : JsonMembers) × (j ≡ object ms) × ((name : List ℕ) → Finds (mark_of m name) (get_member name ms)) ×
+            (btree_map_len m ≡ length (entries_of ms)))
+        (λ e. DeniesRead e ((ms : JsonMembers) × (j ≡ object ms))) }
 {
     let Some(mut members) = element.members() else {
         return Err(expected(alloc, "an object"));
     };
     let mut found = BTreeMap::new(alloc);
     while let Some((key, member)) = members.next() {
-        if found.insert(key, member)?.is_some() {
+        let old = found.insert(key, member)?;
+        if old.is_some() {
             return Err(ReadError::Refused(Refusal::RepeatedKey(String::from_str(alloc, key)?)));
         }
     }
@@ -35,9 +44,7 @@ fn ranks_of<'t, 's>(
     alloc: Global,
     number: Number,
     element: &Element<'t, 's>,
-) -> Result<BTreeMap<u128, Element<'t, 's>>, ReadError>
-    ensures { IfErr result IsReadRefusal }
-{
+) -> Result<BTreeMap<u128, Element<'t, 's>>, ReadError> {
     let Some(mut members) = element.members() else {
         return Err(expected(alloc, "an object"));
     };
@@ -59,9 +66,7 @@ pub fn sorted_entries<'t, 's>(
     alloc: Global,
     key_kind: KeyKind,
     element: &Element<'t, 's>,
-) -> Result<(Source<'t, 's>, usize), ReadError>
-    ensures { IfErr result IsReadRefusal }
-{
+) -> Result<(Source<'t, 's>, usize), ReadError> {
     match key_kind {
         KeyKind::Text => match (element.members(), count_ascending(element)) {
             (Some(members), Some(count)) => Ok((Source::Entries(members), count)),

@@ -1,6 +1,21 @@
 // What the JSON of a part says by its definition: its own bytes, and the parts that it has.
-ghost use Rattle.borsh_json.specs.Errors.{IsReadRefusal};
-ghost use Rattle.std.specs.Prelude.{IfErr};
+ghost use Rattle.borsh_json.specs.declared.error.ReadError.TheVariants.{OutOfMemory};
+ghost use Rattle.borsh_json.specs.declared.order.Ordered.{Ordered as FoundOrder};
+ghost use Rattle.borsh_json.specs.declared.kinds.Kind.TheVariants.{Map as FoundMap, Object as FoundObject, Row as FoundRow};
+ghost use Rattle.borsh_json.specs.declared.sources.Source.TheVariants.{One as OneSource};
+ghost use Rattle.borsh_json.specs.Forms.{Form, HasNoBytes, form_of, forms_in};
+ghost use Rattle.borsh_json.specs.Frames.{DeniesRead, IsArrayOf, IsExpected, IsOpened, SaysArray, IsVariantAt, NamesVariant, Opens};
+ghost use Rattle.borsh_json.specs.Known.{IsKnown};
+ghost use Rattle.borsh_json.specs.Places.{IsAt, IsInfinity, IsKindOf, IsListOf, lengths_of};
+ghost use Rattle.borsh_json.specs.Reads.{IsMapless};
+ghost use Rattle.borsh_json.specs.Table.{Kind as TableKind, HasKind, IsHex, IsNumber, IsPrefixed, byte_list, entries_of, float, list_parts, no_bytes, optional, raw, truth, utf8, variants as spec_variants, whole};
+ghost use Rattle.json.specs.Find.{BeginsWith, InItems, InMembers, as_array};
+ghost use Rattle.json.specs.Json.{Json, Items as JsonItems, Members as JsonMembers, array, object, string};
+ghost use Rattle.std.specs.List.{IsDistinct};
+ghost use Rattle.std.specs.Prelude.{◌≡◌, ◌++◌, ◌≤◌, ⊤, [], ℕ, List, IfErr, IfOk, IfSome, Option, MatchOption, MatchResult, None, OnOk, Some, false, length, map, option_map, pos, string_bytes, take};
+ghost use Rattle.std.specs.Str.{bytes_eq};
+ghost use Rattle.borsh_values.specs.declared.layout.Named.{Named as NamedPlace};
+ghost use Rattle.borsh_walks.specs.Container.{tag};
 
 use crate::definitions::Definitions;
 use crate::digits::hexadecimal;
@@ -14,7 +29,7 @@ use crate::position::{Parts, Place};
 use crate::prefixes::{put_count, put_tag};
 use crate::sources::Source;
 use borsh_walks::Definition;
-use json::{Element, Items};
+use json::{Element, Items, Members};
 use std::alloc::{AllocError, Global};
 
 /// The parts of a value, and the JSON of those that are left.
@@ -34,7 +49,12 @@ pub fn open_part<'a, 't, 's>(
     element: Element<'t, 's>,
     out: &mut Vec<u8>,
 ) -> Opened<'a, 't, 's>
-    ensures { IfErr result IsReadRefusal }
+    ensures opened { let F = forms_in definitions.old.layout.now.map.now in
+        IsMapless F → IsKnown definitions.old → (x : List ℕ) (j : Json) → IsAt definitions.old.layout.now.names.items at x →
+        BeginsWith element.entry j →
+        IsOpened F definitions.old.layout.now.names.items x j out.old.items out.new.items result }
+    ensures known { IsKnown definitions.old → OnOk result (IsKnown definitions.new) }
+    ensures same { OnOk result (definitions.new.layout ≡ definitions.old.layout) }
 {
     if definitions.is_zero_size(at) {
         return open_null(definitions.alloc, &element);
@@ -62,7 +82,8 @@ fn open_kind<'a, 't, 's>(
     element: &Element<'t, 's>,
     out: &mut Vec<u8>,
 ) -> Opened<'a, 't, 's>
-    ensures { IfErr result IsReadRefusal }
+    ensures { Opens (λ F ns x. IsMapless F × (f : Form) × IsAt ns at x × (F x ≡ Some f) × (f ≡ form_of definition.now) × IsKindOf F ns x f kind.entry)
+        element.now out.old.items out.new.items result }
 {
     match kind {
         Kind::Number(number) => open_number(alloc, number, element, out),
@@ -71,9 +92,8 @@ fn open_kind<'a, 't, 's>(
         Kind::Float(size) => open_float(alloc, size, element, out),
         Kind::Text => open_text(alloc, definition, element, out),
         Kind::ByteList(elements) => open_byte_list(alloc, definition, elements, element, out),
-        Kind::Numbers(elements) | Kind::List(elements) => {
-            open_list(alloc, definition, elements, element, out)
-        }
+        Kind::Numbers(elements) => open_list(alloc, definition, elements, element, out),
+        Kind::List(elements) => open_list(alloc, definition, elements, element, out),
         Kind::Map(entries, _) => open_map(alloc, definition, entries, element, out),
         Kind::Row(count) => open_row(alloc, at, count, element),
         Kind::Object(fields) => open_object(alloc, at, fields, element),
@@ -86,7 +106,10 @@ fn open_kind<'a, 't, 's>(
 }
 
 /// The only part of a value.
-fn only<'a, 't, 's>(parts: Parts<'a>, element: Element<'t, 's>) -> Option<Frame<'a, 't, 's>> {
+fn only<'a, 't, 's>(parts: Parts<'a>, element: Element<'t, 's>) -> Option<Frame<'a, 't, 's>>
+    ensures { MatchOption result ⊥ (λ f. (f.place.parts ≡ parts.entry) × (f.place.begun ≡ 0) ×
+        (f.source ≡ OneSource (Some element.entry))) }
+{
     Some(Frame {
         place: Place::new(parts),
         source: Source::One(Some(element)),
@@ -94,7 +117,7 @@ fn only<'a, 't, 's>(parts: Parts<'a>, element: Element<'t, 's>) -> Option<Frame<
 }
 
 fn open_null<'a, 't, 's>(alloc: Global, element: &Element<'t, 's>) -> Opened<'a, 't, 's>
-    ensures { IfErr result IsReadRefusal }
+    ensures { Opens (λ F ns x. HasKind F x no_bytes) element.now [] [] result }
 {
     if element.is_null() {
         Ok(None)
@@ -108,11 +131,16 @@ fn open_bool<'a, 't, 's>(
     element: &Element<'t, 's>,
     out: &mut Vec<u8>,
 ) -> Opened<'a, 't, 's>
-    ensures { IfErr result IsReadRefusal }
+    ensures { Opens (λ F ns x. HasKind F x truth)
+        element.now out.old.items out.new.items result }
 {
     match element.as_bool() {
-        Some(value) => {
-            out.push(u8::from(value))?;
+        Some(true) => {
+            out.push(1)?;
+            Ok(None)
+        }
+        Some(false) => {
+            out.push(0)?;
             Ok(None)
         }
         None => Err(expected(alloc, "true or false")),
@@ -120,7 +148,10 @@ fn open_bool<'a, 't, 's>(
 }
 
 /// The text of a number of the type, as JSON has it.
-fn number_text<'s>(number: Number, element: &Element<'_, 's>) -> Option<&'s str> {
+fn number_text<'s>(number: Number, element: &Element<'_, 's>) -> Option<&'s str>
+    ensures { (j : Json) → BeginsWith element.now j → MatchOption result
+        ((s : List ℕ) → IsNumber number.size s j → ⊥) (λ s. IsNumber number.size s.now j) }
+{
     if number.is_quoted() {
         return element.as_str();
     }
@@ -142,19 +173,35 @@ fn open_number<'a, 't, 's>(
     element: &Element<'t, 's>,
     out: &mut Vec<u8>,
 ) -> Opened<'a, 't, 's>
-    ensures { IfErr result IsReadRefusal }
+    ensures { Opens (λ F ns x. HasKind F x (whole number.size number.is_signed number.is_non_zero))
+        element.now out.old.items out.new.items result }
 {
-    if let Some(text) = number_text(number, element)
-        && let Some(bytes) = number.bytes(text)
-    {
-        put_number(number, bytes, out)?;
-        return Ok(None);
+    let Some(text) = number_text(number, element) else {
+        return Err(wrong_number(alloc, number));
+    };
+    match number.bytes(text) {
+        Some(bytes) => {
+            put_number(number, bytes, out)?;
+            Ok(None)
+        }
+        None => Err(wrong_number(alloc, number)),
     }
-    Err(ReadError::Refused(Refusal::Expected(number.wanted(alloc)?)))
+}
+
+/// The refusal of other JSON than a number of the type.
+fn wrong_number(alloc: Global, number: Number) -> ReadError
+    ensures { IsExpected result }
+{
+    match number.wanted(alloc) {
+        Ok(wanted) => ReadError::Refused(Refusal::Expected(wanted)),
+        Err(_) => ReadError::OutOfMemory,
+    }
 }
 
 /// Adds the bytes of a number of the type.
-pub fn put_number(number: Number, bytes: [u8; 16], out: &mut Vec<u8>) -> Result<(), AllocError> {
+pub fn put_number(number: Number, bytes: [u8; 16], out: &mut Vec<u8>) -> Result<(), AllocError>
+    ensures { number.size ≤ 16 → OnOk result (out.new.items ≡ out.old.items ++ take number.size bytes) }
+{
     let own = &bytes[..usize::from(number.size).min(16)];
     Ok(out.extend_from_slice(own)?)
 }
@@ -165,14 +212,16 @@ fn open_bytes<'a, 't, 's>(
     element: &Element<'t, 's>,
     out: &mut Vec<u8>,
 ) -> Opened<'a, 't, 's>
-    ensures { IfErr result IsReadRefusal }
+    ensures { Opens (λ F ns x. HasKind F x (raw size))
+        element.now out.old.items out.new.items result }
 {
-    let bytes = match fixed_bytes(alloc, size, element) {
-        Ok(bytes) => bytes,
-        Err(error) => return Err(error),
-    };
-    out.extend_from_slice(bytes.as_slice())?;
-    Ok(None)
+    match fixed_bytes(alloc, size, element) {
+        Ok(bytes) => {
+            out.extend_from_slice(bytes.as_slice())?;
+            Ok(None)
+        }
+        Err(error) => Err(error),
+    }
 }
 
 fn open_float<'a, 't, 's>(
@@ -181,43 +230,64 @@ fn open_float<'a, 't, 's>(
     element: &Element<'t, 's>,
     out: &mut Vec<u8>,
 ) -> Opened<'a, 't, 's>
-    ensures { IfErr result IsReadRefusal }
+    ensures { Opens (λ F ns x. (bits : ℕ) × IsInfinity size bits × HasKind F x (float size bits))
+        element.now out.old.items out.new.items result }
 {
-    let bytes = match fixed_bytes(alloc, size, element) {
-        Ok(bytes) => bytes,
-        Err(error) => return Err(error),
-    };
-    if is_nan(bytes.as_slice()) {
-        return Err(ReadError::Refused(Refusal::NotNumber));
+    match fixed_bytes(alloc, size, element) {
+        Ok(bytes) => {
+            if is_nan(bytes.as_slice()) {
+                return Err(ReadError::Refused(Refusal::NotNumber));
+            }
+            out.extend_from_slice(bytes.as_slice())?;
+            Ok(None)
+        }
+        Err(error) => Err(error),
     }
-    out.extend_from_slice(bytes.as_slice())?;
-    Ok(None)
 }
 
 /// The bytes that `0x` and digits say, which are so many.
 fn fixed_bytes(alloc: Global, size: u8, element: &Element<'_, '_>) -> Result<Vec<u8>, ReadError>
-    ensures { IfErr result IsReadRefusal }
+    ensures { (j : Json) → BeginsWith element.now j → MatchResult result
+        (λ v. IsHex j v.items × (length v.items ≡ size))
+        (λ e. DeniesRead e ((bs : List ℕ) × IsHex j bs × (length bs ≡ size))) }
 {
-    if let Some(text) = element.as_str() {
-        let bytes = match digits_of(alloc, text) {
-            Ok(bytes) => bytes,
-            Err(error) => return Err(error),
-        };
-        if bytes.len() == usize::from(size) {
-            return Ok(bytes);
+    let Some(text) = element.as_str() else {
+        return Err(wrong_size(alloc, size));
+    };
+    let wanted = usize::from(size);
+    match digits_of(alloc, text) {
+        Ok(bytes) => {
+            if bytes.len() == wanted {
+                Ok(bytes)
+            } else {
+                Err(wrong_size(alloc, size))
+            }
         }
+        Err(error) => Err(error),
     }
-    let wanted = format!(in alloc; "\"0x..\" of {size} bytes")?;
-    Err(ReadError::Refused(Refusal::Expected(wanted)))
+}
+
+/// The refusal of other digits than for so many bytes.
+fn wrong_size(alloc: Global, size: u8) -> ReadError
+    ensures { IsExpected result }
+{
+    match format!(in alloc; "\"0x..\" of {size} bytes") {
+        Ok(wanted) => ReadError::Refused(Refusal::Expected(wanted)),
+        Err(_) => ReadError::OutOfMemory,
+    }
 }
 
 /// The bytes that `0x` and digits say.
 fn digits_of(alloc: Global, text: &str) -> Result<Vec<u8>, ReadError>
-    ensures { IfErr result IsReadRefusal }
+    ensures { MatchResult result (λ v. IsHex (string text.now) v.items)
+        (λ e. DeniesRead e ((bs : List ℕ) × IsHex (string text.now) bs)) }
 {
-    match hexadecimal(alloc, text)? {
-        Some(bytes) => Ok(bytes),
-        None => Err(expected(alloc, "\"0x..\", hexadecimal digits")),
+    match hexadecimal(alloc, text) {
+        Ok(found) => match found {
+            Some(bytes) => Ok(bytes),
+            None => Err(expected(alloc, "\"0x..\", hexadecimal digits")),
+        },
+        Err(_) => Err(ReadError::OutOfMemory),
     }
 }
 
@@ -227,7 +297,8 @@ fn open_text<'a, 't, 's>(
     element: &Element<'t, 's>,
     out: &mut Vec<u8>,
 ) -> Opened<'a, 't, 's>
-    ensures { IfErr result IsReadRefusal }
+    ensures { Opens (λ F ns x. HasKind F x (utf8 (lengths_of (form_of definition.now))))
+        element.now out.old.items out.new.items result }
 {
     match element.as_str() {
         Some(text) => match put_list(alloc, definition, text.as_bytes(), out) {
@@ -245,21 +316,36 @@ fn open_byte_list<'a, 't, 's>(
     element: &Element<'t, 's>,
     out: &mut Vec<u8>,
 ) -> Opened<'a, 't, 's>
-    ensures { IfErr result IsReadRefusal }
+    ensures { Opens (λ F ns x. (e : List ℕ) × IsAt ns elements.at e × HasKind F x (byte_list (lengths_of (form_of definition.now)) e) × (elements.is_refused ≡ false))
+        element.now out.old.items out.new.items result }
 {
     let Some(text) = element.as_str() else {
-        return open_list(alloc, definition, elements, element, out);
+        return open_items(alloc, definition, elements, element, out);
     };
-    let bytes = match digits_of(alloc, text) {
-        Ok(bytes) => bytes,
-        Err(error) => return Err(error),
-    };
-    if let Some(index) = descent_in(elements, bytes.as_slice()) {
-        return Err(ReadError::Descends(index));
-    }
-    match put_list(alloc, definition, bytes.as_slice(), out) {
-        Ok(()) => Ok(None),
+    match digits_of(alloc, text) {
+        Ok(bytes) => match put_ascending(alloc, definition, elements, bytes.as_slice(), out) {
+            Ok(()) => Ok(None),
+            Err(error) => Err(error),
+        },
         Err(error) => Err(error),
+    }
+}
+
+/// Adds a list of bytes, which have to ascend where the elements do.
+fn put_ascending(
+    alloc: Global,
+    definition: &Definition,
+    elements: Elements,
+    bytes: &[u8],
+    out: &mut Vec<u8>,
+) -> Result<(), ReadError>
+    ensures { let l = lengths_of (form_of definition.now) in MatchResult result
+        (λ _. (own : List ℕ) × (out.new.items ≡ out.old.items ++ own) × IsPrefixed l (length bytes.now) bytes.now own)
+        (λ e. DeniesRead e ((own : List ℕ) × IsPrefixed l (length bytes.now) bytes.now own)) }
+{
+    match descent_in(elements, bytes) {
+        Some(index) => Err(ReadError::Descends(index)),
+        None => put_list(alloc, definition, bytes, out),
     }
 }
 
@@ -275,10 +361,15 @@ pub fn put_list(
     bytes: &[u8],
     out: &mut Vec<u8>,
 ) -> Result<(), ReadError>
-    ensures { IfErr result IsReadRefusal }
+    ensures { let l = lengths_of (form_of definition.now) in MatchResult result
+        (λ _. (own : List ℕ) × (out.new.items ≡ out.old.items ++ own) × IsPrefixed l (length bytes.now) bytes.now own)
+        (λ e. DeniesRead e ((own : List ℕ) × IsPrefixed l (length bytes.now) bytes.now own)) }
 {
     match put_length(alloc, definition, bytes.len(), out) {
-        Ok(()) => Ok(out.extend_from_slice(bytes)?),
+        Ok(()) => {
+            out.extend_from_slice(bytes)?;
+            Ok(())
+        }
         Err(error) => Err(error),
     }
 }
@@ -290,7 +381,10 @@ fn put_length(
     count: usize,
     out: &mut Vec<u8>,
 ) -> Result<(), ReadError>
-    ensures { IfErr result IsReadRefusal }
+    ensures { let l = lengths_of (form_of definition.now) in MatchResult result
+        (λ _. (l.least ≤ count) × (count ≤ l.greatest) ×
+            (out.new.items ≡ out.old.items ++ tag l.width (pos count)))
+        (λ e. DeniesRead e ((l.least ≤ count) × (count ≤ l.greatest))) }
 {
     let Definition::Sequence {
         length_width,
@@ -306,7 +400,8 @@ fn put_length(
         let wanted = wanted_length(alloc, start, end)?;
         return Err(ReadError::Refused(Refusal::Expected(wanted)));
     }
-    Ok(put_count(out, *length_width, count)?)
+    put_count(out, *length_width, count)?;
+    Ok(())
 }
 
 /// How many elements a list has to have.
@@ -319,7 +414,9 @@ fn wanted_length(alloc: Global, start: u64, end: u64) -> Result<String, AllocErr
 }
 
 /// How many items are left; none if there are too many to count.
-fn count_items(items: Items<'_, '_>) -> Option<usize> {
+fn count_items(items: Items<'_, '_>) -> Option<usize>
+    ensures { (js : JsonItems) → InItems items.entry js → IfSome result (λ n. n ≡ length (list_parts [] js)) }
+{
     let mut items = items;
     let mut count: usize = 0;
     while let Some(_item) = items.next() {
@@ -339,7 +436,9 @@ enum Array<'t, 's> {
     Of(Items<'t, 's>, usize),
 }
 
-fn array_of<'t, 's>(element: &Element<'t, 's>) -> Array<'t, 's> {
+fn array_of<'t, 's>(element: &Element<'t, 's>) -> Array<'t, 's>
+    ensures { (j : Json) → BeginsWith element.now j → IsArrayOf j result }
+{
     let (Some(items), Some(left)) = (element.items(), element.items()) else {
         return Array::No;
     };
@@ -356,15 +455,34 @@ fn open_list<'a, 't, 's>(
     element: &Element<'t, 's>,
     out: &mut Vec<u8>,
 ) -> Opened<'a, 't, 's>
-    ensures { IfErr result IsReadRefusal }
+    ensures { Opens (λ F ns x. IsListOf F ns x (form_of definition.now) elements.at elements.is_refused)
+        element.now out.old.items out.new.items result }
 {
     if elements.is_refused {
         return Err(ReadError::Refused(Refusal::EmptyElements));
     }
+    open_items(alloc, definition, elements, element, out)
+}
+
+fn open_items<'a, 't, 's>(
+    alloc: Global,
+    definition: &Definition,
+    elements: Elements,
+    element: &Element<'t, 's>,
+    out: &mut Vec<u8>,
+) -> Opened<'a, 't, 's>
+    ensures { (F : List ℕ → Option Form) (ns : List NamedPlace) (x : List ℕ) (j : Json) (kind : TableKind) (e : List ℕ) →
+        IsAt ns elements.at e → HasKind F x kind →
+        SaysArray F j kind (lengths_of (form_of definition.now)) e → BeginsWith element.now j →
+        IsOpened F ns x j out.old.items out.new.items result }
+{
     match array_of(element) {
         Array::Of(items, count) => match put_length(alloc, definition, count, out) {
             Ok(()) => Ok(Some(Frame {
-                place: Place::in_order(Parts::List(elements.at, count as u64), elements.order),
+                place: Place::in_order(
+                    Parts::List(elements.at, count as u64),
+                    elements.order,
+                ),
                 source: Source::Items(items),
             })),
             Err(error) => Err(error),
@@ -380,18 +498,32 @@ fn open_row<'a, 't, 's>(
     count: usize,
     element: &Element<'t, 's>,
 ) -> Opened<'a, 't, 's>
-    ensures { IfErr result IsReadRefusal }
+    ensures { Opens (λ F ns x. (f : Form) × IsAt ns at x × (F x ≡ Some f) × IsKindOf F ns x f (FoundRow count))
+        element.now [] [] result }
 {
     match array_of(element) {
-        Array::Of(items, found) if found == count => Ok(Some(Frame {
-            place: Place::new(Parts::Row(at, count)),
-            source: Source::Items(items),
-        })),
-        Array::TooLong => Err(ReadError::Refused(Refusal::TooDeep)),
-        _ => {
-            let wanted = format!(in alloc; "an array of {count}")?;
-            Err(ReadError::Refused(Refusal::Expected(wanted)))
+        Array::Of(items, found) => {
+            if found == count {
+                Ok(Some(Frame {
+                    place: Place::new(Parts::Row(at, count)),
+                    source: Source::Items(items),
+                }))
+            } else {
+                Err(wrong_row(alloc, count))
+            }
         }
+        Array::No => Err(wrong_row(alloc, count)),
+        Array::TooLong => Err(ReadError::Refused(Refusal::TooDeep)),
+    }
+}
+
+/// The refusal of other JSON than so many items.
+fn wrong_row(alloc: Global, count: usize) -> ReadError
+    ensures { IsExpected result }
+{
+    match format!(in alloc; "an array of {count}") {
+        Ok(wanted) => ReadError::Refused(Refusal::Expected(wanted)),
+        Err(_) => ReadError::OutOfMemory,
     }
 }
 
@@ -402,7 +534,6 @@ fn open_map<'a, 't, 's>(
     element: &Element<'t, 's>,
     out: &mut Vec<u8>,
 ) -> Opened<'a, 't, 's>
-    ensures { IfErr result IsReadRefusal }
 {
     let (source, count) = match sorted_entries(alloc, entries.key_kind, element) {
         Ok(found) => found,
@@ -423,7 +554,8 @@ fn open_object<'a, 't, 's>(
     fields: &'a NamedFields,
     element: &Element<'t, 's>,
 ) -> Opened<'a, 't, 's>
-    ensures { IfErr result IsReadRefusal }
+    ensures { Opens (λ F ns x. (f : Form) × IsAt ns at x × (F x ≡ Some f) × IsKindOf F ns x f (FoundObject fields.entry))
+        element.now [] [] result }
 {
     match members_of(alloc, element) {
         Ok(members) => Ok(Some(Frame {
@@ -439,7 +571,8 @@ fn open_option<'a, 't, 's>(
     element: Element<'t, 's>,
     out: &mut Vec<u8>,
 ) -> Opened<'a, 't, 's>
-    ensures { IfErr result IsReadRefusal }
+    ensures { Opens (λ F ns x. (p : List ℕ) × IsAt ns part p × HasKind F x (optional p))
+        element.entry out.old.items out.new.items result }
 {
     if element.is_null() {
         out.push(0)?;
@@ -457,7 +590,11 @@ fn open_variant<'a, 't, 's>(
     element: &Element<'t, 's>,
     out: &mut Vec<u8>,
 ) -> Opened<'a, 't, 's>
-    ensures { IfErr result IsReadRefusal }
+    ensures { let F = forms_in definitions.now.layout.now.map.now in let ns = definitions.now.layout.now.names.items in
+        IsKnown definitions.now → (x : List ℕ) (j : Json) → IsAt ns at x →
+        IsDistinct bytes_eq (map (λ v. string_bytes v.1) variants.now.items) →
+        HasKind F x (spec_variants width (map (λ v. (v.0, string_bytes v.1, string_bytes v.2)) variants.now.items)) →
+        BeginsWith element.now j → IsOpened F ns x j out.old.items out.new.items result }
 {
     let alloc = definitions.alloc;
     let Some((name, value)) = variant_in(element) else {
@@ -469,43 +606,79 @@ fn open_variant<'a, 't, 's>(
     };
     let part = definitions.part(at, index);
     let is_empty = definitions.is_zero_size(part);
-    put_tag(out, width, discriminant)?;
+    put_variant(out, width, discriminant)?;
     match value {
-        None if is_empty => Ok(None),
-        Some(value) if !is_empty => Ok(only(Parts::Variant(variant, part), value)),
-        None => Err(expected(alloc, "{\"Name\": value}, since the variant has a value")),
-        Some(_) => Err(expected(alloc, "the variant's name alone, since it has no value")),
+        None => {
+            if is_empty {
+                Ok(None)
+            } else {
+                Err(expected(alloc, "{\"Name\": value}, since the variant has a value"))
+            }
+        }
+        Some(value) => {
+            if is_empty {
+                Err(expected(alloc, "the variant's name alone, since it has no value"))
+            } else {
+                Ok(only(Parts::Variant(variant, part), value))
+            }
+        }
     }
 }
 
+/// Adds the tag of a variant.
+fn put_variant(out: &mut Vec<u8>, width: u8, discriminant: &i64) -> Result<(), AllocError>
+    ensures { OnOk result (out.new.items ≡ out.old.items ++ tag width discriminant.now) }
+{
+    put_tag(out, width, *discriminant)
+}
+
 /// The name of a variant, and its value if it has one: `"Name"` or `{"Name": value}`.
-fn variant_in<'t, 's>(element: &Element<'t, 's>) -> Option<(&'s str, Option<Element<'t, 's>>)> {
-    if let Some(name) = element.as_str() {
-        return Some((name, None));
+fn variant_in<'t, 's>(element: &Element<'t, 's>) -> Option<(&'s str, Option<Element<'t, 's>>)>
+    ensures { (j : Json) → BeginsWith element.now j →
+        NamesVariant j (option_map (λ r. (r.0.now, r.1)) result) }
+{
+    match element.as_str() {
+        Some(name) => Some((name, None)),
+        None => match element.members() {
+            Some(members) => only_member(members),
+            None => None,
+        },
     }
-    let mut members = element.members()?;
-    let (name, value) = members.next()?;
+}
+
+/// The member of an object that has one.
+fn only_member<'t, 's>(members: Members<'t, 's>) -> Option<(&'s str, Option<Element<'t, 's>>)>
+    ensures { (ms : JsonMembers) → InMembers members.entry ms →
+        NamesVariant (object ms) (option_map (λ r. (r.0.now, r.1)) result) }
+{
+    let mut members = members;
+    let Some((name, value)) = members.next() else {
+        return None;
+    };
     match members.next() {
-        None => Some((name, Some(value))),
         Some(_) => None,
+        None => Some((name, Some(value))),
     }
 }
 
 /// The index, the tag and the name of the first variant of this name.
-fn variant_named<'a>(variants: &'a Variants, name: &str) -> Option<(usize, i64, &'a str)> {
+fn variant_named<'a>(variants: &'a Variants, name: &str) -> Option<(usize, &'a i64, &'a str)>
+    ensures { IsVariantAt (map (λ v. (v.0, string_bytes v.1, string_bytes v.2)) variants.now.items) name.now
+        (option_map (λ r. (r.0, r.1.now, r.2.now)) result) }
+{
     let mut index: usize = 0;
-    for (tag, variant, _) in variants {
+    while let Some((tag, variant, _)) = variants.get(index) {
         if variant.as_str() == name {
-            return Some((index, *tag, variant.as_str()));
+            return Some((index, tag, variant.as_str()));
         }
-        index = index.saturating_add(1);
+        index += 1;
     }
     None
 }
 
 /// The refusal of JSON that isn't this.
 pub fn expected(alloc: Global, wanted: &str) -> ReadError
-    ensures { IsReadRefusal result }
+    ensures { IsExpected result }
 {
     match String::from_str(alloc, wanted) {
         Ok(wanted) => ReadError::Refused(Refusal::Expected(wanted)),

@@ -1,6 +1,19 @@
 // The reader's loop over the parts of a value.
-ghost use Rattle.borsh_json.specs.Errors.{IsPartError, IsReadRefusal, IsUnreadable};
-ghost use Rattle.std.specs.Prelude.{IfErr};
+ghost use Rattle.borsh_json.specs.Forms.{Form, form_of, forms_in};
+ghost use Rattle.borsh_json.specs.declared.error.Refusal.TheVariants.{TooDeep};
+ghost use Rattle.borsh_json.specs.declared.parts.Next.TheVariants.{Part as NextPart, Missing as NextMissing};
+ghost use Rattle.borsh_json.specs.Frames.{DeniesPart, DeniesRead, HasEntries, HasLeft, HaveLeft, IsEntryKey, IsNext, IsNextEntry, IsOf, IsReadOn, IsReading, NoneLeft};
+ghost use Rattle.borsh_json.specs.Known.{IsKnown};
+ghost use Rattle.borsh_json.specs.Places.{AreKeysOf, IsAt};
+ghost use Rattle.borsh_json.specs.Reads.{AreRead, IsMapless, Left, entries_left, PartsOfAll, SaysFirst, SaysSome};
+ghost use Rattle.borsh_json.specs.Represents.{HaveBytes};
+ghost use Rattle.borsh_json.specs.Table.{Entry, Keys, Part as JsonPart, key_json};
+ghost use Rattle.borsh_values.specs.Free.{KnowsSizes};
+ghost use Rattle.borsh_values.specs.Layouts.{IsLaidOut};
+ghost use Rattle.borsh_values.specs.declared.layout.Named.{Named as NamedPlace};
+ghost use Rattle.json.specs.Find.{BeginsWith};
+ghost use Rattle.json.specs.Json.{Json};
+ghost use Rattle.std.specs.Prelude.{◌≡◌, ◌∷◌, ◌++◌, [], true, IfErr, IfOk, ℕ, List, MatchOption, MatchResult, OnOk, Option};
 
 use crate::definitions::Definitions;
 use crate::error::{PartResult, ReadError, Refusal};
@@ -30,19 +43,32 @@ pub fn read_value<'a>(
     layout: &Layout<'a>,
     element: Element<'_, '_>,
 ) -> PartResult<'a, Vec<u8>>
-    ensures { IfErr result (IsPartError IsUnreadable) }
+    ensures { let F = forms_in layout.now.map.now in let root = layout.now.root.now in
+        IsMapless F → IsLaidOut layout.now → KnowsSizes layout.now → (j : Json) → BeginsWith element.entry j →
+        MatchResult result (λ v. HaveBytes F ((root, j) ∷ []) v.items ×
+            ((all : List ℕ) → HaveBytes F ((root, j) ∷ []) all → all ≡ v.items))
+        (λ e. DeniesPart e (SaysSome F root j)) }
 {
+    let definitions = Definitions::new(alloc, layout)?;
+    let position = Position::new(alloc, layout.root);
+    let out = Vec::new(alloc);
+    let outer = Vec::new(alloc);
     let mut reading = Reading {
         alloc,
-        definitions: Definitions::new(alloc, layout)?,
-        out: Vec::new(alloc),
-        position: Position::new(alloc, layout.root),
+        definitions,
+        out,
+        position,
         source: Source::One(Some(element)),
-        outer: Vec::new(alloc),
+        outer,
     };
     for _ in 0..u64::MAX {
-        if !reading.read_next()? {
-            return Ok(reading.out);
+        match reading.read_next() {
+            Ok(more) => {
+                if !more {
+                    return Ok(reading.out);
+                }
+            }
+            Err(error) => return Err(error),
         }
     }
     Err(reading.position.refused(Refusal::TooDeep))
@@ -62,13 +88,18 @@ struct Reading<'a, 'l, 't, 's> {
 impl<'a, 'l, 't, 's> Reading<'a, 'l, 't, 's> {
     /// Reads the next part, or goes back to the parts around; says no at the end of the value.
     fn read_next(&mut self) -> PartResult<'a, bool>
-        ensures { IfErr result (IsPartError IsUnreadable) }
+        ensures read { let F = forms_in self.old.definitions.layout.now.map.now in
+            let ns = self.old.definitions.layout.now.names.items in
+            IsMapless F → IsKnown self.old.definitions → (root : List ℕ) (j : Json) →
+            IsReading F ns root j self.old.position.place.parts self.old.position.place.begun self.old.source
+                self.old.position.outer.items self.old.outer.items self.old.out.items → MatchResult result
+            (λ more. IsReadOn F ns root j more self.new.position.place self.new.source
+                self.new.position.outer.items self.new.outer.items self.new.out.items)
+            (λ e. DeniesPart e (SaysSome F root j)) }
+        ensures known { IsKnown self.old.definitions → OnOk result (IsKnown self.new.definitions) }
+        ensures same { OnOk result (self.new.definitions.layout ≡ self.old.definitions.layout) }
     {
-        if !ascends(
-            &self.definitions,
-            &mut self.position.place,
-            self.out.as_slice(),
-        )? {
+        if !ascends(&self.definitions, &mut self.position.place, self.out.as_slice())? {
             return Err(self.position.refused_element(Refusal::Descends));
         }
         match take_next(
@@ -88,7 +119,19 @@ impl<'a, 'l, 't, 's> Reading<'a, 'l, 't, 's> {
 
     /// Reads a part, and goes into its parts if it has some.
     fn open(&mut self, at: usize, part: Element<'t, 's>) -> PartResult<'a, bool>
-        ensures { IfErr result (IsPartError IsUnreadable) }
+        ensures read { let F = forms_in self.old.definitions.layout.now.map.now in
+            let ns = self.old.definitions.layout.now.names.items in
+            IsMapless F → IsKnown self.old.definitions → (root : List ℕ) (j : Json) (x : List ℕ) (i : Json) (l : Left)
+            (ls : List Left) → IsAt ns at x → BeginsWith part.entry i →
+            HasLeft F ns self.old.position.place.parts self.old.position.place.begun self.old.source l →
+            HaveLeft F ns self.old.position.outer.items self.old.outer.items ls →
+            AreRead F root j self.old.out.items
+                (λ ps. (rest : List JsonPart) × PartsOfAll (l ∷ ls) rest × (ps ≡ (x, i) ∷ rest)) → MatchResult result
+            (λ more. IsReadOn F ns root j more self.new.position.place self.new.source
+                self.new.position.outer.items self.new.outer.items self.new.out.items)
+            (λ e. DeniesPart e (SaysSome F root j)) }
+        ensures known { IsKnown self.old.definitions → OnOk result (IsKnown self.new.definitions) }
+        ensures same { OnOk result (self.new.definitions.layout ≡ self.old.definitions.layout) }
     {
         match open_part(&mut self.definitions, at, part, &mut self.out) {
             Ok(opened) => match opened {
@@ -100,7 +143,13 @@ impl<'a, 'l, 't, 's> Reading<'a, 'l, 't, 's> {
     }
 
     fn enter(&mut self, frame: Frame<'a, 't, 's>) -> PartResult<'a, bool>
-        ensures { IfErr result (IsPartError IsUnreadable) }
+        ensures more { IfOk result (λ more. more ≡ true) }
+        ensures frame { OnOk result ((self.new.position.place ≡ frame.entry.place) × (self.new.source ≡ frame.entry.source)) }
+        ensures outer { OnOk result
+            ((self.new.position.outer.items ≡ self.old.position.outer.items ++ self.old.position.place ∷ []) ×
+                (self.new.outer.items ≡ self.old.outer.items ++ self.old.source ∷ [])) }
+        ensures same { OnOk result ((self.new.out ≡ self.old.out) × (self.new.definitions ≡ self.old.definitions)) }
+        ensures too_deep { IfErr result (IsOf TooDeep) }
     {
         self.position.enter(frame.place)?;
         self.outer
@@ -110,7 +159,16 @@ impl<'a, 'l, 't, 's> Reading<'a, 'l, 't, 's> {
 
     /// Goes back to the parts around, unless a key of an object is left that is no field.
     fn leave(&mut self) -> PartResult<'a, bool>
-        ensures { IfErr result (IsPartError IsUnreadable) }
+        ensures read { let F = forms_in self.old.definitions.layout.now.map.now in
+            let ns = self.old.definitions.layout.now.names.items in
+            (root : List ℕ) (j : Json) (ls : List Left) →
+            HaveLeft F ns self.old.position.outer.items self.old.outer.items ls →
+            (NoneLeft self.old.source → AreRead F root j self.old.out.items (PartsOfAll ls)) →
+            ((NoneLeft self.old.source → ⊥) → SaysSome F root j → ⊥) → MatchResult result
+            (λ more. IsReadOn F ns root j more self.new.position.place self.new.source
+                self.new.position.outer.items self.new.outer.items self.new.out.items)
+            (λ e. DeniesPart e (SaysSome F root j)) }
+        ensures same { OnOk result (self.new.definitions ≡ self.old.definitions) }
     {
         let unknown = self.source.unknown_key();
         let is_part = self.position.leave();
@@ -136,7 +194,9 @@ fn ascends(
     definitions: &Definitions<'_, '_>,
     place: &mut Place<'_>,
     bytes: &[u8],
-) -> Result<bool, AllocError> {
+) -> Result<bool, AllocError>
+    ensures { (place.new.parts ≡ place.old.parts) × (place.new.begun ≡ place.old.begun) }
+{
     let Some(ascent) = &mut place.ascent else {
         return Ok(true);
     };
@@ -152,7 +212,12 @@ fn take_next<'a, 't, 's>(
     source: &mut Source<'t, 's>,
     out: &mut Vec<u8>,
 ) -> Result<Next<'t, 's>, ReadError>
-    ensures { IfErr result IsReadRefusal }
+    ensures { let F = forms_in definitions.now.layout.now.map.now in
+        let ns = definitions.now.layout.now.names.items in
+        IsKnown definitions.now → (root : List ℕ) (j : Json) (l : Left) (ls : List Left) →
+        HasLeft F ns place.old.parts place.old.begun source.old l →
+        AreRead F root j out.old.items (PartsOfAll (l ∷ ls)) → MatchResult result
+        (IsNext F ns root j ls place.new source.new out.new.items) (λ e. DeniesRead e (SaysSome F root j)) }
 {
     let Some(part) = place.next_part(definitions) else {
         return Ok(Next::End);
@@ -164,7 +229,9 @@ fn take_next<'a, 't, 's>(
     }
 }
 
-fn found<'t, 's>(at: usize, element: Option<Element<'t, 's>>) -> Next<'t, 's> {
+fn found<'t, 's>(at: usize, element: Option<Element<'t, 's>>) -> Next<'t, 's>
+    ensures { MatchOption element.entry (result ≡ NextMissing) (λ e. result ≡ NextPart at e) }
+{
     match element {
         Some(element) => Next::Part(at, element),
         None => Next::Missing,
@@ -177,7 +244,13 @@ fn next_entry<'t, 's>(
     source: &mut Source<'t, 's>,
     out: &mut Vec<u8>,
 ) -> Result<Next<'t, 's>, ReadError>
-    ensures { IfErr result IsReadRefusal }
+    ensures { (F : List ℕ → Option Form) (ns : List NamedPlace) (root : List ℕ) (j : Json) (keys : Keys) (k v : List ℕ)
+        (es : List Entry) (ls : List Left) → IsAt ns entries.entry.value v →
+        AreKeysOf F ns k (form_of entries.entry.key_definition.now) entries.entry.key_kind keys →
+        HasEntries entries.entry.key_kind source.old es →
+        AreRead F root j out.old.items (PartsOfAll (entries_left keys k v es ∷ ls)) → MatchResult result
+        (IsNextEntry F ns root j keys k v es ls entries.entry.key_kind source.new out.new.items)
+        (λ e. DeniesRead e (SaysSome F root j)) }
 {
     match source.take_entry() {
         Some((key, element)) => {
@@ -197,15 +270,25 @@ fn put_key(
     key: EntryKey<'_>,
     out: &mut Vec<u8>,
 ) -> Result<(), ReadError>
-    ensures { IfErr result IsReadRefusal }
+    ensures { (F : List ℕ → Option Form) (ns : List NamedPlace) (k : List ℕ) (keys : Keys) (s : List ℕ) →
+        AreKeysOf F ns k (form_of entries.entry.key_definition.now) entries.entry.key_kind keys →
+        IsEntryKey entries.entry.key_kind key.entry s → MatchResult result
+        (λ _. (own : List ℕ) × (out.new.items ≡ out.old.items ++ own) × SaysFirst F k (key_json keys s) own [])
+        (λ e. DeniesRead e (SaysSome F k (key_json keys s))) }
 {
-    match (entries.key_kind, key) {
-        (KeyKind::Text, EntryKey::Text(text)) => {
-            put_list(alloc, entries.key_definition, text.as_bytes(), out)
-        }
-        (KeyKind::Number(number), EntryKey::Rank(rank)) => {
-            Ok(put_number(number, number.of_rank(rank), out)?)
-        }
-        _ => Ok(()),
+    match entries.key_kind {
+        KeyKind::Text => match key {
+            EntryKey::Text(text) => {
+                put_list(alloc, entries.key_definition, text.as_bytes(), out)
+            }
+            EntryKey::Rank(_) => Ok(()),
+        },
+        KeyKind::Number(number) => match key {
+            EntryKey::Text(_) => Ok(()),
+            EntryKey::Rank(rank) => {
+                put_number(number, number.of_rank(rank), out)?;
+                Ok(())
+            }
+        },
     }
 }

@@ -1,0 +1,13 @@
+use Rattle.borsh_json.specs.Table.{fields}
+use Rattle.borsh_json.proofs.OpeningLaws.{said, denies_read}
+use Rattle.std.proofs.Common.{map, string_bytes}
+use Rattle.borsh_json.proofs.PartsLaws.{object_opened}
+use Rattle.borsh_json.proofs.opening.open_object.Goals as goal
+
+pub returns-in-Ok : goal.returns-in-Ok
+returns-in-Ok c F ns x j h b =
+    let a = c.in-Ok.ensures j b in
+    object_opened F ns x j c.args.at c.args.fields h.1 c.new.result c.in-Ok.members a.0 h.3.0 h.3.1 c.new.ensures.parts c.new.ensures.begun a.1 a.2 a.3
+
+pub returns-in-Err : goal.returns-in-Err
+returns-in-Err c F ns x j h b = denies_read c.in-Err.error (λ g. let s = said F ns x j (fields (map (λ f. (string_bytes f.0, string_bytes f.1)) c.args.fields.now.items)) h.3.0 g in (s.2.2, s.2.3)) (c.in-Err.ensures j b)
