@@ -9,7 +9,7 @@ use Rattle.borsh_walks.specs.declared.definition.Fields.TheVariants.{NamedFields
 use Rattle.borsh_walks.specs.Container.{Member, product, choice}
 use Rattle.borsh_walks.specs.Definitions.{shape_of, definitions_in}
 use Rattle.borsh_json.specs.Forms.{form_of, form_of_parts, forms_in, shape_of_form, shapes}
-use Rattle.borsh_json.specs.Represents.{TextRepresents}
+use Rattle.borsh_json.specs.Represents.{TextSays}
 
 pub twice : {A B C : Type 0} (f : A → B) (g : B → C) (h : A → C) → ((a : A) → g (f a) ≡ h a) → (xs : List A) → map g (map f xs) ≡ map h xs
 twice f g h e [] = refl
@@ -36,6 +36,6 @@ named_shapes (Some d) = ap (λ s. Some s) (shape_is d)
 pub shapes_are : {A : Type 0} (m : BTreeMap (String A) Definition) → shapes (forms_in m) ≡ definitions_in m
 shapes_are m = fun_ext (λ x. named_shapes (get_by_text m x))
 
--- what a text represents is a member
-pub text_member : {A : Type 0} (m : BTreeMap (String A) Definition) (root text bytes : List ℕ) → TextRepresents (forms_in m) root text bytes → Member (definitions_in m) root bytes
-text_member m root text bytes t = subst (λ C. Member C root bytes) (shapes_are m) t.2.1
+-- what a text says is a member
+pub text_member : {A : Type 0} (m : BTreeMap (String A) Definition) (root text bytes : List ℕ) → TextSays (forms_in m) root text bytes → Member (definitions_in m) root bytes
+text_member m root text bytes t = subst (λ C. Member C root bytes) (shapes_are m) t.3

@@ -17,9 +17,9 @@ use Rattle.borsh_json.specs.declared.opening.Frame.{Frame}
 use Rattle.borsh_json.specs.declared.position.Parts.{Parts}
 use Rattle.borsh_json.specs.declared.sources.Source.{Source}
 use Rattle.borsh_json.specs.declared.sources.Source.TheVariants.{One}
-use Rattle.borsh_json.specs.Errors.{IsUnreadable, IsPartError}
+use Rattle.borsh_json.specs.Errors.{Denies, IsUnreadable, IsPartError}
 use Rattle.borsh_json.specs.Forms.{Form, HasNoBytes}
-use Rattle.borsh_json.specs.Frames.{Denies, DeniesRead, DeniesPart, IsOf, IsOfRead, IsExpected, IsFound, IsOpened, HasLeft, HasItems, IsWanted, IsMapPlace, Wanted}
+use Rattle.borsh_json.specs.Frames.{DeniesRead, DeniesPart, IsOf, IsOfRead, IsExpected, IsFound, IsOpened, HasLeft, HasItems, IsWanted, IsMapPlace, Wanted}
 use Rattle.borsh_json.specs.Reads.{Left, items_left, PartsOf, SaysFirst, SaysSome, IsOnly}
 use Rattle.borsh_json.specs.Represents.{HaveBytes}
 use Rattle.borsh_json.specs.Table.{Lengths, Kind, HasKind, Part, row_parts, list_parts, IsPrefixed, IsVariant, this, that, Says, truth, no_bytes}

@@ -22,7 +22,7 @@ use Rattle.json.specs.Json.{Json, boolean, number, string, array, object, no_mem
 use Rattle.borsh_walks.specs.Container.{tag}
 use Rattle.borsh_json.specs.Forms.{Form, primitive, sequence, tuple, newtype, unnamed, named, choice, HasNoBytes, IsByte, IsOption, IsMap}
 use Rattle.borsh_json.specs.Table.{Lengths, Keys, texts, numbers, Kind, no_bytes, truth, whole, float, raw, utf8, byte_list, list, row, inner, fields, optional, variants, entries, number_types, number_kind, primitive_kind, AreKeys, SequenceKind, a_text, some_bytes, an_object, some_elements, ChoiceKind, nullable, by_name, DefinedKind, HasKind, InRange, IsWhole, IsNumber, IsHex, IsPrefixed, Part, row_parts, list_parts, field_parts, IsVariant, this, that, Entry, entries_of, key_order, entry_parts, IsArray, Says}
-use Rattle.borsh_json.specs.Represents.{HaveBytes, none_left, next_part, Represents, TextRepresents}
+use Rattle.borsh_json.specs.Represents.{HaveBytes, none_left, next_part, TextSays}
 
 -- ---- the ascending arrangement of a map's entries is the only one
 abbrev IsAmong : {X : Type 0} → X → List X → Type 0
@@ -342,7 +342,7 @@ module _ (F : List ℕ → Option Form) where
   kind_small {x = x} (inr p) = defined_small x p.1 p.3
 
   -- ---- parts have one encoding
-  bytes_one : {ps : List Part} {bs cs : List ℕ} → HaveBytes F ps bs → HaveBytes F ps cs → bs ≡ cs
+  pub bytes_one : {ps : List Part} {bs cs : List ℕ} → HaveBytes F ps bs → HaveBytes F ps cs → bs ≡ cs
   bytes_one none_left none_left = refl
   bytes_one (next_part {bs = bs} {j = j} {ps = ps} kind a qs h p r) (next_part {bs = cs} other b rs i q s) =
       let d = kind_one i h in
@@ -350,13 +350,9 @@ module _ (F : List ℕ → Option Form) where
       let f = bytes_one r (subst (λ (l : List Part). HaveBytes F (l ++ ps) cs) (sym e.1) s) in
       ap (λ z. z ++ bs) e.0 ∙ ap (λ z. b ++ z) f
 
-  -- a JSON value represents one byte string
-  pub represents_one : (root : List ℕ) (j : Json) {a b : List ℕ} → Represents F root j a → Represents F root j b → a ≡ b
-  represents_one root j p q = bytes_one p.0 q.0
-
-  -- and so does a text
-  pub text_one : (root text : List ℕ) {a b : List ℕ} → TextRepresents F root text a → TextRepresents F root text b → a ≡ b
+  -- and so has a text
+  pub text_one : (root text : List ℕ) {a b : List ℕ} → TextSays F root text a → TextSays F root text b → a ≡ b
   text_one root text {b = b} p q =
       let g : Some q.0 ≡ Some p.0 = sym q.1 ∙ p.1 in
       let d : q.0 ≡ p.0 = cc in
-      represents_one root p.0 p.2 (subst (λ j. Represents F root j b) d q.2)
+      bytes_one p.2 (subst (λ j. HaveBytes F ((root, j) ∷ []) b) d q.2)

@@ -66,6 +66,23 @@ IsUnreadable (UnknownName name) = ⊤
 IsUnreadable (RepeatedKey name) = ⊤
 IsUnreadable (Undefined name) = ⊤
 
+-- the refusal shows that P doesn't hold; but depth and order show nothing
+abbrev pub Denies : Refusal → Type 0 → Type 0
+Denies TooDeep P = ⊤
+Denies (RepeatedName name) P = P → ⊥
+Denies EmptyElements P = P → ⊥
+Denies NotBool P = ⊥
+Denies NotUtf8 P = ⊥
+Denies Zero P = ⊥
+Denies NotNumber P = P → ⊥
+Denies Descends P = ⊤
+Denies OtherNodes P = P → ⊥
+Denies (Expected wanted) P = P → ⊥
+Denies MissingField P = P → ⊥
+Denies (UnknownName name) P = P → ⊥
+Denies (RepeatedKey name) P = ⊤
+Denies (Undefined name) P = P → ⊥
+
 -- an allocation failed, or a part is refused in one of these ways
 abbrev pub IsPartError : (Refusal → Type 0) → PartError → Type 0
 IsPartError May NoMemory = ⊤
@@ -133,3 +150,12 @@ module _ (C : List ℕ → Option Shape) (root : List ℕ) where
   IsBytesReason (Ambiguous x) = IsUndecided C root x.now
   IsBytesReason (NotJson offset) = ⊥
   IsBytesReason (Refused path refusal) = ⊥
+
+-- the error shows that P doesn't hold; but want of memory, definitions that are undecided, depth and order show nothing
+abbrev pub DeniesValue : JsonError → Type 0 → Type 0
+DeniesValue OutOfMemory P = ⊤
+DeniesValue (NoMember f) P = P → ⊥
+DeniesValue NoValue P = P → ⊥
+DeniesValue (Ambiguous x) P = ⊤
+DeniesValue (NotJson offset) P = P → ⊥
+DeniesValue (Refused path refusal) P = Denies refusal P

@@ -16,7 +16,8 @@ use Rattle.borsh_json.specs.declared.error.PartError.TheVariants.{OutOfMemory as
 use Rattle.borsh_json.specs.declared.error.ReadError.{ReadError}
 use Rattle.borsh_json.specs.declared.error.ReadError.TheVariants.{OutOfMemory, Refused, Descends as DescendsAt}
 use Rattle.borsh_json.specs.declared.error.Refusal.{Refusal}
-use Rattle.borsh_json.specs.declared.error.Refusal.TheVariants.{TooDeep, RepeatedName, EmptyElements, NotBool, NotUtf8, Zero, NotNumber, Descends, OtherNodes, Expected, MissingField, UnknownName, RepeatedKey, Undefined}
+use Rattle.borsh_json.specs.declared.error.Refusal.TheVariants.{Descends, Expected}
+use Rattle.borsh_json.specs.Errors.{Denies}
 use Rattle.borsh_json.specs.declared.kinds.KeyKind.{KeyKind}
 use Rattle.borsh_json.specs.declared.kinds.KeyKind.TheVariants.{Text as TextKeys, Number as NumberKeys}
 use Rattle.borsh_json.specs.declared.numbers.Number.{Number}
@@ -42,23 +43,6 @@ use Rattle.borsh_json.specs.Reads.{Left, items_left, fields_left, entries_left, 
 use Rattle.borsh_json.specs.Table.{Keys, Part as JsonPart, row_parts, Entry, entries_of, IsVariant, list_parts, Lengths, Kind, IsArray, Says}
 
 -- ---- errors
-
--- a refusal shows that P doesn't hold, but for depth, and for the order and number of keys
-abbrev pub Denies : Refusal → Type 0 → Type 0
-Denies TooDeep P = ⊤
-Denies (RepeatedName name) P = P → ⊥
-Denies EmptyElements P = P → ⊥
-Denies NotBool P = ⊥
-Denies NotUtf8 P = ⊥
-Denies Zero P = ⊥
-Denies NotNumber P = P → ⊥
-Denies Descends P = ⊤
-Denies OtherNodes P = P → ⊥
-Denies (Expected wanted) P = P → ⊥
-Denies MissingField P = P → ⊥
-Denies (UnknownName name) P = P → ⊥
-Denies (RepeatedKey name) P = ⊤
-Denies (Undefined name) P = P → ⊥
 
 abbrev pub DeniesRead : ReadError → Type 0 → Type 0
 DeniesRead OutOfMemory P = ⊤

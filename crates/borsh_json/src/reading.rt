@@ -3,9 +3,12 @@ ghost use Rattle.borsh_values.specs.Free.{KnowsSizes};
 ghost use Rattle.borsh_values.specs.Layouts.{IsLaidOut};
 ghost use Rattle.borsh_walks.specs.Container.{Member};
 ghost use Rattle.borsh_walks.specs.Definitions.{definitions_in};
-ghost use Rattle.borsh_json.specs.Errors.{IsBytesReason, IsPartError, IsTextReason, IsUnreadable, TellsNoJson};
-ghost use Rattle.json.specs.Json.{document};
-ghost use Rattle.std.specs.Prelude.{IfErr, IfOk, IsSome, OnOk};
+ghost use Rattle.borsh_json.specs.Errors.{DeniesValue, IsBytesReason, IsPartError, IsTextReason, IsUnreadable, TellsNoJson};
+ghost use Rattle.borsh_json.specs.Forms.{forms_in};
+ghost use Rattle.borsh_json.specs.Reads.{SaysSome};
+ghost use Rattle.borsh_json.specs.Represents.{HaveBytes, TextSays};
+ghost use Rattle.json.specs.Json.{Json, document};
+ghost use Rattle.std.specs.Prelude.{◌≡◌, ◌∷◌, [], ℕ, IfErr, IfOk, IsSome, List, MatchResult, OnOk, Some};
 
 use crate::error::JsonError;
 use crate::not_json::why_not_json;
@@ -23,10 +26,10 @@ use std::collections::BTreeMap;
 /// definitions is refused with its path and what was expected; so are keys that come twice, the bits of a NaN, and arrays whose
 /// elements or keys don't ascend where they have to. The bytes are a member of the root.
 ///
-/// Determined: after `Ok` the bytes are a member of the root, and the text is JSON that nests at most 128 deep. After `NotJson`
-/// it isn't; after any other error but `OutOfMemory` and `TooDeep` it is. `Ambiguous` is as of [`borsh_values::is_member`], and `NoMember`
-/// isn't returned. Left open: memory; `TooDeep` for any text; `NoValue` and `Refused` for any such JSON, for any reason that a
-/// text has; the byte of `NotJson`; the bytes of another member: tested, by tables and by round trips.
+/// Determined: after `Ok` the text says the bytes, and no others; a text that says some bytes gives these, or an error of the
+/// next three. After any error but `OutOfMemory`, `Ambiguous`, and refusals for depth and order, the text says none. `NotJson`
+/// is of a text that isn't JSON, `Ambiguous` as of [`borsh_values::is_member`], and `NoMember` isn't returned. Left open:
+/// memory; that elements and keys ascend; the path and reason of a refusal; the byte of `NotJson`: tested.
 ///
 /// ```
 /// let bytes = from_json(alloc, "(u8, bool)", &definitions, "[7, true]")?;
@@ -38,8 +41,12 @@ pub fn from_json<'a>(
     map: &'a BTreeMap<String, Definition>,
     text: &str,
 ) -> Result<Vec<u8>, JsonError<'a>>
-    ensures member { IfOk result (λ bytes. Member (definitions_in map.now) root.now bytes.items) }
-    ensures json { OnOk result (IsSome (document text.now)) }
+    ensures says { let F = forms_in map.now in
+        IfOk result (λ bytes. TextSays F root.now text.now bytes.items) }
+    ensures determined { let F = forms_in map.now in (bytes : List ℕ) →
+        TextSays F root.now text.now bytes → IfOk result (λ found. found.items ≡ bytes) }
+    ensures denies { let F = forms_in map.now in
+        IfErr result (λ e. DeniesValue e ((bytes : List ℕ) × TextSays F root.now text.now bytes)) }
     ensures reason { IfErr result (λ e. IsTextReason (definitions_in map.now) root.now text.now e) }
 {
     from_json_by(alloc, &Layout::new(alloc, root, map)?, text)
@@ -60,9 +67,12 @@ pub fn from_json_by<'a>(
 ) -> Result<Vec<u8>, JsonError<'a>>
     requires laid_out { IsLaidOut layout.now }
     requires sizes { KnowsSizes layout.now }
-    ensures member { let C = definitions_in layout.now.map.now in
-        IfOk result (λ bytes. Member C layout.now.root.now bytes.items) }
-    ensures json { OnOk result (IsSome (document text.now)) }
+    ensures says { let F = forms_in layout.now.map.now in
+        IfOk result (λ bytes. TextSays F layout.now.root.now text.now bytes.items) }
+    ensures determined { let F = forms_in layout.now.map.now in (bytes : List ℕ) →
+        TextSays F layout.now.root.now text.now bytes → IfOk result (λ found. found.items ≡ bytes) }
+    ensures denies { let F = forms_in layout.now.map.now in IfErr result (λ e.
+        DeniesValue e ((bytes : List ℕ) × TextSays F layout.now.root.now text.now bytes)) }
     ensures reason { let C = definitions_in layout.now.map.now in
         IfErr result (λ e. IsTextReason C layout.now.root.now text.now e) }
 {
@@ -89,6 +99,11 @@ fn check_member<'a>(alloc: Global, layout: &Layout<'a>, bytes: &[u8]) -> Result<
 
 /// The bytes that a text says, which needn't be a member of the root.
 fn read_text<'a>(alloc: Global, layout: &Layout<'a>, text: &str) -> Result<Vec<u8>, JsonError<'a>>
+    requires laid_out { IsLaidOut layout.now }
+    requires sizes { KnowsSizes layout.now }
+    ensures read { let F = forms_in layout.now.map.now in let root = layout.now.root.now in (j : Json) →
+        document text.now ≡ Some j → MatchResult result (λ v. HaveBytes F ((root, j) ∷ []) v.items)
+            (λ e. DeniesValue e (SaysSome F root j)) }
     ensures json { OnOk result (IsSome (document text.now)) }
     ensures reason { let C = definitions_in layout.now.map.now in
         IfErr result (λ e. IsTextReason C layout.now.root.now text.now e) }
