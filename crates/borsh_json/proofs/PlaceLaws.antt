@@ -1,8 +1,9 @@
 -- The names and definitions at places.
-use Rattle.std.proofs.Common.{◌≡◌, ◌⊎◌, inl, inr, ℕ, ◌<◌, List, [], ◌∷◌, length, map, Some, None, refl, sym, ◌∙◌, ap, subst, arith, Bool, false, get_or, Decides}
+use Rattle.std.proofs.Common.{◌≡◌, ◌⊎◌, inl, inr, ℕ, suc, zero, ◌<◌, List, [], ◌∷◌, ◌++◌, length, map, Some, None, refl, sym, ◌∙◌, ap, subst, arith, Bool, false, get_or, Decides}
 use Rattle.std.specs.Prelude.{Option, option_map, option_and_then, slice_get, unwrap_or, Vec}
 use Rattle.std.specs.Borrow.{Bor}
 use Rattle.std.specs.BTreeMap.{get_by_text}
+use Rattle.std.proofs.lemmas.Option.{slice_get-get_or}
 use Rattle.borsh_walks.specs.declared.definition.Definition.{Definition}
 use Rattle.borsh_walks.specs.Container.{Shape, references, IsZeroSize}
 use Rattle.borsh_walks.specs.Definitions.{definitions_in, shape_of}
@@ -14,7 +15,7 @@ use Rattle.borsh_values.proofs.Places.{name_is, name_there, place_is}
 use Rattle.borsh_json.specs.declared.definitions.Definitions.{Definitions}
 use Rattle.borsh_json.specs.declared.kinds.Kind.{Kind as Found}
 use Rattle.borsh_json.specs.Known.{IsKnown}
-use Rattle.borsh_json.specs.Places.{AreKinds, IsAt, IsKindOf}
+use Rattle.borsh_json.specs.Places.{AreKinds, IsAt, IsKindAt}
 use Rattle.borsh_json.specs.Forms.{Form, form_of, forms_in, shape_of_form, shapes, HasNoBytes}
 use Rattle.borsh_json.proofs.FormsLaws.{shapes_are}
 
@@ -51,18 +52,35 @@ module _ (l : Layout) (laid : IsLaidOut l) where
       let i = name_is l.names.items at x n in
       subst (λ (C : List ℕ → Option Shape). Decides b (IsZeroSize C x)) (sym (shapes_are l.map.now)) (subst (λ b. Decides b (IsZeroSize (definitions_in l.map.now) x)) (sym e) (subst (λ x. Decides (get_or l.zeros.items at false) (IsZeroSize (definitions_in l.map.now) x)) i.1 (sizes.zeros at i.0)))
 
--- one kind more is known
-pub known_more : (d e : Definitions) (at : ℕ) (kind : Found) (g : Form) → IsKnown d → e.layout ≡ d.layout → ((i : ℕ) (found : Found) → slice_get e.kinds.items i ≡ Some (Some found) → (slice_get d.kinds.items i ≡ Some (Some found)) ⊎ ((i ≡ at) × (found ≡ kind))) → ((x : List ℕ) → IsAt d.layout.now.names.items at x → forms_in d.layout.now.map.now x ≡ Some g) → ((x : List ℕ) → IsAt d.layout.now.names.items at x → forms_in d.layout.now.map.now x ≡ Some g → (HasNoBytes (forms_in d.layout.now.map.now) x → ⊥) → IsKindOf (forms_in d.layout.now.map.now) d.layout.now.names.items x g kind) → IsKnown e
-known_more d e at kind g k q more here tells = record {
-  laid_out = subst (λ l. IsLaidOut l.now) (sym q) k.laid_out;
-  sizes = subst (λ l. KnowsSizes l.now) (sym q) k.sizes;
-  kinds = subst (λ l. AreKinds (forms_in l.now.map.now) l.now.names.items e.kinds.items) (sym q) (λ i found s. elim (more i found s) [
-    | inl o ↦ k.kinds i found o
-    | inr p ↦ (λ x f n h full.
-        let m = subst (λ i. IsAt d.layout.now.names.items i x) p.0 n in
-        let t = here x m in
-        let r : Some g ≡ Some f = sym t ∙ h in
-        let z : g ≡ f = cc in
-        subst (λ k. IsKindOf (forms_in d.layout.now.map.now) d.layout.now.names.items x f k) (sym p.1) (subst (λ f. IsKindOf (forms_in d.layout.now.map.now) d.layout.now.names.items x f kind) z (tells x m t full)))
-  ]);
-}
+-- the kind of one name more is known
+get_pushed : {X : Type 0} (xs : List X) (y : X) (i : ℕ) (o : X) → slice_get (xs ++ y ∷ []) i ≡ Some o → (slice_get xs i ≡ Some o) ⊎ ((i ≡ length xs) × (y ≡ o))
+get_pushed [] y zero o e = inr (refl, (let q : y ≡ o = cc in q))
+get_pushed [] y (suc i) o e = cc
+get_pushed (x ∷ xs) y zero o e = inl e
+get_pushed (x ∷ xs) y (suc i) o e = elim (get_pushed xs y i o e) [
+  | inl a ↦ inl a
+  | inr p ↦ (let q = p.0 in inr (omega arith, p.1))
+]
+
+pub kinds_pushed : (d e : Definitions) (at : ℕ) (found : Option (Bor Definition × Found)) → IsKnown d → e.layout ≡ d.layout → e.kinds.items ≡ d.kinds.items ++ found ∷ [] → length d.kinds.items ≡ at → IsKindAt (forms_in d.layout.now.map.now) d.layout.now.names.items at found → IsKnown e
+kinds_pushed d e at found k q p n tells =
+    let F = forms_in d.layout.now.map.now in
+    let ns = d.layout.now.names.items in
+    record {
+      laid_out = subst (λ l. IsLaidOut l.now) (sym q) k.laid_out;
+      sizes = subst (λ l. KnowsSizes l.now) (sym q) k.sizes;
+      kinds = subst (λ l. AreKinds (forms_in l.now.map.now) l.now.names.items e.kinds.items) (sym q) (λ i o s. elim (get_pushed d.kinds.items found i o (subst (λ (xs : List (Option (Bor Definition × Found))). slice_get xs i ≡ Some o) p s)) [
+        | inl a ↦ k.kinds i o a
+        | inr r ↦ subst (λ i. IsKindAt F ns i o) (sym (r.0 ∙ n)) (subst (λ (o : Option (Bor Definition × Found)). IsKindAt F ns at o) r.1 tells)
+      ]);
+    }
+
+pub kinds_none : (F : List ℕ → Option Form) (ns : List Named) (xs : List (Option (Bor Definition × Found))) → xs ≡ [] → AreKinds F ns xs
+kinds_none F ns xs e = subst (λ (xs : List (Option (Bor Definition × Found))). AreKinds F ns xs) (sym e) (λ i o s. absurd cc)
+
+-- no place of a name is without what was found
+pub kind_there : (ns : List Named) (xs : List (Option (Bor Definition × Found))) (at : ℕ) (x : List ℕ) → length xs ≡ length ns → slice_get xs at ≡ None → IsAt ns at x → ⊥
+kind_there ns xs at x n e a =
+    let i = name_is ns at x a in
+    let g = slice_get-get_or xs at None (omega (arith, i.0, n)) in
+    cc

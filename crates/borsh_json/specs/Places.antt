@@ -1,10 +1,12 @@
 -- Names by their places in a layout, and the kinds that the code finds of them.
-use Rattle.std.specs.Prelude.{◌≡◌, ◌⊎◌, ⊤, ℕ, ℤ, List, map, length, Bool, true, false, Option, Some, None, option_map, slice_get, string_bytes, Vec}
+use Rattle.std.specs.Prelude.{◌≡◌, ◌⊎◌, ⊤, ℕ, ℤ, List, map, length, Bool, true, false, Option, Some, None, MatchOption, option_map, slice_get, string_bytes, Vec}
 use Rattle.std.specs.Global.{Global}
+use Rattle.std.specs.Borrow.{Bor}
 use Rattle.std.specs.Str.{bytes_eq}
 use Rattle.std.specs.List.{IsDistinct}
 use Rattle.json.specs.Json.{Json}
 use Rattle.borsh_walks.specs.Container.{references}
+use Rattle.borsh_walks.specs.declared.definition.Definition.{Definition}
 use Rattle.borsh_values.specs.declared.layout.Named.{Named}
 use Rattle.borsh_values.specs.Layouts.{name_of}
 use Rattle.borsh_json.specs.declared.kinds.Kind.{Kind as Found}
@@ -67,10 +69,10 @@ module _ (F : List ℕ → Option Form) (ns : List Named) where
   IsKindOf x f (Choice w vs) = HasKind F x (variants w (map (λ v. (v.0, string_bytes v.1, string_bytes v.2)) vs.now.items)) × IsDistinct bytes_eq (map (λ v. string_bytes v.1) vs.now.items)
   IsKindOf x f (Repeated name) = IsUnsayable x
 
-  -- and that of the name at a place, for each name with bytes
-  abbrev pub IsKindAt : ℕ → Found → Type 0
-  IsKindAt i found = (x : List ℕ) (f : Form) → IsAt ns i x → F x ≡ Some f → (HasNoBytes F x → ⊥) → IsKindOf x f found
+  -- what was found of the name at a place: its definition and its kind, if it has bytes; and nothing only where it has no definition
+  abbrev pub IsKindAt : ℕ → Option (Bor Definition × Found) → Type 0
+  IsKindAt i found = (x : List ℕ) → IsAt ns i x → (HasNoBytes F x → ⊥) → MatchOption found (F x ≡ None) (λ r. (F x ≡ Some (form_of r.0.now)) × IsKindOf x (form_of r.0.now) r.1)
 
-  -- the kinds that are known are right
-  abbrev pub AreKinds : List (Option Found) → Type 0
-  AreKinds known = (i : ℕ) (found : Found) → slice_get known i ≡ Some (Some found) → IsKindAt i found
+  -- what was found of the first names is right
+  abbrev pub AreKinds : List (Option (Bor Definition × Found)) → Type 0
+  AreKinds known = (i : ℕ) (found : Option (Bor Definition × Found)) → slice_get known i ≡ Some found → IsKindAt i found

@@ -1,12 +1,11 @@
 // A layout, and what was found out about its names. Names are known by their places.
 ghost use Rattle.borsh_json.specs.Forms.{Form, HasNoBytes, form_of, forms_in, shape_of_form};
-ghost use Rattle.borsh_json.specs.Known.{IsKnown};
-ghost use Rattle.borsh_json.specs.Places.{IsAt, IsKindOf};
+ghost use Rattle.borsh_json.specs.Known.{HasKinds, IsKnown};
+ghost use Rattle.borsh_json.specs.Places.{IsAt, IsKindAt};
 ghost use Rattle.borsh_values.specs.Free.{KnowsSizes};
 ghost use Rattle.borsh_values.specs.Layouts.{IsLaidOut};
 ghost use Rattle.borsh_walks.specs.Container.{references};
-ghost use Rattle.borsh_json.specs.declared.kinds.Kind.{Kind as Found};
-ghost use Rattle.std.specs.Prelude.{◌≡◌, ◌⊎◌, ℕ, List, Decides, IfOk, OnOk, Some, option_map, slice_get};
+ghost use Rattle.std.specs.Prelude.{◌≡◌, ℕ, List, Decides, IfOk, OnOk, Some, option_map, slice_get};
 
 use crate::kinds::{Kind, kind_of};
 use crate::order::{Ordered, ordered_as};
@@ -22,34 +21,50 @@ enum Known {
     Order(Option<Ordered>),
 }
 
-/// A layout, and what was found out about its names.
+/// A layout, and how the values of its names are written as JSON: made once, for any number of values.
 #[derive(Drop)]
 pub struct Definitions<'a, 'l> {
     pub alloc: Global,
-    layout: &'l Layout<'a>,
-    /// Empty where there is one name: its kind is asked for once, unless it contains itself.
-    kinds: Vec<Option<Kind<'a>>>,
+    pub layout: &'l Layout<'a>,
+    /// Of each name its definition, if it has one, and how its values are written.
+    kinds: Vec<Option<(&'a Definition, Kind<'a>)>>,
     /// Empty until an order is asked for.
     orders: Vec<Known>,
 }
 
 impl<'a, 'l> Definitions<'a, 'l> {
     pub fn new(alloc: Global, layout: &'l Layout<'a>) -> Result<Definitions<'a, 'l>, AllocError>
-        ensures known { IsLaidOut layout.now → KnowsSizes layout.now → IfOk result (λ d. IsKnown d) }
-        ensures layout { IfOk result (λ d. d.layout ≡ layout.entry) }
+        ensures known { IsLaidOut layout.now → KnowsSizes layout.now → IfOk result (λ d. HasKinds d) }
+        ensures layout { IfOk result (λ d. d.layout.now ≡ layout.now) }
     {
         let count = layout.names.len();
-        let kinds = if count == 1 {
-            Vec::new(alloc)
-        } else {
-            vec![in alloc; None; count]?
-        };
-        Ok(Definitions {
+        let kinds = Vec::with_capacity(alloc, count)?;
+        let mut definitions = Definitions {
             alloc,
             layout,
             kinds,
             orders: Vec::new(alloc),
-        })
+        };
+        for at in 0..count {
+            let kind = definitions.find_kind(at)?;
+            definitions.kinds.push(kind)?;
+        }
+        Ok(definitions)
+    }
+
+    /// Finds the definition of the name at a place, if it has one, and how its values are written.
+    fn find_kind(&mut self, at: usize) -> Result<Option<(&'a Definition, Kind<'a>)>, AllocError>
+        ensures kind { let ns = self.old.layout.now.names.items in let F = forms_in self.old.layout.now.map.now in
+            IsKnown self.old → IfOk result (λ kind. IsKindAt F ns at kind) }
+        ensures same { OnOk result ((self.new.layout ≡ self.old.layout) × (self.new.kinds ≡ self.old.kinds)) }
+    {
+        match self.get(at) {
+            Some(definition) => {
+                let kind = kind_of(self, at, definition)?;
+                Ok(Some((definition, kind)))
+            }
+            None => Ok(None),
+        }
     }
 
     /// The definition of the name at a place, if it has one.
@@ -100,36 +115,20 @@ impl<'a, 'l> Definitions<'a, 'l> {
     }
 
     /// How the value of a node is written.
-    pub fn kind_of_node(&mut self, node: &Node<'a, '_>) -> Result<Kind<'a>, AllocError> {
-        let at = self.layout.places.get(node.name).copied();
-        self.kind(at.unwrap_or(usize::MAX), node.definition)
+    pub fn kind_of_node(&self, node: &Node<'a, '_>) -> Option<Kind<'a>> {
+        let at = self.layout.places.get(node.name).copied()?;
+        let (_, kind) = self.kind(at)?;
+        Some(kind)
     }
 
-    /// How the values of the name at a place, which has this definition, are written.
-    pub fn kind(&mut self, at: usize, definition: &'a Definition) -> Result<Kind<'a>, AllocError>
-        ensures kind { let ns = self.old.layout.now.names.items in let F = forms_in self.old.layout.now.map.now in
-            IsKnown self.old → IfOk result (λ kind. (x : List ℕ) → IsAt ns at x → F x ≡ Some (form_of definition.now) →
-            (HasNoBytes F x → ⊥) → IsKindOf F ns x (form_of definition.now) kind) }
-        ensures known { let ns = self.old.layout.now.names.items in let F = forms_in self.old.layout.now.map.now in
-            IsKnown self.old → ((x : List ℕ) → IsAt ns at x → F x ≡ Some (form_of definition.now)) →
-            OnOk result (IsKnown self.new) }
-        ensures same { OnOk result (self.new.layout ≡ self.old.layout) }
+    /// The definition of the name at a place, if it has one, and how its values are written.
+    pub fn kind(&self, at: usize) -> Option<(&'a Definition, Kind<'a>)>
+        ensures { let ns = self.now.layout.now.names.items in let F = forms_in self.now.layout.now.map.now in
+            HasKinds self.now → IsKindAt F ns at result }
     {
-        if let Some(Some(kind)) = self.kinds.as_slice().get(at).copied() {
-            return Ok(kind);
-        }
-        let kind = kind_of(self, at, definition)?;
-        self.keep(at, kind);
-        Ok(kind)
-    }
-
-    fn keep(&mut self, at: usize, kind: Kind<'a>)
-        ensures layout { self.new.layout ≡ self.old.layout }
-        ensures kinds { (i : ℕ) (found : Found) → slice_get self.new.kinds.items i ≡ Some (Some found) →
-            (slice_get self.old.kinds.items i ≡ Some (Some found)) ⊎ ((i ≡ at) × (found ≡ kind.entry)) }
-    {
-        if at < self.kinds.len() {
-            self.kinds[at] = Some(kind);
+        match self.kinds.as_slice().get(at).copied() {
+            Some(found) => found,
+            None => None,
         }
     }
 

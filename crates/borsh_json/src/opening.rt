@@ -5,7 +5,7 @@ ghost use Rattle.borsh_json.specs.declared.kinds.Kind.TheVariants.{Map as FoundM
 ghost use Rattle.borsh_json.specs.declared.sources.Source.TheVariants.{One as OneSource};
 ghost use Rattle.borsh_json.specs.Forms.{Form, HasNoBytes, form_of, forms_in};
 ghost use Rattle.borsh_json.specs.Frames.{DeniesRead, IsArrayOf, IsExpected, IsOpened, SaysArray, IsVariantAt, NamesVariant, Opens};
-ghost use Rattle.borsh_json.specs.Known.{IsKnown};
+ghost use Rattle.borsh_json.specs.Known.{HasKinds, IsKnown};
 ghost use Rattle.borsh_json.specs.Places.{IsAt, IsInfinity, IsKindOf, IsListOf, lengths_of};
 ghost use Rattle.borsh_json.specs.Reads.{IsMapless};
 ghost use Rattle.borsh_json.specs.Table.{Kind as TableKind, HasKind, IsHex, IsNumber, IsPrefixed, byte_list, entries_of, float, list_parts, no_bytes, optional, raw, truth, utf8, variants as spec_variants, whole};
@@ -44,26 +44,23 @@ pub type Opened<'a, 't, 's> = Result<Option<Frame<'a, 't, 's>>, ReadError>;
 
 /// Adds the own bytes of the value of the name at a place that the JSON says.
 pub fn open_part<'a, 't, 's>(
-    definitions: &mut Definitions<'a, '_>,
+    definitions: &Definitions<'a, '_>,
     at: usize,
     element: Element<'t, 's>,
     out: &mut Vec<u8>,
 ) -> Opened<'a, 't, 's>
-    ensures opened { let F = forms_in definitions.old.layout.now.map.now in
-        IsMapless F → IsKnown definitions.old → (x : List ℕ) (j : Json) → IsAt definitions.old.layout.now.names.items at x →
-        BeginsWith element.entry j →
-        IsOpened F definitions.old.layout.now.names.items x j out.old.items out.new.items result }
-    ensures known { IsKnown definitions.old → OnOk result (IsKnown definitions.new) }
-    ensures same { OnOk result (definitions.new.layout ≡ definitions.old.layout) }
+    ensures { let F = forms_in definitions.now.layout.now.map.now in
+        let ns = definitions.now.layout.now.names.items in
+        IsMapless F → HasKinds definitions.now → (x : List ℕ) (j : Json) → IsAt ns at x →
+        BeginsWith element.entry j → IsOpened F ns x j out.old.items out.new.items result }
 {
     if definitions.is_zero_size(at) {
         return open_null(definitions.alloc, &element);
     }
-    let Some(definition) = definitions.get(at) else {
+    let Some((definition, kind)) = definitions.kind(at) else {
         let name = String::from_str(definitions.alloc, definitions.name(at))?;
         return Err(ReadError::Refused(Refusal::Undefined(name)));
     };
-    let kind = definitions.kind(at, definition)?;
     match kind {
         Kind::Newtype(part) => Ok(only(Parts::Newtype(part), element)),
         Kind::Optional(part) => open_option(part, element, out),

@@ -3,13 +3,11 @@ ghost use Rattle.borsh_json.specs.Forms.{Form, form_of, forms_in};
 ghost use Rattle.borsh_json.specs.declared.error.Refusal.TheVariants.{TooDeep};
 ghost use Rattle.borsh_json.specs.declared.parts.Next.TheVariants.{Part as NextPart, Missing as NextMissing};
 ghost use Rattle.borsh_json.specs.Frames.{DeniesPart, DeniesRead, HasEntries, HasLeft, HaveLeft, IsEntryKey, IsNext, IsNextEntry, IsOf, IsReadOn, IsReading, NoneLeft};
-ghost use Rattle.borsh_json.specs.Known.{IsKnown};
+ghost use Rattle.borsh_json.specs.Known.{HasKinds, IsKnown};
 ghost use Rattle.borsh_json.specs.Places.{AreKeysOf, IsAt};
 ghost use Rattle.borsh_json.specs.Reads.{AreRead, IsMapless, Left, entries_left, PartsOfAll, SaysFirst, SaysSome};
 ghost use Rattle.borsh_json.specs.Represents.{HaveBytes};
 ghost use Rattle.borsh_json.specs.Table.{Entry, Keys, Part as JsonPart, key_json};
-ghost use Rattle.borsh_values.specs.Free.{KnowsSizes};
-ghost use Rattle.borsh_values.specs.Layouts.{IsLaidOut};
 ghost use Rattle.borsh_values.specs.declared.layout.Named.{Named as NamedPlace};
 ghost use Rattle.json.specs.Find.{BeginsWith};
 ghost use Rattle.json.specs.Json.{Json};
@@ -21,7 +19,6 @@ use crate::kinds::{Entries, KeyKind};
 use crate::opening::{Frame, open_part, put_list, put_number};
 use crate::position::{Key, Place, Position};
 use crate::sources::{EntryKey, Source};
-use borsh_values::Layout;
 use json::Element;
 use std::alloc::{AllocError, Global};
 use std::mem;
@@ -39,30 +36,28 @@ enum Next<'t, 's> {
 
 /// The bytes that JSON says as a value of the layout's root, which needn't be a member.
 pub fn read_value<'a>(
-    alloc: Global,
-    layout: &Layout<'a>,
+    definitions: &Definitions<'a, '_>,
     element: Element<'_, '_>,
 ) -> PartResult<'a, Vec<u8>>
-    ensures { let F = forms_in layout.now.map.now in let root = layout.now.root.now in
-        IsMapless F → IsLaidOut layout.now → KnowsSizes layout.now → (j : Json) → BeginsWith element.entry j →
+    ensures { let F = forms_in definitions.now.layout.now.map.now in
+        let root = definitions.now.layout.now.root.now in
+        IsMapless F → HasKinds definitions.now → (j : Json) → BeginsWith element.entry j →
         MatchResult result (λ v. HaveBytes F ((root, j) ∷ []) v.items ×
             ((all : List ℕ) → HaveBytes F ((root, j) ∷ []) all → all ≡ v.items))
         (λ e. DeniesPart e (SaysSome F root j)) }
 {
-    let definitions = Definitions::new(alloc, layout)?;
-    let position = Position::new(alloc, layout.root);
+    let alloc = definitions.alloc;
+    let position = Position::new(alloc, definitions.layout.root);
     let out = Vec::new(alloc);
     let outer = Vec::new(alloc);
     let mut reading = Reading {
-        alloc,
-        definitions,
         out,
         position,
         source: Source::One(Some(element)),
         outer,
     };
     for _ in 0..u64::MAX {
-        match reading.read_next() {
+        match reading.read_next(definitions) {
             Ok(more) => {
                 if !more {
                     return Ok(reading.out);
@@ -76,52 +71,53 @@ pub fn read_value<'a>(
 
 /// The bytes so far, and where the reader is, with the JSON of the parts around it.
 #[derive(Drop)]
-struct Reading<'a, 'l, 't, 's> {
-    alloc: Global,
-    definitions: Definitions<'a, 'l>,
+struct Reading<'a, 't, 's> {
     out: Vec<u8>,
     position: Position<'a>,
     source: Source<'t, 's>,
     outer: Vec<Source<'t, 's>>,
 }
 
-impl<'a, 'l, 't, 's> Reading<'a, 'l, 't, 's> {
+impl<'a, 't, 's> Reading<'a, 't, 's> {
     /// Reads the next part, or goes back to the parts around; says no at the end of the value.
-    fn read_next(&mut self) -> PartResult<'a, bool>
-        ensures read { let F = forms_in self.old.definitions.layout.now.map.now in
-            let ns = self.old.definitions.layout.now.names.items in
-            IsMapless F → IsKnown self.old.definitions → (root : List ℕ) (j : Json) →
+    fn read_next(&mut self, definitions: &Definitions<'a, '_>) -> PartResult<'a, bool>
+        ensures { let F = forms_in definitions.now.layout.now.map.now in
+            let ns = definitions.now.layout.now.names.items in
+            IsMapless F → HasKinds definitions.now → (root : List ℕ) (j : Json) →
             IsReading F ns root j self.old.position.place.parts self.old.position.place.begun self.old.source
                 self.old.position.outer.items self.old.outer.items self.old.out.items → MatchResult result
             (λ more. IsReadOn F ns root j more self.new.position.place self.new.source
                 self.new.position.outer.items self.new.outer.items self.new.out.items)
             (λ e. DeniesPart e (SaysSome F root j)) }
-        ensures known { IsKnown self.old.definitions → OnOk result (IsKnown self.new.definitions) }
-        ensures same { OnOk result (self.new.definitions.layout ≡ self.old.definitions.layout) }
     {
-        if !ascends(&self.definitions, &mut self.position.place, self.out.as_slice())? {
+        if !ascends(definitions, &mut self.position.place, self.out.as_slice())? {
             return Err(self.position.refused_element(Refusal::Descends));
         }
         match take_next(
-            &self.definitions,
+            definitions,
             &mut self.position.place,
             &mut self.source,
             &mut self.out,
         ) {
             Ok(next) => match next {
-                Next::Part(at, part) => self.open(at, part),
+                Next::Part(at, part) => self.open(definitions, at, part),
                 Next::Missing => Err(self.position.refused(Refusal::MissingField)),
-                Next::End => self.leave(),
+                Next::End => self.leave(definitions),
             },
             Err(error) => Err(self.position.refused_part(error)),
         }
     }
 
     /// Reads a part, and goes into its parts if it has some.
-    fn open(&mut self, at: usize, part: Element<'t, 's>) -> PartResult<'a, bool>
-        ensures read { let F = forms_in self.old.definitions.layout.now.map.now in
-            let ns = self.old.definitions.layout.now.names.items in
-            IsMapless F → IsKnown self.old.definitions → (root : List ℕ) (j : Json) (x : List ℕ) (i : Json) (l : Left)
+    fn open(
+        &mut self,
+        definitions: &Definitions<'a, '_>,
+        at: usize,
+        part: Element<'t, 's>,
+    ) -> PartResult<'a, bool>
+        ensures { let F = forms_in definitions.now.layout.now.map.now in
+            let ns = definitions.now.layout.now.names.items in
+            IsMapless F → HasKinds definitions.now → (root : List ℕ) (j : Json) (x : List ℕ) (i : Json) (l : Left)
             (ls : List Left) → IsAt ns at x → BeginsWith part.entry i →
             HasLeft F ns self.old.position.place.parts self.old.position.place.begun self.old.source l →
             HaveLeft F ns self.old.position.outer.items self.old.outer.items ls →
@@ -130,10 +126,8 @@ impl<'a, 'l, 't, 's> Reading<'a, 'l, 't, 's> {
             (λ more. IsReadOn F ns root j more self.new.position.place self.new.source
                 self.new.position.outer.items self.new.outer.items self.new.out.items)
             (λ e. DeniesPart e (SaysSome F root j)) }
-        ensures known { IsKnown self.old.definitions → OnOk result (IsKnown self.new.definitions) }
-        ensures same { OnOk result (self.new.definitions.layout ≡ self.old.definitions.layout) }
     {
-        match open_part(&mut self.definitions, at, part, &mut self.out) {
+        match open_part(definitions, at, part, &mut self.out) {
             Ok(opened) => match opened {
                 Some(frame) => self.enter(frame),
                 None => Ok(true),
@@ -148,7 +142,7 @@ impl<'a, 'l, 't, 's> Reading<'a, 'l, 't, 's> {
         ensures outer { OnOk result
             ((self.new.position.outer.items ≡ self.old.position.outer.items ++ self.old.position.place ∷ []) ×
                 (self.new.outer.items ≡ self.old.outer.items ++ self.old.source ∷ [])) }
-        ensures same { OnOk result ((self.new.out ≡ self.old.out) × (self.new.definitions ≡ self.old.definitions)) }
+        ensures same { OnOk result (self.new.out ≡ self.old.out) }
         ensures too_deep { IfErr result (IsOf TooDeep) }
     {
         self.position.enter(frame.place)?;
@@ -158,9 +152,9 @@ impl<'a, 'l, 't, 's> Reading<'a, 'l, 't, 's> {
     }
 
     /// Goes back to the parts around, unless a key of an object is left that is no field.
-    fn leave(&mut self) -> PartResult<'a, bool>
-        ensures read { let F = forms_in self.old.definitions.layout.now.map.now in
-            let ns = self.old.definitions.layout.now.names.items in
+    fn leave(&mut self, definitions: &Definitions<'a, '_>) -> PartResult<'a, bool>
+        ensures { let F = forms_in definitions.now.layout.now.map.now in
+            let ns = definitions.now.layout.now.names.items in
             (root : List ℕ) (j : Json) (ls : List Left) →
             HaveLeft F ns self.old.position.outer.items self.old.outer.items ls →
             (NoneLeft self.old.source → AreRead F root j self.old.out.items (PartsOfAll ls)) →
@@ -168,12 +162,11 @@ impl<'a, 'l, 't, 's> Reading<'a, 'l, 't, 's> {
             (λ more. IsReadOn F ns root j more self.new.position.place self.new.source
                 self.new.position.outer.items self.new.outer.items self.new.out.items)
             (λ e. DeniesPart e (SaysSome F root j)) }
-        ensures same { OnOk result (self.new.definitions ≡ self.old.definitions) }
     {
         let unknown = self.source.unknown_key();
         let is_part = self.position.leave();
         if let Some(key) = unknown {
-            let name = String::from_str(self.alloc, key)?;
+            let name = String::from_str(definitions.alloc, key)?;
             return Err(self.position.refused(Refusal::UnknownName(name)));
         }
         if !is_part {

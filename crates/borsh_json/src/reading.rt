@@ -5,11 +5,13 @@ ghost use Rattle.borsh_walks.specs.Container.{Member};
 ghost use Rattle.borsh_walks.specs.Definitions.{definitions_in};
 ghost use Rattle.borsh_json.specs.Errors.{DeniesValue, IsBytesReason, IsPartError, IsTextReason, IsUnreadable, TellsNoJson};
 ghost use Rattle.borsh_json.specs.Forms.{forms_in};
+ghost use Rattle.borsh_json.specs.Known.{HasKinds, SaysBy};
 ghost use Rattle.borsh_json.specs.Reads.{SaysSome};
 ghost use Rattle.borsh_json.specs.Represents.{HaveBytes, TextSays};
 ghost use Rattle.json.specs.Json.{Json, document};
 ghost use Rattle.std.specs.Prelude.{◌≡◌, ◌∷◌, [], ℕ, IfErr, IfOk, IsSome, List, MatchResult, OnOk, Some};
 
+use crate::definitions::Definitions;
 use crate::error::JsonError;
 use crate::not_json::why_not_json;
 use crate::parts::read_value;
@@ -49,36 +51,54 @@ pub fn from_json<'a>(
         IfErr result (λ e. DeniesValue e ((bytes : List ℕ) × TextSays F root.now text.now bytes)) }
     ensures reason { IfErr result (λ e. IsTextReason (definitions_in map.now) root.now text.now e) }
 {
-    from_json_by(alloc, &Layout::new(alloc, root, map)?, text)
+    let layout = Layout::new(alloc, root, map)?;
+    let json = Definitions::new(alloc, &layout)?;
+    json.from_json(text)
 }
 
-/// As [`from_json`], for a layout that was made before. Left open: as there.
-///
-/// ```
-/// let layout = Layout::new(alloc, "(u8, bool)", &definitions)?;
-/// for line in text.lines() {
-///     let bytes = from_json_by(alloc, &layout, line)?;
-/// }
-/// ```
-pub fn from_json_by<'a>(
-    alloc: Global,
-    layout: &Layout<'a>,
-    text: &str,
-) -> Result<Vec<u8>, JsonError<'a>>
-    requires laid_out { IsLaidOut layout.now }
-    requires sizes { KnowsSizes layout.now }
-    ensures says { let F = forms_in layout.now.map.now in
-        IfOk result (λ bytes. TextSays F layout.now.root.now text.now bytes.items) }
-    ensures determined { let F = forms_in layout.now.map.now in (bytes : List ℕ) →
-        TextSays F layout.now.root.now text.now bytes → IfOk result (λ found. found.items ≡ bytes) }
-    ensures denies { let F = forms_in layout.now.map.now in IfErr result (λ e.
-        DeniesValue e ((bytes : List ℕ) × TextSays F layout.now.root.now text.now bytes)) }
-    ensures reason { let C = definitions_in layout.now.map.now in
-        IfErr result (λ e. IsTextReason C layout.now.root.now text.now e) }
-{
-    let bytes = read_text(alloc, layout, text)?;
-    check_member(alloc, layout, bytes.as_slice())?;
-    Ok(bytes)
+impl<'a, 'l> Definitions<'a, 'l> {
+    /// As the function [`from_json`]. Left open: as there.
+    ///
+    /// ```
+    /// let layout = Layout::new(alloc, "(u8, bool)", &definitions)?;
+    /// let json = Json::new(alloc, &layout)?;
+    /// for line in text.lines() {
+    ///     let bytes = json.from_json(line)?;
+    /// }
+    /// ```
+    pub fn from_json(&self, text: &str) -> Result<Vec<u8>, JsonError<'a>>
+        requires { HasKinds self.now }
+        ensures says { IfOk result (λ bytes. SaysBy self.now text.now bytes.items) }
+        ensures determined { (bytes : List ℕ) → SaysBy self.now text.now bytes →
+            IfOk result (λ found. found.items ≡ bytes) }
+        ensures denies { IfErr result (λ e.
+            DeniesValue e ((bytes : List ℕ) × SaysBy self.now text.now bytes)) }
+        ensures reason { let layout = self.now.layout.now in
+            IfErr result (λ e. IsTextReason (definitions_in layout.map.now) layout.root.now text.now e) }
+    {
+        let bytes = self.read_text(text)?;
+        check_member(self.alloc, self.layout, bytes.as_slice())?;
+        Ok(bytes)
+    }
+
+    /// The bytes that a text says, which needn't be a member of the root.
+    pub fn read_text(&self, text: &str) -> Result<Vec<u8>, JsonError<'a>>
+        requires { HasKinds self.now }
+        ensures read { let layout = self.now.layout.now in let F = forms_in layout.map.now in (j : Json) →
+            document text.now ≡ Some j → MatchResult result (λ v. HaveBytes F ((layout.root.now, j) ∷ []) v.items)
+                (λ e. DeniesValue e (SaysSome F layout.root.now j)) }
+        ensures json { OnOk result (IsSome (document text.now)) }
+        ensures reason { let layout = self.now.layout.now in
+            IfErr result (λ e. IsTextReason (definitions_in layout.map.now) layout.root.now text.now e) }
+    {
+        let mut scratch = Scratch::new(self.alloc);
+        match Tape::parse(text, &mut scratch, Vec::new(self.alloc)) {
+            Ok(tape) => Ok(read_value(self, tape.root())?),
+            Err(json::Error::Invalid) => Err(why_not_json(self.alloc, self.layout.root, text)),
+            // A text of 4 GiB has more places than a tape can number.
+            Err(_) => Err(JsonError::OutOfMemory),
+        }
+    }
 }
 
 /// Refuses bytes that are no member of the root.
@@ -94,25 +114,5 @@ fn check_member<'a>(alloc: Global, layout: &Layout<'a>, bytes: &[u8]) -> Result<
         Membership::Member => Ok(()),
         Membership::NoMember(_) => Err(JsonError::NoValue),
         Membership::Ambiguous(name) => Err(JsonError::Ambiguous(name)),
-    }
-}
-
-/// The bytes that a text says, which needn't be a member of the root.
-fn read_text<'a>(alloc: Global, layout: &Layout<'a>, text: &str) -> Result<Vec<u8>, JsonError<'a>>
-    requires laid_out { IsLaidOut layout.now }
-    requires sizes { KnowsSizes layout.now }
-    ensures read { let F = forms_in layout.now.map.now in let root = layout.now.root.now in (j : Json) →
-        document text.now ≡ Some j → MatchResult result (λ v. HaveBytes F ((root, j) ∷ []) v.items)
-            (λ e. DeniesValue e (SaysSome F root j)) }
-    ensures json { OnOk result (IsSome (document text.now)) }
-    ensures reason { let C = definitions_in layout.now.map.now in
-        IfErr result (λ e. IsTextReason C layout.now.root.now text.now e) }
-{
-    let mut scratch = Scratch::new(alloc);
-    match Tape::parse(text, &mut scratch, Vec::new(alloc)) {
-        Ok(tape) => Ok(read_value(alloc, layout, tape.root())?),
-        Err(json::Error::Invalid) => Err(why_not_json(alloc, layout.root, text)),
-        // A text of 4 GiB has more places than a tape can number.
-        Err(_) => Err(JsonError::OutOfMemory),
     }
 }
