@@ -17,3 +17,4 @@ pub mod ReadingLaws
 pub mod MemberLaws
 pub mod KeyJson
 pub mod NumberTexts
+mod LaidLaws

@@ -132,7 +132,8 @@ impl<'a, 'l> Definitions<'a, 'l> {
     {
         match self.read_text(text) {
             Ok(read) => {
-                if read.as_slice() == bytes {
+                let is_same = read.as_slice() == bytes;
+                if is_same {
                     Ok(())
                 } else {
                     Err(no_json(self.alloc, self.layout.root))
