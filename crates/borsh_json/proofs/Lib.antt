@@ -17,4 +17,4 @@ pub mod ReadingLaws
 pub mod MemberLaws
 pub mod KeyJson
 pub mod NumberTexts
-mod LaidLaws
+pub mod LaidLaws
