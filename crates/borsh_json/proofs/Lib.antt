@@ -15,5 +15,7 @@ pub mod PartsLaws
 pub mod LoopLaws
 pub mod ReadingLaws
 pub mod MemberLaws
+pub mod EachLaws
+pub mod MapLaws
 pub mod KeyJson
 pub mod NumberTexts

@@ -5,7 +5,7 @@ ghost use Rattle.borsh_json.specs.declared.parts.Next.TheVariants.{Part as NextP
 ghost use Rattle.borsh_json.specs.Frames.{DeniesPart, DeniesRead, HasEntries, HasLeft, HaveLeft, IsEntryKey, IsNext, IsNextEntry, IsOf, IsReadOn, IsReading, NoneLeft};
 ghost use Rattle.borsh_json.specs.Known.{IsKnown};
 ghost use Rattle.borsh_json.specs.Places.{AreKeysOf, IsAt};
-ghost use Rattle.borsh_json.specs.Reads.{AreRead, IsMapless, Left, entries_left, PartsOfAll, SaysFirst, SaysSome};
+ghost use Rattle.borsh_json.specs.Reads.{AreRead, Left, entries_left, PartsOfAll, SaysFirst, SaysSome};
 ghost use Rattle.borsh_json.specs.Represents.{HaveBytes};
 ghost use Rattle.borsh_json.specs.Table.{Entry, Keys, Part as JsonPart, key_json};
 ghost use Rattle.borsh_values.specs.Free.{KnowsSizes};
@@ -44,9 +44,8 @@ pub fn read_value<'a>(
     element: Element<'_, '_>,
 ) -> PartResult<'a, Vec<u8>>
     ensures { let F = forms_in layout.now.map.now in let root = layout.now.root.now in
-        IsMapless F → IsLaidOut layout.now → KnowsSizes layout.now → (j : Json) → BeginsWith element.entry j →
-        MatchResult result (λ v. HaveBytes F ((root, j) ∷ []) v.items ×
-            ((all : List ℕ) → HaveBytes F ((root, j) ∷ []) all → all ≡ v.items))
+        IsLaidOut layout.now → KnowsSizes layout.now → (j : Json) → BeginsWith element.entry j →
+        MatchResult result (λ v. HaveBytes F ((root, j) ∷ []) v.items)
         (λ e. DeniesPart e (SaysSome F root j)) }
 {
     let definitions = Definitions::new(alloc, layout)?;
@@ -90,7 +89,7 @@ impl<'a, 'l, 't, 's> Reading<'a, 'l, 't, 's> {
     fn read_next(&mut self) -> PartResult<'a, bool>
         ensures read { let F = forms_in self.old.definitions.layout.now.map.now in
             let ns = self.old.definitions.layout.now.names.items in
-            IsMapless F → IsKnown self.old.definitions → (root : List ℕ) (j : Json) →
+            IsKnown self.old.definitions → (root : List ℕ) (j : Json) →
             IsReading F ns root j self.old.position.place.parts self.old.position.place.begun self.old.source
                 self.old.position.outer.items self.old.outer.items self.old.out.items → MatchResult result
             (λ more. IsReadOn F ns root j more self.new.position.place self.new.source
@@ -121,7 +120,7 @@ impl<'a, 'l, 't, 's> Reading<'a, 'l, 't, 's> {
     fn open(&mut self, at: usize, part: Element<'t, 's>) -> PartResult<'a, bool>
         ensures read { let F = forms_in self.old.definitions.layout.now.map.now in
             let ns = self.old.definitions.layout.now.names.items in
-            IsMapless F → IsKnown self.old.definitions → (root : List ℕ) (j : Json) (x : List ℕ) (i : Json) (l : Left)
+            IsKnown self.old.definitions → (root : List ℕ) (j : Json) (x : List ℕ) (i : Json) (l : Left)
             (ls : List Left) → IsAt ns at x → BeginsWith part.entry i →
             HasLeft F ns self.old.position.place.parts self.old.position.place.begun self.old.source l →
             HaveLeft F ns self.old.position.outer.items self.old.outer.items ls →

@@ -16,25 +16,25 @@ same_items (Ok x) a b C D p = ap (λ v. v.items) p.0
 same_items (Err e) a b C D p = tt
 
 pub returns-in-Some-clause-read : goal.returns-in-Some-clause-read
-returns-in-Some-clause-read c m k root j x i l ls a b h t r =
+returns-in-Some-clause-read c k root j x i l ls a b h t r =
     let old = c.args.self.now in
     let F = forms_in old.definitions.layout.now.map.now in
     let ns = old.definitions.layout.now.names.items in
-    let o = c.in-Ok.ensures.opened m k x i a b in
+    let o = c.in-Ok.ensures.opened k x i a b in
     let e = c.enter.ensures in
     frame_read F ns root j old.position.place old.source old.position.outer.items old.outer.items ls old.out.items t x i l h r c.open_part.new.out.items o.0 c.in-Some.frame o.1 (subst (λ (f : Option Frame). IsFound F ns (SaysFirst F x i) o.0 f) c.in-Some.is o.2) c.enter.result c.enter.new.self.position.place c.enter.new.self.source c.enter.new.self.position.outer.items c.enter.new.self.outer.items c.enter.new.self.out.items e.more e.frame e.outer (same_items c.enter.result c.enter.new.self.out c.open_part.new.out c.enter.new.self.definitions c.open_part.new.definitions e.same) e.too_deep
 
 pub returns-in-None-clause-read : goal.returns-in-None-clause-read
-returns-in-None-clause-read c m k root j x i l ls a b h t r =
+returns-in-None-clause-read c k root j x i l ls a b h t r =
     let old = c.args.self.now in
     let F = forms_in old.definitions.layout.now.map.now in
     let ns = old.definitions.layout.now.names.items in
-    let o = c.in-Ok.ensures.opened m k x i a b in
+    let o = c.in-Ok.ensures.opened k x i a b in
     reading_leaf F ns root j old.position.place old.source old.position.outer.items old.outer.items ls old.out.items t x i l h r c.open_part.new.out.items o.0 o.1 (subst (λ (f : Option Frame). IsFound F ns (SaysFirst F x i) o.0 f) c.in-None.is o.2)
 
 pub returns-in-Err-clause-read : goal.returns-in-Err-clause-read
-returns-in-Err-clause-read c m k root j x i l ls a b h t r =
+returns-in-Err-clause-read c k root j x i l ls a b h t r =
     let old = c.args.self.now in
     let F = forms_in old.definitions.layout.now.map.now in
     let ns = old.definitions.layout.now.names.items in
-    denies_part c.in-Err.error c.refused_part.result (SaysSome F root j) c.refused_part.ensures.same (reading_denied F ns root j old.position.place old.source old.position.outer.items old.outer.items ls old.out.items t x i l h r c.in-Err.error (c.in-Err.ensures.opened m k x i a b))
+    denies_part c.in-Err.error c.refused_part.result (SaysSome F root j) c.refused_part.ensures.same (reading_denied F ns root j old.position.place old.source old.position.outer.items old.outer.items ls old.out.items t x i l h r c.in-Err.error (c.in-Err.ensures.opened k x i a b))

@@ -9,16 +9,16 @@ use Rattle.borsh_json.proofs.ReadingLaws.{reading_same}
 use Rattle.borsh_json.proofs.parts.Reading.read_next.Goals as goal
 
 pub returns-in-Part-clause-read : goal.returns-in-Part-clause-read
-returns-in-Part-clause-read c m k root j r =
+returns-in-Part-clause-read c k root j r =
     let old = c.args.self.now in
     let F = forms_in old.definitions.layout.now.map.now in
     let ns = old.definitions.layout.now.names.items in
     let s = reading_same F ns root j c.ascends.ensures.0 c.ascends.ensures.1 r in
     let n = subst (λ (n : Next). IsNext F ns root j s.around c.take_next.new.place c.take_next.new.source c.take_next.new.out.items n) c.in-Part.is (c.in-Ok.ensures k root j s.inner s.around s.here s.read) in
-    c.open.ensures.read m k root j n.0 n.1 n.2 s.around n.3 n.4 n.5 s.there n.6
+    c.open.ensures.read k root j n.0 n.1 n.2 s.around n.3 n.4 n.5 s.there n.6
 
 pub returns-in-Missing-clause-read : goal.returns-in-Missing-clause-read
-returns-in-Missing-clause-read c m k root j r =
+returns-in-Missing-clause-read c k root j r =
     let old = c.args.self.now in
     let F = forms_in old.definitions.layout.now.map.now in
     let ns = old.definitions.layout.now.names.items in
@@ -27,7 +27,7 @@ returns-in-Missing-clause-read c m k root j r =
     denies_of MissingField c.refused.result (SaysSome F root j) c.refused.ensures.same n
 
 pub returns-in-End-clause-read : goal.returns-in-End-clause-read
-returns-in-End-clause-read c m k root j r =
+returns-in-End-clause-read c k root j r =
     let old = c.args.self.now in
     let F = forms_in old.definitions.layout.now.map.now in
     let ns = old.definitions.layout.now.names.items in
@@ -36,7 +36,7 @@ returns-in-End-clause-read c m k root j r =
     c.leave.ensures.read root j s.around s.there n.0 n.1
 
 pub returns-in-Err-clause-read : goal.returns-in-Err-clause-read
-returns-in-Err-clause-read c m k root j r =
+returns-in-Err-clause-read c k root j r =
     let old = c.args.self.now in
     let F = forms_in old.definitions.layout.now.map.now in
     let ns = old.definitions.layout.now.names.items in
