@@ -17,5 +17,6 @@ pub mod ReadingLaws
 pub mod MemberLaws
 pub mod EachLaws
 pub mod MapLaws
+pub mod TextLaws
 pub mod KeyJson
 pub mod NumberTexts

@@ -1,14 +1,13 @@
 // The bytes of a value that JSON says.
 ghost use Rattle.borsh_values.specs.Free.{KnowsSizes};
 ghost use Rattle.borsh_values.specs.Layouts.{IsLaidOut};
-ghost use Rattle.borsh_walks.specs.Container.{Member};
 ghost use Rattle.borsh_walks.specs.Definitions.{definitions_in};
-ghost use Rattle.borsh_json.specs.Errors.{DeniesValue, IsBytesReason, IsPartError, IsTextReason, IsUnreadable, TellsNoJson};
+ghost use Rattle.borsh_json.specs.Errors.{DeniesValue, IsTextReason};
 ghost use Rattle.borsh_json.specs.Forms.{forms_in};
 ghost use Rattle.borsh_json.specs.Reads.{SaysSome};
 ghost use Rattle.borsh_json.specs.Represents.{HaveBytes, TextSays};
 ghost use Rattle.json.specs.Json.{Json, document};
-ghost use Rattle.std.specs.Prelude.{◌≡◌, ◌∷◌, [], ℕ, IfErr, IfOk, IsSome, List, MatchResult, OnOk, Some};
+ghost use Rattle.std.specs.Prelude.{◌≡◌, ◌∷◌, [], ℕ, IfErr, IfOk, List, Some};
 
 use crate::error::JsonError;
 use crate::not_json::why_not_json;
@@ -77,21 +76,8 @@ pub fn from_json_by<'a>(
         IfErr result (λ e. IsTextReason C layout.now.root.now text.now e) }
 {
     let bytes = read_text(alloc, layout, text)?;
-    check_member(alloc, layout, bytes.as_slice())?;
-    Ok(bytes)
-}
-
-/// Refuses bytes that are no member of the root.
-fn check_member<'a>(alloc: Global, layout: &Layout<'a>, bytes: &[u8]) -> Result<(), JsonError<'a>>
-    requires laid_out { IsLaidOut layout.now }
-    requires sizes { KnowsSizes layout.now }
-    ensures member { let C = definitions_in layout.now.map.now in
-        OnOk result (Member C layout.now.root.now bytes.now) }
-    ensures reason { let C = definitions_in layout.now.map.now in
-        IfErr result (λ e. IsBytesReason C layout.now.root.now e) }
-{
-    match layout.is_member(alloc, bytes)? {
-        Membership::Member => Ok(()),
+    match layout.is_member(alloc, bytes.as_slice())? {
+        Membership::Member => Ok(bytes),
         Membership::NoMember(_) => Err(JsonError::NoValue),
         Membership::Ambiguous(name) => Err(JsonError::Ambiguous(name)),
     }
@@ -101,10 +87,10 @@ fn check_member<'a>(alloc: Global, layout: &Layout<'a>, bytes: &[u8]) -> Result<
 fn read_text<'a>(alloc: Global, layout: &Layout<'a>, text: &str) -> Result<Vec<u8>, JsonError<'a>>
     requires laid_out { IsLaidOut layout.now }
     requires sizes { KnowsSizes layout.now }
-    ensures read { let F = forms_in layout.now.map.now in let root = layout.now.root.now in (j : Json) →
-        document text.now ≡ Some j → MatchResult result (λ v. HaveBytes F ((root, j) ∷ []) v.items)
-            (λ e. DeniesValue e (SaysSome F root j)) }
-    ensures json { OnOk result (IsSome (document text.now)) }
+    ensures says { let F = forms_in layout.now.map.now in IfOk result (λ bytes. (j : Json) ×
+        (document text.now ≡ Some j) × HaveBytes F ((layout.now.root.now, j) ∷ []) bytes.items) }
+    ensures denies { let F = forms_in layout.now.map.now in IfErr result (λ e. DeniesValue e ((j : Json) ×
+        (document text.now ≡ Some j) × SaysSome F layout.now.root.now j)) }
     ensures reason { let C = definitions_in layout.now.map.now in
         IfErr result (λ e. IsTextReason C layout.now.root.now text.now e) }
 {
