@@ -13,13 +13,13 @@ use Rattle.borsh_json.specs.Table.{Lengths, Keys, texts, numbers, HasKind, utf8,
 use Rattle.borsh_json.proofs.OpeningLaws.{said, denies_read, one_string}
 
 -- a number's key is the JSON of the number
-key_number : (n : ℕ) (s : List ℕ) (b : Bool) → ((nat_le n 8 ≡ true) × (n ≤ 8)) ⊎ ((nat_le n 8 ≡ false) × (8 ≤ n)) → nat_le n 8 ≡ b → IsNumber n s (if b then number s else string s)
+pub key_number : (n : ℕ) (s : List ℕ) (b : Bool) → ((nat_le n 8 ≡ true) × (n ≤ 8)) ⊎ ((nat_le n 8 ≡ false) × (8 ≤ n)) → nat_le n 8 ≡ b → IsNumber n s (if b then number s else string s)
 key_number n s true (inl t) e = inl (t.1, refl)
 key_number n s true (inr t) e = let q : true ≡ false = sym e ∙ t.0 in cc
 key_number n s false (inl t) e = let q : false ≡ true = sym e ∙ t.0 in cc
 key_number n s false (inr t) e = inr (t.1, refl)
 
-tells : (n : ℕ) → ((nat_le n 8 ≡ true) × (n ≤ 8)) ⊎ ((nat_le n 8 ≡ false) × (8 ≤ n))
+pub tells : (n : ℕ) → ((nat_le n 8 ≡ true) × (n ≤ 8)) ⊎ ((nat_le n 8 ≡ false) × (8 ≤ n))
 tells n = elim (leb_tells n 8) [ inl h ↦ inl (h.0, h.1) | inr h ↦ inr (h.0, (let k = h.1 in omega arith)) ]
 
 module _ (F : List ℕ → Option Form) (ns : List Named) (k : List ℕ) (keys : Keys) (s : List ℕ) where

@@ -1,6 +1,6 @@
 -- The root and the map of a layout that was made for a call, and a text that was read again.
-use Rattle.std.proofs.Common.{◌≡◌, ℕ, List, [], ◌∷◌, Option, Some, None, true, refl, sym, subst}
-use Rattle.std.specs.Prelude.{String, is_some}
+use Rattle.std.proofs.Common.{◌≡◌, ℕ, List, [], ◌∷◌, Some, sym, subst}
+use Rattle.std.specs.Prelude.{String}
 use Rattle.std.specs.Borrow.{Bor}
 use Rattle.std.specs.Global.{Global}
 use Rattle.std.specs.BTreeMap.{BTreeMap}
@@ -22,12 +22,7 @@ by_layout P d l root map e f g p = subst (λ (m : Bor (BTreeMap (String Global) 
 pub laid_by : (l : Layout) (root : Bor (List ℕ)) (map : Bor (BTreeMap (String Global) Definition)) → l.root ≡ root → l.map ≡ map → IsLayout map.now root.now l.names.items l.parts.items → IsLaidOut l
 laid_by l root map f g p = subst (λ (m : Bor (BTreeMap (String Global) Definition)). IsLayout m.now l.root.now l.names.items l.parts.items) (sym g) (subst (λ (r : Bor (List ℕ)). IsLayout map.now r.now l.names.items l.parts.items) (sym f) p)
 
-pub some_of : {A : Type 0} (o : Option A) → is_some o ≡ true → (a : A) × (o ≡ Some a)
-some_of None e = absurd cc
-some_of (Some a) e = (a, refl)
-
 -- the text that was read says the member
-pub said_by : (d : Definitions) (text bytes read : List ℕ) → is_some (document text) ≡ true → ((j : Json) → document text ≡ Some j → HaveBytes (forms_in d.layout.now.map.now) ((d.layout.now.root.now, j) ∷ []) read) → read ≡ bytes → Member (definitions_in d.layout.now.map.now) d.layout.now.root.now bytes → SaysBy d text bytes
-said_by d text bytes read s h e m =
-    let t = some_of (document text) s in
-    (t.0, t.1, subst (λ b. HaveBytes (forms_in d.layout.now.map.now) ((d.layout.now.root.now, t.0) ∷ []) b) e (h t.0 t.1), subst (λ C. Member C d.layout.now.root.now bytes) (sym (shapes_are d.layout.now.map.now)) m)
+pub said_by : (d : Definitions) (text bytes read : List ℕ) → ((j : Json) × (document text ≡ Some j) × HaveBytes (forms_in d.layout.now.map.now) ((d.layout.now.root.now, j) ∷ []) read) → read ≡ bytes → Member (definitions_in d.layout.now.map.now) d.layout.now.root.now bytes → SaysBy d text bytes
+said_by d text bytes read s e m =
+    (s.0, s.1, subst (λ b. HaveBytes (forms_in d.layout.now.map.now) ((d.layout.now.root.now, s.0) ∷ []) b) e s.2, subst (λ C. Member C d.layout.now.root.now bytes) (sym (shapes_are d.layout.now.map.now)) m)

@@ -15,6 +15,9 @@ pub mod PartsLaws
 pub mod LoopLaws
 pub mod ReadingLaws
 pub mod MemberLaws
+pub mod EachLaws
+pub mod MapLaws
+pub mod TextLaws
 pub mod KeyJson
 pub mod NumberTexts
 pub mod LaidLaws

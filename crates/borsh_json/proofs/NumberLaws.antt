@@ -5,10 +5,10 @@ use Rattle.std.specs.Result.{OnOk}
 use Rattle.std.specs.Int.Signed.{lt_z}
 use Rattle.std.specs.Int.RustNames.{FitsSigned}
 use Rattle.std.specs.Int.{byte_at, bytes_low_first, cast_signed, cast_unsigned, to_le_bytes, w64, w128}
-use Rattle.std.specs.Ordering.{nat_cmp, int_cmp, MatchOrdering}
+use Rattle.std.specs.Ordering.{nat_cmp, int_cmp, is_eq, MatchOrdering}
 use Rattle.std.specs.declared.cmp.Ordering.{Ordering}
 use Rattle.std.specs.declared.cmp.Ordering.TheVariants.{Less, Equal, Greater}
-use Rattle.std.specs.Cmp.{nat_cmp_is, int_ranks}
+use Rattle.std.specs.Cmp.{nat_cmp_is, int_ranks, Equal-is}
 use Rattle.std.specs.Fmt.{decimal, signed_decimal}
 use Rattle.std.specs.Str.Parse.{signed_digits_value}
 use Rattle.std.proofs.lemmas.Fmt.{decimal_digit, decimal_is_IsNumeral_wide}
@@ -285,6 +285,13 @@ rank_order n true (negsuc y) (negsuc z) h a b = let p = power_most n h in sym (n
     turned Less p q m = omega (arith, ints)
     turned Equal p q m = let e : y ≡ z = cc in omega (arith, e)
     turned Greater p q m = omega (arith, ints)
+
+-- texts with one rank are one
+pub rank_one : (n : ℕ) (signed non_zero : Bool) (s t : List ℕ) (q r : ℕ) → n ≤ 16 → HasRank n signed non_zero s q → HasRank n signed non_zero t r → is_eq (nat_cmp q r) ≡ true → s ≡ t
+rank_one n signed non_zero s t q r h a b e =
+    let o : int_cmp a.0 b.0 ≡ Equal = sym (rank_order n signed a.0 b.0 h a.2 b.2) ∙ ap (λ x. nat_cmp x (rank_of signed b.0)) (sym a.4) ∙ ap (λ y. nat_cmp q y) (sym b.4) ∙ (Equal-is (nat_cmp q r)).0 e in
+    let z : a.0 ≡ b.0 = subst (λ o. MatchOrdering o (a.0 <ℤ b.0) (a.0 ≡ b.0) (b.0 <ℤ a.0)) o (int_ranks a.0 b.0) in
+    a.1 ∙ ap (λ z. signed_decimal z) z ∙ sym b.1
 
 pub ranks_compare : (n : ℕ) (signed non_zero : Bool) (s t : List ℕ) (q r : ℕ) → n ≤ 16 → HasRank n signed non_zero s q → HasRank n signed non_zero t r → nat_cmp q r ≡ int_cmp (signed_digits_value 10 s) (signed_digits_value 10 t)
 ranks_compare n signed non_zero s t q r h a b =

@@ -11,19 +11,16 @@ module _ (F : List ℕ → Option Form) where
   pub uncons : {x : List ℕ} {j : Json} {ps : List Part} {bs : List ℕ} → HaveBytes F ((x, j) ∷ ps) bs → (own : List ℕ) × (ns : List Part) × (cs : List ℕ) × (bs ≡ own ++ cs) × SaysFirst F x j own ns × HaveBytes F (ns ++ ps) cs
   uncons (next_part {bs = bs} kind own qs h s r) = (own, qs, bs, refl, (kind, h, s), r)
 
-  -- and so do the first of several
-  split : {all : List Part} {cs : List ℕ} → HaveBytes F all cs → (fs bs : List Part) → all ≡ fs ++ bs → (xs : List ℕ) × HaveBytes F fs xs
-  split none_left [] bs e = ([], none_left)
+  -- and so do the first of several, and the others
+  pub split : {all : List Part} {cs : List ℕ} → HaveBytes F all cs → (fs bs : List Part) → all ≡ fs ++ bs → (xs : List ℕ) × (ys : List ℕ) × HaveBytes F fs xs × HaveBytes F bs ys
+  split none_left [] bs e = ([], [], none_left, subst (λ (l : List Part). HaveBytes F l []) e none_left)
   split none_left (a ∷ fs) bs e = cc
-  split (next_part kind own qs h s r) [] bs e = ([], none_left)
+  split {cs = cs} (next_part kind own qs h s r) [] bs e = ([], cs, none_left, subst (λ (l : List Part). HaveBytes F l cs) e (next_part kind own qs h s r))
   split (next_part {x = x} {j = j} {ps = ps} kind own qs h s r) (a ∷ fs) bs e =
       let f : ps ≡ fs ++ bs = cc in
       let g : (x, j) ≡ a = cc in
       let t = split r (qs ++ fs) bs (ap (λ l. qs ++ l) f ∙ sym (append_assoc qs fs bs)) in
-      (own ++ t.0, subst (λ (b : Part). HaveBytes F (b ∷ fs) (own ++ t.0)) g (next_part kind own qs h s t.1))
-
-  nothing : {bs : List ℕ} → HaveBytes F [] bs → bs ≡ []
-  nothing none_left = refl
+      (own ++ t.0, t.1, subst (λ (b : Part). HaveBytes F (b ∷ fs) (own ++ t.0)) g (next_part kind own qs h s t.2), t.3)
 
   module _ (root : List ℕ) (j : Json) where
     pub read_start : AreRead F root j [] (λ ps. ps ≡ (root, j) ∷ [])
@@ -52,18 +49,13 @@ module _ (F : List ℕ → Option Form) where
           (u.1 ++ c.2.0, u.2, (u.1, c.2.0, o.1, c.2.1, refl), c.3 ∙ ap (λ l. out ++ l) (u.3 ∙ ap (λ l. l ++ u.2) o.0) ∙ sym (append_assoc out own u.2), u.5);
     }
 
-    -- at the end the bytes are those that the root says, and there are no others
+    -- at the end the bytes are those that the root says
     pub read_end : (out : List ℕ) (P : List Part → Type 0) → P [] → AreRead F root j out P → HaveBytes F ((root, j) ∷ []) out
     read_end out P p r = subst (λ l. HaveBytes F ((root, j) ∷ []) l) (append-nil out) (r.sound [] [] p none_left)
 
-    pub read_only : (out : List ℕ) → AreRead F root j out (λ ps. ps ≡ []) → (all : List ℕ) → HaveBytes F ((root, j) ∷ []) all → all ≡ out
-    read_only out r all h =
-        let c = r.complete all h in
-        c.3 ∙ ap (λ l. out ++ l) (nothing (subst (λ l. HaveBytes F l c.1) c.2 c.4)) ∙ append-nil out
-
     -- the next part says some bytes if the root does
     pub front_says : (x : List ℕ) (i : Json) (out : List ℕ) (R : List Part → Type 0) → AreRead F root j out (λ ps. (rest : List Part) × R rest × (ps ≡ (x, i) ∷ rest)) → SaysSome F root j → SaysSome F x i
-    front_says x i out R r s = let c = r.complete s.0 s.1 in split c.4 ((x, i) ∷ []) c.2.0 c.2.2
+    front_says x i out R r s = let c = r.complete s.0 s.1 in let t = split c.4 ((x, i) ∷ []) c.2.0 c.2.2 in (t.0, t.2)
 
     -- no parts at all
     pub read_bottom : (out : List ℕ) (P : List Part → Type 0) → AreRead F root j out P → ((ps : List Part) → P ps → ⊥) → (all : List ℕ) → HaveBytes F ((root, j) ∷ []) all → ⊥

@@ -26,7 +26,7 @@ use Rattle.borsh_json.specs.Places.{IsAt}
 use Rattle.borsh_json.specs.Reads.{Left, items_left, PartsOf, PartsOfAll, SaysFirst, SaysSome, AreRead}
 use Rattle.borsh_json.specs.Represents.{HaveBytes}
 use Rattle.borsh_json.specs.Table.{Part as JsonPart}
-use Rattle.borsh_json.proofs.ReaderLaws.{read_start, read_same, read_end, read_only, front_says}
+use Rattle.borsh_json.proofs.ReaderLaws.{read_start, read_same, read_end, front_says}
 use Rattle.borsh_json.proofs.StepLaws.{read_leaf, read_frame, pushed, popped, bottom, alone}
 use Rattle.borsh_json.proofs.OpeningLaws.{denies_of, denies_read, some_one}
 
@@ -83,11 +83,10 @@ module _ (F : List ℕ → Option Form) (ns : List Named) (root : List ℕ) (j :
       }
 
   -- and it was the last
-  pub reading_end : (ps : List Place) (ss : List Source) (ls : List Left) (out : List ℕ) → HaveLeft F ns ps ss ls → AreRead F root j out (PartsOfAll ls) → ps ≡ [] → HaveBytes F ((root, j) ∷ []) out × ((all : List ℕ) → HaveBytes F ((root, j) ∷ []) all → all ≡ out)
+  pub reading_end : (ps : List Place) (ss : List Source) (ls : List Left) (out : List ℕ) → HaveLeft F ns ps ss ls → AreRead F root j out (PartsOfAll ls) → ps ≡ [] → HaveBytes F ((root, j) ∷ []) out
   reading_end ps ss ls out there read p =
       let z = bottom F ns ss ls (subst (λ (ps : List Place). HaveLeft F ns ps ss ls) p there) in
-      let r = subst (λ (l : List Left). AreRead F root j out (PartsOfAll l)) z.0 read in
-      (read_end F root j out (PartsOfAll []) refl r, read_only F root j out r)
+      read_end F root j out (PartsOfAll []) refl (subst (λ (l : List Left). AreRead F root j out (PartsOfAll l)) z.0 read)
 
   pub no_around : (ps qs : List Place) (place : Place) (ss : List Source) (ls : List Left) → HaveLeft F ns ps ss ls → ss ≡ [] → ps ≡ qs ++ place ∷ [] → ⊥
   no_around ps qs place ss ls there e p =

@@ -25,7 +25,7 @@ use Rattle.borsh_json.specs.Table.{Lengths, Keys, texts, numbers, Kind, no_bytes
 use Rattle.borsh_json.specs.Represents.{HaveBytes, none_left, next_part, TextSays}
 
 -- ---- the ascending arrangement of a map's entries is the only one
-abbrev IsAmong : {X : Type 0} → X → List X → Type 0
+abbrev pub IsAmong : {X : Type 0} → X → List X → Type 0
 IsAmong x [] = ⊥
 IsAmong x (y ∷ ys) = (x ≡ y) ⊎ IsAmong x ys
 
@@ -39,7 +39,7 @@ at_place x [] k h e = absurd (omega (arith, h))
 at_place x (y ∷ ys) zero h e = inl (sym e)
 at_place x (y ∷ ys) (suc k) h e = inr (at_place x ys k (omega (arith, h)) e)
 
-moved : {X : Type 0} (x : X) (xs ys : List X) → IsPermutation xs ys → IsAmong x xs → IsAmong x ys
+pub moved : {X : Type 0} (x : X) (xs ys : List X) → IsPermutation xs ys → IsAmong x xs → IsAmong x ys
 moved x xs ys p i =
     let r = place_of x xs i in
     let s = in_moved xs p.moves r.0 x p.below r.1 r.2 in

@@ -142,15 +142,6 @@ module _ (C : List ℕ → Option Shape) (root : List ℕ) where
   IsTextReason text (NotJson offset) = document text ≡ None
   IsTextReason text (Refused path refusal) = IsTextRefusal text refusal
 
-  -- the error is a true reason why bytes that were read are not answered
-  abbrev pub IsBytesReason : JsonError → Type 0
-  IsBytesReason OutOfMemory = ⊤
-  IsBytesReason (NoMember f) = ⊥
-  IsBytesReason NoValue = ⊤
-  IsBytesReason (Ambiguous x) = IsUndecided C root x.now
-  IsBytesReason (NotJson offset) = ⊥
-  IsBytesReason (Refused path refusal) = ⊥
-
 -- the error shows that P doesn't hold; but want of memory, definitions that are undecided, depth and order show nothing
 abbrev pub DeniesValue : JsonError → Type 0 → Type 0
 DeniesValue OutOfMemory P = ⊤

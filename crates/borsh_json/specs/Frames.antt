@@ -3,7 +3,8 @@ use Rattle.std.specs.Prelude.{◌≡◌, ◌⊎◌, ⊤, ℕ, suc, ℤ, String, 
 use Rattle.std.specs.Borrow.{Bor}
 use Rattle.std.specs.Global.{Global}
 use Rattle.std.specs.Str.{bytes_eq}
-use Rattle.std.specs.List.{IsDistinct}
+use Rattle.std.specs.List.{IsDistinct, list_any}
+use Rattle.std.specs.List.Sorted.{IsPermutation, IsStrictlySortedBy}
 use Rattle.std.specs.BTreeMap.{BTreeMap, btree_map_len}
 use Rattle.json.specs.Token.{Token}
 use Rattle.json.specs.Json.{Json, string, array, object, Items, no_items, item, Members, no_members, member}
@@ -40,7 +41,7 @@ use Rattle.borsh_json.specs.Places.{IsAt, AreKeysOf}
 use Rattle.borsh_json.specs.Ranks.{HasRank}
 use Rattle.borsh_json.specs.Represents.{HaveBytes}
 use Rattle.borsh_json.specs.Reads.{Left, items_left, fields_left, entries_left, PartsOf, PartsOfAll, SaysFirst, SaysSome, IsOnly, AreRead}
-use Rattle.borsh_json.specs.Table.{Keys, Part as JsonPart, row_parts, Entry, entries_of, IsVariant, list_parts, Lengths, Kind, IsArray, Says}
+use Rattle.borsh_json.specs.Table.{Keys, Part as JsonPart, row_parts, Entry, entries_of, key_order, IsVariant, IsWhole, list_parts, Lengths, Kind, IsArray, Says}
 
 -- ---- errors
 
@@ -146,36 +147,50 @@ HasFields (InPlace ts) fs ms n = ⊥
 HasFields (Texts m) fs ms n = ⊥
 HasFields (Ranks m) fs ms n = ⊥
 
--- these entries, by their keys
-abbrev pub AreTexts : List (Bor (List ℕ) × List Token) → List Entry → Type 0
-AreTexts [] es = es ≡ []
-AreTexts (m ∷ ms) es = (j : Json) × (rest : List Entry) × (es ≡ (m.0.now, j) ∷ rest) × BeginsWith m.1 j × AreTexts ms rest
+-- the key of a map stands for the text: it is the text, or the rank of the number that the text is
+abbrev pub IsText : Bor (List ℕ) → List ℕ → Type 0
+IsText b s = b.now ≡ s
 
--- these entries, by the ranks of their keys
-abbrev pub AreRanks : Number → List (ℕ × List Token) → List Entry → Type 0
-AreRanks n [] es = es ≡ []
-AreRanks n (m ∷ ms) es = (s : List ℕ) × (j : Json) × (rest : List Entry) × (es ≡ (s, j) ∷ rest) × HasRank n.size n.is_signed n.is_non_zero s m.0 × BeginsWith m.1 j × AreRanks n ms rest
+abbrev pub IsRank : Number → ℕ → List ℕ → Type 0
+IsRank n r s = HasRank n.size n.is_signed n.is_non_zero s r
+
+-- these entries, by keys that stand for theirs
+abbrev pub AreKeyed : {A : Type 0} → (A → List ℕ → Type 0) → List (A × List Token) → List Entry → Type 0
+AreKeyed K [] es = es ≡ []
+AreKeyed K (m ∷ ms) es = (s : List ℕ) × (j : Json) × (rest : List Entry) × (es ≡ (s, j) ∷ rest) × K m.0 s × BeginsWith m.1 j × AreKeyed K ms rest
 
 abbrev pub HasEntries : KeyKind → Source → List Entry → Type 0
 HasEntries TextKeys (One e) es = ⊥
 HasEntries TextKeys (TheItems ts) es = ⊥
 HasEntries TextKeys (TheMembers m) es = ⊥
 HasEntries TextKeys (InPlace ts) es = (ms : Members) × InMembers ts ms × (es ≡ entries_of ms)
-HasEntries TextKeys (Texts m) es = AreTexts m.entries es
+HasEntries TextKeys (Texts m) es = AreKeyed IsText m.entries es
 HasEntries TextKeys (Ranks m) es = ⊥
 HasEntries (NumberKeys n) (One e) es = ⊥
 HasEntries (NumberKeys n) (TheItems ts) es = ⊥
 HasEntries (NumberKeys n) (TheMembers m) es = ⊥
 HasEntries (NumberKeys n) (InPlace ts) es = ⊥
 HasEntries (NumberKeys n) (Texts m) es = ⊥
-HasEntries (NumberKeys n) (Ranks m) es = AreRanks n m.entries es
+HasEntries (NumberKeys n) (Ranks m) es = AreKeyed (IsRank n) m.entries es
+
+-- no entry has the key of one before it
+abbrev pub HaveOneEach : List Entry → Type 0
+HaveOneEach es = (xs ys : List Entry) (e : Entry) → es ≡ xs ++ e ∷ ys → list_any (λ x. bytes_eq e.0 x.0) xs ≡ false
+
+-- each key is a number of the type
+abbrev pub HaveNumbers : Number → List Entry → Type 0
+HaveNumbers n es = (xs ys : List Entry) (e : Entry) → es ≡ xs ++ e ∷ ys → (own : List ℕ) × IsWhole n.size n.is_signed n.is_non_zero e.0 own
+
+-- the entries of a JSON object in the order of their keys, and how many they are
+abbrev pub AreSorted : Keys → KeyKind → Json → Source × ℕ → Type 0
+AreSorted keys kind j r = (ms : Members) × (es : List Entry) × (j ≡ object ms) × IsPermutation (entries_of ms) es × IsStrictlySortedBy (key_order keys) es × HasEntries kind r.0 es × (r.1 ≡ length es)
 
 -- the key of an entry
 abbrev pub IsEntryKey : KeyKind → EntryKey → List ℕ → Type 0
-IsEntryKey TextKeys (TextKey s) k = s.now ≡ k
+IsEntryKey TextKeys (TextKey s) k = IsText s k
 IsEntryKey TextKeys (Rank r) k = ⊥
 IsEntryKey (NumberKeys n) (TextKey s) k = ⊥
-IsEntryKey (NumberKeys n) (Rank r) k = HasRank n.size n.is_signed n.is_non_zero k r
+IsEntryKey (NumberKeys n) (Rank r) k = IsRank n r k
 
 -- no member of an object is left
 abbrev pub NoneLeft : Source → Type 0
@@ -271,7 +286,7 @@ pub record IsReading (F : List ℕ → Option Form) (ns : List Named) (root : Li
   pub there : HaveLeft F ns ps ss around
   pub read : AreRead F root j out (PartsOfAll (inner ∷ around))
 
--- more is to be read; or all was, and the root's JSON says these bytes and no others
+-- more is to be read; or all was, and the root's JSON says these bytes
 abbrev pub IsReadOn : (List ℕ → Option Form) → List Named → List ℕ → Json → Bool → Place → Source → List Place → List Source → List ℕ → Type 0
 IsReadOn F ns root j true p s ps ss out = IsReading F ns root j p.parts p.begun s ps ss out
-IsReadOn F ns root j false p s ps ss out = HaveBytes F ((root, j) ∷ []) out × ((all : List ℕ) → HaveBytes F ((root, j) ∷ []) all → all ≡ out)
+IsReadOn F ns root j false p s ps ss out = HaveBytes F ((root, j) ∷ []) out

@@ -2,7 +2,7 @@
 use Rattle.std.specs.Prelude.{◌≡◌, ℕ, suc, List, [], ◌∷◌, ◌++◌, length, Option, Some}
 use Rattle.json.specs.Json.{Json, Items, Members}
 use Rattle.borsh_json.specs.Forms.{Form}
-use Rattle.borsh_json.specs.Table.{Keys, Lengths, Kind, entries, HasKind, Part, row_parts, field_parts, Entry, entry_parts, Says}
+use Rattle.borsh_json.specs.Table.{Keys, Kind, HasKind, Part, row_parts, field_parts, Entry, entry_parts, Says}
 use Rattle.borsh_json.specs.Represents.{HaveBytes}
 
 -- what is left of the parts of a value: items of these types; fields that are looked up in an object, of whose members so many are left;
@@ -29,10 +29,6 @@ pub record IsOnly (S : List ℕ → List Part → Type 0) (own : List ℕ) (P : 
   pub only : (bs : List ℕ) (ps : List Part) → S bs ps → (bs ≡ own) × P ps
 
 module _ (F : List ℕ → Option Form) where
-  -- no name is a map whose values are objects
-  abbrev pub IsMapless : Type 0
-  IsMapless = (x k v : List ℕ) (l : Lengths) (keys : Keys) → HasKind F x (entries l keys k v) → ⊥
-
   -- JSON of the name says these bytes, and then those of its parts
   abbrev pub SaysFirst : List ℕ → Json → List ℕ → List Part → Type 0
   SaysFirst x j own ps = (kind : Kind) × HasKind F x kind × Says F kind j own ps

@@ -1,11 +1,16 @@
 // The members of an object, by their keys.
-ghost use Rattle.borsh_json.specs.Frames.{DeniesRead, HasEntries};
-ghost use Rattle.borsh_json.specs.Table.{Entry, entries_of};
+ghost use Rattle.borsh_json.specs.declared.kinds.KeyKind.TheVariants.{Text as TextKeys};
+ghost use Rattle.borsh_json.specs.Forms.{Form};
+ghost use Rattle.borsh_json.specs.Frames.{AreKeyed, AreSorted, DeniesRead, HaveNumbers, HaveOneEach, IsRank, IsText};
+ghost use Rattle.borsh_json.specs.Places.{AreKeysOf};
+ghost use Rattle.borsh_json.specs.Reads.{SaysSome};
+ghost use Rattle.borsh_json.specs.Table.{Entry, HasKind, Keys, Lengths, entries as map_entries, entries_of, texts};
+ghost use Rattle.borsh_values.specs.declared.layout.Named.{Named as NamedPlace};
 ghost use Rattle.borsh_walks.specs.Tables.{mark_of};
 ghost use Rattle.json.specs.Find.{BeginsWith, Finds, get_member};
 ghost use Rattle.json.specs.Json.{Json, Members as JsonMembers, object};
-ghost use Rattle.std.specs.BTreeMap.{btree_map_len};
-ghost use Rattle.std.specs.Prelude.{◌≡◌, ℕ, List, MatchResult, length};
+ghost use Rattle.std.specs.List.Sorted.{IsPermutation};
+ghost use Rattle.std.specs.Prelude.{◌≡◌, ◌≤◌, ℕ, IfSome, List, MatchResult, Option};
 
 use crate::error::{ReadError, Refusal};
 use crate::kinds::KeyKind;
@@ -22,9 +27,9 @@ pub fn members_of<'t, 's>(
     element: &Element<'t, 's>,
 ) -> Result<BTreeMap<&'s str, Element<'t, 's>>, ReadError>
     ensures { (j : Json) → BeginsWith element.now j → MatchResult result
-        (λ m. (ms : JsonMembers) × (j ≡ object ms) × ((name : List ℕ) → Finds (mark_of m name) (get_member name ms)) ×
-            (btree_map_len m ≡ length (entries_of ms)))
-        (λ e. DeniesRead e ((ms : JsonMembers) × (j ≡ object ms))) }
+        (λ m. (ms : JsonMembers) × (es : List Entry) × (j ≡ object ms) × IsPermutation (entries_of ms) es ×
+            AreKeyed IsText m.entries es × ((name : List ℕ) → Finds (mark_of m name) (get_member name ms)))
+        (λ e. DeniesRead e ((ms : JsonMembers) × (j ≡ object ms) × HaveOneEach (entries_of ms))) }
 {
     let Some(mut members) = element.members() else {
         return Err(expected(alloc, "an object"));
@@ -44,7 +49,13 @@ fn ranks_of<'t, 's>(
     alloc: Global,
     number: Number,
     element: &Element<'t, 's>,
-) -> Result<BTreeMap<u128, Element<'t, 's>>, ReadError> {
+) -> Result<BTreeMap<u128, Element<'t, 's>>, ReadError>
+    ensures { number.size ≤ 16 → (j : Json) → BeginsWith element.now j → MatchResult result
+        (λ m. (ms : JsonMembers) × (es : List Entry) × (j ≡ object ms) × IsPermutation (entries_of ms) es ×
+            AreKeyed (IsRank number) m.entries es)
+        (λ e. DeniesRead e ((ms : JsonMembers) × (j ≡ object ms) × HaveOneEach (entries_of ms) ×
+            HaveNumbers number (entries_of ms))) }
+{
     let Some(mut members) = element.members() else {
         return Err(expected(alloc, "an object"));
     };
@@ -54,7 +65,8 @@ fn ranks_of<'t, 's>(
             let wanted = number.wanted_key(alloc)?;
             return Err(ReadError::Refused(Refusal::Expected(wanted)));
         };
-        if found.insert(rank, member)?.is_some() {
+        let old = found.insert(rank, member)?;
+        if old.is_some() {
             return Err(ReadError::Refused(Refusal::RepeatedKey(String::from_str(alloc, key)?)));
         }
     }
@@ -66,39 +78,49 @@ pub fn sorted_entries<'t, 's>(
     alloc: Global,
     key_kind: KeyKind,
     element: &Element<'t, 's>,
-) -> Result<(Source<'t, 's>, usize), ReadError> {
+) -> Result<(Source<'t, 's>, usize), ReadError>
+    ensures { (F : List ℕ → Option Form) (ns : List NamedPlace) (x k v : List ℕ) (l : Lengths) (g : Form) (keys : Keys)
+        (j : Json) → HasKind F x (map_entries l keys k v) → AreKeysOf F ns k g key_kind keys →
+        BeginsWith element.now j →
+        MatchResult result (AreSorted keys key_kind j) (λ e. DeniesRead e (SaysSome F x j)) }
+{
     match key_kind {
-        KeyKind::Text => match (element.members(), count_ascending(element)) {
-            (Some(members), Some(count)) => Ok((Source::Entries(members), count)),
-            _ => {
-                let members = members_of(alloc, element)?;
-                let count = members.len();
-                Ok((Source::Texts(members), count))
-            }
+        KeyKind::Text => match in_place(element) {
+            Some(found) => Ok(found),
+            None => match members_of(alloc, element) {
+                Ok(members) => {
+                    let count = members.len();
+                    Ok((Source::Texts(members), count))
+                }
+                Err(error) => Err(error),
+            },
         },
-        KeyKind::Number(number) => {
-            let members = ranks_of(alloc, number, element)?;
-            let count = members.len();
-            Ok((Source::Ranks(members), count))
-        }
+        KeyKind::Number(number) => match ranks_of(alloc, number, element) {
+            Ok(members) => {
+                let count = members.len();
+                Ok((Source::Ranks(members), count))
+            }
+            Err(error) => Err(error),
+        },
     }
 }
 
-/// How many members an object has, if their keys ascend, as those of a map that was written do.
-fn count_ascending(element: &Element<'_, '_>) -> Option<usize> {
+/// The entries of an object where they stand, if their keys ascend, as those of a map that was written do.
+fn in_place<'t, 's>(element: &Element<'t, 's>) -> Option<(Source<'t, 's>, usize)>
+    ensures { (j : Json) → BeginsWith element.now j → IfSome result (AreSorted texts TextKeys j) }
+{
+    let entries = element.members()?;
     let mut members = element.members()?;
     let mut earlier: Option<&[u8]> = None;
-    let mut count: usize = 0;
-    for _ in 0..u64::MAX {
+    for count in 0..usize::MAX {
         let Some((key, _)) = members.next() else {
-            break;
+            return Some((Source::Entries(entries), count));
         };
-        let key = key.as_bytes();
-        if earlier.is_some_and(|earlier| earlier >= key) {
+        let key = Some(key.as_bytes());
+        if earlier.cmp(&key).is_ge() {
             return None;
         }
-        earlier = Some(key);
-        count = count.saturating_add(1);
+        earlier = key;
     }
-    Some(count)
+    None
 }

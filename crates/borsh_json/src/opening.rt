@@ -7,7 +7,6 @@ ghost use Rattle.borsh_json.specs.Forms.{Form, HasNoBytes, form_of, forms_in};
 ghost use Rattle.borsh_json.specs.Frames.{DeniesRead, IsArrayOf, IsExpected, IsOpened, SaysArray, IsVariantAt, NamesVariant, Opens};
 ghost use Rattle.borsh_json.specs.Known.{HasKinds, IsKnown};
 ghost use Rattle.borsh_json.specs.Places.{IsAt, IsInfinity, IsKindOf, IsListOf, lengths_of};
-ghost use Rattle.borsh_json.specs.Reads.{IsMapless};
 ghost use Rattle.borsh_json.specs.Table.{Kind as TableKind, HasKind, IsHex, IsNumber, IsPrefixed, byte_list, entries_of, float, list_parts, no_bytes, optional, raw, truth, utf8, variants as spec_variants, whole};
 ghost use Rattle.json.specs.Find.{BeginsWith, InItems, InMembers, as_array};
 ghost use Rattle.json.specs.Json.{Json, Items as JsonItems, Members as JsonMembers, array, object, string};
@@ -51,7 +50,7 @@ pub fn open_part<'a, 't, 's>(
 ) -> Opened<'a, 't, 's>
     ensures { let F = forms_in definitions.now.layout.now.map.now in
         let ns = definitions.now.layout.now.names.items in
-        IsMapless F → HasKinds definitions.now → (x : List ℕ) (j : Json) → IsAt ns at x →
+        HasKinds definitions.now → (x : List ℕ) (j : Json) → IsAt ns at x →
         BeginsWith element.entry j → IsOpened F ns x j out.old.items out.new.items result }
 {
     if definitions.is_zero_size(at) {
@@ -79,7 +78,7 @@ fn open_kind<'a, 't, 's>(
     element: &Element<'t, 's>,
     out: &mut Vec<u8>,
 ) -> Opened<'a, 't, 's>
-    ensures { Opens (λ F ns x. IsMapless F × (f : Form) × IsAt ns at x × (F x ≡ Some f) × (f ≡ form_of definition.now) × IsKindOf F ns x f kind.entry)
+    ensures { Opens (λ F ns x. (f : Form) × IsAt ns at x × (F x ≡ Some f) × (f ≡ form_of definition.now) × IsKindOf F ns x f kind.entry)
         element.now out.old.items out.new.items result }
 {
     match kind {
@@ -531,16 +530,17 @@ fn open_map<'a, 't, 's>(
     element: &Element<'t, 's>,
     out: &mut Vec<u8>,
 ) -> Opened<'a, 't, 's>
+    ensures { Opens (λ F ns x. (o : FoundOrder) × IsKindOf F ns x (form_of definition.now) (FoundMap entries.entry o))
+        element.now out.old.items out.new.items result }
 {
-    let (source, count) = match sorted_entries(alloc, entries.key_kind, element) {
-        Ok(found) => found,
-        Err(error) => return Err(error),
-    };
-    match put_length(alloc, definition, count, out) {
-        Ok(()) => Ok(Some(Frame {
-            place: Place::new(Parts::Entries(entries, count as u64)),
-            source,
-        })),
+    match sorted_entries(alloc, entries.key_kind, element) {
+        Ok((source, count)) => match put_length(alloc, definition, count, out) {
+            Ok(()) => Ok(Some(Frame {
+                place: Place::new(Parts::Entries(entries, count as u64)),
+                source,
+            })),
+            Err(error) => Err(error),
+        },
         Err(error) => Err(error),
     }
 }

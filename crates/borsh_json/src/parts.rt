@@ -5,7 +5,7 @@ ghost use Rattle.borsh_json.specs.declared.parts.Next.TheVariants.{Part as NextP
 ghost use Rattle.borsh_json.specs.Frames.{DeniesPart, DeniesRead, HasEntries, HasLeft, HaveLeft, IsEntryKey, IsNext, IsNextEntry, IsOf, IsReadOn, IsReading, NoneLeft};
 ghost use Rattle.borsh_json.specs.Known.{HasKinds, IsKnown};
 ghost use Rattle.borsh_json.specs.Places.{AreKeysOf, IsAt};
-ghost use Rattle.borsh_json.specs.Reads.{AreRead, IsMapless, Left, entries_left, PartsOfAll, SaysFirst, SaysSome};
+ghost use Rattle.borsh_json.specs.Reads.{AreRead, Left, entries_left, PartsOfAll, SaysFirst, SaysSome};
 ghost use Rattle.borsh_json.specs.Represents.{HaveBytes};
 ghost use Rattle.borsh_json.specs.Table.{Entry, Keys, Part as JsonPart, key_json};
 ghost use Rattle.borsh_values.specs.declared.layout.Named.{Named as NamedPlace};
@@ -41,9 +41,8 @@ pub fn read_value<'a>(
 ) -> PartResult<'a, Vec<u8>>
     ensures { let F = forms_in definitions.now.layout.now.map.now in
         let root = definitions.now.layout.now.root.now in
-        IsMapless F → HasKinds definitions.now → (j : Json) → BeginsWith element.entry j →
-        MatchResult result (λ v. HaveBytes F ((root, j) ∷ []) v.items ×
-            ((all : List ℕ) → HaveBytes F ((root, j) ∷ []) all → all ≡ v.items))
+        HasKinds definitions.now → (j : Json) → BeginsWith element.entry j →
+        MatchResult result (λ v. HaveBytes F ((root, j) ∷ []) v.items)
         (λ e. DeniesPart e (SaysSome F root j)) }
 {
     let alloc = definitions.alloc;
@@ -83,7 +82,7 @@ impl<'a, 't, 's> Reading<'a, 't, 's> {
     fn read_next(&mut self, definitions: &Definitions<'a, '_>) -> PartResult<'a, bool>
         ensures { let F = forms_in definitions.now.layout.now.map.now in
             let ns = definitions.now.layout.now.names.items in
-            IsMapless F → HasKinds definitions.now → (root : List ℕ) (j : Json) →
+            HasKinds definitions.now → (root : List ℕ) (j : Json) →
             IsReading F ns root j self.old.position.place.parts self.old.position.place.begun self.old.source
                 self.old.position.outer.items self.old.outer.items self.old.out.items → MatchResult result
             (λ more. IsReadOn F ns root j more self.new.position.place self.new.source
@@ -117,7 +116,7 @@ impl<'a, 't, 's> Reading<'a, 't, 's> {
     ) -> PartResult<'a, bool>
         ensures { let F = forms_in definitions.now.layout.now.map.now in
             let ns = definitions.now.layout.now.names.items in
-            IsMapless F → HasKinds definitions.now → (root : List ℕ) (j : Json) (x : List ℕ) (i : Json) (l : Left)
+            HasKinds definitions.now → (root : List ℕ) (j : Json) (x : List ℕ) (i : Json) (l : Left)
             (ls : List Left) → IsAt ns at x → BeginsWith part.entry i →
             HasLeft F ns self.old.position.place.parts self.old.position.place.begun self.old.source l →
             HaveLeft F ns self.old.position.outer.items self.old.outer.items ls →

@@ -1,15 +1,12 @@
 // The bytes of a value that JSON says.
-ghost use Rattle.borsh_values.specs.Free.{KnowsSizes};
-ghost use Rattle.borsh_values.specs.Layouts.{IsLaidOut};
-ghost use Rattle.borsh_walks.specs.Container.{Member};
 ghost use Rattle.borsh_walks.specs.Definitions.{definitions_in};
-ghost use Rattle.borsh_json.specs.Errors.{DeniesValue, IsBytesReason, IsPartError, IsTextReason, IsUnreadable, TellsNoJson};
+ghost use Rattle.borsh_json.specs.Errors.{DeniesValue, IsTextReason};
 ghost use Rattle.borsh_json.specs.Forms.{forms_in};
 ghost use Rattle.borsh_json.specs.Known.{HasKinds, SaysBy};
 ghost use Rattle.borsh_json.specs.Reads.{SaysSome};
 ghost use Rattle.borsh_json.specs.Represents.{HaveBytes, TextSays};
 ghost use Rattle.json.specs.Json.{Json, document};
-ghost use Rattle.std.specs.Prelude.{◌≡◌, ◌∷◌, [], ℕ, IfErr, IfOk, IsSome, List, MatchResult, OnOk, Some};
+ghost use Rattle.std.specs.Prelude.{◌≡◌, ◌∷◌, [], ℕ, IfErr, IfOk, List, Some};
 
 use crate::definitions::Definitions;
 use crate::error::JsonError;
@@ -77,17 +74,22 @@ impl<'a, 'l> Definitions<'a, 'l> {
             IfErr result (λ e. IsTextReason (definitions_in layout.map.now) layout.root.now text.now e) }
     {
         let bytes = self.read_text(text)?;
-        check_member(self.alloc, self.layout, bytes.as_slice())?;
-        Ok(bytes)
+        match self.layout.is_member(self.alloc, bytes.as_slice())? {
+            Membership::Member => Ok(bytes),
+            Membership::NoMember(_) => Err(JsonError::NoValue),
+            Membership::Ambiguous(name) => Err(JsonError::Ambiguous(name)),
+        }
     }
 
     /// The bytes that a text says, which needn't be a member of the root.
     pub fn read_text(&self, text: &str) -> Result<Vec<u8>, JsonError<'a>>
         requires { HasKinds self.now }
-        ensures read { let layout = self.now.layout.now in let F = forms_in layout.map.now in (j : Json) →
-            document text.now ≡ Some j → MatchResult result (λ v. HaveBytes F ((layout.root.now, j) ∷ []) v.items)
-                (λ e. DeniesValue e (SaysSome F layout.root.now j)) }
-        ensures json { OnOk result (IsSome (document text.now)) }
+        ensures says { let layout = self.now.layout.now in let F = forms_in layout.map.now in
+            IfOk result (λ bytes. (j : Json) × (document text.now ≡ Some j) ×
+            HaveBytes F ((layout.root.now, j) ∷ []) bytes.items) }
+        ensures denies { let layout = self.now.layout.now in let F = forms_in layout.map.now in
+            IfErr result (λ e. DeniesValue e ((j : Json) × (document text.now ≡ Some j) ×
+            SaysSome F layout.root.now j)) }
         ensures reason { let layout = self.now.layout.now in
             IfErr result (λ e. IsTextReason (definitions_in layout.map.now) layout.root.now text.now e) }
     {
@@ -98,21 +100,5 @@ impl<'a, 'l> Definitions<'a, 'l> {
             // A text of 4 GiB has more places than a tape can number.
             Err(_) => Err(JsonError::OutOfMemory),
         }
-    }
-}
-
-/// Refuses bytes that are no member of the root.
-fn check_member<'a>(alloc: Global, layout: &Layout<'a>, bytes: &[u8]) -> Result<(), JsonError<'a>>
-    requires laid_out { IsLaidOut layout.now }
-    requires sizes { KnowsSizes layout.now }
-    ensures member { let C = definitions_in layout.now.map.now in
-        OnOk result (Member C layout.now.root.now bytes.now) }
-    ensures reason { let C = definitions_in layout.now.map.now in
-        IfErr result (λ e. IsBytesReason C layout.now.root.now e) }
-{
-    match layout.is_member(alloc, bytes)? {
-        Membership::Member => Ok(()),
-        Membership::NoMember(_) => Err(JsonError::NoValue),
-        Membership::Ambiguous(name) => Err(JsonError::Ambiguous(name)),
     }
 }

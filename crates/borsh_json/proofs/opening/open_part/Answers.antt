@@ -19,19 +19,19 @@ undefined_says F x j e full s =
     ]
 
 pub returns-then-is_zero_size : goal.returns-then-is_zero_size
-returns-then-is_zero_size c m k x j at b =
+returns-then-is_zero_size c k x j at b =
     let F = forms_in c.args.definitions.now.layout.now.map.now in
     let ns = c.args.definitions.now.layout.now.names.items in
     unmoved F ns x j c.args.out.now.items c.open_null.result (c.open_null.ensures F ns x j (inl ((c.is_zero_size.ensures k.known x at).0 c.if-is_zero_size.true, refl)) b)
 
 pub returns-in_ok-name : goal.returns-in_ok-name
-returns-in_ok-name c m k x j at b =
+returns-in_ok-name c k x j at b =
     let F = forms_in c.args.definitions.now.layout.now.map.now in
     let full = λ z. (let q = (c.is_zero_size.ensures k.known x at).1 z in let s = c.if-is_zero_size.false in absurd cc) in
     undefined_says F x j (c.in_default.ensures k x at full) full
 
 pub returns-in-Newtype : goal.returns-in-Newtype
-returns-in-Newtype c m k x j at b =
+returns-in-Newtype c k x j at b =
     let F = forms_in c.args.definitions.now.layout.now.map.now in
     let ns = c.args.definitions.now.layout.now.names.items in
     let f = form_of c.in-Some.definition.now in
@@ -40,7 +40,7 @@ returns-in-Newtype c m k x j at b =
     ([], sym (append-nil c.args.out.now.items), only_found F ns x j (inner d.0) [] (Newtype c.in-Newtype.part) d.0 j c.args.element c.only.result c.only.ensures (λ i. (d.0, refl, λ ws e. (d.0, d.1, e))) (λ q. q) d.2 b (refl, refl))
 
 pub returns-in-Optional : goal.returns-in-Optional
-returns-in-Optional c m k x j at b =
+returns-in-Optional c k x j at b =
     let F = forms_in c.args.definitions.now.layout.now.map.now in
     let ns = c.args.definitions.now.layout.now.names.items in
     let f = form_of c.in-Some.definition.now in
@@ -48,7 +48,7 @@ returns-in-Optional c m k x j at b =
     c.open_option.ensures F ns x j (subst (λ (q : Kind). IsKindOf F ns x f q) c.in-Optional.is r.1) b
 
 pub returns-in-Choice : goal.returns-in-Choice
-returns-in-Choice c m k x j at b =
+returns-in-Choice c k x j at b =
     let F = forms_in c.args.definitions.now.layout.now.map.now in
     let ns = c.args.definitions.now.layout.now.names.items in
     let f = form_of c.in-Some.definition.now in
@@ -57,8 +57,8 @@ returns-in-Choice c m k x j at b =
     c.open_variant.ensures k.known x j at d.1 d.0 b
 
 pub returns-in_default-kind : goal.returns-in_default-kind
-returns-in_default-kind c m k x j at b =
+returns-in_default-kind c k x j at b =
     let F = forms_in c.args.definitions.now.layout.now.map.now in
     let ns = c.args.definitions.now.layout.now.names.items in
     let r = c.in-Some.ensures k x at (λ z. let q = (c.is_zero_size.ensures k.known x at).1 z in let s = c.if-is_zero_size.false in cc) in
-    c.open_kind.ensures F ns x j (m, form_of c.in-Some.definition.now, at, r.0, refl, r.1) b
+    c.open_kind.ensures F ns x j (form_of c.in-Some.definition.now, at, r.0, refl, r.1) b

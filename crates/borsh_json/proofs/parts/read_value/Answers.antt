@@ -10,7 +10,7 @@ use Rattle.borsh_json.proofs.ReadingLaws.{reading_start, reading_same}
 use Rattle.borsh_json.proofs.parts.read_value.Goals as goal
 
 pub loop-init : goal.loop-init
-loop-init c m a j b =
+loop-init c a j b =
     let y = c.args.definitions.now.layout.now in
     let F = forms_in y.map.now in
     let ns = y.names.items in
@@ -20,28 +20,28 @@ loop-init c m a j b =
     subst (λ (o : List ℕ). IsReading F ns root j p.place.parts p.place.begun (One (Some c.args.element)) p.outer.items c.new-outer.result.items o) (sym c.new-out.ensures.items) (reading_same F ns root j c.new-position.ensures.place.0 c.new-position.ensures.place.1 s)
 
 pub loop-preserved : goal.loop-preserved
-loop-preserved c m a j b =
+loop-preserved c a j b =
     let y = c.args.definitions.now.layout.now in
     let new = c.read_next.new.self in
-    let g = c.in-Ok.ensures m a y.root.now j (c.loop.invariant m a j b) in
+    let g = c.in-Ok.ensures a y.root.now j (c.loop.invariant a j b) in
     let t = c.if-not-more.false in
     let e : c.in-Ok.more ≡ true = cc in
     subst (λ (more : Bool). IsReadOn (forms_in y.map.now) y.names.items y.root.now j more new.position.place new.source new.position.outer.items new.outer.items new.out.items) e g
 
 pub returns-then-not-more : goal.returns-then-not-more
-returns-then-not-more c m a j b =
+returns-then-not-more c a j b =
     let y = c.args.definitions.now.layout.now in
     let new = c.read_next.new.self in
-    let g = c.in-Ok.ensures m a y.root.now j (c.loop.invariant m a j b) in
+    let g = c.in-Ok.ensures a y.root.now j (c.loop.invariant a j b) in
     let t = c.if-not-more.true in
     let e : c.in-Ok.more ≡ false = cc in
     subst (λ (more : Bool). IsReadOn (forms_in y.map.now) y.names.items y.root.now j more new.position.place new.source new.position.outer.items new.outer.items new.out.items) e g
 
 pub returns-in-Err : goal.returns-in-Err
-returns-in-Err c m a j b =
-    c.in-Err.ensures m a c.args.definitions.now.layout.now.root.now j (c.loop.invariant m a j b)
+returns-in-Err c a j b =
+    c.in-Err.ensures a c.args.definitions.now.layout.now.root.now j (c.loop.invariant a j b)
 
 pub returns : goal.returns
-returns c m a j b =
+returns c a j b =
     let y = c.args.definitions.now.layout.now in
     denies_of TooDeep c.refused.result (SaysSome (forms_in y.map.now) y.root.now j) c.refused.ensures.same tt

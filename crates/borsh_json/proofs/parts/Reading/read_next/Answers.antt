@@ -9,15 +9,15 @@ use Rattle.borsh_json.proofs.ReadingLaws.{reading_same}
 use Rattle.borsh_json.proofs.parts.Reading.read_next.Goals as goal
 
 pub returns-in-Part : goal.returns-in-Part
-returns-in-Part c m k root j r =
+returns-in-Part c k root j r =
     let F = forms_in c.args.definitions.now.layout.now.map.now in
     let ns = c.args.definitions.now.layout.now.names.items in
     let s = reading_same F ns root j c.ascends.ensures.0 c.ascends.ensures.1 r in
     let n = subst (λ (n : Next). IsNext F ns root j s.around c.take_next.new.place c.take_next.new.source c.take_next.new.out.items n) c.in-Part.is (c.in-Ok.ensures k.known root j s.inner s.around s.here s.read) in
-    c.open.ensures m k root j n.0 n.1 n.2 s.around n.3 n.4 n.5 s.there n.6
+    c.open.ensures k root j n.0 n.1 n.2 s.around n.3 n.4 n.5 s.there n.6
 
 pub returns-in-Missing : goal.returns-in-Missing
-returns-in-Missing c m k root j r =
+returns-in-Missing c k root j r =
     let F = forms_in c.args.definitions.now.layout.now.map.now in
     let ns = c.args.definitions.now.layout.now.names.items in
     let s = reading_same F ns root j c.ascends.ensures.0 c.ascends.ensures.1 r in
@@ -25,7 +25,7 @@ returns-in-Missing c m k root j r =
     denies_of MissingField c.refused.result (SaysSome F root j) c.refused.ensures.same n
 
 pub returns-in-End : goal.returns-in-End
-returns-in-End c m k root j r =
+returns-in-End c k root j r =
     let F = forms_in c.args.definitions.now.layout.now.map.now in
     let ns = c.args.definitions.now.layout.now.names.items in
     let s = reading_same F ns root j c.ascends.ensures.0 c.ascends.ensures.1 r in
@@ -33,7 +33,7 @@ returns-in-End c m k root j r =
     c.leave.ensures root j s.around s.there n.0 n.1
 
 pub returns-in-Err : goal.returns-in-Err
-returns-in-Err c m k root j r =
+returns-in-Err c k root j r =
     let F = forms_in c.args.definitions.now.layout.now.map.now in
     let ns = c.args.definitions.now.layout.now.names.items in
     let s = reading_same F ns root j c.ascends.ensures.0 c.ascends.ensures.1 r in
