@@ -5,7 +5,7 @@ pub mod NumberLaws
 pub mod PlaceLaws
 pub mod FoundLaws
 pub mod NameLaws
-pub mod SeenLaws
+pub mod RepeatedLaws
 pub mod FrameLaws
 pub mod RowsLaws
 pub mod ReaderLaws

@@ -75,7 +75,7 @@ denies_from OtherNodes P Q f d = λ q. d (f q)
 denies_from (Expected w) P Q f d = λ q. d (f q)
 denies_from MissingField P Q f d = λ q. d (f q)
 denies_from (UnknownName n) P Q f d = λ q. d (f q)
-denies_from (RepeatedKey n) P Q f d = tt
+denies_from (RepeatedKey n) P Q f d = λ q. d (f q)
 denies_from (Undefined n) P Q f d = λ q. d (f q)
 
 pub denies_read : (e : ReadError) {P Q : Type 0} → (Q → P) → DeniesRead e P → DeniesRead e Q

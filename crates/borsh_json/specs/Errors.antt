@@ -80,7 +80,7 @@ Denies OtherNodes P = P → ⊥
 Denies (Expected wanted) P = P → ⊥
 Denies MissingField P = P → ⊥
 Denies (UnknownName name) P = P → ⊥
-Denies (RepeatedKey name) P = ⊤
+Denies (RepeatedKey name) P = P → ⊥
 Denies (Undefined name) P = P → ⊥
 
 -- an allocation failed, or a part is refused in one of these ways

@@ -1,6 +1,8 @@
 -- What the code finds of the definition of a name, against the format's own types and the table.
-use Rattle.std.specs.Prelude.{◌≡◌, ◌⊎◌, ℕ, List, [], ◌∷◌, ◌++◌, codes, true, Option, Some}
+use Rattle.std.specs.Prelude.{◌≡◌, ◌⊎◌, ℕ, List, [], ◌∷◌, ◌++◌, codes, true, MatchOption, Option, Some}
 use Rattle.std.specs.Borrow.{Bor}
+use Rattle.std.specs.List.{IsDistinct}
+use Rattle.std.specs.Str.{bytes_eq}
 use Rattle.borsh_values.specs.declared.layout.Named.{Named}
 use Rattle.borsh_json.specs.declared.definitions.Definitions.{Definitions}
 use Rattle.borsh_json.specs.declared.formats.Collection.{Collection}
@@ -57,6 +59,10 @@ IsPrimitiveKind (Object fs) kind = ⊥
 IsPrimitiveKind (Optional at) kind = ⊥
 IsPrimitiveKind (Choice w vs) kind = ⊥
 IsPrimitiveKind (Repeated name) kind = ⊥
+
+-- a name that comes twice, if there is one
+abbrev pub IsRepeated : List (List ℕ) → Option (Bor (List ℕ)) → Type 0
+IsRepeated names found = MatchOption found (IsDistinct bytes_eq names) (λ name. IsDistinct bytes_eq names → ⊥)
 
 -- `BTreeSet<T>` or `HashSet<T>`, where e is T
 abbrev pub IsSetName : List ℕ → List ℕ → Type 0

@@ -1,6 +1,6 @@
 // How the values of a name are written in JSON.
 ghost use Rattle.borsh_json.specs.Forms.{HasNoBytes, IsByte, IsMap, form_of, form_of_struct, forms_in, sequence};
-ghost use Rattle.borsh_json.specs.Found.{AreEntries, HasForm, IsCollection, IsNamed, IsPrimitiveKind, IsRefusedList, TellsKind, forms_of};
+ghost use Rattle.borsh_json.specs.Found.{AreEntries, HasForm, IsCollection, IsNamed, IsPrimitiveKind, IsRefusedList, IsRepeated, TellsKind, forms_of};
 ghost use Rattle.borsh_json.specs.Known.{IsKnown};
 ghost use Rattle.borsh_json.specs.Places.{AreKeysOf, IsAt, IsKindOf};
 ghost use Rattle.borsh_json.specs.Table.{AreKeys, IsNullable, Keys, MayBeNull, primitive_kind, texts};
@@ -15,7 +15,6 @@ use crate::numbers::Number;
 use crate::order::Ordered;
 use borsh_walks::{Declaration, Definition, DiscriminantValue, FieldName, Fields, VariantName};
 use std::alloc::{AllocError, Global};
-use std::collections::BTreeSet;
 
 /// The fields of a struct with their names.
 pub type NamedFields = Vec<(FieldName, Declaration)>;
@@ -176,17 +175,13 @@ fn kind_of_struct<'a>(
 
 /// A name that two fields have.
 fn repeated_field<'a>(alloc: Global, fields: &'a NamedFields) -> Result<Option<&'a str>, AllocError>
-    ensures { let names = map (λ f. string_bytes f.0) fields.now.items in
-        IfOk result (λ found. MatchOption found
-        (IsDistinct bytes_eq names) (λ name. IsDistinct bytes_eq names → ⊥)) }
+    ensures { IfOk result (IsRepeated (map (λ f. string_bytes f.0) fields.now.items)) }
 {
-    let mut names: BTreeSet<&'a str> = BTreeSet::new(alloc);
+    let mut names: Vec<&'a str> = Vec::with_capacity(alloc, fields.len())?;
     for (field, _) in fields {
-        if !names.insert(field.as_str())? {
-            return Ok(Some(field.as_str()));
-        }
+        names.push(field.as_str())?;
     }
-    Ok(None)
+    Ok(repeated_name(names))
 }
 
 /// A name that two variants have.
@@ -194,17 +189,26 @@ fn repeated_variant<'a>(
     alloc: Global,
     variants: &'a Variants,
 ) -> Result<Option<&'a str>, AllocError>
-    ensures { let names = map (λ v. string_bytes v.1) variants.now.items in
-        IfOk result (λ found. MatchOption found
-        (IsDistinct bytes_eq names) (λ name. IsDistinct bytes_eq names → ⊥)) }
+    ensures { IfOk result (IsRepeated (map (λ v. string_bytes v.1) variants.now.items)) }
 {
-    let mut names: BTreeSet<&'a str> = BTreeSet::new(alloc);
+    let mut names: Vec<&'a str> = Vec::with_capacity(alloc, variants.len())?;
     for (_, variant, _) in variants {
-        if !names.insert(variant.as_str())? {
-            return Ok(Some(variant.as_str()));
+        names.push(variant.as_str())?;
+    }
+    Ok(repeated_name(names))
+}
+
+fn repeated_name<'a>(mut names: Vec<&'a str>) -> Option<&'a str>
+    ensures { IsRepeated (map (λ n. n.now) names.entry.items) result }
+{
+    names.sort_unstable();
+    for index in 1..names.len() {
+        let name = names[index];
+        if names[index - 1] == name {
+            return Some(name);
         }
     }
-    Ok(None)
+    None
 }
 
 fn kind_of_sequence<'a>(
