@@ -21,3 +21,4 @@ pub mod TextLaws
 pub mod KeyJson
 pub mod NumberTexts
 pub mod LaidLaws
+pub mod FieldLaws

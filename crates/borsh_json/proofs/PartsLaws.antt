@@ -18,9 +18,9 @@ use Rattle.borsh_json.specs.declared.position.Parts.{Parts}
 use Rattle.borsh_json.specs.declared.position.Parts.TheVariants.{List as Elements, Row, Object}
 use Rattle.borsh_json.specs.declared.position.Place.{Place}
 use Rattle.borsh_json.specs.declared.sources.Source.{Source}
-use Rattle.borsh_json.specs.declared.sources.Source.TheVariants.{Items as TheItems, Members as TheMembers}
+use Rattle.borsh_json.specs.declared.sources.Source.TheVariants.{Items as TheItems}
 use Rattle.borsh_json.specs.Forms.{Form, primitive, sequence, tuple, newtype, unnamed, named, choice, shape_of_form, HasNoBytes}
-use Rattle.borsh_json.specs.Frames.{DeniesRead, Wanted, AreFound, HasLeft, IsFound, IsOpened, NamesVariant}
+use Rattle.borsh_json.specs.Frames.{DeniesRead, Wanted, AreFound, HasFields, HasLeft, IsFound, IsOpened, NamesVariant}
 use Rattle.borsh_json.specs.Places.{IsAt, IsUnsayable}
 use Rattle.borsh_json.specs.Reads.{Left, items_left, fields_left, PartsOf, SaysFirst, SaysSome, IsOnly}
 use Rattle.borsh_json.specs.Table.{Lengths, Kind, no_bytes, truth, whole, float, raw, utf8, byte_list, list, row, inner, fields, optional, variants, entries, number_types, number_kind, primitive_kind, SequenceKind, a_text, some_bytes, an_object, some_elements, ChoiceKind, nullable, by_name, DefinedKind, HasKind, Part, row_parts, list_parts, field_parts, entries_of, IsVariant, IsHex, IsPrefixed, IsArray, Says}
@@ -121,28 +121,28 @@ form_named : (F : List ℕ → Option Form) (x : List ℕ) (fs : List (List ℕ 
 form_named F x fs (inl h) = let e = h.1 in cc
 form_named F x fs (inr h) = h.2 ∙ ap (λ d. Some d) (named_is F x h.1 (fields fs) fs refl h.3)
 
-all_found : (m : BTreeMap (Bor (List ℕ)) (List Token)) (fs : List Wanted) (ms : Members) → ((name : List ℕ) → Finds (mark_of m name) (get_member name ms)) → AreFound m fs ms
+pub all_found : (m : BTreeMap (Bor (List ℕ)) (List Token)) (fs : List Wanted) (ms : Members) → ((name : List ℕ) → Finds (mark_of m name) (get_member name ms)) → AreFound m fs ms
 all_found m [] ms h = tt
 all_found m (f ∷ fs) ms h = (h f.0, all_found m fs ms h)
 
-names_of : {A : Type 0} (a b : A → List ℕ) (xs : List A) → map (λ (f : Wanted). f.0) (map (λ x. (a x, b x)) xs) ≡ map a xs
+pub names_of : {A : Type 0} (a b : A → List ℕ) (xs : List A) → map (λ (f : Wanted). f.0) (map (λ x. (a x, b x)) xs) ≡ map a xs
 names_of a b [] = refl
 names_of a b (x ∷ xs) = ap (λ l. a x ∷ l) (names_of a b xs)
 
 module _ (F : List ℕ → Option Form) (ns : List Named) (x : List ℕ) (j : Json) (at : ℕ) (fs : Bor (Vec (String Global × String Global) Global)) (i : IsAt ns at x) where
-  pub object_opened : (place : Place) (m : BTreeMap (Bor (List ℕ)) (List Token)) (ms : Members) → HasKind F x (fields (map (λ f. (string_bytes f.0, string_bytes f.1)) fs.now.items)) → IsDistinct bytes_eq (map (λ f. string_bytes f.0) fs.now.items) → place.parts ≡ Object at fs → place.begun ≡ 0 → j ≡ object ms → ((name : List ℕ) → Finds (mark_of m name) (get_member name ms)) → btree_map_len m ≡ length (entries_of ms) → IsOpened F ns x j [] [] (Ok (Some (record { place = place; source = TheMembers m })))
-  object_opened place m ms h u p b e g c =
+  pub object_opened : (place : Place) (s : Source) (ms : Members) (n : ℕ) → HasKind F x (fields (map (λ f. (string_bytes f.0, string_bytes f.1)) fs.now.items)) → IsDistinct bytes_eq (map (λ f. string_bytes f.0) fs.now.items) → place.parts ≡ Object at fs → place.begun ≡ 0 → j ≡ object ms → n ≡ length (entries_of ms) → HasFields s (map (λ f. (string_bytes f.0, string_bytes f.1)) fs.now.items) ms n → IsOpened F ns x j [] [] (Ok (Some (record { place = place; source = s })))
+  object_opened place s ms n h u p b e c g =
       let pair : String Global × String Global → Wanted = λ f. (string_bytes f.0, string_bytes f.1) in
       let all = map pair fs.now.items in
       let d = subst (λ (l : List (List ℕ)). IsDistinct bytes_eq l) (sym (names_of (λ (f : String Global × String Global). string_bytes f.0) (λ f. string_bytes f.1) fs.now.items)) u in
-      let left = fields_left all ms (btree_map_len m) in
-      let there : HasLeft F ns (Object at fs) 0 (TheMembers m) left = (tt, (x, i, form_named F x all h, refl), (d, all_found m all ms g, refl)) in
-      ([], refl, (left, subst (λ (q : Parts). HasLeft F ns q place.begun (TheMembers m) left) (sym p) (subst (λ (k : ℕ). HasLeft F ns (Object at fs) k (TheMembers m) left) (sym b) there), record {
+      let left = fields_left all ms n in
+      let there : HasLeft F ns (Object at fs) 0 s left = (tt, (x, i, form_named F x all h, refl), g) in
+      ([], refl, (left, subst (λ (q : Parts). HasLeft F ns q place.begun s left) (sym p) (subst (λ (k : ℕ). HasLeft F ns (Object at fs) k s left) (sym b) there), record {
         says = λ ps q. (fields all, h, (d, refl, ms, e, sym c ∙ q.1, q.0));
-        only = λ bs ps s.
-            let t = subst (λ k. Says F k j bs ps) (kind_one F s.1 h) s.2 in
-            let o = object_one t.2 ms (sym t.3 ∙ e) in
-            (t.1, (ap (λ ms. field_parts all ms) (sym o) ∙ t.5, c ∙ ap (λ ms. length (entries_of ms)) (sym o) ∙ t.4));
+        only = λ bs ps t.
+            let v = subst (λ k. Says F k j bs ps) (kind_one F t.1 h) t.2 in
+            let o = object_one v.2 ms (sym v.3 ∙ e) in
+            (v.1, (ap (λ ms. field_parts all ms) (sym o) ∙ v.5, c ∙ ap (λ ms. length (entries_of ms)) (sym o) ∙ v.4));
       }))
 
 -- ---- variants

@@ -133,7 +133,7 @@ fields_end : (s : Source) (ms : Members) (n : ℕ) → HasFields s [] ms n → (
 fields_end (One e) ms n h = absurd h
 fields_end (TheItems ts) ms n h = absurd h
 fields_end (TheMembers m) ms n h = (λ e. sym h.2 ∙ e, λ e. h.2 ∙ e)
-fields_end (InPlace ts) ms n h = absurd h
+fields_end (InPlace ts) ms n h = (λ t. h.3, λ e. tt)
 fields_end (Texts m) ms n h = absurd h
 fields_end (Ranks m) ms n h = absurd h
 

@@ -139,11 +139,16 @@ abbrev pub AreFound : BTreeMap (Bor (List ℕ)) (List Token) → List Wanted →
 AreFound m [] ms = ⊤
 AreFound m (f ∷ fs) ms = Finds (mark_of m f.0) (get_member f.0 ms) × AreFound m fs ms
 
+-- the members that are left are the fields, in their order, each as it is looked up
+abbrev pub AreNext : List Wanted → Members → Members → Type 0
+AreNext [] rest ms = rest ≡ no_members
+AreNext (f ∷ fs) rest ms = (j : Json) × (more : Members) × (rest ≡ member f.0 j more) × (get_member f.0 ms ≡ Some j) × AreNext fs more ms
+
 abbrev pub HasFields : Source → List Wanted → Members → ℕ → Type 0
 HasFields (One e) fs ms n = ⊥
 HasFields (TheItems ts) fs ms n = ⊥
 HasFields (TheMembers m) fs ms n = IsDistinct bytes_eq (map (λ f. f.0) fs) × AreFound m fs ms × (btree_map_len m ≡ n)
-HasFields (InPlace ts) fs ms n = ⊥
+HasFields (InPlace ts) fs ms n = (rest : Members) × InMembers ts rest × AreNext fs rest ms × (n ≡ length fs)
 HasFields (Texts m) fs ms n = ⊥
 HasFields (Ranks m) fs ms n = ⊥
 

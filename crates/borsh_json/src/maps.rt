@@ -1,23 +1,25 @@
 // The members of an object, by their keys.
 ghost use Rattle.borsh_json.specs.declared.kinds.KeyKind.TheVariants.{Text as TextKeys};
 ghost use Rattle.borsh_json.specs.Forms.{Form};
-ghost use Rattle.borsh_json.specs.Frames.{AreKeyed, AreSorted, DeniesRead, HaveNumbers, HaveOneEach, IsRank, IsText};
+ghost use Rattle.borsh_json.specs.Frames.{AreKeyed, AreSorted, DeniesRead, HasFields, HaveNumbers, HaveOneEach, IsRank, IsText};
 ghost use Rattle.borsh_json.specs.Places.{AreKeysOf};
 ghost use Rattle.borsh_json.specs.Reads.{SaysSome};
 ghost use Rattle.borsh_json.specs.Table.{Entry, HasKind, Keys, Lengths, entries as map_entries, entries_of, texts};
 ghost use Rattle.borsh_values.specs.declared.layout.Named.{Named as NamedPlace};
 ghost use Rattle.borsh_walks.specs.Tables.{mark_of};
-ghost use Rattle.json.specs.Find.{BeginsWith, Finds, get_member};
+ghost use Rattle.json.specs.Find.{BeginsWith, Finds, InMembers, get_member};
 ghost use Rattle.json.specs.Json.{Json, Members as JsonMembers, object};
+ghost use Rattle.std.specs.List.{IsDistinct};
 ghost use Rattle.std.specs.List.Sorted.{IsPermutation};
-ghost use Rattle.std.specs.Prelude.{◌≡◌, ◌≤◌, ℕ, IfSome, List, MatchResult, Option};
+ghost use Rattle.std.specs.Prelude.{◌≡◌, ◌≤◌, ℕ, IfSome, List, MatchResult, Option, length, map, string_bytes};
+ghost use Rattle.std.specs.Str.{bytes_eq};
 
 use crate::error::{ReadError, Refusal};
-use crate::kinds::KeyKind;
+use crate::kinds::{KeyKind, NamedFields};
 use crate::numbers::Number;
 use crate::opening::expected;
 use crate::sources::Source;
-use json::Element;
+use json::{Element, Members};
 use std::alloc::Global;
 use std::collections::BTreeMap;
 
@@ -123,4 +125,51 @@ fn in_place<'t, 's>(element: &Element<'t, 's>) -> Option<(Source<'t, 's>, usize)
         earlier = key;
     }
     None
+}
+
+/// The members of an object that has these fields.
+pub fn fields_of<'t, 's>(
+    alloc: Global,
+    fields: &NamedFields,
+    element: &Element<'t, 's>,
+) -> Result<Source<'t, 's>, ReadError>
+    ensures { let all = fields.now.items in IsDistinct bytes_eq (map (λ f. string_bytes f.0) all) → (j : Json) →
+        BeginsWith element.now j → MatchResult result
+        (λ s. (ms : JsonMembers) × (n : ℕ) × (j ≡ object ms) × (n ≡ length (entries_of ms)) ×
+            HasFields s (map (λ f. (string_bytes f.0, string_bytes f.1)) all) ms n)
+        (λ e. DeniesRead e ((ms : JsonMembers) × (j ≡ object ms) × HaveOneEach (entries_of ms))) }
+{
+    match fields_in_place(fields, element) {
+        Some(members) => Ok(Source::Entries(members)),
+        None => match members_of(alloc, element) {
+            Ok(members) => Ok(Source::Members(members)),
+            Err(error) => Err(error),
+        },
+    }
+}
+
+/// The members of an object that are these fields, in their order, as those of a struct that was written are.
+fn fields_in_place<'t, 's>(
+    fields: &NamedFields,
+    element: &Element<'t, 's>,
+) -> Option<Members<'t, 's>>
+    ensures { (j : Json) → BeginsWith element.now j → IfSome result (λ found. (ms : JsonMembers) ×
+        (j ≡ object ms) × InMembers found ms ×
+        (map (λ e. e.0) (entries_of ms) ≡ map (λ f. string_bytes f.0) fields.now.items)) }
+{
+    let found = element.members()?;
+    let mut members = element.members()?;
+    for (field, _) in fields {
+        let Some((key, _)) = members.next() else {
+            return None;
+        };
+        let is_next = key == field.as_str();
+        if !is_next {
+            return None;
+        }
+    }
+    match members.next() {
+        Some(_) => None,
+        None => Some(found),
+    }
 }

@@ -21,7 +21,7 @@ use crate::digits::hexadecimal;
 use crate::error::{ReadError, Refusal};
 use crate::floats::is_nan;
 use crate::kinds::{Elements, Entries, KeyKind, Kind, NamedFields, Variants};
-use crate::maps::{members_of, sorted_entries};
+use crate::maps::{fields_of, sorted_entries};
 use crate::numbers::Number;
 use crate::order::{Ordered, first_descent};
 use crate::position::{Parts, Place};
@@ -554,10 +554,10 @@ fn open_object<'a, 't, 's>(
     ensures { Opens (λ F ns x. (f : Form) × IsAt ns at x × (F x ≡ Some f) × IsKindOf F ns x f (FoundObject fields.entry))
         element.now [] [] result }
 {
-    match members_of(alloc, element) {
-        Ok(members) => Ok(Some(Frame {
+    match fields_of(alloc, fields, element) {
+        Ok(source) => Ok(Some(Frame {
             place: Place::new(Parts::Object(at, fields)),
-            source: Source::Members(members),
+            source,
         })),
         Err(error) => Err(error),
     }

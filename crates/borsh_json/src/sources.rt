@@ -15,7 +15,7 @@ pub enum Source<'t, 's> {
     One(Option<Element<'t, 's>>),
     Items(Items<'t, 's>),
     Members(BTreeMap<&'s str, Element<'t, 's>>),
-    /// The values of entries, whose keys are texts and ascend.
+    /// The values of entries, whose keys are texts and ascend; or of fields, which come in their order.
     Entries(Members<'t, 's>),
     /// The values of entries, by their keys.
     Texts(BTreeMap<&'s str, Element<'t, 's>>),
@@ -44,6 +44,10 @@ impl<'t, 's> Source<'t, 's> {
             Source::One(element) => element.take(),
             Source::Items(items) => items.next(),
             Source::Members(members) => members.remove(field),
+            Source::Entries(members) => match members.next() {
+                Some((_, element)) => Some(element),
+                None => None,
+            },
             _ => None,
         }
     }
