@@ -112,3 +112,7 @@ module _ {E : Type 0} (F : List ℕ → Option Form) (x own : List ℕ) (d : Def
       listed : (found : Option ℕ) → MatchOption found (string_bytes v ≡ []) (λ i. (u : ℤ × String Global × String Global) × (slice_get vs.items i ≡ Some u) × (string_bytes v ≡ string_bytes u.1)) → MatchOption found (string_bytes v ≡ []) (λ i. (k : ℤ) × (p : List ℕ) × (slice_get (map (λ u. (u.0, string_bytes u.1, string_bytes u.2)) vs.items) i ≡ Some (k, string_bytes v, p)))
       listed None h = h
       listed (Some i) h = (h.0.0, string_bytes h.0.2, slice_get-map (λ u. (u.0, string_bytes u.1, string_bytes u.2)) vs.items i ∙ ap (λ o. option_map (λ u. (u.0, string_bytes u.1, string_bytes u.2)) o) h.1 ∙ ap (λ (t : List ℕ). Some (h.0.0, t, string_bytes h.0.2)) (sym h.2))
+
+pub if_same : {E : Type 0} (P : List ℕ → Type 0) (r : Result (String Global) E) (t : List ℕ) → IfOk r (λ v. string_bytes v ≡ t) → P t → IfOk r (λ v. P (string_bytes v))
+if_same P (Ok v) t e p = subst (λ t. P t) (sym e) p
+if_same P (Err z) t e p = tt

@@ -21,7 +21,8 @@ enum Known {
     Order(Option<Ordered>),
 }
 
-/// A layout, and how the values of its names are written as JSON: made once, for any number of values.
+/// A layout, and how the values of its names are written as JSON. [`to_json`](crate::to_json) and [`from_json`](crate::from_json)
+/// make one for each call; a caller with many values of one type makes it once.
 #[derive(Drop)]
 pub struct Definitions<'a, 'l> {
     pub alloc: Global,
@@ -33,6 +34,12 @@ pub struct Definitions<'a, 'l> {
 }
 
 impl<'a, 'l> Definitions<'a, 'l> {
+    /// The JSON of values of the layout's root. The only error is that an allocation failed. Left open: memory.
+    ///
+    /// ```
+    /// let layout = Layout::new(alloc, "(u8, bool)", &definitions)?;
+    /// let json = Json::new(alloc, &layout)?;
+    /// ```
     pub fn new(alloc: Global, layout: &'l Layout<'a>) -> Result<Definitions<'a, 'l>, AllocError>
         ensures known { IsLaidOut layout.now → KnowsSizes layout.now → IfOk result (λ d. HasKinds d) }
         ensures layout { IfOk result (λ d. d.layout.now ≡ layout.now) }
@@ -68,7 +75,7 @@ impl<'a, 'l> Definitions<'a, 'l> {
     }
 
     /// The definition of the name at a place, if it has one.
-    pub fn get(&self, at: usize) -> Option<&'a Definition>
+    pub(crate) fn get(&self, at: usize) -> Option<&'a Definition>
         ensures { IsKnown self.now → (x : List ℕ) → IsAt self.now.layout.now.names.items at x →
             option_map (λ d. form_of d.now) result ≡ forms_in self.now.layout.now.map.now x }
     {
@@ -79,7 +86,7 @@ impl<'a, 'l> Definitions<'a, 'l> {
     }
 
     /// The name at a place.
-    pub fn name(&self, at: usize) -> &'a str
+    pub(crate) fn name(&self, at: usize) -> &'a str
         ensures { IsKnown self.now → (x : List ℕ) → IsAt self.now.layout.now.names.items at x →
             result.now ≡ x }
     {
@@ -90,7 +97,7 @@ impl<'a, 'l> Definitions<'a, 'l> {
     }
 
     /// The place of a part of the definition at a place; past its parts a place that no name has.
-    pub fn part(&self, at: usize, index: usize) -> usize
+    pub(crate) fn part(&self, at: usize, index: usize) -> usize
         ensures { let ns = self.now.layout.now.names.items in let F = forms_in self.now.layout.now.map.now in
             IsKnown self.now → (x y : List ℕ) (f : Form) → IsAt ns at x → F x ≡ Some f →
             slice_get (references (shape_of_form f)) index ≡ Some y → IsAt ns result y }
@@ -102,7 +109,7 @@ impl<'a, 'l> Definitions<'a, 'l> {
     }
 
     /// Whether the values of the name at a place have no bytes.
-    pub fn is_zero_size(&self, at: usize) -> bool
+    pub(crate) fn is_zero_size(&self, at: usize) -> bool
         ensures { IsKnown self.now → (x : List ℕ) → IsAt self.now.layout.now.names.items at x →
             Decides result (HasNoBytes (forms_in self.now.layout.now.map.now) x) }
     {
@@ -115,14 +122,14 @@ impl<'a, 'l> Definitions<'a, 'l> {
     }
 
     /// How the value of a node is written.
-    pub fn kind_of_node(&self, node: &Node<'a, '_>) -> Option<Kind<'a>> {
+    pub(crate) fn kind_of_node(&self, node: &Node<'a, '_>) -> Option<Kind<'a>> {
         let at = self.layout.places.get(node.name).copied()?;
         let (_, kind) = self.kind(at)?;
         Some(kind)
     }
 
     /// The definition of the name at a place, if it has one, and how its values are written.
-    pub fn kind(&self, at: usize) -> Option<(&'a Definition, Kind<'a>)>
+    pub(crate) fn kind(&self, at: usize) -> Option<(&'a Definition, Kind<'a>)>
         ensures { let ns = self.now.layout.now.names.items in let F = forms_in self.now.layout.now.map.now in
             HasKinds self.now → IsKindAt F ns at result }
     {
@@ -133,7 +140,7 @@ impl<'a, 'l> Definitions<'a, 'l> {
     }
 
     /// How the values of the name at a place are ordered; none where that isn't known.
-    pub fn order_of(&mut self, at: usize) -> Result<Option<Ordered>, AllocError>
+    pub(crate) fn order_of(&mut self, at: usize) -> Result<Option<Ordered>, AllocError>
         ensures { OnOk result ((self.new.layout ≡ self.old.layout) × (self.new.kinds ≡ self.old.kinds)) }
     {
         if self.orders.is_empty() {
@@ -146,7 +153,7 @@ impl<'a, 'l> Definitions<'a, 'l> {
     }
 
     /// How the values of the name are ordered, where [`Definitions::order_of`] found that for it or for a name that needs it.
-    pub fn known_order(&self, at: usize) -> Option<Ordered> {
+    pub(crate) fn known_order(&self, at: usize) -> Option<Ordered> {
         match self.known_at(at) {
             Known::Order(order) => order,
             Known::Nothing => None,

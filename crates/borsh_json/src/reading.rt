@@ -82,7 +82,7 @@ impl<'a, 'l> Definitions<'a, 'l> {
     }
 
     /// The bytes that a text says, which needn't be a member of the root.
-    pub fn read_text(&self, text: &str) -> Result<Vec<u8>, JsonError<'a>>
+    pub(crate) fn read_text(&self, text: &str) -> Result<Vec<u8>, JsonError<'a>>
         requires { HasKinds self.now }
         ensures says { let layout = self.now.layout.now in let F = forms_in layout.map.now in
             IfOk result (λ bytes. (j : Json) × (document text.now ≡ Some j) ×

@@ -176,13 +176,13 @@ fn number_text(alloc: Global, number: Number, bytes: &[u8]) -> Result<String, Al
 {
     let mut buffer = Buffer::new();
     let text = number.decimal(&mut buffer, bytes);
-    let mut read = Vec::new(alloc);
-    let number = Number {
+    let with_zero = Number {
         is_non_zero: false,
         ..number
     };
-    if let Some(found) = number.bytes(text) {
-        put_number(number, found, &mut read)?;
+    let mut read = Vec::new(alloc);
+    if let Some(found) = with_zero.bytes(text) {
+        put_number(with_zero, found, &mut read)?;
         let is_same = read.as_slice() == bytes;
         if is_same {
             return String::from_str(alloc, text);

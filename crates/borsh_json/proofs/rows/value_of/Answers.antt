@@ -1,6 +1,6 @@
-use Rattle.std.proofs.Common.{◌≡◌}
-use Rattle.borsh_walks.specs.Definitions.{shape_of}
+use Rattle.std.proofs.Common.{◌≡◌, subst, Some, None}
 use Rattle.borsh_json.specs.Forms.{forms_in}
+use Rattle.borsh_json.specs.Rows.{IsText}
 use Rattle.borsh_json.specs.Table.{primitive_kind}
 use Rattle.borsh_json.proofs.RowsLaws.{primitive_value, text_value, count_value, variant_value}
 use Rattle.borsh_json.proofs.rows.value_of.Goals as goal
@@ -9,3 +9,16 @@ pub returns-in-Primitive : goal.returns-in-Primitive
 returns-in-Primitive c =
     let n = c.args.node.now in
     primitive_value (forms_in c.args.map.now) n.name.now n.bytes.now n.definition.now c.in-Primitive.size c.in-Primitive.is c.primitive_text.result (c.primitive_text.ensures (primitive_kind n.name.now c.in-Primitive.size) c.kind_of_primitive.ensures)
+
+pub returns-then-is_text : goal.returns-then-is_text
+returns-then-is_text c =
+    let n = c.args.node.now in
+    let F = forms_in c.args.map.now in
+    let t = c.is_text.ensures.0 c.if-is_text.true in
+    text_value F n.name.now n.bytes.now n.definition.now _ _ _ c.in-Sequence.is (subst (λ e. IsText F n.name.now e) c.as_str.ensures.value t) c.elements_of.result.now c.elements_of.ensures c.quoted.result c.quoted.ensures
+
+pub returns-else-is_text : goal.returns-else-is_text
+returns-else-is_text c =
+    let n = c.args.node.now in
+    let F = forms_in c.args.map.now in
+    count_value F n.name.now n.bytes.now n.definition.now _ _ _ c.in-Sequence.is (λ t. let q = c.is_text.ensures.1 (subst (λ e. IsText F n.name.now e) (sym c.as_str.ensures.value) t) in let f = c.if-is_text.false in cc) c.count_of.result c.count_of.ensures c.counted_text.result c.counted_text.ensures
