@@ -2,7 +2,8 @@
 ghost use Rattle.borsh_json.specs.Forms.{Form, form_of, forms_in};
 ghost use Rattle.borsh_json.specs.declared.error.Refusal.TheVariants.{TooDeep};
 ghost use Rattle.borsh_json.specs.declared.parts.Next.TheVariants.{Part as NextPart, Missing as NextMissing};
-ghost use Rattle.borsh_json.specs.Frames.{DeniesPart, DeniesRead, HasEntries, HasLeft, HaveLeft, IsEntryKey, IsNext, IsNextEntry, IsOf, IsReadOn, IsReading, NoneLeft};
+ghost use Rattle.borsh_json.specs.Frames.{DeniesPart, DeniesRead, HasEntries, HasLeft, HasRead, HaveLeft, IsEntryKey, IsNext, IsNextEntry, IsOf, NoneLeft, ReadsOn};
+ghost use Rattle.borsh_json.specs.Found.{forms_of, names_of};
 ghost use Rattle.borsh_json.specs.Known.{IsKnown};
 ghost use Rattle.borsh_json.specs.Places.{AreKeysOf, IsAt};
 ghost use Rattle.borsh_json.specs.Reads.{AreRead, Left, entries_left, PartsOfAll, SaysFirst, SaysSome};
@@ -87,14 +88,8 @@ struct Reading<'a, 'l, 't, 's> {
 impl<'a, 'l, 't, 's> Reading<'a, 'l, 't, 's> {
     /// Reads the next part, or goes back to the parts around; says no at the end of the value.
     fn read_next(&mut self) -> PartResult<'a, bool>
-        ensures read { let F = forms_in self.old.definitions.layout.now.map.now in
-            let ns = self.old.definitions.layout.now.names.items in
-            IsKnown self.old.definitions → (root : List ℕ) (j : Json) →
-            IsReading F ns root j self.old.position.place.parts self.old.position.place.begun self.old.source
-                self.old.position.outer.items self.old.outer.items self.old.out.items → MatchResult result
-            (λ more. IsReadOn F ns root j more self.new.position.place self.new.source
-                self.new.position.outer.items self.new.outer.items self.new.out.items)
-            (λ e. DeniesPart e (SaysSome F root j)) }
+        ensures read { IsKnown self.old.definitions → (root : List ℕ) (j : Json) → HasRead root j self.old →
+            ReadsOn self.old.definitions root j self.new result }
         ensures known { IsKnown self.old.definitions → OnOk result (IsKnown self.new.definitions) }
         ensures same { OnOk result (self.new.definitions.layout ≡ self.old.definitions.layout) }
     {
@@ -118,17 +113,14 @@ impl<'a, 'l, 't, 's> Reading<'a, 'l, 't, 's> {
 
     /// Reads a part, and goes into its parts if it has some.
     fn open(&mut self, at: usize, part: Element<'t, 's>) -> PartResult<'a, bool>
-        ensures read { let F = forms_in self.old.definitions.layout.now.map.now in
-            let ns = self.old.definitions.layout.now.names.items in
+        ensures read { let F = forms_of self.old.definitions in let ns = names_of self.old.definitions in
             IsKnown self.old.definitions → (root : List ℕ) (j : Json) (x : List ℕ) (i : Json) (l : Left)
             (ls : List Left) → IsAt ns at x → BeginsWith part.entry i →
             HasLeft F ns self.old.position.place.parts self.old.position.place.begun self.old.source l →
             HaveLeft F ns self.old.position.outer.items self.old.outer.items ls →
             AreRead F root j self.old.out.items
-                (λ ps. (rest : List JsonPart) × PartsOfAll (l ∷ ls) rest × (ps ≡ (x, i) ∷ rest)) → MatchResult result
-            (λ more. IsReadOn F ns root j more self.new.position.place self.new.source
-                self.new.position.outer.items self.new.outer.items self.new.out.items)
-            (λ e. DeniesPart e (SaysSome F root j)) }
+                (λ ps. (rest : List JsonPart) × PartsOfAll (l ∷ ls) rest × (ps ≡ (x, i) ∷ rest)) →
+            ReadsOn self.old.definitions root j self.new result }
         ensures known { IsKnown self.old.definitions → OnOk result (IsKnown self.new.definitions) }
         ensures same { OnOk result (self.new.definitions.layout ≡ self.old.definitions.layout) }
     {
@@ -158,15 +150,12 @@ impl<'a, 'l, 't, 's> Reading<'a, 'l, 't, 's> {
 
     /// Goes back to the parts around, unless a key of an object is left that is no field.
     fn leave(&mut self) -> PartResult<'a, bool>
-        ensures read { let F = forms_in self.old.definitions.layout.now.map.now in
-            let ns = self.old.definitions.layout.now.names.items in
+        ensures read { let F = forms_of self.old.definitions in let ns = names_of self.old.definitions in
             (root : List ℕ) (j : Json) (ls : List Left) →
             HaveLeft F ns self.old.position.outer.items self.old.outer.items ls →
             (NoneLeft self.old.source → AreRead F root j self.old.out.items (PartsOfAll ls)) →
-            ((NoneLeft self.old.source → ⊥) → SaysSome F root j → ⊥) → MatchResult result
-            (λ more. IsReadOn F ns root j more self.new.position.place self.new.source
-                self.new.position.outer.items self.new.outer.items self.new.out.items)
-            (λ e. DeniesPart e (SaysSome F root j)) }
+            ((NoneLeft self.old.source → ⊥) → SaysSome F root j → ⊥) →
+            ReadsOn self.old.definitions root j self.new result }
         ensures same { OnOk result (self.new.definitions ≡ self.old.definitions) }
     {
         let unknown = self.source.unknown_key();
@@ -211,8 +200,7 @@ fn take_next<'a, 't, 's>(
     source: &mut Source<'t, 's>,
     out: &mut Vec<u8>,
 ) -> Result<Next<'t, 's>, ReadError>
-    ensures { let F = forms_in definitions.now.layout.now.map.now in
-        let ns = definitions.now.layout.now.names.items in
+    ensures { let F = forms_of definitions.now in let ns = names_of definitions.now in
         IsKnown definitions.now → (root : List ℕ) (j : Json) (l : Left) (ls : List Left) →
         HasLeft F ns place.old.parts place.old.begun source.old l →
         AreRead F root j out.old.items (PartsOfAll (l ∷ ls)) → MatchResult result
