@@ -21,6 +21,10 @@ use Rattle.borsh_json.specs.Places.{IsAt, IsInfinity, IsKindOf, AreKeysOf}
 abbrev pub forms_of : Definitions → List ℕ → Option Form
 forms_of d = forms_in d.layout.now.map.now
 
+-- and the names, by their places
+abbrev pub names_of : Definitions → List Named
+names_of d = d.layout.now.names.items
+
 -- what is known is right, and the name at the place is x
 abbrev pub IsNamed : Definitions → ℕ → List ℕ → Type 0
 IsNamed d at x = IsKnown d × IsAt d.layout.now.names.items at x

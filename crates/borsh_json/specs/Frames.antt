@@ -12,6 +12,7 @@ use Rattle.json.specs.Find.{BeginsWith, InItems, InMembers, get_member, Finds, a
 use Rattle.borsh_walks.specs.Container.{references}
 use Rattle.borsh_walks.specs.Tables.{mark_of}
 use Rattle.borsh_values.specs.declared.layout.Named.{Named}
+use Rattle.borsh_json.specs.declared.definitions.Definitions.{Definitions}
 use Rattle.borsh_json.specs.declared.error.PartError.{PartError}
 use Rattle.borsh_json.specs.declared.error.PartError.TheVariants.{OutOfMemory as NoMemory, Refused as RefusedPart}
 use Rattle.borsh_json.specs.declared.error.ReadError.{ReadError}
@@ -27,6 +28,7 @@ use Rattle.borsh_json.specs.declared.opening.Array.TheVariants.{No, TooLong, Of}
 use Rattle.borsh_json.specs.declared.opening.Frame.{Frame}
 use Rattle.borsh_json.specs.declared.parts.Next.{Next}
 use Rattle.borsh_json.specs.declared.parts.Next.TheVariants.{Part, Missing, End}
+use Rattle.borsh_json.specs.declared.parts.Reading.{Reading}
 use Rattle.borsh_json.specs.declared.position.Key.{Key}
 use Rattle.borsh_json.specs.declared.position.Key.TheVariants.{None as NoKey, Name, Entry as EntryOf}
 use Rattle.borsh_json.specs.declared.position.Parts.{Parts}
@@ -37,11 +39,12 @@ use Rattle.borsh_json.specs.declared.sources.EntryKey.TheVariants.{Text as TextK
 use Rattle.borsh_json.specs.declared.sources.Source.{Source}
 use Rattle.borsh_json.specs.declared.sources.Source.TheVariants.{One, Items as TheItems, Members as TheMembers, Entries as InPlace, Texts, Ranks}
 use Rattle.borsh_json.specs.Forms.{Form, named, form_of, shape_of_form}
+use Rattle.borsh_json.specs.Found.{forms_of, names_of}
 use Rattle.borsh_json.specs.Places.{IsAt, AreKeysOf}
 use Rattle.borsh_json.specs.Ranks.{HasRank}
 use Rattle.borsh_json.specs.Represents.{HaveBytes}
 use Rattle.borsh_json.specs.Reads.{Left, items_left, fields_left, entries_left, PartsOf, PartsOfAll, SaysFirst, SaysSome, IsOnly, AreRead}
-use Rattle.borsh_json.specs.Table.{Keys, Part as JsonPart, row_parts, Entry, entries_of, key_order, IsVariant, IsWhole, list_parts, Lengths, Kind, IsArray, Says}
+use Rattle.borsh_json.specs.Table.{Keys, Part as JsonPart, row_parts, Entry, entries_of, key_order, IsVariant, IsWhole, IsPrefixed, list_parts, Lengths, Kind, IsArray, Says}
 
 -- ---- errors
 
@@ -295,3 +298,15 @@ pub record IsReading (F : List ℕ → Option Form) (ns : List Named) (root : Li
 abbrev pub IsReadOn : (List ℕ → Option Form) → List Named → List ℕ → Json → Bool → Place → Source → List Place → List Source → List ℕ → Type 0
 IsReadOn F ns root j true p s ps ss out = IsReading F ns root j p.parts p.begun s ps ss out
 IsReadOn F ns root j false p s ps ss out = HaveBytes F ((root, j) ∷ []) out
+
+-- what a reader has read, and what is left to it
+abbrev pub HasRead : Definitions → List ℕ → Json → Reading → Type 0
+HasRead d root j r = IsReading (forms_of d) (names_of d) root j r.position.place.parts r.position.place.begun r.source r.position.outer.items r.outer.items r.out.items
+
+-- a step of a reader of these definitions, after which it is so
+abbrev pub ReadsOn : Definitions → List ℕ → Json → Reading → Result Bool PartError → Type 0
+ReadsOn d root j r result = MatchResult result (λ more. IsReadOn (forms_of d) (names_of d) root j more r.position.place r.source r.position.outer.items r.outer.items r.out.items) (λ e. DeniesPart e (SaysSome (forms_of d) root j))
+
+-- a list of bytes was added, and its length in front; or the length is out of range
+abbrev pub AddsList : {A : Type 0} → Lengths → List ℕ → List ℕ → List ℕ → Result A ReadError → Type 0
+AddsList l bs old new result = MatchResult result (λ _. (own : List ℕ) × (new ≡ old ++ own) × IsPrefixed l (length bs) bs own) (λ e. DeniesRead e ((own : List ℕ) × IsPrefixed l (length bs) bs own))

@@ -9,8 +9,7 @@ use borsh_walks::{Declaration, Definition, DiscriminantValue, Fields, VariantNam
 
 /// What of a name comes behind these pieces; none if it doesn't begin with them.
 pub fn behind<'n>(name: &'n str, pieces: &[&str]) -> Option<&'n str>
-    ensures { MatchOption result
-        ((rest : List ℕ) → name.now ≡ joined pieces.now ++ rest → ⊥)
+    ensures { MatchOption result ((rest : List ℕ) → name.now ≡ joined pieces.now ++ rest → ⊥)
         (λ rest. name.now ≡ joined pieces.now ++ rest.now) }
 {
     let mut rest = name;
@@ -37,8 +36,7 @@ pub fn option_part(
     definition: &Definition,
 ) -> Option<usize>
     ensures { (x : List ℕ) → HasForm definitions.now at (form_of definition.now) x →
-        MatchOption result
-        ((p : List ℕ) → IsOption (forms_of definitions.now) x p → ⊥)
+        MatchOption result ((p : List ℕ) → IsOption (forms_of definitions.now) x p → ⊥)
         (λ k. (p : List ℕ) × IsNamed definitions.now k p × IsOption (forms_of definitions.now) x p) }
 {
     let Definition::Enum {
@@ -62,8 +60,7 @@ fn are_of_option(
     variants: &[(DiscriminantValue, VariantName, Declaration)],
 ) -> bool
     ensures { let vs = map (λ v. (v.0, string_bytes v.1, string_bytes v.2)) variants.now in
-        (x : List ℕ) → HasForm definitions.now at (choice 1 vs) x →
-        MatchBool result
+        (x : List ℕ) → HasForm definitions.now at (choice 1 vs) x → MatchBool result
         ((p : List ℕ) × (slice_get (map (λ v. v.2) vs) 1 ≡ Some p) × IsOption (forms_of definitions.now) x p)
         ((p : List ℕ) → IsOption (forms_of definitions.now) x p → ⊥) }
 {
@@ -97,8 +94,7 @@ fn is_option_name(name: &str, some: &(DiscriminantValue, VariantName, Declaratio
 
 /// Whether a struct has one field, without a name.
 pub fn is_newtype(definition: &Definition) -> bool
-    ensures { MatchBool result
-        ((p : List ℕ) × (form_of definition.now ≡ newtype p))
+    ensures { MatchBool result ((p : List ℕ) × (form_of definition.now ≡ newtype p))
         ((p : List ℕ) → form_of definition.now ≡ newtype p → ⊥) }
 {
     match definition {
@@ -108,8 +104,7 @@ pub fn is_newtype(definition: &Definition) -> bool
 }
 
 fn has_one_unnamed(fields: &Fields) -> bool
-    ensures { MatchBool result
-        ((p : List ℕ) × (form_of_struct fields.now ≡ newtype p))
+    ensures { MatchBool result ((p : List ℕ) × (form_of_struct fields.now ≡ newtype p))
         ((p : List ℕ) → form_of_struct fields.now ≡ newtype p → ⊥) }
 {
     match fields {
@@ -120,8 +115,7 @@ fn has_one_unnamed(fields: &Fields) -> bool
 
 /// Whether a definition is that of a list with a length prefix of four bytes, of any length.
 pub fn is_list(definition: &Definition) -> bool
-    ensures { MatchBool result
-        ((e : List ℕ) × (form_of definition.now ≡ sequence 4 0 4294967295 e))
+    ensures { MatchBool result ((e : List ℕ) × (form_of definition.now ≡ sequence 4 0 4294967295 e))
         ((e : List ℕ) → form_of definition.now ≡ sequence 4 0 4294967295 e → ⊥) }
 {
     match definition {

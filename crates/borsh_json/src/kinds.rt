@@ -313,8 +313,7 @@ fn size_of_primitive(definition: Option<&Definition>) -> u8 {
 /// Whether a map's keys have no bytes.
 fn has_empty_keys(definitions: &Definitions<'_, '_>, collection: Collection) -> bool
     ensures { let ns = definitions.now.layout.now.names.items in IsKnown definitions.now → (x : List ℕ) →
-        IsCollection (forms_of definitions.now) ns x collection →
-        MatchBool result
+        IsCollection (forms_of definitions.now) ns x collection → MatchBool result
         ((k v : List ℕ) × IsMap (forms_of definitions.now) x k v × HasNoBytes (forms_of definitions.now) k)
         ((k v : List ℕ) → IsMap (forms_of definitions.now) x k v → HasNoBytes (forms_of definitions.now) k → ⊥) }
 {
@@ -351,8 +350,7 @@ pub fn is_byte(definitions: &Definitions<'_, '_>, at: usize) -> bool
 /// The entries of a map whose keys are texts or numbers.
 fn entries_of<'a>(definitions: &Definitions<'a, '_>, collection: Collection) -> Option<Entries<'a>>
     ensures { let ns = definitions.now.layout.now.names.items in IsKnown definitions.now → (x : List ℕ) →
-        IsCollection (forms_of definitions.now) ns x collection →
-        MatchOption result
+        IsCollection (forms_of definitions.now) ns x collection → MatchOption result
         ((k v : List ℕ) (keys : Keys) → IsMap (forms_of definitions.now) x k v → AreKeys (forms_of definitions.now) k keys → ⊥)
         (λ es. (k v : List ℕ) × IsAt ns es.key k × IsAt ns es.value v ×
         IsMap (forms_of definitions.now) x k v × AreEntries (forms_of definitions.now) ns es k) }
@@ -377,8 +375,7 @@ fn kind_of_key(
     definition: &Definition,
 ) -> Option<KeyKind>
     ensures { let ns = definitions.now.layout.now.names.items in
-        (k : List ℕ) → HasForm definitions.now at (form_of definition.now) k →
-        MatchOption result
+        (k : List ℕ) → HasForm definitions.now at (form_of definition.now) k → MatchOption result
         ((keys : Keys) → AreKeys (forms_of definitions.now) k keys → ⊥)
         (λ kind. (keys : Keys) × AreKeys (forms_of definitions.now) k keys ×
         AreKeysOf (forms_of definitions.now) ns k (form_of definition.now) kind keys) }

@@ -207,8 +207,7 @@ fn is_leading(byte: u8) -> bool
 
 /// The number that a text is, in decimal as it is printed.
 fn signed_of(text: &str) -> Option<i128>
-    ensures { MatchOption result
-        ((z : ℤ) → FitsSigned w128 z → text.now ≡ signed_decimal z → ⊥)
+    ensures { MatchOption result ((z : ℤ) → FitsSigned w128 z → text.now ≡ signed_decimal z → ⊥)
         (λ z. text.now ≡ signed_decimal z) }
 {
     if is_plain(text.as_bytes()) {
@@ -220,8 +219,7 @@ fn signed_of(text: &str) -> Option<i128>
 
 /// The number that a text is, in decimal as it is printed.
 fn unsigned_of(text: &str) -> Option<u128>
-    ensures { MatchOption result
-        ((n : ℕ) → n < 2 ^ 128 → text.now ≡ decimal n → ⊥)
+    ensures { MatchOption result ((n : ℕ) → n < 2 ^ 128 → text.now ≡ decimal n → ⊥)
         (λ n. text.now ≡ decimal n) }
 {
     if is_plain(text.as_bytes()) {

@@ -4,7 +4,7 @@ ghost use Rattle.borsh_json.specs.declared.order.Ordered.{Ordered as FoundOrder}
 ghost use Rattle.borsh_json.specs.declared.kinds.Kind.TheVariants.{Map as FoundMap, Object as FoundObject, Row as FoundRow};
 ghost use Rattle.borsh_json.specs.declared.sources.Source.TheVariants.{One as OneSource};
 ghost use Rattle.borsh_json.specs.Forms.{Form, HasNoBytes, form_of, forms_in};
-ghost use Rattle.borsh_json.specs.Frames.{DeniesRead, IsArrayOf, IsExpected, IsOpened, SaysArray, IsVariantAt, NamesVariant, Opens};
+ghost use Rattle.borsh_json.specs.Frames.{AddsList, DeniesRead, IsArrayOf, IsExpected, IsOpened, SaysArray, IsVariantAt, NamesVariant, Opens};
 ghost use Rattle.borsh_json.specs.Known.{HasKinds, IsKnown};
 ghost use Rattle.borsh_json.specs.Places.{IsAt, IsInfinity, IsKindOf, IsListOf, lengths_of};
 ghost use Rattle.borsh_json.specs.Table.{Kind as TableKind, HasKind, IsHex, IsNumber, IsPrefixed, byte_list, entries_of, float, list_parts, no_bytes, optional, raw, truth, utf8, variants as spec_variants, whole};
@@ -127,8 +127,7 @@ fn open_bool<'a, 't, 's>(
     element: &Element<'t, 's>,
     out: &mut Vec<u8>,
 ) -> Opened<'a, 't, 's>
-    ensures { Opens (λ F ns x. HasKind F x truth)
-        element.now out.old.items out.new.items result }
+    ensures { Opens (λ F ns x. HasKind F x truth) element.now out.old.items out.new.items result }
 {
     match element.as_bool() {
         Some(true) => {
@@ -173,24 +172,14 @@ fn open_number<'a, 't, 's>(
         element.now out.old.items out.new.items result }
 {
     let Some(text) = number_text(number, element) else {
-        return Err(wrong_number(alloc, number));
+        return Err(unless(number.wanted(alloc)));
     };
     match number.bytes(text) {
         Some(bytes) => {
             put_number(number, bytes, out)?;
             Ok(None)
         }
-        None => Err(wrong_number(alloc, number)),
-    }
-}
-
-/// The refusal of other JSON than a number of the type.
-fn wrong_number(alloc: Global, number: Number) -> ReadError
-    ensures { IsExpected result }
-{
-    match number.wanted(alloc) {
-        Ok(wanted) => ReadError::Refused(Refusal::Expected(wanted)),
-        Err(_) => ReadError::OutOfMemory,
+        None => Err(unless(number.wanted(alloc))),
     }
 }
 
@@ -267,10 +256,7 @@ fn fixed_bytes(alloc: Global, size: u8, element: &Element<'_, '_>) -> Result<Vec
 fn wrong_size(alloc: Global, size: u8) -> ReadError
     ensures { IsExpected result }
 {
-    match format!(in alloc; "\"0x..\" of {size} bytes") {
-        Ok(wanted) => ReadError::Refused(Refusal::Expected(wanted)),
-        Err(_) => ReadError::OutOfMemory,
-    }
+    unless(format!(in alloc; "\"0x..\" of {size} bytes"))
 }
 
 /// The bytes that `0x` and digits say.
@@ -335,9 +321,7 @@ fn put_ascending(
     bytes: &[u8],
     out: &mut Vec<u8>,
 ) -> Result<(), ReadError>
-    ensures { let l = lengths_of (form_of definition.now) in MatchResult result
-        (λ _. (own : List ℕ) × (out.new.items ≡ out.old.items ++ own) × IsPrefixed l (length bytes.now) bytes.now own)
-        (λ e. DeniesRead e ((own : List ℕ) × IsPrefixed l (length bytes.now) bytes.now own)) }
+    ensures { AddsList (lengths_of (form_of definition.now)) bytes.now out.old.items out.new.items result }
 {
     match descent_in(elements, bytes) {
         Some(index) => Err(ReadError::Descends(index)),
@@ -357,9 +341,7 @@ pub fn put_list(
     bytes: &[u8],
     out: &mut Vec<u8>,
 ) -> Result<(), ReadError>
-    ensures { let l = lengths_of (form_of definition.now) in MatchResult result
-        (λ _. (own : List ℕ) × (out.new.items ≡ out.old.items ++ own) × IsPrefixed l (length bytes.now) bytes.now own)
-        (λ e. DeniesRead e ((own : List ℕ) × IsPrefixed l (length bytes.now) bytes.now own)) }
+    ensures { AddsList (lengths_of (form_of definition.now)) bytes.now out.old.items out.new.items result }
 {
     match put_length(alloc, definition, bytes.len(), out) {
         Ok(()) => {
@@ -517,10 +499,7 @@ fn open_row<'a, 't, 's>(
 fn wrong_row(alloc: Global, count: usize) -> ReadError
     ensures { IsExpected result }
 {
-    match format!(in alloc; "an array of {count}") {
-        Ok(wanted) => ReadError::Refused(Refusal::Expected(wanted)),
-        Err(_) => ReadError::OutOfMemory,
-    }
+    unless(format!(in alloc; "an array of {count}"))
 }
 
 fn open_map<'a, 't, 's>(
@@ -677,7 +656,13 @@ fn variant_named<'a>(variants: &'a Variants, name: &str) -> Option<(usize, &'a i
 pub fn expected(alloc: Global, wanted: &str) -> ReadError
     ensures { IsExpected result }
 {
-    match String::from_str(alloc, wanted) {
+    unless(String::from_str(alloc, wanted))
+}
+
+fn unless(wanted: Result<String, AllocError>) -> ReadError
+    ensures { IsExpected result }
+{
+    match wanted {
         Ok(wanted) => ReadError::Refused(Refusal::Expected(wanted)),
         Err(_) => ReadError::OutOfMemory,
     }

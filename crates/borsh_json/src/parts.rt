@@ -2,7 +2,8 @@
 ghost use Rattle.borsh_json.specs.Forms.{Form, form_of, forms_in};
 ghost use Rattle.borsh_json.specs.declared.error.Refusal.TheVariants.{TooDeep};
 ghost use Rattle.borsh_json.specs.declared.parts.Next.TheVariants.{Part as NextPart, Missing as NextMissing};
-ghost use Rattle.borsh_json.specs.Frames.{DeniesPart, DeniesRead, HasEntries, HasLeft, HaveLeft, IsEntryKey, IsNext, IsNextEntry, IsOf, IsReadOn, IsReading, NoneLeft};
+ghost use Rattle.borsh_json.specs.Frames.{DeniesPart, DeniesRead, HasEntries, HasLeft, HasRead, HaveLeft, IsEntryKey, IsNext, IsNextEntry, IsOf, NoneLeft, ReadsOn};
+ghost use Rattle.borsh_json.specs.Found.{forms_of, names_of};
 ghost use Rattle.borsh_json.specs.Known.{HasKinds, IsKnown};
 ghost use Rattle.borsh_json.specs.Places.{AreKeysOf, IsAt};
 ghost use Rattle.borsh_json.specs.Reads.{AreRead, Left, entries_left, PartsOfAll, SaysFirst, SaysSome};
@@ -80,14 +81,8 @@ struct Reading<'a, 't, 's> {
 impl<'a, 't, 's> Reading<'a, 't, 's> {
     /// Reads the next part, or goes back to the parts around; says no at the end of the value.
     fn read_next(&mut self, definitions: &Definitions<'a, '_>) -> PartResult<'a, bool>
-        ensures { let F = forms_in definitions.now.layout.now.map.now in
-            let ns = definitions.now.layout.now.names.items in
-            HasKinds definitions.now → (root : List ℕ) (j : Json) →
-            IsReading F ns root j self.old.position.place.parts self.old.position.place.begun self.old.source
-                self.old.position.outer.items self.old.outer.items self.old.out.items → MatchResult result
-            (λ more. IsReadOn F ns root j more self.new.position.place self.new.source
-                self.new.position.outer.items self.new.outer.items self.new.out.items)
-            (λ e. DeniesPart e (SaysSome F root j)) }
+        ensures { HasKinds definitions.now → (root : List ℕ) (j : Json) → HasRead definitions.now root j self.old →
+            ReadsOn definitions.now root j self.new result }
     {
         if !ascends(definitions, &mut self.position.place, self.out.as_slice())? {
             return Err(self.position.refused_element(Refusal::Descends));
@@ -114,17 +109,14 @@ impl<'a, 't, 's> Reading<'a, 't, 's> {
         at: usize,
         part: Element<'t, 's>,
     ) -> PartResult<'a, bool>
-        ensures { let F = forms_in definitions.now.layout.now.map.now in
-            let ns = definitions.now.layout.now.names.items in
+        ensures { let F = forms_of definitions.now in let ns = names_of definitions.now in
             HasKinds definitions.now → (root : List ℕ) (j : Json) (x : List ℕ) (i : Json) (l : Left)
             (ls : List Left) → IsAt ns at x → BeginsWith part.entry i →
             HasLeft F ns self.old.position.place.parts self.old.position.place.begun self.old.source l →
             HaveLeft F ns self.old.position.outer.items self.old.outer.items ls →
             AreRead F root j self.old.out.items
-                (λ ps. (rest : List JsonPart) × PartsOfAll (l ∷ ls) rest × (ps ≡ (x, i) ∷ rest)) → MatchResult result
-            (λ more. IsReadOn F ns root j more self.new.position.place self.new.source
-                self.new.position.outer.items self.new.outer.items self.new.out.items)
-            (λ e. DeniesPart e (SaysSome F root j)) }
+                (λ ps. (rest : List JsonPart) × PartsOfAll (l ∷ ls) rest × (ps ≡ (x, i) ∷ rest)) →
+            ReadsOn definitions.now root j self.new result }
     {
         match open_part(definitions, at, part, &mut self.out) {
             Ok(opened) => match opened {
@@ -152,15 +144,12 @@ impl<'a, 't, 's> Reading<'a, 't, 's> {
 
     /// Goes back to the parts around, unless a key of an object is left that is no field.
     fn leave(&mut self, definitions: &Definitions<'a, '_>) -> PartResult<'a, bool>
-        ensures { let F = forms_in definitions.now.layout.now.map.now in
-            let ns = definitions.now.layout.now.names.items in
+        ensures { let F = forms_of definitions.now in let ns = names_of definitions.now in
             (root : List ℕ) (j : Json) (ls : List Left) →
             HaveLeft F ns self.old.position.outer.items self.old.outer.items ls →
             (NoneLeft self.old.source → AreRead F root j self.old.out.items (PartsOfAll ls)) →
-            ((NoneLeft self.old.source → ⊥) → SaysSome F root j → ⊥) → MatchResult result
-            (λ more. IsReadOn F ns root j more self.new.position.place self.new.source
-                self.new.position.outer.items self.new.outer.items self.new.out.items)
-            (λ e. DeniesPart e (SaysSome F root j)) }
+            ((NoneLeft self.old.source → ⊥) → SaysSome F root j → ⊥) →
+            ReadsOn definitions.now root j self.new result }
     {
         let unknown = self.source.unknown_key();
         let is_part = self.position.leave();
@@ -204,8 +193,7 @@ fn take_next<'a, 't, 's>(
     source: &mut Source<'t, 's>,
     out: &mut Vec<u8>,
 ) -> Result<Next<'t, 's>, ReadError>
-    ensures { let F = forms_in definitions.now.layout.now.map.now in
-        let ns = definitions.now.layout.now.names.items in
+    ensures { let F = forms_of definitions.now in let ns = names_of definitions.now in
         IsKnown definitions.now → (root : List ℕ) (j : Json) (l : Left) (ls : List Left) →
         HasLeft F ns place.old.parts place.old.begun source.old l →
         AreRead F root j out.old.items (PartsOfAll (l ∷ ls)) → MatchResult result

@@ -7,7 +7,7 @@ use Rattle.borsh_json.proofs.opening.open_number.Goals as goal
 pub returns-in_default : goal.returns-in_default
 returns-in_default c F ns x j h b =
     let n = c.args.number in
-    denies_expected c.wrong_number.result c.wrong_number.ensures (denied F ns x j (whole n.size n.is_signed n.is_non_zero) h (λ own ps s. c.in_default.ensures j b s.0 s.1))
+    denies_expected c.unless.result c.unless.ensures (denied F ns x j (whole n.size n.is_signed n.is_non_zero) h (λ own ps s. c.in_default.ensures j b s.0 s.1))
 
 pub returns-in_ok-put_number-in-Some-bytes : goal.returns-in_ok-put_number-in-Some-bytes
 returns-in_ok-put_number-in-Some-bytes c F ns x j h b =
@@ -19,4 +19,4 @@ pub returns-in-None : goal.returns-in-None
 returns-in-None c F ns x j h b =
     let n = c.args.number in
     let small = kind_small F h n.size n.is_signed n.is_non_zero refl in
-    denies_expected c.wrong_number-in-None.result c.wrong_number-in-None.ensures (denied F ns x j (whole n.size n.is_signed n.is_non_zero) h (λ own ps s. c.in-None.ensures small own (subst (λ (t : List ℕ). IsWhole n.size n.is_signed n.is_non_zero t own) (number_one n.size s.0 c.in-Some.text.now j s.1 (c.in-Some.ensures j b)) s.2)))
+    denies_expected c.unless-in-None.result c.unless-in-None.ensures (denied F ns x j (whole n.size n.is_signed n.is_non_zero) h (λ own ps s. c.in-None.ensures small own (subst (λ (t : List ℕ). IsWhole n.size n.is_signed n.is_non_zero t own) (number_one n.size s.0 c.in-Some.text.now j s.1 (c.in-Some.ensures j b)) s.2)))
