@@ -1,11 +1,5 @@
 // A layout, and what was found out about its names. Names are known by their places.
-ghost use Rattle.borsh_json.specs.Forms.{Form, HasNoBytes, form_of, forms_in, shape_of_form};
-ghost use Rattle.borsh_json.specs.Known.{IsKnown};
-ghost use Rattle.borsh_json.specs.Places.{IsAt, IsKindOf};
-ghost use Rattle.borsh_values.specs.Free.{KnowsSizes};
-ghost use Rattle.borsh_values.specs.Layouts.{IsLaidOut};
-ghost use Rattle.borsh_walks.specs.Container.{references};
-ghost use Rattle.borsh_json.specs.declared.kinds.Kind.{Kind as Found};
+ghost use Rattle.borsh_json.specs.Words.{Form, Found, HasNoBytes, IsAt, IsKindOf, IsKnown, IsLaidOut, KnowsSizes, form_of, forms_in, references, shape_of_form};
 ghost use Rattle.std.specs.Prelude.{◌≡◌, ◌⊎◌, ℕ, List, Decides, IfOk, OnOk, Some, option_map, slice_get};
 
 use crate::kinds::{Kind, kind_of};

@@ -1,12 +1,6 @@
 // How the values of a name are written in JSON.
-ghost use Rattle.borsh_json.specs.Forms.{HasNoBytes, IsByte, IsMap, form_of, form_of_struct, forms_in, sequence};
-ghost use Rattle.borsh_json.specs.Found.{AreEntries, HasForm, IsCollection, IsNamed, IsPrimitiveKind, IsRefusedList, IsRepeated, TellsKind, forms_of};
-ghost use Rattle.borsh_json.specs.Known.{IsKnown};
-ghost use Rattle.borsh_json.specs.Places.{AreKeysOf, IsAt, IsKindOf};
-ghost use Rattle.borsh_json.specs.Table.{AreKeys, IsNullable, Keys, MayBeNull, primitive_kind, texts};
-ghost use Rattle.std.specs.List.{IsDistinct};
+ghost use Rattle.borsh_json.specs.Words.{AreEntries, AreKeys, AreKeysOf, HasForm, HasNoBytes, IsAt, IsByte, IsCollection, IsKindOf, IsKnown, IsMap, IsNamed, IsNullable, IsPrimitiveKind, IsRefusedList, IsRepeated, Keys, MayBeNull, TellsKind, form_of, form_of_struct, forms_in, forms_of, primitive_kind, sequence, texts};
 ghost use Rattle.std.specs.Prelude.{◌≡◌, ℕ, List, Decides, IfOk, MatchBool, MatchOption, OnOk, Some, map, string_bytes};
-ghost use Rattle.std.specs.Str.{bytes_eq};
 
 use crate::definitions::Definitions;
 use crate::floats::is_float;

@@ -1,15 +1,5 @@
 // The members of an object, by their keys.
-ghost use Rattle.borsh_json.specs.declared.kinds.KeyKind.TheVariants.{Text as TextKeys};
-ghost use Rattle.borsh_json.specs.Forms.{Form};
-ghost use Rattle.borsh_json.specs.Frames.{AreKeyed, AreSorted, DeniesRead, HaveNumbers, HaveOneEach, IsRank, IsText};
-ghost use Rattle.borsh_json.specs.Places.{AreKeysOf};
-ghost use Rattle.borsh_json.specs.Reads.{SaysSome};
-ghost use Rattle.borsh_json.specs.Table.{Entry, HasKind, Keys, Lengths, entries as map_entries, entries_of, texts};
-ghost use Rattle.borsh_values.specs.declared.layout.Named.{Named as NamedPlace};
-ghost use Rattle.borsh_walks.specs.Tables.{mark_of};
-ghost use Rattle.json.specs.Find.{BeginsWith, Finds, get_member};
-ghost use Rattle.json.specs.Json.{Json, Members as JsonMembers, object};
-ghost use Rattle.std.specs.List.Sorted.{IsPermutation};
+ghost use Rattle.borsh_json.specs.Words.{AreKeyed, AreKeysOf, AreSorted, BeginsWith, DeniesRead, Entry, Finds, Form, HasKind, HaveNumbers, HaveOneEach, IsPermutation, IsRank, IsText, Json, JsonMembers, Keys, Lengths, NamedPlace, SaysSome, TextKeys, entries_of, get_member, map_entries, mark_of, object, texts};
 ghost use Rattle.std.specs.Prelude.{◌≡◌, ◌≤◌, ℕ, IfSome, List, MatchResult, Option};
 
 use crate::error::{ReadError, Refusal};

@@ -1,11 +1,5 @@
 // Where in a value the reader or writer is.
-ghost use Rattle.borsh_json.specs.Errors.{IsPartError, IsReadRefusal, IsUnreadable, IsUnwritable};
-ghost use Rattle.borsh_json.specs.declared.error.Refusal.TheVariants.{TooDeep};
-ghost use Rattle.borsh_json.specs.declared.position.Parts.TheVariants.{Root};
-ghost use Rattle.borsh_json.specs.Forms.{forms_in};
-ghost use Rattle.borsh_json.specs.Frames.{IsKey, IsOf, IsOfRead, IsWanted, Wanted};
-ghost use Rattle.borsh_json.specs.Known.{IsKnown};
-ghost use Rattle.borsh_json.specs.Places.{IsAt};
+ghost use Rattle.borsh_json.specs.Words.{IsAt, IsKey, IsKnown, IsOf, IsOfRead, IsPartError, IsReadRefusal, IsUnreadable, IsUnwritable, IsWanted, Root, TooDeep, Wanted, forms_in};
 ghost use Rattle.std.specs.Prelude.{◌≡◌, ◌+◌, ◌^◌, ◌<◌, ◌≤◌, ◌∷◌, ◌++◌, [], true, false, ℕ, List, IfErr, IfSome, MatchOption, OnOk};
 
 use crate::definitions::Definitions;
