@@ -1,5 +1,5 @@
 // How the values of a name are written in JSON.
-ghost use Rattle.borsh_json.specs.Words.{AreEntries, AreKeys, AreKeysOf, HasForm, HasNoBytes, IsAt, IsByte, IsCollection, IsKindOf, IsKnown, IsMap, IsNamed, IsNullable, IsPrimitiveKind, IsRefusedList, IsRepeated, Keys, MayBeNull, TellsKind, form_of, form_of_struct, forms_in, forms_of, primitive_kind, sequence, texts};
+ghost use Rattle.borsh_json.specs.Words.{AreEntries, AreKeys, AreKeysOf, HasForm, HasNoBytes, IsAlike, IsAt, IsByte, IsCollection, IsKindOf, IsKnown, IsMap, IsNamed, IsNullable, IsPrimitiveKind, IsRefusedList, IsRepeated, Keys, MayBeNull, TellsKind, form_of, form_of_struct, forms_in, forms_of, primitive_kind, sequence, texts};
 ghost use Rattle.std.specs.Prelude.{◌≡◌, ℕ, List, Decides, IfOk, MatchBool, MatchOption, OnOk, Some, map, string_bytes};
 
 use crate::definitions::Definitions;
@@ -89,8 +89,7 @@ pub fn kind_of<'a>(
         let F = forms_in definitions.old.layout.now.map.now in
         IsKnown definitions.old → IfOk result (λ kind. (x : List ℕ) → IsAt ns at x →
         F x ≡ Some (form_of definition.now) → (HasNoBytes F x → ⊥) → IsKindOf F ns x (form_of definition.now) kind) }
-    ensures same { OnOk result ((definitions.new.layout ≡ definitions.old.layout) ×
-        (definitions.new.kinds ≡ definitions.old.kinds)) }
+    ensures same { OnOk result (IsAlike definitions.old definitions.new) }
 {
     match definition {
         Definition::Primitive(size) => Ok(kind_of_primitive(definitions.name(at), *size)),
@@ -212,8 +211,7 @@ fn kind_of_sequence<'a>(
 ) -> Result<Kind<'a>, AllocError>
     ensures kind { (w lo hi : ℕ) (e : List ℕ) → form_of definition.now ≡ sequence w lo hi e →
         IfOk result (TellsKind definitions.old at (form_of definition.now)) }
-    ensures same { OnOk result ((definitions.new.layout ≡ definitions.old.layout) ×
-        (definitions.new.kinds ≡ definitions.old.kinds)) }
+    ensures same { OnOk result (IsAlike definitions.old definitions.new) }
 {
     let element = definitions.part(at, 0);
     if is_byte(definitions, element) {
@@ -232,8 +230,7 @@ fn kind_of_bytes<'a>(
     ensures kind { (w lo hi : ℕ) (e : List ℕ) → form_of definition.now ≡ sequence w lo hi e →
         IsNamed definitions.old element e → IsByte (forms_of definitions.old) e →
         IfOk result (TellsKind definitions.old at (form_of definition.now)) }
-    ensures same { OnOk result ((definitions.new.layout ≡ definitions.old.layout) ×
-        (definitions.new.kinds ≡ definitions.old.kinds)) }
+    ensures same { OnOk result (IsAlike definitions.old definitions.new) }
 {
     if definitions.name(at) == "String" {
         return Ok(Kind::Text);
@@ -257,8 +254,7 @@ fn kind_of_list<'a>(
     ensures kind { (w lo hi : ℕ) (e : List ℕ) → form_of definition.now ≡ sequence w lo hi e →
         IsNamed definitions.old element e → (IsByte (forms_of definitions.old) e → ⊥) →
         IfOk result (TellsKind definitions.old at (form_of definition.now)) }
-    ensures same { OnOk result ((definitions.new.layout ≡ definitions.old.layout) ×
-        (definitions.new.kinds ≡ definitions.old.kinds)) }
+    ensures same { OnOk result (IsAlike definitions.old definitions.new) }
 {
     let collection = collection_of(definitions, at, definition);
     if definitions.is_zero_size(element) {
@@ -323,8 +319,7 @@ fn order_in(
     element: usize,
     collection: Collection,
 ) -> Result<Option<Ordered>, AllocError>
-    ensures { OnOk result ((definitions.new.layout ≡ definitions.old.layout) ×
-        (definitions.new.kinds ≡ definitions.old.kinds)) }
+    ensures { OnOk result (IsAlike definitions.old definitions.new) }
 {
     match collection {
         Collection::List => Ok(None),
