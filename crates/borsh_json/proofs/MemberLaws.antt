@@ -84,7 +84,7 @@ pub record ArePassed {A : Type 0} (K : A → List ℕ → Type 0) (ms : Members)
   pub same : IsPermutation passed es
 
 module _ {A : Type 0} (K : A → List ℕ → Type 0) (ms : Members) (ts : List Token) where
-  pub passed_start : (m : List (A × List Token)) → InMembers ts ms → m ≡ [] → ArePassed K ms ts m
+  unfoldable pub passed_start : (m : List (A × List Token)) → InMembers ts ms → m ≡ [] → ArePassed K ms ts m
   passed_start m h e = record { passed = []; es = []; rest = ms; all = refl; left = h; keyed = subst (λ (l : List (A × List Token)). AreKeyed K l []) (sym e) refl; same = IsPermutation-refl [] }
 
   -- none is left
@@ -99,7 +99,7 @@ module _ {A : Type 0} (K : A → List ℕ → Type 0) (ms : Members) (ts : List 
     passed_here p = let n = v p.rest p.left in (n.0, entries_of n.1, p.all ∙ ap (λ ms. p.passed ++ entries_of ms) n.2)
 
     module _ (cmp : A → A → Ordering) (k : A) where
-      pub passed_more : (n : List (A × List Token)) → n ≡ insert_entry cmp m k t → K k s → lookup (is_at (cmp k)) m ≡ None → ArePassed K ms ts m → ArePassed K ms new n
+      unfoldable pub passed_more : (n : List (A × List Token)) → n ≡ insert_entry cmp m k t → K k s → lookup (is_at (cmp k)) m ≡ None → ArePassed K ms ts m → ArePassed K ms new n
       passed_more n i a e p =
           let u = v p.rest p.left in
           let r = inserted K cmp m p.es k s t u.0 a u.3 p.keyed e in

@@ -25,6 +25,10 @@ forms_of d = forms_in d.layout.now.map.now
 abbrev pub names_of : Definitions → List Named
 names_of d = d.layout.now.names.items
 
+-- at most the orders that are known differ
+abbrev pub IsAlike : Definitions → Definitions → Type 0
+IsAlike d e = (e.layout ≡ d.layout) × (e.kinds ≡ d.kinds)
+
 -- what is known is right, and the name at the place is x
 abbrev pub IsNamed : Definitions → ℕ → List ℕ → Type 0
 IsNamed d at x = IsKnown d × IsAt d.layout.now.names.items at x

@@ -1,5 +1,5 @@
 -- What the frames of the reader stand for, and what its steps return.
-use Rattle.std.specs.Prelude.{◌≡◌, ◌⊎◌, ⊤, ℕ, suc, ℤ, String, slice_get, List, [], ◌∷◌, ◌++◌, ◌-◌, length, map, drop, replicate, Bool, true, false, Option, Some, None, Result, MatchResult, string_bytes}
+use Rattle.std.specs.Prelude.{◌≡◌, ◌⊎◌, ⊤, ℕ, suc, ℤ, String, slice_get, List, [], ◌∷◌, ◌++◌, ◌-◌, length, map, drop, replicate, Bool, true, false, Option, Some, None, Result, MatchOption, MatchResult, string_bytes}
 use Rattle.std.specs.Borrow.{Bor}
 use Rattle.std.specs.Global.{Global}
 use Rattle.std.specs.Str.{bytes_eq}
@@ -31,6 +31,7 @@ use Rattle.borsh_json.specs.declared.parts.Next.TheVariants.{Part, Missing, End}
 use Rattle.borsh_json.specs.declared.parts.Reading.{Reading}
 use Rattle.borsh_json.specs.declared.position.Key.{Key}
 use Rattle.borsh_json.specs.declared.position.Key.TheVariants.{None as NoKey, Name, Entry as EntryOf}
+use Rattle.borsh_json.specs.declared.position.Part.{Part as FoundPart}
 use Rattle.borsh_json.specs.declared.position.Parts.{Parts}
 use Rattle.borsh_json.specs.declared.position.Parts.TheVariants.{Root, List as Elements, Row, Object, Entries as MapEntries, Newtype, Some as Present, Variant}
 use Rattle.borsh_json.specs.declared.position.Place.{Place}
@@ -122,6 +123,10 @@ IsKey (MapEntries es n) key f = key ≡ EntryOf es
 IsKey (Newtype at) key f = key ≡ NoKey
 IsKey (Present at) key f = key ≡ NoKey
 IsKey (Variant v at) key f = key ≡ Name v
+
+-- the first of the parts that are left, behind which those of the other place are; or none is
+abbrev pub GivesPart : Definitions → Parts → ℕ → Parts → ℕ → Option FoundPart → Type 0
+GivesPart d p i q k found = (ws : List Wanted) → IsWanted (forms_of d) (names_of d) p i ws → MatchOption found (ws ≡ []) (λ part. (w : Wanted) × (rest : List Wanted) × (ws ≡ w ∷ rest) × IsAt (names_of d) part.at w.1 × IsKey p part.key w.0 × IsWanted (forms_of d) (names_of d) q k rest)
 
 -- ---- the JSON that is left
 

@@ -1,10 +1,5 @@
 // A layout, and what was found out about its names. Names are known by their places.
-ghost use Rattle.borsh_json.specs.Forms.{Form, HasNoBytes, form_of, forms_in, shape_of_form};
-ghost use Rattle.borsh_json.specs.Known.{HasKinds, IsKnown};
-ghost use Rattle.borsh_json.specs.Places.{IsAt, IsKindAt};
-ghost use Rattle.borsh_values.specs.Free.{KnowsSizes};
-ghost use Rattle.borsh_values.specs.Layouts.{IsLaidOut};
-ghost use Rattle.borsh_walks.specs.Container.{references};
+ghost use Rattle.borsh_json.specs.Words.{Form, HasKinds, HasNoBytes, IsAlike, IsAt, IsKindAt, IsKnown, IsLaidOut, KnowsSizes, form_of, forms_in, references, shape_of_form};
 ghost use Rattle.std.specs.Prelude.{◌≡◌, ℕ, List, Decides, IfOk, OnOk, Some, option_map, slice_get};
 
 use crate::kinds::{Kind, kind_of};
@@ -63,7 +58,7 @@ impl<'a, 'l> Definitions<'a, 'l> {
     fn find_kind(&mut self, at: usize) -> Result<Option<(&'a Definition, Kind<'a>)>, AllocError>
         ensures kind { let ns = self.old.layout.now.names.items in let F = forms_in self.old.layout.now.map.now in
             IsKnown self.old → IfOk result (λ kind. IsKindAt F ns at kind) }
-        ensures same { OnOk result ((self.new.layout ≡ self.old.layout) × (self.new.kinds ≡ self.old.kinds)) }
+        ensures same { OnOk result (IsAlike self.old self.new) }
     {
         match self.get(at) {
             Some(definition) => {
@@ -141,7 +136,7 @@ impl<'a, 'l> Definitions<'a, 'l> {
 
     /// How the values of the name at a place are ordered; none where that isn't known.
     pub(crate) fn order_of(&mut self, at: usize) -> Result<Option<Ordered>, AllocError>
-        ensures { OnOk result ((self.new.layout ≡ self.old.layout) × (self.new.kinds ≡ self.old.kinds)) }
+        ensures { OnOk result (IsAlike self.old self.new) }
     {
         if self.orders.is_empty() {
             self.orders = vec![in self.alloc; Known::Nothing; self.layout.names.len()]?;
@@ -169,7 +164,7 @@ impl<'a, 'l> Definitions<'a, 'l> {
     }
 
     fn set_order(&mut self, at: usize, order: Option<Ordered>)
-        ensures { (self.new.layout ≡ self.old.layout) × (self.new.kinds ≡ self.old.kinds) }
+        ensures { IsAlike self.old self.new }
     {
         if let Some(known) = self.orders.get_mut(at) {
             *known = Known::Order(order);
@@ -178,7 +173,7 @@ impl<'a, 'l> Definitions<'a, 'l> {
 
     /// Finds the order of a name and of those that it needs. It isn't known if that of one of them isn't, as in a circle of names.
     fn find_order(&mut self, at: usize) -> Result<(), AllocError>
-        ensures { OnOk result ((self.new.layout ≡ self.old.layout) × (self.new.kinds ≡ self.old.kinds)) }
+        ensures { OnOk result (IsAlike self.old self.new) }
     {
         let mut open: Vec<(usize, Ordered, usize)> = Vec::new(self.alloc);
         let mut at = at;
@@ -207,7 +202,7 @@ impl<'a, 'l> Definitions<'a, 'l> {
         &mut self,
         open: &mut Vec<(usize, Ordered, usize)>,
     ) -> Result<Option<usize>, AllocError>
-        ensures { OnOk result ((self.new.layout ≡ self.old.layout) × (self.new.kinds ≡ self.old.kinds)) }
+        ensures { OnOk result (IsAlike self.old self.new) }
     {
         for _ in 0..u64::MAX {
             let Some((at, order, index)) = open.pop() else {

@@ -1,6 +1,5 @@
 // Bytes as hexadecimal digits.
-ghost use Rattle.borsh_json.specs.Table.{IsHex};
-ghost use Rattle.json.specs.Json.{string};
+ghost use Rattle.borsh_json.specs.Words.{IsHex, string};
 ghost use Rattle.std.specs.Prelude.{IfOk, List, MatchOption, ℕ};
 
 use hex::FromHexError;

@@ -1,7 +1,5 @@
 // Floats, by their bits.
-ghost use Rattle.borsh_json.specs.Places.{IsInfinity};
-ghost use Rattle.borsh_json.specs.Table.{IsNoNan};
-ghost use Rattle.std.specs.Str.{bytes_eq};
+ghost use Rattle.borsh_json.specs.Words.{IsInfinity, IsNoNan, bytes_eq};
 ghost use Rattle.std.specs.Prelude.{◌≡◌, ◌==◌, ◌&&◌, ◌||◌, MatchBool, codes, length, ℕ};
 
 use ryu::{Buffer, Float};

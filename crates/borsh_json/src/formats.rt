@@ -1,7 +1,6 @@
 // The format's own types: a name is one of theirs if it is composed of the names of its parts, and has their definition. Names are
 // compared with the composed ones and never taken apart, since a container may give any definition to any name.
-ghost use Rattle.borsh_json.specs.Forms.{IsOption, choice, form_of, form_of_struct, newtype, sequence, tuple};
-ghost use Rattle.borsh_json.specs.Found.{HasForm, IsCollection, IsMapName, IsNamed, IsSetName, forms_of, joined};
+ghost use Rattle.borsh_json.specs.Words.{HasForm, IsCollection, IsMapName, IsNamed, IsOption, IsSetName, choice, form_of, form_of_struct, forms_of, joined, newtype, sequence, tuple};
 ghost use Rattle.std.specs.Prelude.{◌≡◌, ◌++◌, ◌∷◌, [], ℕ, List, Decides, MatchBool, MatchOption, Some, codes, map, option_map, slice_get, string_bytes};
 
 use crate::definitions::Definitions;

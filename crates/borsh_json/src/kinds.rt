@@ -1,12 +1,6 @@
 // How the values of a name are written in JSON.
-ghost use Rattle.borsh_json.specs.Forms.{HasNoBytes, IsByte, IsMap, form_of, form_of_struct, forms_in, sequence};
-ghost use Rattle.borsh_json.specs.Found.{AreEntries, HasForm, IsCollection, IsNamed, IsPrimitiveKind, IsRefusedList, IsRepeated, TellsKind, forms_of};
-ghost use Rattle.borsh_json.specs.Known.{IsKnown};
-ghost use Rattle.borsh_json.specs.Places.{AreKeysOf, IsAt, IsKindOf};
-ghost use Rattle.borsh_json.specs.Table.{AreKeys, IsNullable, Keys, MayBeNull, primitive_kind, texts};
-ghost use Rattle.std.specs.List.{IsDistinct};
+ghost use Rattle.borsh_json.specs.Words.{AreEntries, AreKeys, AreKeysOf, HasForm, HasNoBytes, IsAlike, IsAt, IsByte, IsCollection, IsKindOf, IsKnown, IsMap, IsNamed, IsNullable, IsPrimitiveKind, IsRefusedList, IsRepeated, Keys, MayBeNull, TellsKind, form_of, form_of_struct, forms_in, forms_of, primitive_kind, sequence, texts};
 ghost use Rattle.std.specs.Prelude.{◌≡◌, ℕ, List, Decides, IfOk, MatchBool, MatchOption, OnOk, Some, map, string_bytes};
-ghost use Rattle.std.specs.Str.{bytes_eq};
 
 use crate::definitions::Definitions;
 use crate::floats::is_float;
@@ -95,8 +89,7 @@ pub fn kind_of<'a>(
         let F = forms_in definitions.old.layout.now.map.now in
         IsKnown definitions.old → IfOk result (λ kind. (x : List ℕ) → IsAt ns at x →
         F x ≡ Some (form_of definition.now) → (HasNoBytes F x → ⊥) → IsKindOf F ns x (form_of definition.now) kind) }
-    ensures same { OnOk result ((definitions.new.layout ≡ definitions.old.layout) ×
-        (definitions.new.kinds ≡ definitions.old.kinds)) }
+    ensures same { OnOk result (IsAlike definitions.old definitions.new) }
 {
     match definition {
         Definition::Primitive(size) => Ok(kind_of_primitive(definitions.name(at), *size)),
@@ -218,8 +211,7 @@ fn kind_of_sequence<'a>(
 ) -> Result<Kind<'a>, AllocError>
     ensures kind { (w lo hi : ℕ) (e : List ℕ) → form_of definition.now ≡ sequence w lo hi e →
         IfOk result (TellsKind definitions.old at (form_of definition.now)) }
-    ensures same { OnOk result ((definitions.new.layout ≡ definitions.old.layout) ×
-        (definitions.new.kinds ≡ definitions.old.kinds)) }
+    ensures same { OnOk result (IsAlike definitions.old definitions.new) }
 {
     let element = definitions.part(at, 0);
     if is_byte(definitions, element) {
@@ -238,8 +230,7 @@ fn kind_of_bytes<'a>(
     ensures kind { (w lo hi : ℕ) (e : List ℕ) → form_of definition.now ≡ sequence w lo hi e →
         IsNamed definitions.old element e → IsByte (forms_of definitions.old) e →
         IfOk result (TellsKind definitions.old at (form_of definition.now)) }
-    ensures same { OnOk result ((definitions.new.layout ≡ definitions.old.layout) ×
-        (definitions.new.kinds ≡ definitions.old.kinds)) }
+    ensures same { OnOk result (IsAlike definitions.old definitions.new) }
 {
     if definitions.name(at) == "String" {
         return Ok(Kind::Text);
@@ -263,8 +254,7 @@ fn kind_of_list<'a>(
     ensures kind { (w lo hi : ℕ) (e : List ℕ) → form_of definition.now ≡ sequence w lo hi e →
         IsNamed definitions.old element e → (IsByte (forms_of definitions.old) e → ⊥) →
         IfOk result (TellsKind definitions.old at (form_of definition.now)) }
-    ensures same { OnOk result ((definitions.new.layout ≡ definitions.old.layout) ×
-        (definitions.new.kinds ≡ definitions.old.kinds)) }
+    ensures same { OnOk result (IsAlike definitions.old definitions.new) }
 {
     let collection = collection_of(definitions, at, definition);
     if definitions.is_zero_size(element) {
@@ -329,8 +319,7 @@ fn order_in(
     element: usize,
     collection: Collection,
 ) -> Result<Option<Ordered>, AllocError>
-    ensures { OnOk result ((definitions.new.layout ≡ definitions.old.layout) ×
-        (definitions.new.kinds ≡ definitions.old.kinds)) }
+    ensures { OnOk result (IsAlike definitions.old definitions.new) }
 {
     match collection {
         Collection::List => Ok(None),

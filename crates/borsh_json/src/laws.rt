@@ -1,8 +1,5 @@
 // Laws of the JSON of values.
-ghost use Rattle.borsh_json.specs.Forms.{forms_in};
-ghost use Rattle.borsh_json.specs.Represents.{TextSays};
-ghost use Rattle.borsh_walks.specs.Container.{Member};
-ghost use Rattle.borsh_walks.specs.Definitions.{definitions_in};
+ghost use Rattle.borsh_json.specs.Words.{Member, TextSays, definitions_in, forms_in};
 ghost use Rattle.std.specs.Prelude.{◌≡◌, ℕ, List};
 
 use borsh_walks::Definition;

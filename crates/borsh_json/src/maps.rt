@@ -1,18 +1,6 @@
 // The members of an object, by their keys.
-ghost use Rattle.borsh_json.specs.declared.kinds.KeyKind.TheVariants.{Text as TextKeys};
-ghost use Rattle.borsh_json.specs.Forms.{Form};
-ghost use Rattle.borsh_json.specs.Frames.{AreKeyed, AreSorted, DeniesRead, HasFields, HaveNumbers, HaveOneEach, IsRank, IsText};
-ghost use Rattle.borsh_json.specs.Places.{AreKeysOf};
-ghost use Rattle.borsh_json.specs.Reads.{SaysSome};
-ghost use Rattle.borsh_json.specs.Table.{Entry, HasKind, Keys, Lengths, entries as map_entries, entries_of, texts};
-ghost use Rattle.borsh_values.specs.declared.layout.Named.{Named as NamedPlace};
-ghost use Rattle.borsh_walks.specs.Tables.{mark_of};
-ghost use Rattle.json.specs.Find.{BeginsWith, Finds, InMembers, get_member};
-ghost use Rattle.json.specs.Json.{Json, Members as JsonMembers, object};
-ghost use Rattle.std.specs.List.{IsDistinct};
-ghost use Rattle.std.specs.List.Sorted.{IsPermutation};
+ghost use Rattle.borsh_json.specs.Words.{AreKeyed, AreKeysOf, AreSorted, BeginsWith, DeniesRead, Entry, Finds, Form, HasFields, HasKind, HaveNumbers, HaveOneEach, InMembers, IsDistinct, IsPermutation, IsRank, IsText, Json, JsonMembers, Keys, Lengths, NamedPlace, SaysSome, TextKeys, bytes_eq, entries_of, get_member, map_entries, mark_of, object, texts};
 ghost use Rattle.std.specs.Prelude.{◌≡◌, ◌≤◌, ℕ, IfSome, List, MatchResult, Option, length, map, string_bytes};
-ghost use Rattle.std.specs.Str.{bytes_eq};
 
 use crate::error::{ReadError, Refusal};
 use crate::kinds::{KeyKind, NamedFields};

@@ -1,9 +1,5 @@
 // Whole numbers as text.
-ghost use Rattle.borsh_json.specs.Ranks.{HasRank, IsLeading, IsPlain, magnitude, number_found, rank_of};
-ghost use Rattle.borsh_json.specs.Table.{InRange, IsWhole, number_kind, number_types, raw, whole};
-ghost use Rattle.std.specs.Int.{w128};
-ghost use Rattle.std.specs.Int.RustNames.{FitsSigned};
-ghost use Rattle.std.specs.Fmt.{decimal, signed_decimal};
+ghost use Rattle.borsh_json.specs.Words.{FitsSigned, HasRank, InRange, IsLeading, IsPlain, IsWhole, decimal, magnitude, number_found, number_kind, number_types, rank_of, raw, signed_decimal, w128, whole};
 ghost use Rattle.std.specs.Prelude.{◌==◌, if◌then◌else◌, ◌≡◌, ◌<◌, ◌≤◌, ◌*◌, ◌^◌, ℕ, ℤ, List, Decides, MatchOption, negsuc, pos, take, true};
 
 use itoa::Buffer;

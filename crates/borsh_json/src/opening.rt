@@ -1,20 +1,6 @@
 // What the JSON of a part says by its definition: its own bytes, and the parts that it has.
-ghost use Rattle.borsh_json.specs.declared.error.ReadError.TheVariants.{OutOfMemory};
-ghost use Rattle.borsh_json.specs.declared.order.Ordered.{Ordered as FoundOrder};
-ghost use Rattle.borsh_json.specs.declared.kinds.Kind.TheVariants.{Map as FoundMap, Object as FoundObject, Row as FoundRow};
-ghost use Rattle.borsh_json.specs.declared.sources.Source.TheVariants.{One as OneSource};
-ghost use Rattle.borsh_json.specs.Forms.{Form, HasNoBytes, form_of, forms_in};
-ghost use Rattle.borsh_json.specs.Frames.{AddsList, DeniesRead, IsArrayOf, IsExpected, IsOpened, SaysArray, IsVariantAt, NamesVariant, Opens};
-ghost use Rattle.borsh_json.specs.Known.{HasKinds, IsKnown};
-ghost use Rattle.borsh_json.specs.Places.{IsAt, IsInfinity, IsKindOf, IsListOf, lengths_of};
-ghost use Rattle.borsh_json.specs.Table.{Kind as TableKind, HasKind, IsHex, IsNumber, IsPrefixed, byte_list, entries_of, float, list_parts, no_bytes, optional, raw, truth, utf8, variants as spec_variants, whole};
-ghost use Rattle.json.specs.Find.{BeginsWith, InItems, InMembers, as_array};
-ghost use Rattle.json.specs.Json.{Json, Items as JsonItems, Members as JsonMembers, array, object, string};
-ghost use Rattle.std.specs.List.{IsDistinct};
+ghost use Rattle.borsh_json.specs.Words.{AddsList, BeginsWith, DeniesRead, Form, FoundMap, FoundObject, FoundOrder, FoundRow, HasKind, HasKinds, InItems, InMembers, IsArrayOf, IsAt, IsDistinct, IsExpected, IsHex, IsInfinity, IsKindOf, IsKnown, IsListOf, IsNumber, IsOpened, IsVariantAt, Json, JsonItems, JsonMembers, NamedPlace, NamesVariant, OneSource, Opens, OutOfMemory, SaysArray, TableKind, array, byte_list, bytes_eq, float, form_of, forms_in, lengths_of, list_parts, no_bytes, object, optional, raw, spec_variants, string, tag, truth, utf8, whole};
 ghost use Rattle.std.specs.Prelude.{◌≡◌, ◌++◌, ◌≤◌, ⊤, [], ℕ, List, IfErr, IfOk, IfSome, Option, MatchOption, MatchResult, None, OnOk, Some, false, length, map, option_map, pos, string_bytes, take};
-ghost use Rattle.std.specs.Str.{bytes_eq};
-ghost use Rattle.borsh_values.specs.declared.layout.Named.{Named as NamedPlace};
-ghost use Rattle.borsh_walks.specs.Container.{tag};
 
 use crate::definitions::Definitions;
 use crate::digits::hexadecimal;

@@ -1,17 +1,5 @@
 // The reader's loop over the parts of a value.
-ghost use Rattle.borsh_json.specs.Forms.{Form, form_of, forms_in};
-ghost use Rattle.borsh_json.specs.declared.error.Refusal.TheVariants.{TooDeep};
-ghost use Rattle.borsh_json.specs.declared.parts.Next.TheVariants.{Part as NextPart, Missing as NextMissing};
-ghost use Rattle.borsh_json.specs.Frames.{DeniesPart, DeniesRead, HasEntries, HasLeft, HasRead, HaveLeft, IsEntryKey, IsNext, IsNextEntry, IsOf, NoneLeft, ReadsOn};
-ghost use Rattle.borsh_json.specs.Found.{forms_of, names_of};
-ghost use Rattle.borsh_json.specs.Known.{HasKinds, IsKnown};
-ghost use Rattle.borsh_json.specs.Places.{AreKeysOf, IsAt};
-ghost use Rattle.borsh_json.specs.Reads.{AreRead, Left, entries_left, PartsOfAll, SaysFirst, SaysSome};
-ghost use Rattle.borsh_json.specs.Represents.{HaveBytes};
-ghost use Rattle.borsh_json.specs.Table.{Entry, Keys, Part as JsonPart, key_json};
-ghost use Rattle.borsh_values.specs.declared.layout.Named.{Named as NamedPlace};
-ghost use Rattle.json.specs.Find.{BeginsWith};
-ghost use Rattle.json.specs.Json.{Json};
+ghost use Rattle.borsh_json.specs.Words.{AreKeysOf, AreRead, BeginsWith, DeniesPart, DeniesRead, Entry, Form, HasEntries, HasKinds, HasLeft, HasRead, HaveBytes, HaveLeft, IsAt, IsEntryKey, IsKnown, IsNext, IsNextEntry, IsOf, Json, JsonPart, Keys, Left, NamedPlace, NextMissing, NextPart, NoneLeft, PartsOfAll, ReadsOn, SaysFirst, SaysSome, TooDeep, entries_left, form_of, forms_in, forms_of, key_json, names_of};
 ghost use Rattle.std.specs.Prelude.{◌≡◌, ◌∷◌, ◌++◌, [], true, IfErr, IfOk, ℕ, List, MatchOption, MatchResult, OnOk, Option};
 
 use crate::definitions::Definitions;

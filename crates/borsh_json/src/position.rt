@@ -1,11 +1,5 @@
 // Where in a value the reader or writer is.
-ghost use Rattle.borsh_json.specs.Errors.{IsPartError, IsReadRefusal, IsUnreadable, IsUnwritable};
-ghost use Rattle.borsh_json.specs.declared.error.Refusal.TheVariants.{TooDeep};
-ghost use Rattle.borsh_json.specs.declared.position.Parts.TheVariants.{Root};
-ghost use Rattle.borsh_json.specs.Forms.{forms_in};
-ghost use Rattle.borsh_json.specs.Frames.{IsKey, IsOf, IsOfRead, IsWanted, Wanted};
-ghost use Rattle.borsh_json.specs.Known.{IsKnown};
-ghost use Rattle.borsh_json.specs.Places.{IsAt};
+ghost use Rattle.borsh_json.specs.Words.{GivesPart, IsKnown, IsOf, IsOfRead, IsPartError, IsReadRefusal, IsUnreadable, IsUnwritable, Root, TooDeep};
 ghost use Rattle.std.specs.Prelude.{◌≡◌, ◌+◌, ◌^◌, ◌<◌, ◌≤◌, ◌∷◌, ◌++◌, [], true, false, ℕ, List, IfErr, IfSome, MatchOption, OnOk};
 
 use crate::definitions::Definitions;
@@ -88,11 +82,8 @@ impl<'a> Place<'a> {
 
     /// The next part, which is begun; none if there are no more.
     pub fn next_part(&mut self, definitions: &Definitions<'a, '_>) -> Option<Part<'a>>
-        ensures part { let ns = definitions.now.layout.now.names.items in
-            let F = forms_in definitions.now.layout.now.map.now in
-            IsKnown definitions.now → (ws : List Wanted) → IsWanted F ns self.old.parts self.old.begun ws → MatchOption result (ws ≡ [])
-            (λ p. (w : Wanted) × (rest : List Wanted) × (ws ≡ w ∷ rest) × IsAt ns p.at w.1 ×
-            IsKey self.old.parts p.key w.0 × IsWanted F ns self.new.parts self.new.begun rest) }
+        ensures part { IsKnown definitions.now →
+            GivesPart definitions.now self.old.parts self.old.begun self.new.parts self.new.begun result }
         ensures same { self.new.parts ≡ self.old.parts }
     {
         let part = self.part_at(definitions, self.begun)?;
@@ -101,11 +92,8 @@ impl<'a> Place<'a> {
     }
 
     fn part_at(&self, definitions: &Definitions<'a, '_>, index: usize) -> Option<Part<'a>>
-        ensures part { let ns = definitions.now.layout.now.names.items in
-            let F = forms_in definitions.now.layout.now.map.now in
-            IsKnown definitions.now → (ws : List Wanted) → IsWanted F ns self.now.parts index ws → MatchOption result (ws ≡ [])
-            (λ p. (w : Wanted) × (rest : List Wanted) × (ws ≡ w ∷ rest) × IsAt ns p.at w.1 ×
-            IsKey self.now.parts p.key w.0 × IsWanted F ns self.now.parts (index + 1) rest) }
+        ensures part { IsKnown definitions.now →
+            GivesPart definitions.now self.now.parts index self.now.parts (index + 1) result }
         ensures more { IfSome result (λ p. index + 1 < 2 ^ 64) }
     {
         match self.parts {

@@ -1,5 +1,5 @@
 // The bytes of counts and tags.
-ghost use Rattle.borsh_walks.specs.Container.{tag};
+ghost use Rattle.borsh_json.specs.Words.{tag};
 ghost use Rattle.std.specs.Prelude.{◌≡◌, ◌++◌, ◌-◌, OnOk, min, pos, replicate, take};
 
 use std::alloc::AllocError;

@@ -1,11 +1,5 @@
 // The bytes of a value that JSON says.
-ghost use Rattle.borsh_walks.specs.Definitions.{definitions_in};
-ghost use Rattle.borsh_json.specs.Errors.{DeniesValue, IsTextReason};
-ghost use Rattle.borsh_json.specs.Forms.{forms_in};
-ghost use Rattle.borsh_json.specs.Known.{HasKinds, SaysBy};
-ghost use Rattle.borsh_json.specs.Reads.{SaysSome};
-ghost use Rattle.borsh_json.specs.Represents.{HaveBytes, TextSays};
-ghost use Rattle.json.specs.Json.{Json, document};
+ghost use Rattle.borsh_json.specs.Words.{DeniesValue, HasKinds, HaveBytes, IsTextReason, Json, SaysBy, SaysSome, TextSays, definitions_in, document, forms_in};
 ghost use Rattle.std.specs.Prelude.{◌≡◌, ◌∷◌, [], ℕ, IfErr, IfOk, List, Some};
 
 use crate::definitions::Definitions;

@@ -1,12 +1,7 @@
 // What each of the bytes of a value is.
-ghost use Rattle.borsh_walks.specs.Container.{Member};
-ghost use Rattle.borsh_walks.specs.Definitions.{definitions_in};
-ghost use Rattle.borsh_values.specs.Nodes.{AreOffsets, HaveDefinitions, joined_bytes, views};
-ghost use Rattle.borsh_json.specs.Errors.{IsNoRowsReason, IsPartError, IsTooDeep};
-ghost use Rattle.borsh_json.specs.Forms.{IsByte, form_of, forms_in};
-ghost use Rattle.borsh_json.specs.Found.{IsPrimitiveKind};
+ghost use Rattle.borsh_json.specs.Words.{IsNoRowsReason, IsPartError, IsPrimitiveKind, IsTooDeep, IsWhole, Member, TableKind, definitions_in, form_of, forms_in};
 ghost use Rattle.borsh_json.specs.Rows.{AreRowsOf, IsPrimitiveText, IsQuoted, IsText, IsValueText, counted};
-ghost use Rattle.borsh_json.specs.Table.{IsWhole, Kind as TableKind};
+ghost use Rattle.borsh_values.specs.Nodes.{AreOffsets, HaveDefinitions, joined_bytes, views};
 ghost use Rattle.std.specs.Prelude.{◌≡◌, ◌≤◌, [], false, Decides, IfErr, IfOk, MatchOption, OnOk, string_bytes};
 
 use crate::error::{JsonError, PartError, Refusal};

@@ -1,9 +1,5 @@
 // The JSON of the parts of a value that are left.
-ghost use Rattle.borsh_json.specs.declared.kinds.KeyKind.{KeyKind as FoundKeyKind};
-ghost use Rattle.borsh_json.specs.Frames.{HasEntries, HasFields, HasItems, IsEntryKey, NoneLeft, Wanted};
-ghost use Rattle.borsh_json.specs.Table.{Entry};
-ghost use Rattle.json.specs.Find.{BeginsWith, get_member};
-ghost use Rattle.json.specs.Json.{Json, Items as JsonItems, Members as JsonMembers, item, no_items};
+ghost use Rattle.borsh_json.specs.Words.{BeginsWith, Entry, FoundKeyKind, HasEntries, HasFields, HasItems, IsEntryKey, Json, JsonItems, JsonMembers, NoneLeft, Wanted, get_member, item, no_items};
 ghost use Rattle.std.specs.Prelude.{◌≡◌, ◌∷◌, [], ℕ, List, MatchOption, None, Some, suc};
 
 use json::{Element, Items, Members};

@@ -1,7 +1,5 @@
 // Whether a type takes a member, as far as names tell.
-ghost use Rattle.borsh_walks.specs.Container.{Member};
-ghost use Rattle.borsh_walks.specs.Definitions.{definitions_in};
-ghost use Rattle.borsh_json.specs.Errors.{IsNoJsonReason, IsPartError, IsUnwritable};
+ghost use Rattle.borsh_json.specs.Words.{IsNoJsonReason, IsPartError, IsUnwritable, Member, definitions_in};
 ghost use Rattle.std.specs.Prelude.{IfErr, IfSome, OnOk};
 
 use crate::definitions::Definitions;

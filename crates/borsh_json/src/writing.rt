@@ -1,11 +1,6 @@
 // A value as JSON.
-ghost use Rattle.borsh_walks.specs.Container.{Member};
-ghost use Rattle.borsh_walks.specs.Definitions.{definitions_in};
+ghost use Rattle.borsh_json.specs.Words.{HasKinds, IsNoJsonReason, IsPartError, IsUnwritable, Member, SaysBy, TextSays, definitions_in, forms_in};
 ghost use Rattle.borsh_json.specs.Ascii.{IsPlain};
-ghost use Rattle.borsh_json.specs.Errors.{IsNoJsonReason, IsPartError, IsUnwritable};
-ghost use Rattle.borsh_json.specs.Forms.{forms_in};
-ghost use Rattle.borsh_json.specs.Known.{HasKinds, SaysBy};
-ghost use Rattle.borsh_json.specs.Represents.{TextSays};
 ghost use Rattle.borsh_json.specs.declared.output.Characters.TheVariants.{Ascii};
 ghost use Rattle.std.specs.Prelude.{◌≡◌, All, IfErr, IfOk, OnOk, string_bytes};
 
