@@ -34,6 +34,10 @@ impl<'a, 'l> Definitions<'a, 'l> {
     /// ```
     /// let layout = Layout::new(alloc, "(u8, bool)", &definitions)?;
     /// let json = Json::new(alloc, &layout)?;
+    /// for record in records {
+    ///     let text = json.to_json(record, Style::COMPACT)?;
+    ///     assert_eq!(rt; json.from_json(text.as_str())?.as_slice(), record);
+    /// }
     /// ```
     pub fn new(alloc: Global, layout: &'l Layout<'a>) -> Result<Definitions<'a, 'l>, AllocError>
         ensures known { IsLaidOut layout.now → KnowsSizes layout.now → IfOk result (λ d. HasKinds d) }

@@ -49,14 +49,6 @@ pub fn from_json<'a>(
 
 impl<'a, 'l> Definitions<'a, 'l> {
     /// As the function [`from_json`]. Left open: as there.
-    ///
-    /// ```
-    /// let layout = Layout::new(alloc, "(u8, bool)", &definitions)?;
-    /// let json = Json::new(alloc, &layout)?;
-    /// for line in text.lines() {
-    ///     let bytes = json.from_json(line)?;
-    /// }
-    /// ```
     pub fn from_json(&self, text: &str) -> Result<Vec<u8>, JsonError<'a>>
         requires { HasKinds self.now }
         ensures says { IfOk result (λ bytes. SaysBy self.now text.now bytes.items) }

@@ -68,14 +68,6 @@ pub fn to_json<'a>(
 
 impl<'a, 'l> Definitions<'a, 'l> {
     /// As the function [`to_json`]. Left open: as there.
-    ///
-    /// ```
-    /// let layout = Layout::new(alloc, "(u8, bool)", &definitions)?;
-    /// let json = Json::new(alloc, &layout)?;
-    /// for record in records {
-    ///     let text = json.to_json(record, Style::COMPACT)?;
-    /// }
-    /// ```
     pub fn to_json(&self, bytes: &[u8], style: Style) -> Result<String, JsonError<'a>>
         requires { HasKinds self.now }
         ensures says { IfOk result (λ text. SaysBy self.now (string_bytes text) bytes.now) }
