@@ -11,3 +11,4 @@ pub mod Found
 pub mod Reads
 pub mod Frames
 pub mod Rows
+pub mod Words
