@@ -8,7 +8,7 @@ loop-count-init c ms h = rising_start ms c.in_ok-members.members h
 
 pub loop-count-preserved : goal.loop-count-preserved
 loop-count-preserved c ms h =
-    rising_more ms c.loop-count.members c.next.new.self c.loop-count.earlier c.loop-count.count c.in-Some.key.now c.in-Some.field-1 c.as_bytes.result c.in-Some.ensures.value c.as_bytes.ensures.value (ap is_ge (sym c.cmp.ensures) ∙ sym c.is_ge.ensures ∙ c.if-is_ge.false) (c.loop-count.invariant ms h)
+    rising_more ms c.loop-count.members c.next.new.self c.loop-count.earlier c.loop-count.count c.in-Some.key.now c.in-Some.field-0-1 c.as_bytes.result c.in-Some.ensures.value c.as_bytes.ensures.value (ap is_ge (sym c.cmp.ensures) ∙ sym c.is_ge.ensures ∙ c.if-is_ge.false) (c.loop-count.invariant ms h)
 
 pub returns-in_default : goal.returns-in_default
 returns-in_default c j b =

@@ -1,14 +1,14 @@
-use Rattle.std.proofs.Common.{◌≡◌, subst, Some, None}
+use Rattle.std.proofs.Common.{◌≡◌, sym, subst, Some, None}
 use Rattle.borsh_json.specs.Forms.{forms_in}
 use Rattle.borsh_json.specs.Rows.{IsText}
-use Rattle.borsh_json.specs.Table.{primitive_kind}
+use Rattle.std.specs.Prelude.{IfOk}
 use Rattle.borsh_json.proofs.RowsLaws.{primitive_value, text_value, count_value, variant_value}
 use Rattle.borsh_json.proofs.rows.value_of.Goals as goal
 
 pub returns-in-Primitive : goal.returns-in-Primitive
 returns-in-Primitive c =
     let n = c.args.node.now in
-    primitive_value (forms_in c.args.map.now) n.name.now n.bytes.now n.definition.now c.in-Primitive.size c.in-Primitive.is c.primitive_text.result (c.primitive_text.ensures (primitive_kind n.name.now c.in-Primitive.size) c.kind_of_primitive.ensures)
+    primitive_value (forms_in c.args.map.now) n.name.now n.bytes.now n.definition.now c.in-Primitive.size c.in-Primitive.is c.primitive_text.result (c.primitive_text.ensures n.name.now c.in-Primitive.size c.kind_of_primitive.ensures)
 
 pub returns-then-is_text : goal.returns-then-is_text
 returns-then-is_text c =
@@ -22,3 +22,12 @@ returns-else-is_text c =
     let n = c.args.node.now in
     let F = forms_in c.args.map.now in
     count_value F n.name.now n.bytes.now n.definition.now _ _ _ c.in-Sequence.is (λ t. let q = c.is_text.ensures.1 (subst (λ e. IsText F n.name.now e) (sym c.as_str.ensures.value) t) in let f = c.if-is_text.false in cc) c.count_of.result c.count_of.ensures c.counted_text.result c.counted_text.ensures
+
+pub returns-in_default-variant_of : goal.returns-in_default-variant_of
+returns-in_default-variant_of c = ?
+
+pub returns-in-Some-get : goal.returns-in-Some-get
+returns-in-Some-get c = ?
+
+pub returns-in-None : goal.returns-in-None
+returns-in-None c = ?
