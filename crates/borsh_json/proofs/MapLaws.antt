@@ -80,12 +80,12 @@ pub record IsRising (ms : Members) (ts : List Token) (earlier : Option (Bor (Lis
   pub count : n ≡ length passed
 
 all_last : {X : Type 0} (P : X → Type 0) (xs : List X) (e f : X) → AllByRecursion P (xs ++ e ∷ []) → (P e → P f) → AllByRecursion P ((xs ++ e ∷ []) ++ f ∷ [])
-all_last P [] e f h g = (h.0, g h.0, tt)
+all_last P [] e f h g = (h.0, (g h.0, tt))
 all_last P (x ∷ xs) e f h g = (h.0, all_last P xs e f h.1 g)
 
 sorted_last : (xs : List Entry) (e f : Entry) → IsStrictlySortedBy (key_order texts) (xs ++ e ∷ []) → key_order texts e f ≡ Less → IsStrictlySortedBy (key_order texts) ((xs ++ e ∷ []) ++ f ∷ [])
 unfolding IsStrictlySortedBy
-sorted_last [] e f h l = ((l, tt), tt, tt)
+sorted_last [] e f h l = ((l, tt), (tt, tt))
 sorted_last (x ∷ xs) e f h l = (all_last (λ y. key_order texts x y ≡ Less) xs e f h.0 (λ g. nat_list_cmp_total.trans x.0 e.0 f.0 g l), sorted_last xs e f h.1 l)
 
 less_if : (o : Ordering) → is_ge o ≡ false → o ≡ Less

@@ -47,7 +47,7 @@ module _ {A : Type 0} (K : A → List ℕ → Type 0) where
       (first ∷ r.0, (h.0, h.1, r.0, refl, h.4, h.5, r.1), subst (λ (l : List Entry). IsPermutation (added ∷ l) (first ∷ r.0)) (sym h.3) (IsPermutation-trans (added ∷ first ∷ h.2) (first ∷ added ∷ h.2) (first ∷ r.0) p (IsPermutation-cons first (added ∷ h.2) r.0 r.2)))
 
   module _ (cmp : A → A → Ordering) where
-    inserted : (ms : List (A × List Token)) (es : List Entry) (k : A) (s : List ℕ) (t : List Token) (j : Json) → K k s → BeginsWith t j → AreKeyed K ms es → lookup (is_at (cmp k)) ms ≡ None → (fs : List Entry) × AreKeyed K (insert_entry cmp ms k t) fs × IsPermutation ((s, j) ∷ es) fs
+    pub inserted : (ms : List (A × List Token)) (es : List Entry) (k : A) (s : List ℕ) (t : List Token) (j : Json) → K k s → BeginsWith t j → AreKeyed K ms es → lookup (is_at (cmp k)) ms ≡ None → (fs : List Entry) × AreKeyed K (insert_entry cmp ms k t) fs × IsPermutation ((s, j) ∷ es) fs
     inserted [] es k s t j a b h e = ((s, j) ∷ [], (s, j, [], refl, a, b, refl), subst (λ (l : List Entry). IsPermutation ((s, j) ∷ l) ((s, j) ∷ [])) (sym h) (IsPermutation-refl ((s, j) ∷ [])))
     inserted (m ∷ ms) es k s t j a b h e = insert_case (cmp k m.0) k s t j m ms (insert_entry cmp ms k t) es (lookup (is_at (cmp k)) ms) a b h e (λ rest g z. inserted ms rest k s t j a b g z)
 

@@ -34,8 +34,8 @@ returns-then-is_some c small j b = λ s.
     let z = ap (λ o. is_some o) (sym c.in_ok-old.ensures.old) ∙ sym c.is_some.ensures ∙ c.if-is_some.true in
     passed_twice (IsRank n) m.0 c.loop-key.members c.next.new.self c.loop-key.found.entries key c.in-Some-next.member c.in-Some-next.ensures.value nat_cmp rank (λ a t e r. rank_one n.size n.is_signed n.is_non_zero key t rank a small (c.in-Some-rank_of.ensures small) r e) z (c.loop-key.invariant small m.0 m.2) (subst (λ ms. HaveOneEach (entries_of ms)) (object_one j s.0 m.0 s.1 m.1) s.2)
 
-pub returns-in_ok-wanted : goal.returns-in_ok-wanted
-returns-in_ok-wanted c small j b = λ s.
+pub returns-in_default-rank_of : goal.returns-in_default-rank_of
+returns-in_default-rank_of c small j b = λ s.
     let n = c.args.number in
     let m = c.in-Some.ensures j b in
     let p = c.loop-key.invariant small m.0 m.2 in

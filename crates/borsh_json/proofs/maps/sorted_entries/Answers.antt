@@ -1,4 +1,4 @@
-use Rattle.std.proofs.Common.{subst, refl}
+use Rattle.std.proofs.Common.{subst, refl, sym}
 use Rattle.borsh_json.specs.declared.kinds.KeyKind.{KeyKind}
 use Rattle.borsh_json.specs.declared.kinds.KeyKind.TheVariants.{Text as TextKeys, Number as NumberKeys}
 use Rattle.borsh_json.specs.Frames.{AreSorted}
@@ -29,7 +29,7 @@ returns-in-Ok-ranks_of c F ns x k v l g keys j h a b =
     let a2 = subst (λ (q : KeyKind). AreKeysOf F ns k g q keys) c.in-Number.is a in
     let small = kind_small F a2.1 n.size n.is_signed n.is_non_zero refl in
     let m = c.in-Ok-ranks_of.ensures small j b in
-    ranks_sorted keys j c.len-count-2.result m.0 m.1 m.2 m.3 n c.in-Ok-ranks_of.members small a2.0 m.4 c.len-count-2.ensures.ordered c.len-count-2.ensures.len
+    ranks_sorted keys j c.len-count-in-Ok-ranks_of.result m.0 m.1 m.2 m.3 n c.in-Ok-ranks_of.members small a2.0 m.4 c.len-count-in-Ok-ranks_of.ensures.ordered c.len-count-in-Ok-ranks_of.ensures.len
 
 pub returns-in-Err-ranks_of : goal.returns-in-Err-ranks_of
 returns-in-Err-ranks_of c F ns x k v l g keys j h a b =
