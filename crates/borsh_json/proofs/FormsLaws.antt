@@ -43,4 +43,4 @@ text_member m root text bytes t = subst (λ C. Member C root bytes) (shapes_are 
 
 -- and the text is JSON
 pub text_document : (F : List ℕ → Option Form) (root text bytes : List ℕ) → TextSays F root text bytes → IsSome (document text)
-text_document F root text bytes t = subst (λ (o : Option Json). IsSome o) (sym t.1) tt
+text_document F root text bytes t = subst (λ (o : Option Json). IsSome o) (sym t.1) refl

@@ -122,7 +122,7 @@ number_one n s t j (inr p) (inl q) = let e : string s ≡ number t = sym p.1 ∙
 number_one n s t j (inr p) (inr q) = let e : string s ≡ string t = sym p.1 ∙ q.1 in cc
 
 -- numbers have at most 16 bytes
-abbrev IsSmall : Kind → Type 0
+abbrev pub IsSmall : Kind → Type 0
 IsSmall kind = (n : ℕ) (s z : Bool) → kind ≡ whole n s z → n ≤ 16
 
 small_if : (b : Bool) (k l : Kind) → IsSmall k → IsSmall l → IsSmall (if b then k else l)
@@ -136,7 +136,7 @@ number_small : (ts : List (List ℕ × ℕ × Bool × Bool)) (x : List ℕ) (n :
 number_small [] x n h = λ m s z e. cc
 number_small (t ∷ ts) x n h = small_if (bytes_eq x t.0 && (t.1 == n)) (whole t.1 t.2 t.3) (number_kind ts x n) (whole_small t.1 t.2 t.3 h.0) (number_small ts x n h.1)
 
-primitive_small : (x : List ℕ) (n : ℕ) → IsSmall (primitive_kind x n)
+pub primitive_small : (x : List ℕ) (n : ℕ) → IsSmall (primitive_kind x n)
 primitive_small x n =
     let others = number_small number_types x n (omega arith) in
     let doubles = small_if (bytes_eq x (codes "f64") && (n == 8)) (float 8 0x7ff0000000000000) (number_kind number_types x n) (λ m s z e. cc) others in

@@ -103,15 +103,28 @@ module _ {E : Type 0} (F : List ℕ → Option Form) (x own : List ℕ) (d : Def
   count_value w l s e t count a (Ok v) h = subst (λ (d : Definition). IsValueText F x (form_of d) own (string_bytes v)) (sym e) (inr (t, count, subst (λ (d : Definition). IsCountOf (shape_of d) own count) e a, h))
   count_value w l s e t count a (Err z) h = tt
 
-  pub variant_value : (w : ℕ) (vs : Vec (ℤ × String Global × String Global) Global) → d ≡ Enum w vs → (found : Option ℕ) → IsVariantOf (shape_of d) own found → (v : String Global) → MatchOption found (string_bytes v ≡ []) (λ i. (u : ℤ × String Global × String Global) × (slice_get vs.items i ≡ Some u) × (string_bytes v ≡ string_bytes u.1)) → IsValueText F x (form_of d) own (string_bytes v)
-  variant_value w vs e found a v h =
+abbrev texts : ℤ × String Global × String Global → ℤ × List ℕ × List ℕ
+texts u = (u.0, string_bytes u.1, string_bytes u.2)
+
+module _ (F : List ℕ → Option Form) (x own : List ℕ) (d : Definition) where
+  pub variant_value : (w : ℕ) (vs : Vec (ℤ × String Global × String Global) Global) → d ≡ Enum w vs → (found : Option ℕ) → IsVariantOf (shape_of d) own found → (t : List ℕ) → MatchOption found (t ≡ []) (λ i. (u : ℤ × String Global × String Global) × (slice_get vs.items i ≡ Some u) × (t ≡ string_bytes u.1)) → IsValueText F x (form_of d) own t
+  variant_value w vs e found a t h =
       let b = subst (λ (d : Definition). IsVariantOf (shape_of d) own found) e a in
-      let c = subst (λ (us : List (ℤ × List ℕ)). IsVariantIndex us own found) (sym (twice (λ u. (u.0, string_bytes u.1, string_bytes u.2)) (λ u. (u.0, u.2)) (λ u. (u.0, string_bytes u.2)) (λ u. refl) vs.items)) b in
-      subst (λ (d : Definition). IsValueText F x (form_of d) own (string_bytes v)) (sym e) (found, c, listed found h)
+      let c = subst (λ (us : List (ℤ × List ℕ)). IsVariantIndex us own found) (sym (twice texts (λ u. (u.0, u.2)) (λ u. (u.0, string_bytes u.2)) (λ u. refl) vs.items)) b in
+      subst (λ (d : Definition). IsValueText F x (form_of d) own t) (sym e) (found, c, listed found h)
     where
-      listed : (found : Option ℕ) → MatchOption found (string_bytes v ≡ []) (λ i. (u : ℤ × String Global × String Global) × (slice_get vs.items i ≡ Some u) × (string_bytes v ≡ string_bytes u.1)) → MatchOption found (string_bytes v ≡ []) (λ i. (k : ℤ) × (p : List ℕ) × (slice_get (map (λ u. (u.0, string_bytes u.1, string_bytes u.2)) vs.items) i ≡ Some (k, string_bytes v, p)))
+      listed : (found : Option ℕ) → MatchOption found (t ≡ []) (λ i. (u : ℤ × String Global × String Global) × (slice_get vs.items i ≡ Some u) × (t ≡ string_bytes u.1)) → MatchOption found (t ≡ []) (λ i. (k : ℤ) × (p : List ℕ) × (slice_get (map texts vs.items) i ≡ (let u : ℤ × List ℕ × List ℕ = (k, t, p) in Some u)))
       listed None h = h
-      listed (Some i) h = (h.0.0, string_bytes h.0.2, slice_get-map (λ u. (u.0, string_bytes u.1, string_bytes u.2)) vs.items i ∙ ap (λ o. option_map (λ u. (u.0, string_bytes u.1, string_bytes u.2)) o) h.1 ∙ ap (λ (t : List ℕ). Some (h.0.0, t, string_bytes h.0.2)) (sym h.2))
+      listed (Some i) h = (h.0.0, string_bytes h.0.2, slice_get-map texts vs.items i ∙ ap (λ o. option_map texts o) h.1 ∙ ap (λ (s : List ℕ). (let u : ℤ × List ℕ × List ℕ = (h.0.0, s, string_bytes h.0.2) in Some u)) (sym h.2))
+
+  -- a variant that was found is listed
+  pub variant_there : (w : ℕ) (vs : Vec (ℤ × String Global × String Global) Global) → d ≡ Enum w vs → (i : ℕ) → IsVariantOf (shape_of d) own (Some i) → slice_get vs.items i ≡ None → ⊥
+  variant_there w vs e i a g =
+      let b = subst (λ (d : Definition). IsVariantOf (shape_of d) own (Some i)) e a in
+      let parts : ℤ × String Global × String Global → ℤ × List ℕ = λ u. (u.0, string_bytes u.2) in
+      let n = slice_get-map parts vs.items i ∙ ap (λ o. option_map parts o) g in
+      let s = b.2 in
+      cc
 
 pub if_same : {E : Type 0} (P : List ℕ → Type 0) (r : Result (String Global) E) (t : List ℕ) → IfOk r (λ v. string_bytes v ≡ t) → P t → IfOk r (λ v. P (string_bytes v))
 if_same P (Ok v) t e p = subst (λ t. P t) (sym e) p

@@ -17,7 +17,7 @@ use Rattle.borsh_json.specs.Represents.{HaveBytes, TextSays}
 use Rattle.borsh_json.proofs.OpeningLaws.{denies_from, part_unreadable}
 
 pub there : {A : Type 0} (o : Option A) → IsSome o → (a : A) × (o ≡ Some a)
-there None s = absurd s
+there None s = absurd cc
 there (Some a) s = (a, refl)
 
 pub denies_value : (e : JsonError) {P Q : Type 0} → (Q → P) → DeniesValue e P → DeniesValue e Q

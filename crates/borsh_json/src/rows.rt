@@ -1,8 +1,8 @@
 // What each of the bytes of a value is.
-ghost use Rattle.borsh_json.specs.Words.{IsNoRowsReason, IsPartError, IsPrimitiveKind, IsTooDeep, IsWhole, Member, TableKind, definitions_in, form_of, forms_in};
+ghost use Rattle.borsh_json.specs.Words.{IsNoRowsReason, IsPartError, IsPrimitiveKind, IsTooDeep, IsWhole, Member, definitions_in, form_of, forms_in, primitive_kind};
 ghost use Rattle.borsh_json.specs.Rows.{AreRowsOf, IsPrimitiveText, IsQuoted, IsText, IsValueText, counted};
 ghost use Rattle.borsh_values.specs.Nodes.{AreOffsets, HaveDefinitions, joined_bytes, views};
-ghost use Rattle.std.specs.Prelude.{◌≡◌, ◌≤◌, [], false, Decides, IfErr, IfOk, MatchOption, OnOk, string_bytes};
+ghost use Rattle.std.specs.Prelude.{◌≡◌, ◌≤◌, [], false, ℕ, Decides, IfErr, IfOk, List, MatchOption, OnOk, string_bytes};
 
 use crate::error::{JsonError, PartError, Refusal};
 use crate::floats::shortest;
@@ -149,8 +149,8 @@ fn is_text(map: &BTreeMap<String, Definition>, name: &str, element: &str) -> boo
 }
 
 fn primitive_text(alloc: Global, kind: Kind<'_>, bytes: &[u8]) -> Result<String, AllocError>
-    ensures { (found : TableKind) → IsPrimitiveKind kind.entry found →
-        IfOk result (λ v. IsPrimitiveText found bytes.now (string_bytes v)) }
+    ensures { (x : List ℕ) (n : ℕ) → IsPrimitiveKind kind.entry (primitive_kind x n) →
+        IfOk result (λ v. IsPrimitiveText (primitive_kind x n) bytes.now (string_bytes v)) }
 {
     match kind {
         Kind::Number(number) => number_text(alloc, number, bytes),

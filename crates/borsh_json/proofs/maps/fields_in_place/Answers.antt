@@ -16,7 +16,7 @@ loop-field-preserved c ms h =
     let t = c.if-not-is_next.false in
     let e : c.eq-is_next.result ≡ true = cc in
     let same = (bytes_eq-Decides _ _).0 (sym c.eq-is_next.ensures ∙ e) ∙ c.as_str.ensures.value in
-    past_more ms c.loop-field.members c.next.new.self (take i (map (λ f. string_bytes f.0) items)) _ c.in-Some.key.now (string_bytes c.loop-field-item.result.0) c.in-Some.field-1 c.in-Some.ensures.value same (taken_more (λ f. string_bytes f.0) items i c.loop-field-item.result (omega arith) c.loop-field-item.is) (c.loop-field.invariant ms h)
+    past_more ms c.loop-field.members c.next.new.self (take i (map (λ f. string_bytes f.0) items)) _ c.in-Some.key.now (string_bytes c.loop-field-item.result.0) c.in-Some.field-0-1 c.in-Some.ensures.value same (taken_more (λ f. string_bytes f.0) items i c.loop-field-item.result (omega arith) c.loop-field-item.is) (c.loop-field.invariant ms h)
 
 pub returns-in-None : goal.returns-in-None
 returns-in-None c j b =

@@ -24,10 +24,10 @@ returns-then-is_zero_size c k x j at b =
     let ns = c.args.definitions.now.layout.now.names.items in
     unmoved F ns x j c.args.out.now.items c.open_null.result (c.open_null.ensures F ns x j (inl ((c.is_zero_size.ensures k.known x at).0 c.if-is_zero_size.true, refl)) b)
 
-pub returns-in_ok-name : goal.returns-in_ok-name
-returns-in_ok-name c k x j at b =
+pub returns-in_default : goal.returns-in_default
+returns-in_default c k x j at b =
     let F = forms_in c.args.definitions.now.layout.now.map.now in
-    let full = λ z. (let q = (c.is_zero_size.ensures k.known x at).1 z in let s = c.if-is_zero_size.false in absurd cc) in
+    let full : HasNoBytes F x → ⊥ = λ z. (let q = (c.is_zero_size.ensures k.known x at).1 z in let s = c.if-is_zero_size.false in cc) in
     undefined_says F x j (c.in_default.ensures k x at full) full
 
 pub returns-in-Newtype : goal.returns-in-Newtype

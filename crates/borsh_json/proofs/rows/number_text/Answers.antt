@@ -11,4 +11,4 @@ returns-then-is_same c small =
     let own = take n.size c.in-Some.found in
     let e = sym c.as_slice.ensures.value ∙ (slice_eq-Decides Decides-eqb _ _ _ c.eq-is_same.ensures).0 c.if-is_same.true in
     let t = sym (c.in_ok-put_number.ensures small ∙ ap (λ l. l ++ own) c.new-read.ensures.items) ∙ e in
-    if_same (λ v. IsWhole n.size n.is_signed false v c.args.bytes.now) c.from_str.result c.decimal-text.result.now c.from_str.ensures (subst (λ (b : List ℕ). IsWhole n.size n.is_signed false c.decimal-text.result.now b) t (c.in-Some.ensures small))
+    if_same (λ v. IsWhole n.size n.is_signed false v c.args.bytes.now) c.from_str.result c.decimal-text.result.now c.from_str.ensures.ok (subst (λ (b : List ℕ). IsWhole n.size n.is_signed false c.decimal-text.result.now b) t (c.in-Some.ensures small))
