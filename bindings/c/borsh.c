@@ -32,11 +32,8 @@ uint32_t borsh_c_records(const uint8_t *schema, size_t schema_length, const uint
 uint32_t borsh_c_json_lines(const uint8_t *schema, size_t schema_length, const uint8_t *values, size_t length, const size_t *lengths,
                             size_t lengths_count, bool has_quoted_numbers, size_t *count, struct place *place, uint8_t *room,
                             size_t room_length, size_t *needed);
-uint32_t borsh_c_members(const uint8_t *schema, size_t schema_length, const uint8_t *values, size_t length, const size_t *lengths,
-                         size_t lengths_count, struct borsh_verdict *verdicts, size_t verdicts_count, uint8_t *room,
-                         size_t room_length, size_t *needed);
 
-enum call { VALID, SIZE, MEMBER, TO_JSON, FROM_JSON, RECORDS, JSON_LINES, MEMBERS };
+enum call { VALID, SIZE, MEMBER, TO_JSON, FROM_JSON, RECORDS, JSON_LINES };
 
 struct question {
     enum call call;
@@ -51,7 +48,6 @@ struct question {
     /* Of calls about many values. */
     size_t *lengths;
     size_t lengths_count;
-    struct borsh_verdict *verdicts;
 };
 
 static const uint8_t nothing[1] = {0};
@@ -80,9 +76,7 @@ static uint32_t call(const struct question *q, struct place *place, uint8_t *roo
     const uint8_t *schema = start(q->schema);
     const uint8_t *value = start(q->value);
     size_t no_length = 0;
-    struct borsh_verdict no_verdict;
     size_t *lengths = q->lengths == NULL ? &no_length : q->lengths;
-    struct borsh_verdict *verdicts = q->verdicts == NULL ? &no_verdict : q->verdicts;
     switch (q->call) {
     case VALID:
         return borsh_c_valid(schema, q->schema_length, room, room_length, needed);
@@ -98,12 +92,9 @@ static uint32_t call(const struct question *q, struct place *place, uint8_t *roo
     case RECORDS:
         return borsh_c_records(schema, q->schema_length, value, q->value_length, lengths, q->lengths_count, q->size, place, room,
                                room_length, needed);
-    case JSON_LINES:
+    default:
         return borsh_c_json_lines(schema, q->schema_length, value, q->value_length, lengths, q->lengths_count, q->has_quoted_numbers,
                                   q->size, place, room, room_length, needed);
-    default:
-        return borsh_c_members(schema, q->schema_length, value, q->value_length, lengths, q->lengths_count, verdicts,
-                               q->lengths_count, room, room_length, needed);
     }
 }
 
@@ -117,7 +108,7 @@ static uint32_t ask(const struct question *q, struct borsh_buffer *out) {
     if (out == NULL)
         return BORSH_NULL;
     if (is_null(q->schema, q->schema_length) || is_null(q->value, q->value_length) || q->size == NULL ||
-        is_null(q->lengths, q->lengths_count) || (q->call == MEMBERS && is_null(q->verdicts, q->lengths_count)))
+        is_null(q->lengths, q->lengths_count))
         return FAIL(BORSH_NULL, "null pointer", out);
     size_t room_length = first_room(q);
     /* The answer of a second call is as long as the first one's, so that no third is needed. */
@@ -202,14 +193,4 @@ uint32_t borsh_json_lines(const uint8_t *schema, size_t schema_length, const uin
     q.lengths_count = lengths_count;
     q.has_quoted_numbers = has_quoted_numbers;
     return ask(&q, lines);
-}
-
-uint32_t borsh_members(const uint8_t *schema, size_t schema_length, const uint8_t *values, size_t length, const size_t *lengths,
-                       size_t lengths_count, struct borsh_verdict *verdicts, struct borsh_buffer *text) {
-    size_t unused = 0;
-    struct question q = about(MEMBERS, schema, schema_length, values, length, &unused);
-    q.lengths = (size_t *)lengths; /* so here */
-    q.lengths_count = lengths_count;
-    q.verdicts = verdicts;
-    return ask(&q, text);
 }

@@ -97,19 +97,6 @@ uint32_t borsh_records(const uint8_t *schema, size_t schema_length, const uint8_
 uint32_t borsh_json_lines(const uint8_t *schema, size_t schema_length, const uint8_t *values, size_t length, const size_t *lengths,
                           size_t lengths_count, bool has_quoted_numbers, size_t *count, struct borsh_buffer *lines);
 
-/* What `borsh_member` says of a value: its code, and the offset of a fault. */
-struct borsh_verdict {
-    uint32_t code;
-    bool has_offset;
-    size_t offset;
-};
-
-/* Whether each of the values that have these lengths and lie one after another at `values` is one of the root: BORSH_YES, BORSH_NO,
- * BORSH_OUT_OF_MEMORY or BORSH_UNDECIDED, in as many `verdicts` as there are lengths. The call itself returns BORSH_YES, unless the
- * schema is malformed or an allocation failed; then the verdicts say nothing. A length that reaches beyond the bytes is cut. */
-uint32_t borsh_members(const uint8_t *schema, size_t schema_length, const uint8_t *values, size_t length, const size_t *lengths,
-                       size_t lengths_count, struct borsh_verdict *verdicts, struct borsh_buffer *text);
-
 #ifdef __cplusplus
 }
 #endif

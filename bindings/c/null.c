@@ -38,7 +38,6 @@ int main(void) {
     if (borsh_size(byte, sizeof byte, &size, NULL) != BORSH_NULL || size != 7) return 13;
 
     size_t lengths[2] = {1, 2}, count = 7;
-    struct borsh_verdict verdicts[2];
     const size_t n = sizeof byte;
     if (!is(borsh_records(byte, n, NULL, 1, lengths, 2, &count, &text), BORSH_NULL, &text, "null pointer")) return 20;
     if (!is(borsh_records(byte, n, byte, n, NULL, 2, &count, &text), BORSH_NULL, &text, "null pointer")) return 21;
@@ -47,13 +46,8 @@ int main(void) {
     if (!is(borsh_json_lines(byte, n, byte, n, NULL, 1, false, &count, &text), BORSH_NULL, &text, "null pointer")) return 24;
     if (!is(borsh_json_lines(byte, n, byte, n, lengths, 1, false, NULL, &text), BORSH_NULL, &text, "null pointer")) return 25;
     if (!is(borsh_json_lines(byte, n, NULL, 0, NULL, 0, false, &count, &text), BORSH_YES, &text, "") || count != 0) return 26;
-    if (!is(borsh_members(byte, n, byte, n, lengths, 2, NULL, &text), BORSH_NULL, &text, "null pointer")) return 27;
-    if (!is(borsh_members(byte, n, NULL, 0, NULL, 0, NULL, &text), BORSH_YES, &text, "")) return 28;
 
-    /* Many values: the verdicts, and the lines up to a value that has none. */
-    if (!is(borsh_members(byte, n, byte, 3, lengths, 2, verdicts, &text), BORSH_YES, &text, "")) return 29;
-    if (verdicts[0].code != BORSH_YES || verdicts[0].has_offset) return 30;
-    if (verdicts[1].code != BORSH_NO || !verdicts[1].has_offset || verdicts[1].offset != 1) return 31;
+    /* The lines up to a value that has none. */
     if (!is(borsh_json_lines(byte, n, byte, 3, lengths, 2, false, &count, &text), BORSH_YES, &text, "2\n") || count != 1) return 32;
     if (borsh_json_lines(byte, n, byte, 3, lengths + 1, 1, false, &count, &text) != BORSH_NO || count != 0) return 33;
     borsh_free(&text);

@@ -54,11 +54,10 @@ static const uint8_t json[] = "{\"y\": \"h\\u00e9\", \"x\": 12}";
 
 /* Two values, and the beginning of a third. */
 static const uint8_t values[] = "\14\0\0\0\0\0\0\0\3\0\0\0h\303\251\15\0\0\0\0\0\0\0\0\0\0\0\16";
-static const size_t lengths[] = {15, 12, 1};
+static const size_t lengths[] = {15, 12};
 
 static uint32_t ask(int call, struct borsh_buffer *out) {
     size_t size = 0, found[3];
-    struct borsh_verdict verdicts[3];
     switch (call) {
     case 0:
         return borsh_valid(schema, LENGTH(schema), out);
@@ -78,15 +77,13 @@ static uint32_t ask(int call, struct borsh_buffer *out) {
         return borsh_records(schema, LENGTH(schema), values, 3, found, 3, &size, out);
     case 8:
         return borsh_json_lines(schema, LENGTH(schema), values, LENGTH(values), lengths, 2, false, &size, out);
-    case 9:
-        return borsh_members(schema, LENGTH(schema), values, LENGTH(values), lengths, 3, verdicts, out);
     default:
         return borsh_valid(value, LENGTH(value), out);
     }
 }
 
 int main(void) {
-    for (int call = 0; call < 11; call++) {
+    for (int call = 0; call < 10; call++) {
         struct borsh_buffer right, out;
         uint32_t code = ask(call, &right);
         size_t before = blocks;

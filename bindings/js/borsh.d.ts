@@ -134,7 +134,7 @@ export class Schema {
    *
    * The error `"no"` says which bytes are no value, that they end within one, or that one is longer than `maxLength`, by default 64 MiB;
    * its `record` is the byte at which that value begins, and those before it were given. A schema that has a value without bytes is
-   * refused, since there may be any number of them.
+   * refused, without a `record`, since there may be any number of them.
    *
    * ```js
    * for await (const value of schema.records(file.stream())) console.log(value);

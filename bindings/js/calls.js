@@ -10,6 +10,9 @@ const KINDS = ["yes", "no", "malformed", "out of memory", "null", "undecided", "
 const RESULT = Symbol("result");
 const NUMBER_BYTES = 8;
 
+/** What a call is given begins at multiples of so many bytes. */
+const PART = 16;
+
 /** In the place of an argument: where the call writes the place of a refusal, the `Place` of `crates/borsh_c`. */
 const PLACE = Symbol("place");
 const PLACE_BYTES = 32;
@@ -33,11 +36,11 @@ const MOST_ROOM = 2 ** 29;
  * a bigint, and as many lengths.
  */
 class Answer {
-  constructor(kind, bytes, place) {
+  constructor(kind, bytes) {
     this.kind = kind;
     this.bytes = bytes;
-    this.offset = place?.offset;
-    this.path = place?.path;
+    this.offset = undefined;
+    this.path = undefined;
     this.number = undefined;
     this.lengths = undefined;
   }
@@ -107,38 +110,30 @@ function roomFor(bytes) {
   return Math.min(4 * bytes.length, Math.max(bytes.length, MOST_ROOM)) + 256;
 }
 
+/** What a call is given, and where it writes, are parts of one block; the first is how long the answer is. */
 function ask(it, name, given, roomLength) {
-  const words = [];
-  const written = {}; // the addresses of what the call writes
+  const starts = [];
+  let size = PART;
   for (const argument of given) {
-    if (typeof argument === "number") {
-      words.push(argument);
-      continue;
-    }
-    const at = it.heap_take(BigInt(sizeOf(argument)));
-    if (at === 0n) return outOfMemory();
-    words.push(at);
-    if (typeof argument === "symbol") {
-      written[argument] = at;
-    } else if (argument instanceof Room) {
-      written.lengths = at;
-      words.push(BigInt(argument.count));
-    } else {
-      if (Array.isArray(argument)) putNumbers(it, at, argument);
-      else view(it, at, argument.length).set(argument);
-      words.push(BigInt(argument.length));
-    }
+    starts.push(size);
+    size += PART * Math.ceil(sizeOf(argument) / PART);
   }
-  const needed = it.heap_take(BigInt(NUMBER_BYTES));
-  if (needed === 0n) return outOfMemory();
+  const block = Number(it.heap_take(BigInt(size)));
+  if (block === 0) return outOfMemory();
+  const words = given.flatMap((argument, index) => put(it, argument, block + starts[index]));
   // The answer of a second call is as long as the first one's, so that no third is needed.
   for (let count = 0; count < 2; count++) {
-    const room = it.heap_take(BigInt(roomLength));
-    if (room === 0n) return outOfMemory();
-    const kind = KINDS[it[name](...words, room, BigInt(roomLength), needed)];
-    const length = Number(numberAt(it, needed));
-    if (length <= roomLength) return answerAt(it, kind, view(it, room, length).slice(), written);
-    it.heap_give_back(room);
+    const room = Number(it.heap_take(BigInt(roomLength)));
+    if (room === 0) return outOfMemory();
+    const kind = KINDS[it[name](...words, BigInt(room), BigInt(roomLength), BigInt(block))];
+    const length = numberAt(viewOf(it, block), 0);
+    if (length <= roomLength) {
+      const answer = new Answer(kind, bytesAt(it, room, length).slice());
+      // The last first, since how many numbers there are is told behind the room for them.
+      for (let index = given.length - 1; index >= 0; index--) take(answer, given[index], viewOf(it, block + starts[index]));
+      return answer;
+    }
+    it.heap_give_back(BigInt(room));
     roomLength = length;
   }
   return outOfMemory();
@@ -148,45 +143,48 @@ function sizeOf(argument) {
   if (argument === RESULT) return NUMBER_BYTES;
   if (argument === PLACE) return PLACE_BYTES;
   if (argument instanceof Room) return NUMBER_BYTES * argument.count;
-  return Array.isArray(argument) ? NUMBER_BYTES * argument.length : argument.length;
+  if (Array.isArray(argument)) return NUMBER_BYTES * argument.length;
+  return typeof argument === "number" ? 0 : argument.length;
 }
 
-function putNumbers(it, at, numbers) {
-  const words = new DataView(it.memory.buffer, Number(at), NUMBER_BYTES * numbers.length);
-  numbers.forEach((number, index) => words.setBigUint64(NUMBER_BYTES * index, BigInt(number), true));
-}
-
-function numberAt(it, at) {
-  return new DataView(it.memory.buffer).getBigUint64(Number(at), true);
-}
-
-function answerAt(it, kind, bytes, written) {
-  const isRefused = kind === "no" || kind === "short";
-  const answer = new Answer(kind, bytes, isRefused && written[PLACE] ? placeAt(it, written[PLACE]) : undefined);
-  if (kind === "yes" && written[RESULT]) {
-    answer.number = numberAt(it, written[RESULT]);
-    if (written.lengths) answer.lengths = lengthsAt(it, written.lengths, Number(answer.number));
+/** Writes an argument to its part of the block, and returns the words by which it is passed. */
+function put(it, argument, at) {
+  if (typeof argument === "number") return [argument];
+  if (typeof argument === "symbol") return [BigInt(at)];
+  if (argument instanceof Room) return [BigInt(at), BigInt(argument.count)];
+  if (Array.isArray(argument)) {
+    const view = viewOf(it, at);
+    argument.forEach((number, index) => view.setBigUint64(NUMBER_BYTES * index, BigInt(number), true));
+  } else {
+    bytesAt(it, at, argument.length).set(argument);
   }
-  return answer;
+  return [BigInt(at), BigInt(argument.length)];
 }
 
-function lengthsAt(it, at, count) {
-  const words = new DataView(it.memory.buffer, Number(at), NUMBER_BYTES * count);
-  return Array.from({ length: count }, (_, index) => Number(words.getBigUint64(NUMBER_BYTES * index, true)));
+/** Has the answer what the call has written to an argument's part of the block. */
+function take(answer, argument, view) {
+  if (answer.kind === "yes" && argument === RESULT) answer.number = view.getBigUint64(0, true);
+  if (answer.kind === "yes" && argument instanceof Room) {
+    answer.lengths = Array.from({ length: Number(answer.number) }, (_, index) => numberAt(view, index));
+  }
+  if ((answer.kind === "no" || answer.kind === "short") && argument === PLACE) {
+    // A `Place`: two bytes that say what there is, and three numbers.
+    if (view.getUint8(0)) answer.offset = numberAt(view, 1);
+    if (view.getUint8(1)) answer.path = { start: numberAt(view, 2), end: numberAt(view, 2) + numberAt(view, 3) };
+  }
 }
 
-/** What a call has written to a `Place`: two bytes that say what there is, and three numbers. */
-function placeAt(it, at) {
-  const place = new DataView(it.memory.buffer, Number(at), PLACE_BYTES);
-  const number = (index) => Number(place.getBigUint64(8 * index, true));
-  return {
-    offset: place.getUint8(0) ? number(1) : undefined,
-    path: place.getUint8(1) ? { start: number(2), end: number(2) + number(3) } : undefined,
-  };
+/** One of the numbers of 8 bytes that lie there one after another; less than 2^53. */
+function numberAt(view, index) {
+  return view.getUint32(NUMBER_BYTES * index, true) + 2 ** 32 * view.getUint32(NUMBER_BYTES * index + 4, true);
 }
 
-function view(it, at, length) {
-  return new Uint8Array(it.memory.buffer, Number(at), length);
+function viewOf(it, at) {
+  return new DataView(it.memory.buffer, at);
+}
+
+function bytesAt(it, at, length) {
+  return new Uint8Array(it.memory.buffer, at, length);
 }
 
 function outOfMemory() {

@@ -17,12 +17,12 @@ export class BorshError extends Error {
 /** Texts of the proved code are UTF-8. */
 export const decoder = new TextDecoder("utf-8", { ignoreBOM: true });
 
-/** The bytes of the answer, or else an error: of values one after another with the byte at which the value begins. */
+/** The bytes of the answer, or else an error: of a part of one of many values with the byte at which the value begins. */
 export function answerOf(answer, record) {
   if (answer.kind === "yes") return answer.bytes;
   const kind = answer.kind === "short" ? "no" : answer.kind;
   const text = decoder.decode(answer.bytes);
-  if (record === undefined) throw new BorshError(kind, text, foundIn(answer));
+  if (record === undefined || answer.path === undefined) throw new BorshError(kind, text, foundIn(answer));
   throw errorOf(record, kind, answer.kind === "short" ? `cut short: ${text}` : text, foundIn(answer));
 }
 

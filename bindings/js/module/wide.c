@@ -9,8 +9,10 @@ typedef union {
     } in;
 } halves;
 
-/* The product of two numbers of 64 bits. */
+/* The product of two numbers of 64 bits, most of which have less than 32. */
 static halves product(word a, word b) {
+    if (((a | b) >> 32) == 0)
+        return (halves){.in = {a * b, 0}};
     const word low_half = 0xffffffff;
     word lows = (a & low_half) * (b & low_half);
     word cross = (a >> 32) * (b & low_half) + (lows >> 32); /* at most 2^64 - 2^32: it doesn't wrap */

@@ -27,13 +27,11 @@ function refuseEach(call) {
   }
 }
 
-/** Without the host's blocks, which `heap_clear` takes back: what the call itself leaves. */
+/** Without the host's two blocks, which `heap_clear` takes back: what the call itself leaves. */
 function blocksLeft(name, ...given) {
   const before = counted.exports.heap_blocks();
-  // The inputs, the room, and where its length and the place are written; of many values also their lengths and how many they are.
-  const taken = given.filter((it) => it instanceof Uint8Array).length + ({ valid: 2, records: 5, jsonLines: 5 }[name] ?? 3);
   counted[name](...given);
-  return counted.exports.heap_blocks() - before - BigInt(taken);
+  return counted.exports.heap_blocks() - before - 2n;
 }
 
 const calls = {
@@ -53,7 +51,7 @@ const calls = {
 };
 
 for (const [name, call] of Object.entries(calls)) {
-  test(`${name}: each allocation is refused in turn`, () => assert.ok(refuseEach(call) > 3));
+  test(`${name}: each allocation is refused in turn`, () => assert.ok(refuseEach(call) > 2));
 }
 
 test("no call leaves a block", () => {

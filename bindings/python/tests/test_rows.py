@@ -92,11 +92,7 @@ class Rows(unittest.TestCase):
             told.append("end")
         except Error as error:
             told.append(f"! {error}")
-            if error.kind is Kind.UNDECIDED or "may be empty" in str(error):
-                told = ["! " + str(error).split(": ", 1)[1]]
-        if wanted.startswith("! the type has a value without bytes"):
-            wanted = "! a value may be empty" if data else "end"
-        self.assertEqual("".join(told), wanted)
+        self.assertEqual("".join(told), wanted if data else "end")  # of no bytes nothing is asked
 
     def test_members(self):
         self.run_file("members.tsv", {"value", "member", "nojson", "refused", "records"})

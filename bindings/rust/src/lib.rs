@@ -76,8 +76,16 @@ impl Error {
         }
     }
 
-    /// The same of a value that begins at this byte of a reader.
+    /// The same in a value that begins at this byte of a reader. What names no part of it is about the schema.
     fn of_record(self, start: u64) -> Error {
+        match self.path {
+            Some(_) => self.at_record(start),
+            None => self,
+        }
+    }
+
+    /// The same of the value that begins at this byte of a reader.
+    fn at_record(self, start: u64) -> Error {
         let how = if self.code == sys::SHORT {
             "cut short: "
         } else {
@@ -111,7 +119,7 @@ impl Error {
         self.offset
     }
 
-    /// The byte of the reader at which the value begins, of an error of [`Schema::records`]; the offset is within the value.
+    /// The byte of the reader at which the value begins, of an error of [`Schema::records`] about a value; the offset is within it.
     pub fn record(&self) -> Option<u64> {
         self.record
     }
@@ -241,8 +249,9 @@ impl Schema {
     /// # Errors
     ///
     /// [`RecordError::Read`] if the reader fails. [`RecordError::Value`] with the place [`Error::record`], behind the values before
-    /// it: [`ErrorKind::No`] if bytes are no value, the end is within one, one is longer than [`Records::max_length`], or the schema
-    /// has a value without bytes, of which there may be any number; [`ErrorKind::Undecided`]; [`ErrorKind::OutOfMemory`].
+    /// it: [`ErrorKind::No`] if bytes are no value, the end is within one, or one is longer than [`Records::max_length`]; and without a
+    /// place, if the schema has a value without bytes, of which there may be any number; [`ErrorKind::Undecided`];
+    /// [`ErrorKind::OutOfMemory`].
     pub fn records<R: Read>(&self, reader: R) -> Records<'_, R, Record> {
         Records::new(self, reader, records::bytes_of)
     }

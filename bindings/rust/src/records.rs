@@ -152,7 +152,7 @@ impl<'a, R: Read, T> Records<'a, R, T> {
 
     fn longer(start: u64) -> RecordError {
         Error::new(1, "longer than the limit".to_owned())
-            .of_record(start)
+            .at_record(start)
             .into()
     }
 

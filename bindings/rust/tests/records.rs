@@ -150,8 +150,8 @@ fn longer_values_empty_values_and_readers_that_fail_are_refused() {
     let empty = Schema::new(b"\x02\0\0\0()\x01\0\0\0\x02\0\0\0()\x02\0\0\0\0".as_slice()).unwrap();
     let (found, refused) = given(empty.records(&[0u8][..]));
     assert!(found.is_empty());
-    let text = "value at byte 0: a value may be empty";
-    assert_eq!(refused, Some((text.to_owned(), Some(0))));
+    let text = "the type has a value without bytes, so that any bytes are any number of values";
+    assert_eq!(refused, Some((text.to_owned(), None)));
 }
 
 #[test]

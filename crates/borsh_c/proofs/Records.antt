@@ -1,31 +1,25 @@
 -- Values one after another, with one more.
-use Rattle.std.proofs.Common.{◌≡◌, ◌<◌, ◌≤◌, ◌+◌, ℕ, Some, String, string_bytes, List, [], ◌∷◌, ◌++◌, take, drop, set, get_or, length, Option, refl, ap, sym, subst, ◌∙◌, IsSome, arith, append_assoc, suc, zero, length-take}
+use Rattle.std.proofs.Common.{◌≡◌, ◌<◌, ◌≤◌, ◌+◌, ℕ, Some, String, string_bytes, List, [], ◌∷◌, ◌++◌, take, drop, set, get_or, length, Option, refl, ap, sym, subst, ◌∙◌, arith, append_assoc, suc, zero}
 use Rattle.std.specs.Borrow.{Bor}
 use Rattle.std.specs.Global.{Global}
-use Rattle.std.specs.BTreeMap.{BTreeMap}
 use Rattle.std.proofs.lemmas.List.{append-nil, take_more, take_more_set}
-use Rattle.json.specs.Json.{document}
-use Rattle.borsh_walks.specs.Container.{Shape, Member}
+use Rattle.borsh_walks.specs.Container.{Shape}
 use Rattle.borsh_walks.specs.Definitions.{definitions_in}
-use Rattle.borsh_walks.specs.declared.definition.Definition.{Definition}
 use Rattle.borsh_definitions.specs.Codecs.{root_and_map}
 use Rattle.borsh_values.specs.Faults.{BeginsWith}
 use Rattle.borsh_values.specs.Fronts.{IsFront}
 use Rattle.borsh_values.specs.declared.layout.Layout.{Layout}
 use Rattle.borsh_values.proofs.Valid.{none_ambiguous}
+use Rattle.borsh_json.specs.declared.definitions.Definitions.{Definitions as Json}
 use Rattle.borsh_json.specs.declared.error.JsonError.{JsonError}
-use Rattle.borsh_c.specs.Answers.{Answers, Gives, IsRefused, IsUnclear, Saying}
-use Rattle.borsh_c.specs.Answers.Answers.{yes}
-use Rattle.borsh_c.specs.Room.{IsGiven}
+use Rattle.borsh_c.specs.Answers.{Definitions, IsJsonOf, IsRefused, IsUnclear, Saying}
 use Rattle.borsh_c.specs.Texts.{TellsNoValue}
 use Rattle.borsh_c.specs.declared.many.Stop.{Stop}
 use Rattle.borsh_c.specs.declared.many.Stop.TheVariants.{End, EmptyValue, Short, NoMember, Ambiguous}
 use Rattle.borsh_c.specs.declared.refusal.Refusal.{Refusal}
-use Rattle.borsh_c.specs.declared.many.Verdict.{Verdict}
-use Rattle.borsh_c.specs.Many.{AreLines, AreVerdicts, BeginWith, HasNoLine, HaveLines, HaveLinesOf, IsNoLine, IsStop, IsVerdict, NoMore, behind}
+use Rattle.borsh_c.specs.Many.{BeginWith, HasNoLine, HaveLines, IsNoLine, IsStop, NoMore, behind}
 use Rattle.borsh_c.specs.Many.NoMore.{done, none, empty, unclear}
 use Rattle.borsh_c.proofs.Told.{bytes_refused}
-use Rattle.borsh_c.specs.Places.{number_if}
 
 behind_more : (ns : List ℕ) (n : ℕ) (bytes : List ℕ) → behind (ns ++ (n ∷ [])) bytes ≡ drop n (behind ns bytes)
 behind_more [] n bytes = refl
@@ -50,43 +44,6 @@ module _ (C : List ℕ → Option Shape) (root : List ℕ) where
         ap (drop n) e ∙ sym (behind_more (take i lengths) n bytes) ∙ ap (λ (ns : List ℕ). behind ns bytes) more,
       )
 
-  verdicts_more : (ns : List ℕ) (values : List ℕ) (vs : List Verdict) (n : ℕ) (v : Verdict) → length ns ≡ length vs → AreVerdicts C root ns values vs → IsVerdict C root (take n (behind ns values)) (number_if v.has_offset v.offset) v.code → AreVerdicts C root (ns ++ (n ∷ [])) values (vs ++ (v ∷ []))
-  verdicts_more [] values [] n v e a x = (x, tt)
-  verdicts_more [] values (w ∷ vs) n v e a x = absurd (omega (arith, e))
-  verdicts_more (m ∷ ns) values [] n v e a x = absurd (omega (arith, e))
-  verdicts_more (m ∷ ns) values (w ∷ vs) n v e a x = (a.0, verdicts_more ns (drop m values) vs n v (omega (arith, e)) a.1 x)
-
-  -- one more verdict is written behind the others
-  pub judged : (lengths values left : List ℕ) (verdicts : List Verdict) (i : ℕ) (v : Verdict) → i < length lengths → i < length verdicts → AreVerdicts C root (take i lengths) values (take i verdicts) → left ≡ behind (take i lengths) values → IsVerdict C root (take (get_or lengths i 0) left) (number_if v.has_offset v.offset) v.code → AreVerdicts C root (take (i + 1) lengths) values (take (i + 1) (set verdicts i v))
-  judged lengths values left verdicts i v h k a e x =
-      let right = subst (λ (xs : List ℕ). IsVerdict C root (take (get_or lengths i 0) xs) (number_if v.has_offset v.offset) v.code) e x in
-      rw (take_more lengths i 0 h, take_more_set verdicts i v k)
-      (verdicts_more (take i lengths) values (take i verdicts) (get_or lengths i 0) v (simp length-take (omega arith)) a right)
-
-  -- there are as many verdicts as lengths, or no room for more
-  pub all_judged : (ns values : List ℕ) (vs : List Verdict) (i : ℕ) → (i < length ns → i < length vs → ⊥) → AreVerdicts C root (take i ns) values (take i vs) → AreVerdicts C root ns values vs
-  all_judged [] values vs i h a = tt
-  all_judged (n ∷ ns) values [] i h a = tt
-  all_judged (n ∷ ns) values (v ∷ vs) zero h a = absurd (h (omega arith) (omega arith))
-  all_judged (n ∷ ns) values (v ∷ vs) (suc i) h a = (a.0, all_judged ns (drop n values) vs i (λ p q. h (omega arith) (omega arith)) a.1)
-
-  lines_more : (ns values text : List ℕ) (n : ℕ) (line : List ℕ) → HaveLines C root ns values text → Member C root (take n (behind ns values)) → IsSome (document line) → HaveLines C root (ns ++ (n ∷ [])) values ((text ++ line) ++ (10 ∷ []))
-  lines_more [] values text n line h m s = (line, [], ap (λ (t : List ℕ). (t ++ line) ++ (10 ∷ [])) h, m, s, refl)
-  lines_more (k ∷ ns) values text n line h m s = (
-    h.0,
-    (h.1 ++ line) ++ (10 ∷ []),
-    ap (λ (t : List ℕ). (t ++ line) ++ (10 ∷ [])) h.2 ∙ (simp append_assoc),
-    h.3,
-    h.4,
-    lines_more ns (drop k values) h.1 n line h.5 m s,
-  )
-
-  -- one more line is written behind the others
-  pub lined : (lengths values left text : List ℕ) (i : ℕ) (line : List ℕ) → i < length lengths → HaveLines C root (take i lengths) values text → left ≡ behind (take i lengths) values → Member C root (take (get_or lengths i 0) left) → IsSome (document line) → HaveLines C root (take (i + 1) lengths) values ((text ++ line) ++ (10 ∷ []))
-  lined lengths values left text i line h l e m s =
-      rw (take_more lengths i 0 h)
-      (lines_more (take i lengths) values text (get_or lengths i 0) line l (subst (λ (xs : List ℕ). Member C root (take (get_or lengths i 0) xs)) e m) s)
-
   -- why the values were gone through no further, as the call tells it
   pub no_more : (room count : ℕ) (left : List ℕ) (stop : Stop) → 0 < count → IsStop C root room count left stop → NoMore C root room count left
   no_more room count left End p s = done s
@@ -100,19 +57,41 @@ module _ (C : List ℕ → Option Shape) (root : List ℕ) where
   at_first lengths bytes room zero stop h s = s
   at_first lengths bytes room (suc i) stop h s = absurd (omega (arith, h))
 
--- what holds by a layout holds by the map that it was made of
-pub by_layout : (P : (List ℕ → Option Shape) → List ℕ → Type 0) (layout : Layout) {root : Bor (List ℕ)} {map : Bor (BTreeMap (String Global) Definition)} → (layout.root ≡ root) × (layout.map ≡ map) → P (definitions_in layout.map.now) layout.root.now → P (definitions_in map.now) root.now
-by_layout P layout {root} {map} same p =
-    subst (λ (m : Bor (BTreeMap (String Global) Definition)). P (definitions_in m.now) root.now) same.1 (subst (λ (r : Bor (List ℕ)). P (definitions_in layout.map.now) r.now) same.0 p)
+module _ (m : Definitions) (root : List ℕ) where
+  lines_more : (ns values text : List ℕ) (n : ℕ) (line : List ℕ) → HaveLines m root ns values text → IsJsonOf (take n (behind ns values)) line m root → HaveLines m root (ns ++ (n ∷ [])) values ((text ++ line) ++ (10 ∷ []))
+  lines_more [] values text n line h j = (line, [], ap (λ (t : List ℕ). (t ++ line) ++ (10 ∷ [])) h, j, refl)
+  lines_more (k ∷ ns) values text n line h j = (
+    h.0,
+    (h.1 ++ line) ++ (10 ∷ []),
+    ap (λ (t : List ℕ). (t ++ line) ++ (10 ∷ [])) h.2 ∙ (simp append_assoc),
+    h.3,
+    lines_more ns (drop k values) h.1 n line h.4 j,
+  )
 
-module _ {schema : List ℕ} (c : String Global × BTreeMap (String Global) Definition) (encoded : root_and_map.encoding c ≡ Some schema) (root : List ℕ) (named : root ≡ string_bytes c.0) where
+  -- one more line is written behind the others
+  pub lined : (lengths values left text : List ℕ) (i : ℕ) (line : List ℕ) → i < length lengths → HaveLines m root (take i lengths) values text → left ≡ behind (take i lengths) values → IsJsonOf (take (get_or lengths i 0) left) line m root → HaveLines m root (take (i + 1) lengths) values ((text ++ line) ++ (10 ∷ []))
+  lined lengths values left text i line h l e j =
+      rw (take_more lengths i 0 h)
+      (lines_more (take i lengths) values text (get_or lengths i 0) line l (subst (λ (xs : List ℕ). IsJsonOf (take (get_or lengths i 0) xs) line m root) e j))
+
+-- of a layout whose kinds were found
+pub by_json : (P : Definitions → List ℕ → Type 0) (d : Json) (l : Layout) → d.layout.now ≡ l → P d.layout.now.map.now d.layout.now.root.now → P l.map.now l.root.now
+by_json P d l e p = subst (λ (l : Layout). P l.map.now l.root.now) e p
+
+-- what holds by a layout holds by the map that it was made of
+pub by_layout : (P : Saying) (layout : Layout) {root : Bor (List ℕ)} {map : Bor Definitions} → (layout.root ≡ root) × (layout.map ≡ map) → P layout.map.now layout.root.now → P map.now root.now
+by_layout P layout {root} {map} same p = subst (λ (m : Bor Definitions). P m.now root.now) same.1 (subst (λ (r : Bor (List ℕ)). P layout.map.now r.now) same.0 p)
+
+-- why the values were gone through no further than to the beginning
+pub stopped : (layout : Layout) {root : Bor (List ℕ)} {map : Bor Definitions} → (layout.root ≡ root) × (layout.map ≡ map) → (lengths bytes : List ℕ) (count : ℕ) {stop here : Stop} → count ≤ 0 → stop ≡ here → IsStop (definitions_in layout.map.now) layout.root.now (length lengths) count (behind (take count lengths) bytes) stop → IsStop (definitions_in map.now) root.now (length lengths) 0 bytes here
+stopped layout {root} {map} same lengths bytes count {stop} {here} small is told =
+    let all = length lengths in
+    let found = by_layout (λ m r. IsStop (definitions_in m) r all count (behind (take count lengths) bytes) stop) layout same told in
+    at_first (definitions_in map.now) root.now lengths bytes all count here small (subst (IsStop (definitions_in map.now) root.now all count (behind (take count lengths) bytes)) is found)
+
+module _ {schema : List ℕ} (c : String Global × Definitions) (encoded : root_and_map.encoding c ≡ Some schema) (root : List ℕ) (named : root ≡ string_bytes c.0) where
   -- why the first value has no line
-  pub line_refused : (values lengths : List ℕ) (count : ℕ) (e : JsonError) → count ≤ 0 → IsNoLine (definitions_in c.1) root lengths values count (Some e) → (t : Refusal) → TellsNoValue e t → IsRefused schema (HasNoLine values lengths) IsUnclear t
+  pub line_refused : (values lengths : List ℕ) (count : ℕ) (e : JsonError) → count ≤ 0 → IsNoLine c.1 root lengths values count (Some e) → (t : Refusal) → TellsNoValue e t → IsRefused schema (HasNoLine values lengths) IsUnclear t
   line_refused values [] count e h n t told = absurd (omega (arith, n.0))
   line_refused values (k ∷ ks) zero e h n t told = bytes_refused c encoded root named (take k values) e n.1 t told
   line_refused values (k ∷ ks) (suc i) e h n t told = absurd (omega (arith, h))
-
--- ---- what is given
-
-pub lines_told : {schema values lengths room text bytes : List ℕ} {needed count : ℕ} (N U : Saying) → HaveLinesOf schema values lengths count text → bytes ≡ text → IsGiven bytes room needed → Answers schema (λ C root. Gives (AreLines C root values lengths count) room needed) N U 0
-lines_told {values = values} {lengths = lengths} {bytes = bytes} {count = count} N U m same given = yes (m.0, m.1, (bytes, subst (λ (t : List ℕ). AreLines (definitions_in m.0.1) (string_bytes m.0.0) values lengths count t) (sym same) m.2, given)) refl

@@ -1,13 +1,17 @@
 -- What the calls answer about the container whose encoding the bytes are.
-use Rattle.std.specs.Prelude.{◌≡◌, ◌^◌, ◌<◌, ⊤, ℕ, List, IsSome, Option, None, Some, true, String, string_bytes}
+use Rattle.std.specs.Prelude.{◌≡◌, ◌^◌, ◌<◌, ◌≤◌, ◌++◌, ⊤, ℕ, List, [], Option, None, Some, true, String, string_bytes, codes}
 use Rattle.std.specs.Global.{Global}
 use Rattle.std.specs.BTreeMap.{BTreeMap}
 use Rattle.json.specs.Json.{document}
+use Rattle.borsh_json.specs.Forms.{forms_in}
+use Rattle.borsh_json.specs.Represents.{TextSays}
 use Rattle.borsh_codec.specs.Codec.{IsDecodable}
 use Rattle.borsh_definitions.specs.Codecs.{root_and_map}
-use Rattle.borsh_walks.specs.Container.{Shape, Member, MaxSize, IsValid}
+use Rattle.borsh_walks.specs.Container.{Shape, Rule, Breaks, Member, MaxSize, PartialSize, IsRecursive, IsValid, Reached, SizeReaches}
 use Rattle.borsh_walks.specs.Definitions.{definitions_in}
+use Rattle.borsh_walks.specs.Errors.{rule_name}
 use Rattle.borsh_walks.specs.declared.definition.Definition.{Definition}
+use Rattle.borsh_values.specs.Membership.{IsUndecided}
 use Rattle.borsh_values.specs.Unambiguous.{IsUnambiguous}
 use Rattle.borsh_values.specs.Faults.{IsFault}
 use Rattle.borsh_values.specs.declared.faults.Fault.{Fault}
@@ -15,17 +19,25 @@ use Rattle.borsh_c.specs.Room.{IsGiven}
 use Rattle.borsh_c.specs.declared.refusal.Refusal.{Refusal}
 use Rattle.borsh_c.specs.declared.refusal.Refusal.TheVariants.{No, Malformed, OutOfMemory, Undecided}
 
+-- the definitions of a container, by their names
+abbrev pub Definitions : Type 0
+Definitions = BTreeMap (String Global) Definition
+
 -- what may be said of the definitions of a container, and of the name of its root
 abbrev pub Saying : Type 1
-Saying = (List ℕ → Option Shape) → List ℕ → Type 0
+Saying = Definitions → List ℕ → Type 0
 
 -- the bytes are the encoding of a container of which this holds
 abbrev pub About : List ℕ → Saying → Type 0
-About bytes P = (c : String Global × BTreeMap (String Global) Definition) × (root_and_map.encoding c ≡ Some bytes) × P (definitions_in c.1) (string_bytes c.0)
+About bytes P = (c : String Global × Definitions) × (root_and_map.encoding c ≡ Some bytes) × P c.1 (string_bytes c.0)
 
--- no container decodes from the bytes
-abbrev pub IsMalformed : List ℕ → Type 0
-IsMalformed bytes = IsDecodable root_and_map true bytes → ⊥
+-- no container decodes from the bytes, and the text says so, and then why
+abbrev pub IsMalformed : List ℕ → List ℕ → Type 0
+IsMalformed bytes text = (IsDecodable root_and_map true bytes → ⊥) × ((why : List ℕ) × (text ≡ codes "not a schema container: " ++ why))
+
+-- bytes of which this holds were given
+abbrev pub Gives : (List ℕ → Type 0) → List ℕ → ℕ → Type 0
+Gives P room needed = (bytes : List ℕ) × P bytes × IsGiven bytes room needed
 
 -- ---- codes
 
@@ -43,80 +55,116 @@ told_offset (Malformed t) = None
 told_offset OutOfMemory = None
 told_offset (Undecided t) = None
 
--- each code says what is right
-pub data Answers (schema : List ℕ) (Yes No Undecided : Saying) (code : ℕ) : Type 0 where
-  yes : About schema Yes → code ≡ 0 → Answers schema Yes No Undecided code
-  no : About schema No → code ≡ 1 → Answers schema Yes No Undecided code
-  malformed : IsMalformed schema → code ≡ 2 → Answers schema Yes No Undecided code
-  out_of_memory : code ≡ 3 → Answers schema Yes No Undecided code
-  undecided : About schema Undecided → code ≡ 5 → Answers schema Yes No Undecided code
+-- the text that a refusal tells
+abbrev pub told_text : Refusal → List ℕ
+told_text (No t) = string_bytes t.text
+told_text (Malformed t) = string_bytes t
+told_text OutOfMemory = codes "out of memory"
+told_text (Undecided t) = string_bytes t
 
--- a refusal is right; what a no says depends on the offset that it tells
-abbrev pub IsRefused : List ℕ → (Option ℕ → Saying) → Saying → Refusal → Type 0
-IsRefused schema N U (No t) = About schema (N t.offset)
-IsRefused schema N U (Malformed t) = IsMalformed schema
+-- the refusal is a no, with this offset and this text
+abbrev pub Tells : Option ℕ → List ℕ → Refusal → Type 0
+Tells offset text (No t) = (t.offset ≡ offset) × (string_bytes t.text ≡ text)
+Tells offset text (Malformed t) = ⊥
+Tells offset text OutOfMemory = ⊥
+Tells offset text (Undecided t) = ⊥
+
+-- each code says what is right, and so does what is given with it: a text, or bytes
+pub data Answers (schema : List ℕ) (Yes No Undecided : List ℕ → Saying) (code : ℕ) (given : List ℕ) : Type 0 where
+  yes : About schema (Yes given) → code ≡ 0 → Answers schema Yes No Undecided code given
+  no : About schema (No given) → code ≡ 1 → Answers schema Yes No Undecided code given
+  malformed : IsMalformed schema given → code ≡ 2 → Answers schema Yes No Undecided code given
+  out_of_memory : given ≡ codes "out of memory" → code ≡ 3 → Answers schema Yes No Undecided code given
+  undecided : About schema (Undecided given) → code ≡ 5 → Answers schema Yes No Undecided code given
+
+-- a refusal is right; what a no says depends on the offset and the text that it tells
+abbrev pub IsRefused : List ℕ → (Option ℕ → List ℕ → Saying) → (List ℕ → Saying) → Refusal → Type 0
+IsRefused schema N U (No t) = About schema (N t.offset (string_bytes t.text))
+IsRefused schema N U (Malformed t) = IsMalformed schema (string_bytes t)
 IsRefused schema N U OutOfMemory = ⊤
-IsRefused schema N U (Undecided t) = About schema U
+IsRefused schema N U (Undecided t) = About schema (U (string_bytes t))
 
 -- ---- what the calls say
 
+-- this holds, and no bytes are given
+abbrev pub Alone : ((List ℕ → Option Shape) → List ℕ → Type 0) → List ℕ → Saying
+Alone P given m root = P (definitions_in m) root × (given ≡ [])
+
 -- the same whatever the offset
-abbrev pub wherever : Saying → Option ℕ → Saying
+abbrev pub wherever : (List ℕ → Saying) → Option ℕ → List ℕ → Saying
 wherever P offset = P
 
 -- of no container
-abbrev pub Never : Saying
-Never C root = ⊥
+abbrev pub Never : List ℕ → Saying
+Never text m root = ⊥
 
--- a reached name breaks a rule
-abbrev pub IsInvalid : Saying
-IsInvalid C root = IsValid C root → ⊥
+-- that a name breaks a rule
+abbrev pub invalid_text : List ℕ → List ℕ → List ℕ
+invalid_text rule name = codes "invalid " ++ (rule ++ (codes " " ++ name))
 
--- there is no size below 2^64
-abbrev pub HasNoSize : Saying
-HasNoSize C root = (n : ℕ) → MaxSize C root n → n < 2 ^ 64 → ⊥
+-- a reached name breaks a rule, and the text says which
+abbrev pub IsInvalid : List ℕ → Saying
+IsInvalid text m root = (x : List ℕ) × (r : Rule) × Reached (definitions_in m) root x × Breaks (definitions_in m) r x × (text ≡ invalid_text (rule_name r) x)
+
+-- why there is no size below 2^64, and the text that says so
+pub data IsUnsized (C : List ℕ → Option Shape) (root text : List ℕ) : Type 0 where
+  overflows : (k : ℕ) → PartialSize C [] root k → 2 ^ 64 ≤ k → text ≡ codes "overflow" → IsUnsized C root text
+  recurs : IsRecursive C root → text ≡ codes "recursive" → IsUnsized C root text
+  misses : (x : List ℕ) → SizeReaches C root x → C x ≡ None → text ≡ codes "missing " ++ x → IsUnsized C root text
+
+-- there is no size below 2^64, and the text says why
+abbrev pub HasNoSize : List ℕ → Saying
+HasNoSize text m root = ((n : ℕ) → MaxSize (definitions_in m) root n → n < 2 ^ 64 → ⊥) × IsUnsized (definitions_in m) root text
 
 -- the bytes are no member of the root, and there is a fault at the offset, which is told
-abbrev pub IsNoMember : List ℕ → Option ℕ → Saying
-IsNoMember value None C root = ⊥
-IsNoMember value (Some offset) C root = (Member C root value → ⊥) × ((f : Fault) × IsFault C root value f × (f.offset ≡ offset))
+abbrev pub IsNoMember : List ℕ → Option ℕ → List ℕ → Saying
+IsNoMember value None text m root = ⊥
+IsNoMember value (Some offset) text m root = (Member (definitions_in m) root value → ⊥) × ((f : Fault) × IsFault (definitions_in m) root value f × (f.offset ≡ offset))
+
+-- the text is JSON that says the bytes, and these are a member of the root
+abbrev pub IsJsonOf : List ℕ → List ℕ → Saying
+IsJsonOf value text m root = TextSays (forms_in m) root text value
+
+-- the other way about
+abbrev pub AreBytesOf : List ℕ → List ℕ → Saying
+AreBytesOf json value = IsJsonOf value json
 
 -- an offset is told only where the bytes are no member of the root, and is then that of a fault
-abbrev pub HasNoJson : List ℕ → Option ℕ → Saying
-HasNoJson value None C root = ⊤
-HasNoJson value (Some offset) C root = IsNoMember value (Some offset) C root
+abbrev pub HasNoJson : List ℕ → Option ℕ → List ℕ → Saying
+HasNoJson value None text m root = ⊤
+HasNoJson value (Some offset) text m root = IsNoMember value (Some offset) text m root
 
 -- an offset is told only where the text isn't JSON
-abbrev pub IsNoText : List ℕ → Option ℕ → Saying
-IsNoText json None C root = ⊤
-IsNoText json (Some offset) C root = document json ≡ None
+abbrev pub IsNoText : List ℕ → Option ℕ → List ℕ → Saying
+IsNoText json None text m root = ⊤
+IsNoText json (Some offset) text m root = document json ≡ None
 
--- the container breaks a rule, or is ambiguous
-abbrev pub IsUnclear : Saying
-IsUnclear C root = IsValid C root → IsUnambiguous C root → ⊥
+-- that a name is undecided
+abbrev pub unclear_text : List ℕ → List ℕ
+unclear_text name = codes "`" ++ (name ++ codes "` is ambiguous")
 
--- bytes of which this holds were given
-abbrev pub Gives : (List ℕ → Type 0) → List ℕ → ℕ → Type 0
-Gives P room needed = (bytes : List ℕ) × P bytes × IsGiven bytes room needed
+-- the container breaks a rule, or is ambiguous, and the text names what is undecided
+abbrev pub IsUnclear : List ℕ → Saying
+IsUnclear text m root = (IsValid (definitions_in m) root → IsUnambiguous (definitions_in m) root → ⊥) × ((x : List ℕ) × IsUndecided (definitions_in m) root x × (text ≡ unclear_text x))
 
 -- ---- the outcomes of the calls
 
 -- code 0: the container is valid; code 1: it isn't
-abbrev pub AnswersValid : List ℕ → ℕ → Type 0
-AnswersValid schema = Answers schema IsValid IsInvalid Never
+abbrev pub AnswersValid : List ℕ → ℕ → List ℕ → Type 0
+AnswersValid schema = Answers schema (Alone IsValid) IsInvalid Never
 
 -- code 0: the number is the greatest size; code 1: there is none below 2^64
-abbrev pub AnswersSize : List ℕ → ℕ → ℕ → Type 0
-AnswersSize schema most = Answers schema (λ C root. MaxSize C root most) HasNoSize Never
+abbrev pub AnswersSize : List ℕ → ℕ → ℕ → List ℕ → Type 0
+AnswersSize schema most = Answers schema (Alone (λ C root. MaxSize C root most)) HasNoSize Never
 
 -- code 0: the bytes are a member of the root; code 1: they aren't, and the offset is a fault's; code 5: the container breaks a rule or is ambiguous
-abbrev pub AnswersMember : List ℕ → List ℕ → Option ℕ → ℕ → Type 0
-AnswersMember schema value offset = Answers schema (λ C root. Member C root value) (IsNoMember value offset) IsUnclear
+abbrev pub AnswersMember : List ℕ → List ℕ → Option ℕ → ℕ → List ℕ → Type 0
+AnswersMember schema value offset = Answers schema (Alone (λ C root. Member C root value)) (IsNoMember value offset) IsUnclear
 
--- the bytes are a value, and JSON is given; undecided only where the container breaks a rule or is ambiguous
-abbrev pub GivesJson : List ℕ → List ℕ → Option ℕ → List ℕ → ℕ → ℕ → Type 0
-GivesJson schema value offset room needed = Answers schema (λ C root. Member C root value × Gives (λ text. IsSome (document text)) room needed) (HasNoJson value offset) IsUnclear
+-- code 0: JSON of the value is given; undecided only where the container breaks a rule or is ambiguous
+abbrev pub AnswersJson : List ℕ → List ℕ → Option ℕ → ℕ → List ℕ → Type 0
+AnswersJson schema value offset = Answers schema (IsJsonOf value) (HasNoJson value offset) IsUnclear
 
--- the text is JSON, and bytes of a value are given; undecided only where the container breaks a rule or is ambiguous
-abbrev pub GivesBytes : List ℕ → List ℕ → Option ℕ → List ℕ → ℕ → ℕ → Type 0
-GivesBytes schema json offset room needed = Answers schema (λ C root. IsSome (document json) × Gives (Member C root) room needed) (IsNoText json offset) IsUnclear
+-- code 0: the bytes of the JSON are given; undecided only where the container breaks a rule or is ambiguous
+abbrev pub AnswersBytes : List ℕ → List ℕ → Option ℕ → ℕ → List ℕ → Type 0
+AnswersBytes schema json offset = Answers schema (AreBytesOf json) (IsNoText json offset) IsUnclear

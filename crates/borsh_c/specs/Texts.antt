@@ -1,51 +1,33 @@
 -- How the errors of other crates become refusals.
-use Rattle.std.specs.Prelude.{◌≡◌, ⊤, ℕ, List, IsSome, Option, None, Some}
+use Rattle.std.specs.Prelude.{◌≡◌, ◌++◌, ⊤, ℕ, List, Option, None, Some, MatchOption, codes, string_bytes}
 use Rattle.std.specs.Borrow.{Bor}
 use Rattle.borsh_io.specs.declared.error.ErrorKind.{ErrorKind}
 use Rattle.borsh_io.specs.declared.error.ErrorKind.TheVariants.{OutOfMemory as NoRoom}
 use Rattle.borsh_walks.specs.Errors.{broken_rule}
 use Rattle.borsh_walks.specs.declared.error.SchemaContainerValidateError.{SchemaContainerValidateError}
 use Rattle.borsh_walks.specs.declared.error.SchemaMaxSerializedSizeError.{SchemaMaxSerializedSizeError}
-use Rattle.borsh_walks.specs.declared.error.SchemaMaxSerializedSizeError.TheVariants.{OutOfMemory as NoMemory}
+use Rattle.borsh_walks.specs.declared.error.SchemaMaxSerializedSizeError.TheVariants.{Overflow, Recursive, MissingDefinition, OutOfMemory as NoMemory, Redefinition}
 use Rattle.borsh_json.specs.declared.error.JsonError.{JsonError}
 use Rattle.borsh_json.specs.declared.error.JsonError.TheVariants.{OutOfMemory as NoJsonRoom, NoMember, NoValue, Ambiguous, NotJson, Refused}
+use Rattle.borsh_c.specs.Answers.{invalid_text, unclear_text}
 use Rattle.borsh_c.specs.declared.refusal.Refusal.{Refusal}
 use Rattle.borsh_c.specs.declared.refusal.Refusal.TheVariants.{No, Malformed, OutOfMemory, Undecided}
 
--- no container, unless an allocation failed
-abbrev pub TellsUnread : ErrorKind → Refusal → Type 0
-TellsUnread kind (No t) = ⊥
-TellsUnread kind (Malformed t) = kind ≡ NoRoom → ⊥
-TellsUnread kind OutOfMemory = ⊤
-TellsUnread kind (Undecided t) = ⊥
+-- no container, for a reason that isn't want of memory
+abbrev pub TellsUnread : ErrorKind → List ℕ → Type 0
+TellsUnread kind text = (kind ≡ NoRoom → ⊥) × ((why : List ℕ) × (text ≡ codes "not a schema container: " ++ why))
 
--- no, unless an allocation failed
-abbrev pub TellsBroken : SchemaContainerValidateError → Refusal → Type 0
-TellsBroken e (No t) = IsSome (broken_rule e)
-TellsBroken e (Malformed t) = ⊥
-TellsBroken e OutOfMemory = ⊤
-TellsBroken e (Undecided t) = ⊥
+-- the rule that is broken, and the name that breaks it
+abbrev pub TellsBroken : SchemaContainerValidateError → List ℕ → Type 0
+TellsBroken e text = MatchOption (broken_rule e) ⊥ (λ p. text ≡ invalid_text p.0 p.1)
 
--- no, unless an allocation failed
-abbrev pub TellsNoSize : SchemaMaxSerializedSizeError → Refusal → Type 0
-TellsNoSize e (No t) = e ≡ NoMemory → ⊥
-TellsNoSize e (Malformed t) = ⊥
-TellsNoSize e OutOfMemory = ⊤
-TellsNoSize e (Undecided t) = ⊥
-
--- a refusal of one kind, unless an allocation failed
-
-abbrev pub IsNoAt : Option ℕ → Refusal → Type 0
-IsNoAt offset (No t) = t.offset ≡ offset
-IsNoAt offset (Malformed t) = ⊥
-IsNoAt offset OutOfMemory = ⊤
-IsNoAt offset (Undecided t) = ⊥
-
-abbrev pub IsUndecided : Refusal → Type 0
-IsUndecided (No t) = ⊥
-IsUndecided (Malformed t) = ⊥
-IsUndecided OutOfMemory = ⊤
-IsUndecided (Undecided t) = ⊤
+-- why there is no size
+abbrev pub TellsNoSize : SchemaMaxSerializedSizeError → List ℕ → Type 0
+TellsNoSize Overflow text = text ≡ codes "overflow"
+TellsNoSize Recursive text = text ≡ codes "recursive"
+TellsNoSize (MissingDefinition m) text = text ≡ codes "missing " ++ string_bytes m
+TellsNoSize NoMemory text = ⊥
+TellsNoSize (Redefinition m) text = ⊥
 
 -- the offset that an error has
 abbrev pub offset_in : JsonError → Option ℕ
@@ -56,9 +38,9 @@ offset_in (Ambiguous name) = None
 offset_in (NotJson offset) = Some offset
 offset_in (Refused path refusal) = None
 
--- no, with the error's offset, or undecided where a name is undecided, unless an allocation failed
+-- no, with the error's offset, or undecided where a name is undecided
 abbrev pub TellsNoValue : JsonError → Refusal → Type 0
 TellsNoValue e (No t) = t.offset ≡ offset_in e
 TellsNoValue e (Malformed t) = ⊥
 TellsNoValue e OutOfMemory = ⊤
-TellsNoValue e (Undecided t) = (name : Bor (List ℕ)) × (e ≡ Ambiguous name)
+TellsNoValue e (Undecided t) = (name : Bor (List ℕ)) × (e ≡ Ambiguous name) × (string_bytes t ≡ unclear_text name.now)

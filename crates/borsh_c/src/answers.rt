@@ -1,14 +1,13 @@
 // What is asked of a container, and of bytes by it.
-ghost use Rattle.std.specs.Prelude.{◌≡◌, IfErr, IfOk, IsSome, None, OnOk, Some, string_bytes};
-ghost use Rattle.borsh_c.specs.Answers.{About, HasNoJson, HasNoSize, IsInvalid, IsNoMember, IsNoText, IsRefused, IsUnclear, Never, wherever};
-ghost use Rattle.borsh_c.specs.Texts.{IsNoAt, IsUndecided, TellsBroken, TellsNoSize, TellsNoValue, TellsUnread};
+ghost use Rattle.std.specs.Prelude.{[], ◌≡◌, IfErr, IfOk, None, OnOk, Some, string_bytes};
+ghost use Rattle.borsh_c.specs.Answers.{About, Alone, AreBytesOf, HasNoJson, HasNoSize, IsInvalid, IsJsonOf, IsNoMember, IsNoText, IsRefused, IsUnclear, Never, Tells, unclear_text, wherever};
+ghost use Rattle.borsh_c.specs.Texts.{TellsBroken, TellsNoSize, TellsNoValue, TellsUnread};
 ghost use Rattle.borsh_definitions.specs.Codecs.{root_and_map};
 ghost use Rattle.borsh_io.specs.Errors.{error_kind};
 ghost use Rattle.borsh_walks.specs.Container.{IsValid, MaxSize, Member};
 ghost use Rattle.borsh_walks.specs.Definitions.{definitions_in};
 ghost use Rattle.borsh_walks.specs.RulesAnswer.{AcceptsIfValid, JudgesRules};
 ghost use Rattle.borsh_walks.specs.SizeOutcome.{AnswersSize};
-ghost use Rattle.json.specs.Json.{document};
 
 use super::place::Span;
 use super::refusal::{Refusal, Said};
@@ -34,32 +33,29 @@ pub fn container_from(alloc: Global, schema: &[u8]) -> Result<Container, Refusal
 {
     match <(String, BTreeMap<String, Definition>)>::try_from_slice(alloc, schema) {
         Ok(container) => Ok(container),
-        Err(error) => Err(unread(alloc, &error)),
+        Err(error) => Err(Refusal::Malformed(unread(alloc, &error)?)),
     }
 }
 
-/// Why bytes are no container.
-fn unread(alloc: Global, error: &Error) -> Refusal
-    ensures { TellsUnread (error_kind error.now) result }
+/// Why bytes are no container, unless an allocation failed.
+fn unread(alloc: Global, error: &Error) -> Result<String, AllocError>
+    ensures { IfOk result (λ text. TellsUnread (error_kind error.now) (string_bytes text)) }
 {
     if error.kind() == ErrorKind::OutOfMemory {
-        return Refusal::OutOfMemory;
+        return Err(AllocError);
     }
-    match format!(in alloc; "not a schema container: {error}") {
-        Ok(text) => Refusal::Malformed(text),
-        Err(AllocError) => Refusal::OutOfMemory,
-    }
+    format!(in alloc; "not a schema container: {error}")
 }
 
 /// Whether the container keeps the rules of schemas.
 pub fn rules(alloc: Global, schema: &[u8]) -> Result<(), Refusal>
-    ensures ok { OnOk result (About schema.now IsValid) }
+    ensures ok { OnOk result (About schema.now (Alone IsValid [])) }
     ensures err { IfErr result (λ e. IsRefused schema.now (wherever IsInvalid) Never e) }
 {
     let (root, definitions) = container_from(alloc, schema)?;
     match rules_of(alloc, root.as_str(), &definitions) {
         Ok(()) => Ok(()),
-        Err(error) => Err(broken(alloc, &error)),
+        Err(error) => Err(no(broken(alloc, &error)?, None)),
     }
 }
 
@@ -77,45 +73,40 @@ fn rules_of(
     check_rules(alloc, root, &mut counted)
 }
 
-/// The rule that is broken, and the name that breaks it.
-fn broken(alloc: Global, error: &SchemaContainerValidateError) -> Refusal
-    ensures { TellsBroken error.now result }
+/// The rule that is broken, and the name that breaks it, unless an allocation failed.
+fn broken(alloc: Global, error: &SchemaContainerValidateError) -> Result<String, AllocError>
+    ensures { IfOk result (λ text. TellsBroken error.now (string_bytes text)) }
 {
     match error.broken_rule() {
-        Some((rule, name)) => no(format!(in alloc; "invalid {rule} {name}"), None),
-        None => Refusal::OutOfMemory,
+        Some((rule, name)) => format!(in alloc; "invalid {rule} {name}"),
+        None => Err(AllocError),
     }
 }
 
-/// No, with a text that names no part, if there was memory for it.
-pub fn no(text: Result<String, AllocError>, offset: Option<usize>) -> Refusal
-    ensures { IsNoAt offset result }
+/// No, with a text that names no part.
+pub fn no(text: String, offset: Option<usize>) -> Refusal
+    ensures { Tells offset (string_bytes text) result }
 {
-    match text {
-        Ok(text) => Refusal::No(Said {
-            text,
-            offset,
-            path: None,
-        }),
-        Err(AllocError) => Refusal::OutOfMemory,
-    }
+    Refusal::No(Said {
+        text,
+        offset,
+        path: None,
+    })
 }
 
-/// No, with a text that begins with a path, if there was memory for it.
-fn no_part(alloc: Global, text: Result<String, AllocError>, path: &Path<'_>) -> Refusal
-    ensures { IsNoAt None result }
+/// No, with a text that begins with a path.
+fn no_part(alloc: Global, text: String, path: &Path<'_>) -> Result<Refusal, AllocError>
+    ensures { IfOk result (λ r. Tells None (string_bytes text) r) }
 {
-    match (text, format!(in alloc; "{path}")) {
-        (Ok(text), Ok(path)) => Refusal::No(Said {
-            text,
-            offset: None,
-            path: Some(Span {
-                start: 0,
-                length: path.len(),
-            }),
+    let path = format!(in alloc; "{path}")?;
+    Ok(Refusal::No(Said {
+        text,
+        offset: None,
+        path: Some(Span {
+            start: 0,
+            length: path.len(),
         }),
-        _ => Refusal::OutOfMemory,
-    }
+    }))
 }
 
 /// What is said of a fault, behind other words.
@@ -134,25 +125,15 @@ pub fn said_of(alloc: Global, before: &str, fault: &Fault<'_>) -> Result<Said, A
     })
 }
 
-/// No, since a fault was found.
-pub fn no_member(alloc: Global, before: &str, fault: &Fault<'_>) -> Refusal
-    ensures { IsNoAt (Some fault.now.offset) result }
-{
-    match said_of(alloc, before, fault) {
-        Ok(said) => Refusal::No(said),
-        Err(AllocError) => Refusal::OutOfMemory,
-    }
-}
-
 /// The greatest size of the root: no encoding is longer.
 pub fn greatest_size(alloc: Global, schema: &[u8]) -> Result<usize, Refusal>
-    ensures ok { IfOk result (λ n. About schema.now (λ C root. MaxSize C root n)) }
+    ensures ok { IfOk result (λ n. About schema.now (Alone (λ C root. MaxSize C root n) [])) }
     ensures err { IfErr result (λ e. IsRefused schema.now (wherever HasNoSize) Never e) }
 {
     let (root, definitions) = container_from(alloc, schema)?;
     match size_of_root(alloc, root.as_str(), &definitions) {
         Ok(size) => Ok(size),
-        Err(error) => Err(no_size(alloc, &error)),
+        Err(error) => Err(no(no_size(alloc, &error)?, None)),
     }
 }
 
@@ -168,84 +149,79 @@ fn size_of_root(
     root_size(alloc, root, &mut counted)
 }
 
-/// Why there is no size.
-fn no_size(alloc: Global, error: &SchemaMaxSerializedSizeError) -> Refusal
-    ensures { TellsNoSize error.now result }
+/// Why there is no size, unless an allocation failed.
+fn no_size(alloc: Global, error: &SchemaMaxSerializedSizeError) -> Result<String, AllocError>
+    ensures { IfOk result (λ text. TellsNoSize error.now (string_bytes text)) }
 {
     match error {
-        SchemaMaxSerializedSizeError::Overflow => no(String::from_str(alloc, "overflow"), None),
-        SchemaMaxSerializedSizeError::Recursive => no(String::from_str(alloc, "recursive"), None),
+        SchemaMaxSerializedSizeError::Overflow => String::from_str(alloc, "overflow"),
+        SchemaMaxSerializedSizeError::Recursive => String::from_str(alloc, "recursive"),
         SchemaMaxSerializedSizeError::MissingDefinition(name) => {
-            no(format!(in alloc; "missing {name}"), None)
+            format!(in alloc; "missing {name}")
         }
         // The size of a container is never refused so.
-        SchemaMaxSerializedSizeError::Redefinition(_) => Refusal::OutOfMemory,
-        SchemaMaxSerializedSizeError::OutOfMemory => Refusal::OutOfMemory,
+        SchemaMaxSerializedSizeError::Redefinition(_) => Err(AllocError),
+        SchemaMaxSerializedSizeError::OutOfMemory => Err(AllocError),
     }
 }
 
 /// Whether all of the bytes are a value of the root.
 pub fn membership(alloc: Global, schema: &[u8], value: &[u8]) -> Result<(), Refusal>
-    ensures ok { OnOk result (About schema.now (λ C root. Member C root value.now)) }
+    ensures ok { OnOk result (About schema.now (Alone (λ C root. Member C root value.now) [])) }
     ensures err { IfErr result (λ e. IsRefused schema.now (IsNoMember value.now) IsUnclear e) }
 {
     let (root, definitions) = container_from(alloc, schema)?;
     match is_member(alloc, root.as_str(), &definitions, value)? {
         Membership::Member => Ok(()),
-        Membership::NoMember(fault) => Err(no_member(alloc, "no member: ", &fault)),
-        Membership::Ambiguous(name) => Err(unclear(alloc, name)),
+        Membership::NoMember(fault) => Err(Refusal::No(said_of(alloc, "no member: ", &fault)?)),
+        Membership::Ambiguous(name) => Err(Refusal::Undecided(unclear(alloc, name)?)),
     }
 }
 
 /// That a definition is ambiguous, or breaks a rule of widths.
-pub fn unclear(alloc: Global, name: &str) -> Refusal
-    ensures { IsUndecided result }
+pub fn unclear(alloc: Global, name: &str) -> Result<String, AllocError>
+    ensures { IfOk result (λ text. string_bytes text ≡ unclear_text name.now) }
 {
-    match format!(in alloc; "`{name}` is ambiguous") {
-        Ok(text) => Refusal::Undecided(text),
-        Err(AllocError) => Refusal::OutOfMemory,
-    }
+    format!(in alloc; "`{name}` is ambiguous")
 }
 
 /// The JSON of the value that the bytes are.
 pub fn json_of(alloc: Global, schema: &[u8], value: &[u8], style: Style) -> Result<String, Refusal>
-    ensures member { OnOk result (About schema.now (λ C root. Member C root value.now)) }
-    ensures json { IfOk result (λ text. IsSome (document (string_bytes text))) }
+    ensures ok { IfOk result (λ text. About schema.now (IsJsonOf value.now (string_bytes text))) }
     ensures err { IfErr result (λ e. IsRefused schema.now (HasNoJson value.now) IsUnclear e) }
 {
     let (root, definitions) = container_from(alloc, schema)?;
     match to_json(alloc, root.as_str(), &definitions, value, style) {
         Ok(json) => Ok(json),
-        Err(error) => Err(no_value(alloc, &error)),
+        Err(error) => Err(no_value(alloc, &error)?),
     }
 }
 
 /// The bytes of the value that JSON says.
 pub fn value_of(alloc: Global, schema: &[u8], json: &[u8]) -> Result<Vec<u8>, Refusal>
-    ensures ok { IfOk result (λ bytes. About schema.now (λ C root. Member C root bytes.items)) }
-    ensures json { OnOk result (IsSome (document json.now)) }
+    ensures ok { IfOk result (λ bytes. About schema.now (AreBytesOf json.now bytes.items)) }
     ensures err { IfErr result (λ e. IsRefused schema.now (IsNoText json.now) IsUnclear e) }
 {
     let (root, definitions) = container_from(alloc, schema)?;
     let Ok(text) = str::from_utf8(json) else {
-        return Err(no(String::from_str(alloc, "not UTF-8"), None));
+        return Err(no(String::from_str(alloc, "not UTF-8")?, None));
     };
     match from_json(alloc, root.as_str(), &definitions, text) {
         Ok(bytes) => Ok(bytes),
-        Err(error) => Err(no_value(alloc, &error)),
+        Err(error) => Err(no_value(alloc, &error)?),
     }
 }
 
-/// Why there is no JSON, or no value.
-pub fn no_value(alloc: Global, error: &JsonError<'_>) -> Refusal
-    ensures { TellsNoValue error.now result }
+/// Why there is no JSON, or no value, unless an allocation failed.
+pub fn no_value(alloc: Global, error: &JsonError<'_>) -> Result<Refusal, AllocError>
+    ensures { IfOk result (λ r. TellsNoValue error.now r) }
 {
     match error {
-        JsonError::OutOfMemory => Refusal::OutOfMemory,
-        JsonError::Ambiguous(name) => unclear(alloc, name),
-        JsonError::NoMember(fault) => no_member(alloc, "", fault),
-        JsonError::NotJson(offset) => no(format!(in alloc; "{error}"), Some(*offset)),
-        JsonError::Refused(path, _) => no_part(alloc, format!(in alloc; "{error}"), path),
-        JsonError::NoValue => no(format!(in alloc; "{error}"), None),
+        JsonError::OutOfMemory => Err(AllocError),
+        JsonError::Ambiguous(name) => Ok(Refusal::Undecided(unclear(alloc, name)?)),
+        JsonError::NoMember(fault) => Ok(Refusal::No(said_of(alloc, "", fault)?)),
+        JsonError::NotJson(offset) => Ok(no(format!(in alloc; "{error}")?, Some(*offset))),
+        JsonError::Refused(path, _) => no_part(alloc, format!(in alloc; "{error}")?, path),
+        JsonError::NoValue => Ok(no(format!(in alloc; "{error}")?, None)),
     }
 }

@@ -16,22 +16,22 @@ mod room;
 mod tests;
 
 ghost use Rattle.std.specs.Prelude.{◌≡◌, ◌≢◌, ◌+◌, ◌≤◌};
-ghost use Rattle.borsh_c.specs.Answers.{AnswersMember, AnswersSize, AnswersValid, GivesBytes, GivesJson};
-ghost use Rattle.borsh_c.specs.Many.{AnswersMembers, AnswersRecords, GivesLines};
+ghost use Rattle.borsh_c.specs.Answers.{AnswersBytes, AnswersJson, AnswersMember, AnswersSize, AnswersValid, Gives};
+ghost use Rattle.borsh_c.specs.Many.{AnswersLines, AnswersRecords};
 ghost use Rattle.borsh_c.specs.Places.{offset_of};
 ghost use Rattle.borsh_c.specs.Room.{IsKept};
 
 use answers::{greatest_size, json_of, membership, rules, value_of};
 use borsh_json::{Layout, LongNumbers, Style};
 use codes::{SHORT, YES};
-pub use many::Verdict;
-use many::{Whole, judge, lines_of, whole_values};
+use many::{Whole, lines_of, whole_values};
 use place::NOWHERE;
 pub use place::Place;
 use room::give;
 use std::alloc::Global;
 
-/// Whether the container keeps the rules of schemas. Left open: code 3; the text.
+/// Whether the container keeps the rules of schemas; after code 1 the text says `invalid`, a rule, and a name that breaks it. Left open:
+/// code 3.
 ///
 /// ```c
 /// uint32_t code = borsh_c_valid(schema, schema_length, room, room_length, &needed);
@@ -43,7 +43,7 @@ pub extern "C" fn borsh_c_valid(
     room: &mut [u8],
     needed: &mut usize,
 ) -> u32
-    ensures answer { AnswersValid schema.now result }
+    ensures answer { Gives (AnswersValid schema.now result) room.new needed.new }
     ensures kept { IsKept room.old room.new needed.new }
 {
     match rules(alloc, schema) {
@@ -59,7 +59,7 @@ pub extern "C" fn borsh_c_valid(
 }
 
 /// The greatest size of the container's root in bytes, which is written to `size`: no encoding is longer. After any other
-/// code than [`YES`] `size` is unchanged. Left open: code 3; the text.
+/// code than [`YES`] `size` is unchanged, and after 1 the text says why there is none. Left open: code 3.
 ///
 /// ```c
 /// uint32_t code = borsh_c_size(schema, schema_length, &size, room, room_length, &needed);
@@ -72,7 +72,7 @@ pub extern "C" fn borsh_c_size(
     room: &mut [u8],
     needed: &mut usize,
 ) -> u32
-    ensures answer { AnswersSize schema.now size.new result }
+    ensures answer { Gives (AnswersSize schema.now size.new result) room.new needed.new }
     ensures unchanged { result ≢ 0 → size.new ≡ size.old }
     ensures kept { IsKept room.old room.new needed.new }
 {
@@ -90,7 +90,7 @@ pub extern "C" fn borsh_c_size(
 }
 
 /// Whether all of `value` is a value of the container's root; after code 1 the offset in `place` is that of a fault. Left open: code 3;
-/// code 5 for a container that breaks a rule or is ambiguous; the text; the path.
+/// code 5 for a container that breaks a rule or is ambiguous; the text after 1; the path.
 ///
 /// ```c
 /// uint32_t code = borsh_c_member(schema, schema_length, value, value_length, &place, room, room_length, &needed);
@@ -104,7 +104,8 @@ pub extern "C" fn borsh_c_member(
     room: &mut [u8],
     needed: &mut usize,
 ) -> u32
-    ensures answer { AnswersMember schema.now value.now (offset_of place.new) result }
+    ensures answer { let offset = offset_of place.new in
+        Gives (AnswersMember schema.now value.now offset result) room.new needed.new }
     ensures within { place.new.path_start + place.new.path_length ≤ needed.new }
     ensures kept { IsKept room.old room.new needed.new }
 {
@@ -122,7 +123,7 @@ pub extern "C" fn borsh_c_member(
 /// `has_quoted_numbers`. Determined: after code 0 `value` is a member of the root, and JSON is given; after 2 `schema` is no
 /// container, and after 0, 1 and 5 it is one; after 5 it breaks a rule or is ambiguous; an offset after 1 is that of a fault of `value`,
 /// which is no member. Left open: code 3; code 1 for any `value`, without an offset; code 5 for such a container; the JSON of another
-/// value; the path.
+/// value; the text after 1; the path.
 ///
 /// ```c
 /// uint32_t code = borsh_c_to_json(schema, schema_length, value, value_length, true, false, &place, room, room_length, &needed);
@@ -139,7 +140,7 @@ pub extern "C" fn borsh_c_to_json(
     needed: &mut usize,
 ) -> u32
     ensures answer { let offset = offset_of place.new in
-        GivesJson schema.now value.now offset room.new needed.new result }
+        Gives (AnswersJson schema.now value.now offset result) room.new needed.new }
     ensures within { place.new.path_start + place.new.path_length ≤ needed.new }
     ensures kept { IsKept room.old room.new needed.new }
 {
@@ -180,7 +181,7 @@ pub extern "C" fn borsh_c_from_json(
     needed: &mut usize,
 ) -> u32
     ensures answer { let offset = offset_of place.new in
-        GivesBytes schema.now json.now offset room.new needed.new result }
+        Gives (AnswersBytes schema.now json.now offset result) room.new needed.new }
     ensures within { place.new.path_start + place.new.path_length ≤ needed.new }
     ensures kept { IsKept room.old room.new needed.new }
 {
@@ -207,7 +208,7 @@ fn long_numbers(has_quoted_numbers: bool) -> LongNumbers {
 /// begin there, whatever bytes follow; after code 0 there are some, unless there are no bytes or no room; after 6 no first bytes are a
 /// value, and the offset is that of the fault; after 1 none are, whatever bytes follow, or without an offset the root has the empty value.
 /// Left open: code 3; code 5 for a container that breaks a rule or is ambiguous; whether more bytes help after 6; what is behind the
-/// first `count` lengths; the text; the path.
+/// first `count` lengths; the text after 1 with an offset, and after 6; the path.
 ///
 /// ```c
 /// uint32_t code = borsh_c_records(schema, schema_length, bytes, length, lengths, lengths_room, &count, &place, room, room_length, &needed);
@@ -224,7 +225,9 @@ pub extern "C" fn borsh_c_records(
     needed: &mut usize,
 ) -> u32
     ensures answer { let offset = offset_of place.new in
-        AnswersRecords schema.now bytes.now lengths.new count.new offset result }
+        let found = lengths.new in
+        Gives (AnswersRecords schema.now bytes.now found count.new offset result)
+        room.new needed.new }
     ensures none { result ≢ 0 → count.new ≡ 0 }
     ensures within { place.new.path_start + place.new.path_length ≤ needed.new }
     ensures kept { IsKept room.old room.new needed.new }
@@ -267,7 +270,8 @@ pub extern "C" fn borsh_c_json_lines(
     needed: &mut usize,
 ) -> u32
     ensures answer { let offset = offset_of place.new in
-        GivesLines schema.now values.now lengths.now count.new offset room.new needed.new result }
+        Gives (AnswersLines schema.now values.now lengths.now count.new offset result)
+        room.new needed.new }
     ensures none { result ≢ 0 → count.new ≡ 0 }
     ensures within { place.new.path_start + place.new.path_length ≤ needed.new }
     ensures kept { IsKept room.old room.new needed.new }
@@ -285,37 +289,5 @@ pub extern "C" fn borsh_c_json_lines(
             YES
         }
         Err(refusal) => refusal.tell(place, room, needed),
-    }
-}
-
-/// Writes whether each of the values that lie one after another in `values` and have these lengths is a value of the container's root: as
-/// many verdicts as there are lengths and as there is room for. A length that reaches beyond the bytes is cut. Determined: after code 0
-/// each verdict is as of [`borsh_c_member`]. Left open: code 3, of a verdict too; as there; the verdicts after another code; the text.
-///
-/// ```c
-/// uint32_t code = borsh_c_members(schema, schema_length, values, length, lengths, count, verdicts, count, room, room_length, &needed);
-/// ```
-#[unsafe(no_mangle)]
-pub extern "C" fn borsh_c_members(
-    alloc: Global,
-    schema: &[u8],
-    values: &[u8],
-    lengths: &[usize],
-    verdicts: &mut [Verdict],
-    room: &mut [u8],
-    needed: &mut usize,
-) -> u32
-    ensures answer { AnswersMembers schema.now values.now lengths.now verdicts.new result }
-    ensures kept { IsKept room.old room.new needed.new }
-{
-    match judge(alloc, schema, values, lengths, verdicts) {
-        Ok(()) => {
-            give(b"", room, needed);
-            YES
-        }
-        Err(refusal) => {
-            let mut nowhere = NOWHERE;
-            refusal.tell(&mut nowhere, room, needed)
-        }
     }
 }

@@ -1,18 +1,21 @@
 // Many values of one schema, which is decoded once.
-ghost use Rattle.borsh_c.specs.Answers.{IsRefused, IsUnclear, Never, wherever};
-ghost use Rattle.borsh_c.specs.Many.{AreVerdicts, AreVerdictsOf, BeginWith, HaveLines, HaveLinesOf, HasNoLine, IsNoLine, IsNoRecord, IsStop, IsVerdict, IsWhole, behind};
-ghost use Rattle.borsh_c.specs.Places.{number_if};
+ghost use Rattle.borsh_c.specs.Answers.{About, IsRefused, IsUnclear};
+ghost use Rattle.borsh_c.specs.Many.{AreLines, BeginWith, HaveLines, HasNoLine, IsNoLine, IsNoRecord, IsStop, IsWhole, behind};
+ghost use Rattle.borsh_json.specs.Known.{HasKinds};
 ghost use Rattle.borsh_values.specs.Free.{KnowsSizes};
 ghost use Rattle.borsh_values.specs.Layouts.{IsLaidOut};
 ghost use Rattle.borsh_walks.specs.Definitions.{definitions_in};
-ghost use Rattle.std.specs.Prelude.{◌≡◌, ◌≤◌, IfErr, IfOk, OnOk, drop, length, take};
+ghost use Rattle.std.specs.Prelude.{◌≡◌, ◌≤◌, IfErr, IfOk, drop, length, take};
 
-use super::answers::{container_from, no, no_member, no_value, said_of, unclear};
-use super::codes::{NO, OUT_OF_MEMORY, UNDECIDED, YES};
+use super::answers::{container_from, no, no_value, said_of, unclear};
 use super::refusal::{Refusal, Said};
-use borsh_json::{JsonError, Style, to_json_by};
-use borsh_values::{Fault, Front, Layout, Membership};
+use borsh_json::{Json, JsonError, Style};
+use borsh_values::{Fault, Front, Layout};
 use std::alloc::{AllocError, Global};
+
+/// As the tool says it.
+const EMPTY_VALUE: &str =
+    "the type has a value without bytes, so that any bytes are any number of values";
 
 /// The first of the bytes, at most so many.
 fn first(bytes: &[u8], length: usize) -> &[u8]
@@ -142,13 +145,13 @@ pub fn whole_values(
     }
     match measured.stop {
         Stop::End => Ok(Whole::Values(0)),
-        Stop::EmptyValue => Err(no(String::from_str(alloc, "a value may be empty"), None)),
+        Stop::EmptyValue => Err(no(String::from_str(alloc, EMPTY_VALUE)?, None)),
         Stop::Short(fault) => {
             let said = said_of(alloc, "", &fault)?;
             Ok(Whole::Short(said))
         }
-        Stop::NoMember(fault) => Err(no_member(alloc, "", &fault)),
-        Stop::Ambiguous(name) => Err(unclear(alloc, name)),
+        Stop::NoMember(fault) => Err(Refusal::No(said_of(alloc, "", &fault)?)),
+        Stop::Ambiguous(name) => Err(Refusal::Undecided(unclear(alloc, name)?)),
     }
 }
 
@@ -162,28 +165,25 @@ struct Written<'a> {
 
 /// The JSON of each of the values that have these lengths, and a line end behind it, up to one that has none.
 fn write_lines<'a>(
-    alloc: Global,
-    layout: &Layout<'a>,
+    json: &Json<'a, '_>,
     values: &[u8],
     lengths: &[usize],
     style: Style,
 ) -> Result<Written<'a>, AllocError>
-    requires laid_out { IsLaidOut layout.now }
-    requires sizes { KnowsSizes layout.now }
+    requires { HasKinds json.now }
     ensures room { IfOk result (λ w. w.count ≤ length lengths.now) }
-    ensures lines { let C = definitions_in layout.now.map.now in
-        let root = layout.now.root.now in
-        IfOk result (λ w. HaveLines C root (take w.count lengths.now) values.now w.text.items) }
-    ensures stop { let C = definitions_in layout.now.map.now in
-        IfOk result (λ w. IsNoLine C layout.now.root.now lengths.now values.now w.count w.stop) }
+    ensures lines { let l = json.now.layout.now in
+        IfOk result (λ w. HaveLines l.map.now l.root.now (take w.count lengths.now) values.now w.text.items) }
+    ensures stop { let l = json.now.layout.now in
+        IfOk result (λ w. IsNoLine l.map.now l.root.now lengths.now values.now w.count w.stop) }
 {
-    let mut text: Vec<u8> = Vec::new(alloc);
+    let mut text: Vec<u8> = Vec::new(json.alloc);
     let mut left = values;
     let mut count = 0;
     while count < lengths.len() {
-        match to_json_by(alloc, layout, first(left, lengths[count]), style) {
-            Ok(json) => {
-                text.extend_from_slice(json.as_bytes())?;
+        match json.to_json(first(left, lengths[count]), style) {
+            Ok(line) => {
+                text.extend_from_slice(line.as_bytes())?;
                 text.push(b'\n')?;
             }
             Err(error) => {
@@ -219,91 +219,20 @@ pub fn lines_of(
     lengths: &[usize],
     style: Style,
 ) -> Result<Lines, Refusal>
-    ensures ok { IfOk result (λ l. HaveLinesOf schema.now values.now lengths.now l.count l.text.items) }
+    ensures ok { let lines = λ (l : Lines). AreLines values.now lengths.now l.count l.text.items in
+        IfOk result (λ l. About schema.now (lines l)) }
     ensures err { IfErr result (λ e. IsRefused schema.now (HasNoLine values.now lengths.now) IsUnclear e) }
 {
     let (root, definitions) = container_from(alloc, schema)?;
     let layout = Layout::new(alloc, root.as_str(), &definitions)?;
-    let written = write_lines(alloc, &layout, values, lengths, style)?;
+    let json = Json::new(alloc, &layout)?;
+    let written = write_lines(&json, values, lengths, style)?;
     let (count, text) = (written.count, written.text);
     if count > 0 {
         return Ok(Lines { count, text });
     }
     match written.stop {
         None => Ok(Lines { count, text }),
-        Some(error) => Err(no_value(alloc, &error)),
+        Some(error) => Err(no_value(alloc, &error)?),
     }
-}
-
-/// Whether a value is one of the root: a code, and where it stops being one.
-#[repr(C)]
-#[derive(Clone, Copy, Debug, PartialEq, Eq)]
-pub struct Verdict {
-    pub code: u32,
-    pub has_offset: bool,
-    pub offset: usize,
-}
-
-fn verdict_of(code: u32, offset: Option<usize>) -> Verdict
-    ensures code { result.code ≡ code }
-    ensures offset { number_if result.has_offset result.offset ≡ offset }
-{
-    Verdict {
-        code,
-        has_offset: offset.is_some(),
-        offset: offset.unwrap_or(0),
-    }
-}
-
-fn verdict_on(alloc: Global, layout: &Layout<'_>, value: &[u8]) -> Verdict
-    requires laid_out { IsLaidOut layout.now }
-    requires sizes { KnowsSizes layout.now }
-    ensures { let C = definitions_in layout.now.map.now in
-        let offset = number_if result.has_offset result.offset in
-        IsVerdict C layout.now.root.now value.now offset result.code }
-{
-    match layout.is_member(alloc, value) {
-        Ok(Membership::Member) => verdict_of(YES, None),
-        Ok(Membership::NoMember(fault)) => verdict_of(NO, Some(fault.offset)),
-        Ok(Membership::Ambiguous(_)) => verdict_of(UNDECIDED, None),
-        Err(AllocError) => verdict_of(OUT_OF_MEMORY, None),
-    }
-}
-
-fn judge_each(
-    alloc: Global,
-    layout: &Layout<'_>,
-    values: &[u8],
-    lengths: &[usize],
-    verdicts: &mut [Verdict],
-)
-    requires laid_out { IsLaidOut layout.now }
-    requires sizes { KnowsSizes layout.now }
-    ensures { let C = definitions_in layout.now.map.now in
-        AreVerdicts C layout.now.root.now lengths.now values.now verdicts.new }
-{
-    let mut left = values;
-    let mut next = 0;
-    while next < lengths.len() && next < verdicts.len() {
-        verdicts[next] = verdict_on(alloc, layout, first(left, lengths[next]));
-        left = others(left, lengths[next]);
-        next += 1;
-    }
-}
-
-/// Judges each of the values that have these lengths, as many as there is room for verdicts.
-pub fn judge(
-    alloc: Global,
-    schema: &[u8],
-    values: &[u8],
-    lengths: &[usize],
-    verdicts: &mut [Verdict],
-) -> Result<(), Refusal>
-    ensures ok { OnOk result (AreVerdictsOf schema.now values.now lengths.now verdicts.new) }
-    ensures err { IfErr result (λ e. IsRefused schema.now (wherever Never) Never e) }
-{
-    let (root, definitions) = container_from(alloc, schema)?;
-    let layout = Layout::new(alloc, root.as_str(), &definitions)?;
-    judge_each(alloc, &layout, values, lengths, verdicts);
-    Ok(())
 }

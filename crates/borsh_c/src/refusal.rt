@@ -1,8 +1,8 @@
 // Why a call has no answer, or the answer is no.
-ghost use Rattle.std.specs.Prelude.{◌≡◌, ◌+◌, ◌≤◌};
-ghost use Rattle.borsh_c.specs.Answers.{code_of, told_offset};
+ghost use Rattle.std.specs.Prelude.{◌≡◌, ◌+◌, ◌≤◌, string_bytes};
+ghost use Rattle.borsh_c.specs.Answers.{code_of, told_offset, told_text};
 ghost use Rattle.borsh_c.specs.Places.{offset_of};
-ghost use Rattle.borsh_c.specs.Room.{IsKept};
+ghost use Rattle.borsh_c.specs.Room.{IsGiven, IsKept};
 ghost use Rattle.borsh_c.specs.declared.refusal.Refusal.TheVariants.{OutOfMemory};
 
 use super::codes::{MALFORMED, NO, OUT_OF_MEMORY, UNDECIDED};
@@ -44,6 +44,7 @@ impl Said {
     /// Gives the text and the place.
     pub fn tell(&self, place: &mut Place, room: &mut [u8], needed: &mut usize)
         ensures offset { offset_of place.new ≡ self.now.offset }
+        ensures given { IsGiven (string_bytes self.now.text) room.new needed.new }
         ensures within { place.new.path_start + place.new.path_length ≤ needed.new }
         ensures kept { IsKept room.old room.new needed.new }
     {
@@ -57,6 +58,7 @@ impl Refusal {
     pub fn tell(&self, place: &mut Place, room: &mut [u8], needed: &mut usize) -> u32
         ensures code { result ≡ code_of self.now }
         ensures offset { offset_of place.new ≡ told_offset self.now }
+        ensures given { IsGiven (told_text self.now) room.new needed.new }
         ensures within { place.new.path_start + place.new.path_length ≤ needed.new }
         ensures kept { IsKept room.old room.new needed.new }
     {

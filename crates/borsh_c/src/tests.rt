@@ -1,10 +1,9 @@
 //! Worked examples: each call with each code that it returns, and rooms that are too small.
 use super::codes::{MALFORMED, NO, SHORT, UNDECIDED, YES};
-use super::many::Verdict;
 use super::place::{NOWHERE, Place};
 use super::{
-    borsh_c_from_json, borsh_c_json_lines, borsh_c_member, borsh_c_members, borsh_c_records,
-    borsh_c_size, borsh_c_to_json, borsh_c_valid,
+    borsh_c_from_json, borsh_c_json_lines, borsh_c_member, borsh_c_records, borsh_c_size,
+    borsh_c_to_json, borsh_c_valid,
 };
 use std::alloc::Global;
 use std::process::Abort;
@@ -276,38 +275,5 @@ fn lines_of_values(alloc: Global) -> bool {
 #[test]
 fn gives_lines_of_json(rt: HostRuntime) -> Result<(), Fail> {
     assert!(rt; lines_of_values(rt.alloc()));
-    Ok(())
-}
-
-fn verdicts_of_values(alloc: Global) -> bool {
-    let none = Verdict {
-        code: 9,
-        has_offset: false,
-        offset: 0,
-    };
-    let mut verdicts = [none; 3];
-    let mut room = [0u8; 64];
-    let mut needed = 1;
-    let lengths = [2, 1, 2];
-    let code = borsh_c_members(
-        alloc,
-        LIST,
-        b"\0\x01\0\x01\x02",
-        &lengths,
-        &mut verdicts,
-        &mut room,
-        &mut needed,
-    );
-    let at = |offset| Verdict {
-        code: NO,
-        has_offset: true,
-        offset,
-    };
-    code == YES && verdicts[0].code == YES && verdicts[1] == at(1) && verdicts[2] == at(0)
-}
-
-#[test]
-fn answers_of_many_values(rt: HostRuntime) -> Result<(), Fail> {
-    assert!(rt; verdicts_of_values(rt.alloc()));
     Ok(())
 }

@@ -44,7 +44,7 @@ class Error(ValueError):
     """The byte of the value at which that part begins, or near which the text stops being JSON; None where the text doesn't tell."""
 
     record: Optional[int]
-    """The byte of the file at which the value begins, of an error of `Schema.records`; else None."""
+    """The byte of the file at which the value begins, of an error of `Schema.records` about a value; else None."""
 
     def __init__(
         self, text: str, kind: Kind, path: Optional[str] = None, offset: Optional[int] = None, record: Optional[int] = None

@@ -65,6 +65,9 @@ def json_texts(schema: bytes, start: int, data: bytes, lengths: List[int]) -> It
 
 
 def placed(error: Error, start: int, how: str = "") -> Error:
+    """An error of a part of the value that begins there; one that names no part is of the schema."""
+    if error.path is None:
+        return error
     return Error(f"value at byte {start}: {how}{error}", error.kind, error.path, error.offset, start)
 
 

@@ -1,6 +1,11 @@
-use Rattle.borsh_c.specs.Answers.{IsNoMember, IsUnclear}
-use Rattle.borsh_c.proofs.Told.{refused_answers}
+use Rattle.std.proofs.Common.{refl}
+use Rattle.borsh_walks.specs.Container.{Member}
+use Rattle.borsh_c.specs.Answers.{Alone, IsNoMember, IsUnclear}
+use Rattle.borsh_c.proofs.Told.{refused_answers, yes_given}
 use Rattle.borsh_c.proofs.borsh_c_member.Goals as goal
 
+pub returns-in-Ok-clause-answer : goal.returns-in-Ok-clause-answer
+returns-in-Ok-clause-answer c = yes_given (Alone (λ C root. Member C root c.args.value.now)) _ IsUnclear c.in-Ok.ensures.ok refl c.give.ensures.given
+
 pub returns-in-Err-clause-answer : goal.returns-in-Err-clause-answer
-returns-in-Err-clause-answer c = refused_answers c.args.schema.now _ (IsNoMember c.args.value.now) IsUnclear c.in-Err.refusal c.in-Err.ensures.err c.tell.ensures.code c.tell.ensures.offset
+returns-in-Err-clause-answer c = refused_answers c.args.schema.now _ (IsNoMember c.args.value.now) IsUnclear c.in-Err.refusal c.in-Err.ensures.err c.tell.ensures.code c.tell.ensures.offset c.tell.ensures.given

@@ -1,4 +1,4 @@
-use Rattle.std.proofs.Common.{Option, ℕ, refl, subst, sym}
+use Rattle.std.proofs.Common.{Option, [], ℕ, refl, string_bytes, subst, sym}
 use Rattle.borsh_c.specs.Answers.{About, IsUnclear}
 use Rattle.borsh_c.specs.Answers.Answers.{yes}
 use Rattle.borsh_c.specs.Many.{IsCut, IsNoRecord}
@@ -7,13 +7,16 @@ use Rattle.borsh_c.proofs.Told.{refused_answers}
 use Rattle.borsh_c.proofs.borsh_c_records.Goals as goal
 
 pub returns-in-Ok-Values-clause-answer : goal.returns-in-Ok-Values-clause-answer
-returns-in-Ok-Values-clause-answer c = whole (yes (rw c.in-Ok-Values.field-0-is at c.in-Ok-Values.ensures.ok) refl)
+returns-in-Ok-Values-clause-answer c =
+    let found = rw c.in-Ok-Values.field-0-is at c.in-Ok-Values.ensures.ok in
+    ([], whole (yes (found.0, found.1, (found.2, refl)) refl), c.give.ensures.given)
 
 pub returns-in-Ok-Short-clause-answer : goal.returns-in-Ok-Short-clause-answer
 returns-in-Ok-Short-clause-answer c =
     let is_cut = rw c.in-Ok-Short.field-0-is at c.in-Ok-Short.ensures.ok in
-    cut (subst (λ (o : Option ℕ). About c.args.schema.now (IsCut c.args.bytes.now o)) (sym c.tell.ensures.offset) is_cut) refl
+    (string_bytes c.in-Ok-Short.said.text, cut (subst (λ (o : Option ℕ). About c.args.schema.now (IsCut c.args.bytes.now o)) (sym c.tell.ensures.offset) is_cut) refl, c.tell.ensures.given)
 
 pub returns-in-Err-clause-answer : goal.returns-in-Err-clause-answer
 returns-in-Err-clause-answer c =
-    whole (refused_answers c.args.schema.now _ (IsNoRecord c.args.bytes.now) IsUnclear c.in-Err.refusal c.in-Err.ensures.err c.tell-in-Err.ensures.code c.tell-in-Err.ensures.offset)
+    let told = refused_answers c.args.schema.now _ (IsNoRecord c.args.bytes.now) IsUnclear c.in-Err.refusal c.in-Err.ensures.err c.tell-in-Err.ensures.code c.tell-in-Err.ensures.offset c.tell-in-Err.ensures.given in
+    (told.0, whole told.1, told.2)

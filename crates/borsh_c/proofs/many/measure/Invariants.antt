@@ -1,4 +1,4 @@
-use Rattle.std.proofs.Common.{length, ◌-◌, ◌≡◌, ◌≤◌, take, ℕ}
+use Rattle.std.proofs.Common.{length, ◌-◌, ◌≡◌, ◌≤◌, take}
 use Rattle.borsh_c.specs.Many.{BeginWith, behind}
 use Rattle.borsh_walks.specs.Definitions.{definitions_in}
 use Rattle.borsh_c.proofs.many.measure.Given as goal
