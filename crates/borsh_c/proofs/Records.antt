@@ -10,6 +10,7 @@ use Rattle.borsh_values.specs.Faults.{BeginsWith}
 use Rattle.borsh_values.specs.Fronts.{IsFront}
 use Rattle.borsh_values.specs.declared.layout.Layout.{Layout}
 use Rattle.borsh_values.proofs.Valid.{none_ambiguous}
+use Rattle.borsh_json.specs.declared.definitions.Definitions.{Definitions as Json}
 use Rattle.borsh_json.specs.declared.error.JsonError.{JsonError}
 use Rattle.borsh_c.specs.Answers.{Definitions, IsJsonOf, IsRefused, IsUnclear, Saying}
 use Rattle.borsh_c.specs.Texts.{TellsNoValue}
@@ -72,6 +73,10 @@ module _ (m : Definitions) (root : List ℕ) where
   lined lengths values left text i line h l e j =
       rw (take_more lengths i 0 h)
       (lines_more (take i lengths) values text (get_or lengths i 0) line l (subst (λ (xs : List ℕ). IsJsonOf (take (get_or lengths i 0) xs) line m root) e j))
+
+-- of a layout whose kinds were found
+pub by_json : (P : Definitions → List ℕ → Type 0) (d : Json) (l : Layout) → d.layout.now ≡ l → P d.layout.now.map.now d.layout.now.root.now → P l.map.now l.root.now
+by_json P d l e p = subst (λ (l : Layout). P l.map.now l.root.now) e p
 
 -- what holds by a layout holds by the map that it was made of
 pub by_layout : (P : Saying) (layout : Layout) {root : Bor (List ℕ)} {map : Bor Definitions} → (layout.root ≡ root) × (layout.map ≡ map) → P layout.map.now layout.root.now → P map.now root.now

@@ -1,8 +1,10 @@
 -- What the calls answer about the container whose encoding the bytes are.
-use Rattle.std.specs.Prelude.{◌≡◌, ◌^◌, ◌<◌, ◌≤◌, ◌++◌, ⊤, ℕ, List, [], IsSome, Option, None, Some, true, String, string_bytes, codes}
+use Rattle.std.specs.Prelude.{◌≡◌, ◌^◌, ◌<◌, ◌≤◌, ◌++◌, ⊤, ℕ, List, [], Option, None, Some, true, String, string_bytes, codes}
 use Rattle.std.specs.Global.{Global}
 use Rattle.std.specs.BTreeMap.{BTreeMap}
 use Rattle.json.specs.Json.{document}
+use Rattle.borsh_json.specs.Forms.{forms_in}
+use Rattle.borsh_json.specs.Represents.{TextSays}
 use Rattle.borsh_codec.specs.Codec.{IsDecodable}
 use Rattle.borsh_definitions.specs.Codecs.{root_and_map}
 use Rattle.borsh_walks.specs.Container.{Shape, Rule, Breaks, Member, MaxSize, PartialSize, IsRecursive, IsValid, Reached, SizeReaches}
@@ -119,9 +121,9 @@ abbrev pub IsNoMember : List ℕ → Option ℕ → List ℕ → Saying
 IsNoMember value None text m root = ⊥
 IsNoMember value (Some offset) text m root = (Member (definitions_in m) root value → ⊥) × ((f : Fault) × IsFault (definitions_in m) root value f × (f.offset ≡ offset))
 
--- the bytes are a member of the root, and the text is JSON
+-- the text is JSON that says the bytes, and these are a member of the root
 abbrev pub IsJsonOf : List ℕ → List ℕ → Saying
-IsJsonOf value text m root = Member (definitions_in m) root value × IsSome (document text)
+IsJsonOf value text m root = TextSays (forms_in m) root text value
 
 -- the other way about
 abbrev pub AreBytesOf : List ℕ → List ℕ → Saying

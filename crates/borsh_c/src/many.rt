@@ -1,6 +1,7 @@
 // Many values of one schema, which is decoded once.
 ghost use Rattle.borsh_c.specs.Answers.{About, IsRefused, IsUnclear};
 ghost use Rattle.borsh_c.specs.Many.{AreLines, BeginWith, HaveLines, HasNoLine, IsNoLine, IsNoRecord, IsStop, IsWhole, behind};
+ghost use Rattle.borsh_json.specs.Known.{HasKinds};
 ghost use Rattle.borsh_values.specs.Free.{KnowsSizes};
 ghost use Rattle.borsh_values.specs.Layouts.{IsLaidOut};
 ghost use Rattle.borsh_walks.specs.Definitions.{definitions_in};
@@ -8,7 +9,7 @@ ghost use Rattle.std.specs.Prelude.{◌≡◌, ◌≤◌, IfErr, IfOk, drop, len
 
 use super::answers::{container_from, no, no_value, said_of, unclear};
 use super::refusal::{Refusal, Said};
-use borsh_json::{JsonError, Style, to_json_by};
+use borsh_json::{Json, JsonError, Style};
 use borsh_values::{Fault, Front, Layout};
 use std::alloc::{AllocError, Global};
 
@@ -164,28 +165,25 @@ struct Written<'a> {
 
 /// The JSON of each of the values that have these lengths, and a line end behind it, up to one that has none.
 fn write_lines<'a>(
-    alloc: Global,
-    layout: &Layout<'a>,
+    json: &Json<'a, '_>,
     values: &[u8],
     lengths: &[usize],
     style: Style,
 ) -> Result<Written<'a>, AllocError>
-    requires laid_out { IsLaidOut layout.now }
-    requires sizes { KnowsSizes layout.now }
+    requires { HasKinds json.now }
     ensures room { IfOk result (λ w. w.count ≤ length lengths.now) }
-    ensures lines { let m = layout.now.map.now in
-        let root = layout.now.root.now in
-        IfOk result (λ w. HaveLines m root (take w.count lengths.now) values.now w.text.items) }
-    ensures stop { let m = layout.now.map.now in
-        IfOk result (λ w. IsNoLine m layout.now.root.now lengths.now values.now w.count w.stop) }
+    ensures lines { let l = json.now.layout.now in
+        IfOk result (λ w. HaveLines l.map.now l.root.now (take w.count lengths.now) values.now w.text.items) }
+    ensures stop { let l = json.now.layout.now in
+        IfOk result (λ w. IsNoLine l.map.now l.root.now lengths.now values.now w.count w.stop) }
 {
-    let mut text: Vec<u8> = Vec::new(alloc);
+    let mut text: Vec<u8> = Vec::new(json.alloc);
     let mut left = values;
     let mut count = 0;
     while count < lengths.len() {
-        match to_json_by(alloc, layout, first(left, lengths[count]), style) {
-            Ok(json) => {
-                text.extend_from_slice(json.as_bytes())?;
+        match json.to_json(first(left, lengths[count]), style) {
+            Ok(line) => {
+                text.extend_from_slice(line.as_bytes())?;
                 text.push(b'\n')?;
             }
             Err(error) => {
@@ -227,7 +225,8 @@ pub fn lines_of(
 {
     let (root, definitions) = container_from(alloc, schema)?;
     let layout = Layout::new(alloc, root.as_str(), &definitions)?;
-    let written = write_lines(alloc, &layout, values, lengths, style)?;
+    let json = Json::new(alloc, &layout)?;
+    let written = write_lines(&json, values, lengths, style)?;
     let (count, text) = (written.count, written.text);
     if count > 0 {
         return Ok(Lines { count, text });

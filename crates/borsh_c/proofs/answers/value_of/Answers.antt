@@ -1,5 +1,6 @@
-use Rattle.std.proofs.Common.{ℕ, IsSome, List, refl, string_bytes, subst}
-use Rattle.json.specs.Json.{document}
+use Rattle.std.proofs.Common.{ℕ, List, refl, string_bytes, subst}
+use Rattle.borsh_json.specs.Forms.{forms_in}
+use Rattle.borsh_json.specs.Represents.{TextSays}
 use Rattle.borsh_c.specs.Answers.{AreBytesOf, IsNoText, IsRefused, IsUnclear}
 use Rattle.borsh_c.proofs.Told.{about_told, no_told, text_refused}
 use Rattle.borsh_c.proofs.answers.value_of.Goals as goal
@@ -9,7 +10,7 @@ returns-in_default-clause-err c = no_told (c.in_ok-root.root, c.in_ok-root.defin
 
 pub returns-in-Ok-from_json-clause-ok : goal.returns-in-Ok-from_json-clause-ok
 returns-in-Ok-from_json-clause-ok c =
-    about_told (c.in_ok-root.root, c.in_ok-root.definitions) c.in_ok-root.ensures.ok c.as_str.result.now c.as_str.ensures.value (AreBytesOf c.args.json.now c.in-Ok-from_json.bytes.items) (c.in-Ok-from_json.ensures.member, subst (λ (text : List ℕ). IsSome (document text)) c.in-Ok.ensures.cases.0 c.in-Ok-from_json.ensures.json)
+    about_told (c.in_ok-root.root, c.in_ok-root.definitions) c.in_ok-root.ensures.ok c.as_str.result.now c.as_str.ensures.value (AreBytesOf c.args.json.now c.in-Ok-from_json.bytes.items) (subst (λ (text : List ℕ). TextSays (forms_in c.in_ok-root.definitions) c.as_str.result.now text c.in-Ok-from_json.bytes.items) c.in-Ok.ensures.cases.0 c.in-Ok-from_json.ensures.says)
 
 pub returns-clause-err : goal.returns-clause-err
 returns-clause-err c =

@@ -1,22 +1,22 @@
 use Rattle.std.proofs.Common.{◌∙◌, ◌+◌, ◌++◌, ◌∷◌, [], List, ℕ, ap, arith, string_bytes, subst, sym, take}
-use Rattle.borsh_walks.specs.Container.{Member}
-use Rattle.borsh_walks.specs.Definitions.{definitions_in}
+use Rattle.borsh_json.specs.Forms.{forms_in}
+use Rattle.borsh_json.specs.Represents.{TextSays}
 use Rattle.borsh_c.specs.Many.{HaveLines}
 use Rattle.borsh_c.proofs.Records.{lined, passed}
 use Rattle.borsh_c.proofs.many.write_lines.Goals as goal
 
 pub loop-count-preserved : goal.loop-count-preserved
 loop-count-preserved c =
-    let m = c.args.layout.now.map.now in
-    let root = c.args.layout.now.root.now in
+    let m = c.args.json.now.layout.now.map.now in
+    let root = c.args.json.now.layout.now.root.now in
     let lengths = c.args.lengths.now in
     let text = c.loop-count.text.items in
     let line = ap (λ (bytes : List ℕ). text ++ bytes) c.as_bytes.ensures.value in
     let items = c.in_ok-push-in-Ok.ensures.items ∙ ap (λ (bytes : List ℕ). bytes ++ (10 ∷ [])) (c.in_ok-extend_from_slice-in-Ok.ensures.items ∙ line) in
-    let member = subst (Member (definitions_in m) root) c.first.ensures c.in-Ok.ensures.member in
+    let says = subst (λ (bytes : List ℕ). TextSays (forms_in m) root (string_bytes c.in-Ok.line) bytes) c.first.ensures c.in-Ok.ensures.says in
     record {
       within = omega arith;
       lines = subst (HaveLines m root (take (c.loop-count.count + 1) lengths) c.args.values.now) (sym items)
-          (lined m root lengths c.args.values.now c.loop-count.left.now text c.loop-count.count (string_bytes c.in-Ok.json) (omega arith) c.loop-count.invariant.lines c.loop-count.invariant.rest (member, c.in-Ok.ensures.json));
+          (lined m root lengths c.args.values.now c.loop-count.left.now text c.loop-count.count (string_bytes c.in-Ok.line) (omega arith) c.loop-count.invariant.lines c.loop-count.invariant.rest says);
       rest = c.others-left.ensures ∙ passed c.args.lengths.now c.args.values.now c.loop-count.left.now c.loop-count.count (omega arith) c.loop-count.invariant.rest;
     }

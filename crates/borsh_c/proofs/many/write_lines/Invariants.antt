@@ -5,7 +5,7 @@ use Rattle.borsh_c.proofs.many.write_lines.Given as goal
 abbrev pub invariant-loop-count : goal.invariant-loop-count
 invariant-loop-count l = record {
   within : l.count ≤ length l.lengths;
-  lines : HaveLines l.layout.map.now l.layout.root.now (take l.count l.lengths) l.values l.text.items;
+  lines : HaveLines l.json.layout.now.map.now l.json.layout.now.root.now (take l.count l.lengths) l.values l.text.items;
   rest : l.left ≡ behind (take l.count l.lengths) l.values;
 }
 
