@@ -3,16 +3,16 @@ ghost use Rattle.borsh_values.specs.Free.{KnowsSizes};
 ghost use Rattle.borsh_values.specs.Layouts.{IsLaidOut};
 ghost use Rattle.borsh_walks.specs.Container.{Member};
 ghost use Rattle.borsh_walks.specs.Definitions.{definitions_in};
-ghost use Rattle.borsh_values.specs.Nodes.{AreOffsets, joined_bytes, views};
+ghost use Rattle.borsh_values.specs.Nodes.{joined_bytes, views};
 ghost use Rattle.borsh_json.specs.Errors.{IsNoRowsReason, IsPartError, IsTooDeep};
 ghost use Rattle.borsh_json.specs.Rows.{AreRowsOf};
-ghost use Rattle.std.specs.Prelude.{◌≡◌, IfErr, IfOk, OnOk};
+ghost use Rattle.std.specs.Prelude.{◌≡◌, ◌<◌, ◌^◌, IfErr, IfOk, OnOk, length};
 
 use crate::definitions::Definitions;
 use crate::error::{JsonError, PartError, Refusal};
 use crate::floats::shortest;
 use crate::kinds::Kind;
-use borsh_values::{Decoded, Layout, Node, Path, Paths, count_of, elements_of, variant_of};
+use borsh_values::{Decoded, Layout, Node, Path, Paths, Unpacked, count_of, elements_of, variant_of};
 use borsh_walks::Definition;
 use itoa::Buffer;
 use json::MAX_DEPTH;
@@ -92,7 +92,7 @@ fn list_rows<'a, 'b>(
     layout: &Layout<'a>,
     nodes: &[Node<'a, 'b>],
 ) -> Result<Vec<Row<'a, 'b>>, PartError<'a>>
-    requires placed { AreOffsets 0 nodes.now }
+    requires { length (joined_bytes (views nodes.now)) < 2 ^ 64 }
     ensures rows { let bytes = joined_bytes (views nodes.now) in
         IfOk result (λ rows. AreRowsOf bytes rows.items) }
     ensures refusal { IfErr result (IsPartError IsTooDeep) }
@@ -100,18 +100,22 @@ fn list_rows<'a, 'b>(
     let mut definitions = Definitions::new(alloc, layout)?;
     let mut rows = Vec::new(alloc);
     let mut paths = Paths::new(alloc, layout.root);
-    for node in nodes {
-        paths.enter(node)?;
+    let mut unpacked = Unpacked::new(alloc, layout, nodes);
+    'nodes: for _ in 0..u64::MAX {
+        let Some(node) = unpacked.next()? else {
+            return Ok(rows);
+        };
+        paths.enter(&node)?;
         if node.depth > MAX_DEPTH {
             return Err(PartError::Refused(paths.path(alloc)?, Refusal::TooDeep));
         }
         if !node.bytes.is_empty() {
             let path = paths.path(alloc)?;
-            let value = value_of(alloc, &mut definitions, node)?;
-            rows.push(row_of(node, path, value))?;
+            let value = value_of(alloc, &mut definitions, &node)?;
+            rows.push(row_of(&node, path, value))?;
         }
     }
-    Ok(rows)
+    Err(PartError::Refused(paths.path(alloc)?, Refusal::TooDeep))
 }
 
 /// The row of a node.

@@ -18,7 +18,7 @@ use crate::numbers::Number;
 use crate::order::Ordered;
 use crate::output::{Characters, LongNumbers, Output, Style};
 use crate::position::{Key, Part, Parts, Place, Position};
-use borsh_values::{Decoded, Layout, Node, Path, count_of, elements_of, variant_of};
+use borsh_values::{Decoded, Layout, Node, Path, Unpacked, count_of, elements_of, variant_of};
 use borsh_walks::Definition;
 use itoa::Buffer;
 use json::{Scratch, Token, is_valid};
@@ -116,7 +116,7 @@ fn write_nodes<'a>(
         long_numbers: style.long_numbers,
         out: Output::new(alloc, style.layout),
         bytes,
-        nodes,
+        nodes: Unpacked::new(alloc, layout, nodes),
         position: Position::new(alloc, root),
     };
     writing.write_all()?;
@@ -181,7 +181,7 @@ struct Writing<'a, 'l, 'b, 'n> {
     long_numbers: LongNumbers,
     out: Output,
     bytes: &'b [u8],
-    nodes: &'n [Node<'a, 'b>],
+    nodes: Unpacked<'a, 'l, 'b, 'n>,
     position: Position<'a>,
 }
 
@@ -267,9 +267,7 @@ impl<'a, 'l, 'b, 'n> Writing<'a, 'l, 'b, 'n> {
         let Some(ascent) = &mut self.position.place.ascent else {
             return Ok(());
         };
-        if let [node, ..] = self.nodes {
-            ascent.begin(node.offset);
-        }
+        ascent.begin(self.nodes.offset());
         if ascent.ascends(&self.definitions, self.bytes)? {
             return Ok(());
         }
@@ -280,11 +278,8 @@ impl<'a, 'l, 'b, 'n> Writing<'a, 'l, 'b, 'n> {
     fn take_node(&mut self, at: usize) -> PartResult<'a, Node<'a, 'b>>
         ensures { IfErr result (IsPartError IsUnwritable) }
     {
-        match self.nodes {
-            [node, others @ ..] if node.name == self.definitions.name(at) => {
-                self.nodes = others;
-                Ok(*node)
-            }
+        match self.nodes.next()? {
+            Some(node) if node.name == self.definitions.name(at) => Ok(node),
             _ => Err(self.position.refused(Refusal::OtherNodes)),
         }
     }
@@ -337,9 +332,7 @@ impl<'a, 'l, 'b, 'n> Writing<'a, 'l, 'b, 'n> {
         ensures { IfErr result (IsPartError IsUnwritable) }
     {
         // The node of the pair, which has no bytes of its own.
-        if let [_, others @ ..] = self.nodes {
-            self.nodes = others;
-        }
+        let _pair = self.nodes.next()?;
         let node = self.take_node(entries.key)?;
         match entries.key_kind {
             KeyKind::Text => match str::from_utf8(elements_of(&node)) {

@@ -17,3 +17,4 @@ pub mod Passing
 pub mod Fronts
 pub mod Next
 pub mod Records
+pub mod Unpacked

@@ -1,6 +1,6 @@
-use Rattle.std.proofs.Common.{drop}
+use Rattle.borsh_values.specs.Nodes.{joined_bytes, views}
 use Rattle.borsh_json.proofs.RowsLaws.{AreBetween}
 use Rattle.borsh_json.proofs.rows.list_rows.Given as goal
 
-abbrev pub invariant-loop-node : goal.invariant-loop-node
-invariant-loop-node l = AreBetween l.nodes (drop l.node-index l.nodes) l.rows.items
+abbrev pub invariant-nodes : goal.invariant-nodes
+invariant-nodes l = AreBetween (joined_bytes (views l.fn.nodes)) l.rows.items l.unpacked
