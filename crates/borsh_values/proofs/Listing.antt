@@ -70,7 +70,7 @@ front_packed C root done n old new own more ns qs some long small c b o lists f 
       | inl z ↦ absurd (no_bytes own more (known_sizes C ns) some long (sym b ∙ z.0))
       | inr z ↦ (
           let off : IsZeroSize C x → ⊥ = λ i. packed_not_zero C ns more some long small (opened_zero C d own ns c i o).1 in
-          let m = f ((own ++ more) ++ cs) ((x, d, own ++ more) ∷ es) (nodes_packed d ns off c o some long small h) in
+          let m = f ((own ++ more) ++ cs) ((x, d, own ++ more) ∷ es) (nodes_packed d own more ns off c o some long small h) in
           let g = subst (λ l. Nodes C (root ∷ []) (done ++ ((own ++ more) ++ cs)) (views old ++ (x, d, l) ∷ es)) (sym b) m in
           let a : views new ++ es ≡ views old ++ view_of n ∷ es = ap (λ l. views l ++ es) z.1 ∙ ap (λ l. l ++ es) (views_append old n) ∙ append_assoc (views old) (view_of n ∷ []) es in
           subst (λ l. Nodes C (root ∷ []) l (views new ++ es)) (sym (append_assoc done (own ++ more) cs)) (subst (λ l. Nodes C (root ∷ []) (done ++ ((own ++ more) ++ cs)) l) (sym a) g))

@@ -121,7 +121,7 @@ module _ (C : List ℕ → Option Shape) where
   zero_front : (ns : List (List ℕ)) {ps : List (List ℕ)} {bs : List ℕ} {es : List NodeView} → ((q : List ℕ) → IsIn q ns → IsZeroSize C q) → Nodes C (ns ++ ps) bs es → Members C ns [] × Nodes C ps bs es
   zero_front [] f n = (no_members, n)
   zero_front (x ∷ ns) f (nodes_zero z m n) = let r = zero_front ns (λ q a. f q (later a)) n in (more_members m r.0, r.1)
-  zero_front (x ∷ ns) f (nodes_packed d ms off c o k l small n) = absurd (off (f x first))
+  zero_front (x ∷ ns) f (nodes_packed d own more ms off c o k l small n) = absurd (off (f x first))
   zero_front (x ∷ ns) f (nodes_more d ms off c o z n) = absurd (off (f x first))
 
   -- a name of zero size was opened
@@ -135,7 +135,7 @@ module _ (C : List ℕ → Option Shape) where
   pub nodes_bytes : {ps : List (List ℕ)} {bs : List ℕ} {es : List NodeView} → Nodes C ps bs es → bs ≡ joined_bytes es
   nodes_bytes nodes_none = refl
   nodes_bytes (nodes_zero z m n) = nodes_bytes n
-  nodes_bytes (nodes_packed {own = own} {more = more} d ns off c o k l small n) = ap (λ b. (own ++ more) ++ b) (nodes_bytes n)
+  nodes_bytes (nodes_packed d own more ns off c o k l small n) = ap (λ b. (own ++ more) ++ b) (nodes_bytes n)
   nodes_bytes (nodes_more {own = own} d ns off c o z n) = ap (λ l. own ++ l) (nodes_bytes n)
 
   -- and nodes are of members
@@ -147,21 +147,21 @@ module _ (C : List ℕ → Option Shape) where
     pub one_reading : {ps : List (List ℕ)} {bs cs : List ℕ} {es fs : List NodeView} (r s : List ℕ) → ((y : List ℕ) → IsIn y ps → Reached C root y) → Nodes C ps bs es → Nodes C ps cs fs → bs ++ r ≡ cs ++ s → es ≡ fs
     one_reading r s l nodes_none nodes_none e = refl
     one_reading r s l (nodes_zero z m n) (nodes_zero y k h) e = one_reading r s (λ y a. l y (later a)) n h e
-    one_reading r s l (nodes_zero z m n) (nodes_packed d ns off c o k j small h) e = absurd (off z)
+    one_reading r s l (nodes_zero z m n) (nodes_packed d own more ns off c o k j small h) e = absurd (off z)
     one_reading r s l (nodes_zero z m n) (nodes_more d ns off c o k h) e = absurd (off z)
-    one_reading r s l (nodes_packed d ns off c o k j small n) (nodes_zero z m h) e = absurd (off z)
-    one_reading r s l (nodes_packed {x = x} {own = own} {more = more} {bs = us} {es = es} d ms off c o k j small n) (nodes_packed {own = other} {more = less} {bs = vs} {es = fs} f ns off_too b p q i little h) e =
+    one_reading r s l (nodes_packed d own more ns off c o k j small n) (nodes_zero z m h) e = absurd (off z)
+    one_reading r s l (nodes_packed {x = x} {bs = us} {es = es} d own more ms off c o k j small n) (nodes_packed {bs = vs} {es = fs} f other less ns off_too b p q i little h) e =
         let same : f ≡ d = one_definition b c in
         let t = opens_one C d (more ++ (us ++ r)) (less ++ (vs ++ s)) (one x d (l x first) c) o (subst (λ i. Opens C i other ns) same p) (sym (regroup own more us r) ∙ e ∙ regroup other less vs s) in
         let a = same_front more less (us ++ r) (vs ++ s) t.1 (j ∙ ap (λ l. known_sizes C l) t.2 ∙ sym i) in
         let g = one_reading r s (λ y a. l y (later a)) n h a.1 in
         ap (λ i. (x, d, i ++ more) ∷ es) t.0 ∙ ap (λ i. (x, d, other ++ i) ∷ es) a.0 ∙ ap (λ i. (x, d, other ++ less) ∷ i) g ∙ ap (λ i. (x, i, other ++ less) ∷ fs) (sym same)
-    one_reading r s l (nodes_packed {x = x} {own = own} {more = more} {bs = us} d ms off c o k j small n) (nodes_more {own = other} {bs = vs} f ns off_too b p z h) e =
+    one_reading r s l (nodes_packed {x = x} {bs = us} d own more ms off c o k j small n) (nodes_more {own = other} {bs = vs} f ns off_too b p z h) e =
         let same : f ≡ d = one_definition b c in
         let t = opens_one C d (more ++ (us ++ r)) (vs ++ s) (one x d (l x first) c) o (subst (λ i. Opens C i other ns) same p) (sym (regroup own more us r) ∙ e ∙ append_assoc other vs s) in
         absurd (some_none (known_sizes C ms) k (ap (λ l. known_sizes C l) t.2 ∙ z))
     one_reading r s l (nodes_more d ns off c o z n) (nodes_zero y m h) e = absurd (off y)
-    one_reading r s l (nodes_more {x = x} {own = own} {bs = us} d ms off c o z n) (nodes_packed {own = other} {more = less} {bs = vs} f ns off_too b p q i little h) e =
+    one_reading r s l (nodes_more {x = x} {own = own} {bs = us} d ms off c o z n) (nodes_packed {bs = vs} f other less ns off_too b p q i little h) e =
         let same : f ≡ d = one_definition b c in
         let t = opens_one C d (us ++ r) (less ++ (vs ++ s)) (one x d (l x first) c) o (subst (λ i. Opens C i other ns) same p) (sym (append_assoc own us r) ∙ e ∙ regroup other less vs s) in
         absurd (some_none (known_sizes C ns) q (ap (λ l. known_sizes C l) (sym t.2) ∙ z))

@@ -12,7 +12,7 @@ use Rattle.borsh_values.specs.Steps.{OpensAs, remaining}
 
 module _ (C : List ℕ → Option Shape) (ns : List Named) (wanted : Bool) (n : ℕ) (r : Rest) (bytes : List ℕ) (p : Passed) where
   leaves : Packs C ns wanted n r bytes p → (TakesParts C ns n r bytes p → ⊥) → LeavesParts C ns wanted n r bytes p
-  leaves k no = elim k [ inl h ↦ h | inr h ↦ absurd (no h) ]
+  leaves k off = elim k [ inl h ↦ h | inr h ↦ absurd (off h) ]
 
   -- no byte is taken
   pub untaken : p.taken ≡ 0 → Packs C ns wanted n r bytes p → LeavesParts C ns wanted n r bytes p

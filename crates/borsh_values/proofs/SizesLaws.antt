@@ -39,7 +39,7 @@ known_on : (n : ℕ) (ns : List ℕ) → (n ≡ 0 → ⊥) → are_known (n ∷ 
 known_on zero ns f = absurd (f refl)
 known_on (suc n) ns f = refl
 
-cond_zero : (b : Bool) → cond b 0 0 ≡ 0
+cond_zero : (b : Bool) → ◌≡◌ {A = ℕ} (cond b 0 0) 0
 cond_zero true = refl
 cond_zero false = refl
 
@@ -123,7 +123,7 @@ pub sizes_none : (ns : List Named) (C : List ℕ → Option Shape) (n : ℕ) →
 unfolding known_within
 sizes_none ns C n i h = none_at n i
   where
-    none_at : (n i : ℕ) → get_or (replicate n 0) i 0 ≡ 0
+    none_at : (n i : ℕ) → ◌≡◌ {A = ℕ} (get_or (replicate n 0) i 0) 0
     none_at zero i = refl
     none_at (suc n) zero = refl
     none_at (suc n) (suc i) = none_at n i

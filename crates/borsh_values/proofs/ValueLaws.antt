@@ -25,7 +25,7 @@ module _ (C : List ℕ → Option Shape) where
   nodes_members : {ps : List (List ℕ)} {bs : List ℕ} {es : List NodeView} → Nodes C ps bs es → Members C ps bs
   nodes_members nodes_none = no_members
   nodes_members (nodes_zero z m n) = more_members m (nodes_members n)
-  nodes_members (nodes_packed {own = own} {more = more} d ns off c o k l small n) = more_members (opens_member C d own more ns c o (packed_members C ns more k l small)) (nodes_members n)
+  nodes_members (nodes_packed d own more ns off c o k l small n) = more_members (opens_member C d own more ns c o (packed_members C ns more k l small)) (nodes_members n)
   nodes_members (nodes_more {x = x} {own = own} {bs = bs} {ps = ps} d ns off c o z n) =
       let s = parted C ns (nodes_members n) in
       subst (λ l. Members C (x ∷ ps) l) (append_assoc own s.0 s.1 ∙ ap (λ l. own ++ l) (sym s.4)) (more_members (opens_member C d own s.0 ns c o s.2) s.3)

@@ -85,7 +85,7 @@ module _ (C : List ℕ → Option Shape) where
   pub data Nodes : List (List ℕ) → List ℕ → List NodeView → Type 0 where
     nodes_none : Nodes [] [] []
     nodes_zero : {x bs : List ℕ} {ps : List (List ℕ)} {es : List NodeView} → IsZeroSize C x → Member C x [] → Nodes ps bs es → Nodes (x ∷ ps) bs es
-    nodes_packed : {x own more bs : List ℕ} {ps : List (List ℕ)} {es : List NodeView} (d : Shape) (ns : List (List ℕ)) → (IsZeroSize C x → ⊥) → C x ≡ Some d → Opens C d own ns → 0 < known_sizes C ns → length more ≡ known_sizes C ns → All (λ b. b < 256) more → Nodes ps bs es → Nodes (x ∷ ps) ((own ++ more) ++ bs) ((x, d, own ++ more) ∷ es)
+    nodes_packed : {x bs : List ℕ} {ps : List (List ℕ)} {es : List NodeView} (d : Shape) (own more : List ℕ) (ns : List (List ℕ)) → (IsZeroSize C x → ⊥) → C x ≡ Some d → Opens C d own ns → 0 < known_sizes C ns → length more ≡ known_sizes C ns → All (λ b. b < 256) more → Nodes ps bs es → Nodes (x ∷ ps) ((own ++ more) ++ bs) ((x, d, own ++ more) ∷ es)
     nodes_more : {x own bs : List ℕ} {ps : List (List ℕ)} {es : List NodeView} (d : Shape) (ns : List (List ℕ)) → (IsZeroSize C x → ⊥) → C x ≡ Some d → Opens C d own ns → known_sizes C ns ≡ 0 → Nodes (ns ++ ps) bs es → Nodes (x ∷ ps) (own ++ bs) ((x, d, own) ∷ es)
 
   -- bytes are read of the names ps and the names qs are left: each definition in turn is opened, and its parts come next

@@ -21,7 +21,7 @@ loop-depth-preserved c =
     let k = c.loop-depth.depth in
     record {
       low = omega arith;
-      sizes = sizes_next l.names.items C k c.in_ok-next_sizes.value.items (λ i h. defined_in l c.requires i h) (c.in_ok-next_sizes.ensures (λ x. known_within k C x) c.loop-depth.invariant.sizes);
+      sizes = sizes_next l.names.items C k c.in_ok-sizes-2.sizes.items (λ i h. defined_in l c.requires i h) (c.in_ok-sizes-2.ensures (λ x. known_within k C x) c.loop-depth.invariant.sizes);
     }
 
 pub returns-clause-known : goal.returns-clause-known

@@ -10,10 +10,10 @@ returns-then-not-wanted-clause-packs c = inl (refl, λ w. absurd (let f = c.if-n
 pub returns-then-size-eq0-clause-packs : goal.returns-then-size-eq0-clause-packs
 returns-then-size-eq0-clause-packs c = inl (refl, λ w. inl (sym c.size_of_rest-size.ensures ∙ c.if-size-eq0.true))
 
-pub returns-then-size-clause-packs : goal.returns-then-size-clause-packs
-returns-then-size-clause-packs c =
+pub returns-then-size-left-clause-packs : goal.returns-then-size-left-clause-packs
+returns-then-size-left-clause-packs c =
     let e = c.size_of_rest-size.ensures in
-    let large = c.if-size.true in
+    let large = c.if-size-left.true in
     let low = c.requires.taken in
     inl (refl, λ w. inr (omega (arith, e, large, low)))
 
@@ -22,7 +22,7 @@ returns-clause-packs c =
     let e = c.size_of_rest-size.ensures in
     let some = some_of c.size_of_rest-size.result c.if-size-eq0.false in
     let low = c.requires.taken in
-    let fits = c.if-size.false in
+    let fits = c.if-size-left.false in
     inr (
       subst (λ n. 0 < n) e some,
       omega (arith, e),

@@ -17,8 +17,8 @@ returns-in-Copies c =
     let low = fits_copies ns c.args.rest at k c.in-Copies.is c.requires.fits in
     c.product.ensures.fitting ∙ ap (λ n. fitting (k * n)) (c.size_at.ensures ∙ c.requires.sizes.known at low) ∙ sym (copies_together (λ x. known_size C x) (name_at ns at) k) ∙ sym (ap (λ r. known_sizes C (remaining ns r)) c.in-Copies.is)
 
-pub size_of_parts-requires-within : goal.size_of_parts-requires-within
-size_of_parts-requires-within c = fits_parts c.args.layout.now.names.items c.args.rest c.in-Parts.at c.in-Parts.next c.in-Parts.is c.requires.fits
+pub size_of_parts-requires-clause-within : goal.size_of_parts-requires-clause-within
+size_of_parts-requires-clause-within c = fits_parts c.args.layout.now.names.items c.args.rest c.in-Parts.at c.in-Parts.next c.in-Parts.is c.requires.fits
 
 pub returns-in-Parts : goal.returns-in-Parts
 returns-in-Parts c =
