@@ -1,6 +1,6 @@
 -- The walk over the bytes, by the places of a layout.
 use Rattle.std.proofs.Common.{◌≡◌, ℕ, suc, ◌+◌, ◌<◌, ◌≤◌, List, [], ◌∷◌, ◌++◌, length, take, drop, length-drop, get_or, set, replicate, Some, None, refl, sym, ◌∙◌, ap, subst, arith, add-one, append_assoc, append-nil, take-add, length-take-le, ◌⊎◌, inl, inr}
-use Rattle.std.specs.Prelude.{Option, All}
+use Rattle.std.specs.Prelude.{Option}
 use Rattle.std.proofs.lemmas.List.Elements.{All-take, All-drop}
 use Rattle.std.specs.BTreeMap.{btree_map_len}
 use Rattle.std.proofs.lemmas.List.{length-replicate, length-set}

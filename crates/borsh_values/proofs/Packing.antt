@@ -1,5 +1,5 @@
 -- Parts that are taken with the definition around them.
-use Rattle.std.proofs.Common.{◌≡◌, ℕ, ◌+◌, ◌<◌, List, [], length, sym, ap, subst, arith, true, ◌⊎◌, inl, inr}
+use Rattle.std.proofs.Common.{◌≡◌, ℕ, ◌+◌, ◌<◌, List, length, sym, ap, subst, arith, true, ◌⊎◌, inl, inr}
 use Rattle.std.specs.Prelude.{Option, Bool}
 use Rattle.borsh_walks.specs.Container.{Shape}
 use Rattle.borsh_values.specs.declared.layout.Named.{Named}

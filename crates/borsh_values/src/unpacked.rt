@@ -144,7 +144,10 @@ impl<'a, 'l> Open<'a, 'l> {
                 let element = parts.as_slice().get(0).copied()?;
                 let count = count_of(&node)?;
                 let width = usize::from(*length_width);
-                if let Some(Definition::Primitive(size)) = definition_at(&self.layout.names, element)
+                if let Some(Definition::Primitive(size)) = definition_at(
+                    &self.layout.names,
+                    element,
+                )
                     && *size > 0
                 {
                     let all = (count as usize).saturating_mul(usize::from(*size));

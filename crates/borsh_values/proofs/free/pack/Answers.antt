@@ -1,5 +1,4 @@
-use Rattle.std.proofs.Common.{◌≡◌, ◌<◌, ◌∙◌, refl, sym, ap, subst, arith, inl, inr}
-use Rattle.borsh_values.specs.Sizes.{known_sizes}
+use Rattle.std.proofs.Common.{◌<◌, ◌∙◌, refl, sym, subst, arith, inl, inr}
 use Rattle.borsh_values.proofs.Bytes.{small_bytes}
 use Rattle.borsh_values.proofs.FreeLaws.{some_of}
 use Rattle.borsh_values.proofs.free.pack.Goals as goal

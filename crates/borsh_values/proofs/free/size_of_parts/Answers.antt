@@ -1,4 +1,4 @@
-use Rattle.std.proofs.Common.{◌+◌, ◌∷◌, ◌∙◌, drop, subst, sym, arith}
+use Rattle.std.proofs.Common.{◌+◌, ◌∙◌, drop, subst, sym, arith}
 use Rattle.std.proofs.lemmas.Option.{slice_get_within}
 use Rattle.borsh_values.specs.Layouts.{name_at, parts_in, shape_at}
 use Rattle.borsh_values.proofs.Places.{drop_next, drop_end}
