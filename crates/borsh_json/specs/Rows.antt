@@ -67,10 +67,14 @@ module _ (F : List ℕ → Option Form) where
   IsValueText x (named fs) own v = ⊤
   IsValueText x (choice w vs) own v = (variant : Option ℕ) × IsVariantIndex (map (λ v. (v.0, v.2)) vs) own variant × MatchOption variant (v ≡ []) (λ i. (k : ℤ) × (p : List ℕ) × (slice_get vs i ≡ Some (k, v, p)))
 
+  -- the text says the own bytes of a part of this name, by its definition
+  abbrev pub IsTold : List ℕ → List ℕ → List ℕ → Type 0
+  IsTold x own v = (f : Form) × (F x ≡ Some f) × IsValueText x f own v
+
   -- each row says what its bytes say
   abbrev pub TellBytes : List Row → Type 0
   TellBytes [] = ⊤
-  TellBytes (r ∷ rs) = ((f : Form) × (F r.name.now ≡ Some f) × IsValueText r.name.now f r.bytes.now (string_bytes r.value)) × TellBytes rs
+  TellBytes (r ∷ rs) = IsTold r.name.now r.bytes.now (string_bytes r.value) × TellBytes rs
 
   -- the rows have all the bytes, each says where its own are, and what they say
   pub record AreRowsOf (bytes : List ℕ) (rs : List Row) : Type 0 where
