@@ -1,5 +1,5 @@
 -- Rows that grow, over the nodes of a value.
-use Rattle.std.proofs.Common.{◌≡◌, ℕ, ◌+◌, ◌-◌, ◌^◌, ◌<◌, ◌≤◌, List, [], ◌∷◌, ◌++◌, length, min, inl, inr, refl, ap, sym, subst, ◌∙◌, arith, append-nil, append_assoc, length-append}
+use Rattle.std.proofs.Common.{◌≡◌, ℕ, ◌+◌, ◌-◌, ◌^◌, ◌<◌, ◌≤◌, List, [], ◌∷◌, ◌++◌, length, min, take, inl, inr, refl, ap, sym, subst, ◌∙◌, arith, append-nil, append_assoc, length-append}
 use Rattle.std.proofs.Math.Nat.{min-eq_left}
 use Rattle.std.specs.Prelude.{ℤ, String, Vec, Option, Some, None, Result, Ok, Err, IfOk, MatchOption, map, option_map, slice_get, string_bytes}
 use Rattle.std.specs.Global.{Global}
@@ -109,7 +109,7 @@ module _ (F : List ℕ → Option Form) (x own : List ℕ) (d : Definition) wher
   pub variant_value : (w : ℕ) (vs : Vec (ℤ × String Global × String Global) Global) → d ≡ Enum w vs → (found : Option ℕ) → IsVariantOf (shape_of d) own found → (t : List ℕ) → MatchOption found (t ≡ []) (λ i. (u : ℤ × String Global × String Global) × (slice_get vs.items i ≡ Some u) × (t ≡ string_bytes u.1)) → IsValueText F x (form_of d) own t
   variant_value w vs e found a t h =
       let b = subst (λ (d : Definition). IsVariantOf (shape_of d) own found) e a in
-      let c = subst (λ (us : List (ℤ × List ℕ)). IsVariantIndex us own found) (sym (twice texts (λ u. (u.0, u.2)) (λ u. (u.0, string_bytes u.2)) (λ u. refl) vs.items)) b in
+      let c = subst (λ (us : List (ℤ × List ℕ)). IsVariantIndex us (take w own) found) (sym (twice texts (λ u. (u.0, u.2)) (λ u. (u.0, string_bytes u.2)) (λ u. refl) vs.items)) b in
       subst (λ (d : Definition). IsValueText F x (form_of d) own t) (sym e) (found, c, listed found h)
     where
       listed : (found : Option ℕ) → MatchOption found (t ≡ []) (λ i. (u : ℤ × String Global × String Global) × (slice_get vs.items i ≡ Some u) × (t ≡ string_bytes u.1)) → MatchOption found (t ≡ []) (λ i. (k : ℤ) × (p : List ℕ) × (slice_get (map texts vs.items) i ≡ (let u : ℤ × List ℕ × List ℕ = (k, t, p) in Some u)))
