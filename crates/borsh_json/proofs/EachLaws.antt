@@ -105,9 +105,9 @@ without n xs ys m a i =
     elim (any_cases (list_any test xs) (test m || list_any test ys) (sym (list_any-append test xs (m ∷ ys)) ∙ i)) [
       | inl q ↦ both ∙ ap (λ b. b || list_any test ys) q
       | inr r ↦ elim (any_cases (test m) (list_any test ys) r) [
-          | inl q ↦ both ∙ ap (λ b. b || list_any test ys) (ap (λ s. list_any (λ (x : Entry). bytes_eq s x.0) xs) ((bytes_eq-Decides n m.0).0 q) ∙ a)
-          | inr q ↦ both ∙ ap (λ b. list_any test xs || b) q ∙ or_true (list_any test xs)
-        ]
+        | inl q ↦ both ∙ ap (λ b. b || list_any test ys) (ap (λ s. list_any (λ (x : Entry). bytes_eq s x.0) xs) ((bytes_eq-Decides n m.0).0 q) ∙ a)
+        | inr q ↦ both ∙ ap (λ b. list_any test xs || b) q ∙ or_true (list_any test xs)
+      ]
     ]
 
 module _ (fs : List (List ℕ × List ℕ)) (ms : Members) (ps : List Part) (d : IsDistinct bytes_eq (map (λ (f : List ℕ × List ℕ). f.0) fs)) (l : length (entries_of ms) ≡ length fs) (e : field_parts fs ms ≡ Some ps) where

@@ -136,14 +136,21 @@ module _ (F : List ℕ → Option Form) (ns : List Named) (x : List ℕ) (j : Js
       let all = map pair fs.now.items in
       let d = subst (λ (l : List (List ℕ)). IsDistinct bytes_eq l) (sym (names_of (λ (f : String Global × String Global). string_bytes f.0) (λ f. string_bytes f.1) fs.now.items)) u in
       let left = fields_left all ms n in
-      let there : HasLeft F ns (Object at fs) 0 s left = (tt, (x, i, form_named F x all h, refl), g) in
-      ([], refl, (left, subst (λ (q : Parts). HasLeft F ns q place.begun s left) (sym p) (subst (λ (k : ℕ). HasLeft F ns (Object at fs) k s left) (sym b) there), record {
-        says = λ ps q. (fields all, h, (d, refl, ms, e, sym c ∙ q.1, q.0));
-        only = λ bs ps t.
-            let v = subst (λ k. Says F k j bs ps) (kind_one F t.1 h) t.2 in
-            let o = object_one v.2 ms (sym v.3 ∙ e) in
-            (v.1, (ap (λ ms. field_parts all ms) (sym o) ∙ v.5, c ∙ ap (λ ms. length (entries_of ms)) (sym o) ∙ v.4));
-      }))
+      let there : HasLeft F ns (Object at fs) 0 s left = (tt, (x, i, form_named F x all h, refl), g) in (
+        [],
+        refl,
+        (
+          left,
+          subst (λ (q : Parts). HasLeft F ns q place.begun s left) (sym p) (subst (λ (k : ℕ). HasLeft F ns (Object at fs) k s left) (sym b) there),
+          record {
+            says = λ ps q. (fields all, h, (d, refl, ms, e, sym c ∙ q.1, q.0));
+            only = λ bs ps t.
+                let v = subst (λ k. Says F k j bs ps) (kind_one F t.1 h) t.2 in
+                let o = object_one v.2 ms (sym v.3 ∙ e) in
+                (v.1, (ap (λ ms. field_parts all ms) (sym o) ∙ v.5, c ∙ ap (λ ms. length (entries_of ms)) (sym o) ∙ v.4));
+          },
+        ),
+      )
 
 -- ---- variants
 choice_is : (F : List ℕ → Option Form) (x : List ℕ) (d : Form) (kind : Kind) (w : ℕ) (vs : List (ℤ × List ℕ × List ℕ)) → kind ≡ variants w vs → DefinedKind F x d kind → d ≡ choice w vs

@@ -18,7 +18,7 @@ pub fn members_of<'t, 's>(
 ) -> Result<BTreeMap<&'s str, Element<'t, 's>>, ReadError>
     ensures { (j : Json) → BeginsWith element.now j → MatchResult result
         (λ m. (ms : JsonMembers) × (es : List Entry) × (j ≡ object ms) × IsPermutation (entries_of ms) es ×
-            AreKeyed IsText m.entries es × ((name : List ℕ) → Finds (mark_of m name) (get_member name ms)))
+        AreKeyed IsText m.entries es × ((name : List ℕ) → Finds (mark_of m name) (get_member name ms)))
         (λ e. DeniesRead e ((ms : JsonMembers) × (j ≡ object ms) × HaveOneEach (entries_of ms))) }
 {
     let Some(mut members) = element.members() else {
@@ -42,9 +42,9 @@ fn ranks_of<'t, 's>(
 ) -> Result<BTreeMap<u128, Element<'t, 's>>, ReadError>
     ensures { number.size ≤ 16 → (j : Json) → BeginsWith element.now j → MatchResult result
         (λ m. (ms : JsonMembers) × (es : List Entry) × (j ≡ object ms) × IsPermutation (entries_of ms) es ×
-            AreKeyed (IsRank number) m.entries es)
+        AreKeyed (IsRank number) m.entries es)
         (λ e. DeniesRead e ((ms : JsonMembers) × (j ≡ object ms) × HaveOneEach (entries_of ms) ×
-            HaveNumbers number (entries_of ms))) }
+        HaveNumbers number (entries_of ms))) }
 {
     let Some(mut members) = element.members() else {
         return Err(expected(alloc, "an object"));
@@ -124,7 +124,7 @@ pub fn fields_of<'t, 's>(
     ensures { let all = fields.now.items in IsDistinct bytes_eq (map (λ f. string_bytes f.0) all) → (j : Json) →
         BeginsWith element.now j → MatchResult result
         (λ s. (ms : JsonMembers) × (n : ℕ) × (j ≡ object ms) × (n ≡ length (entries_of ms)) ×
-            HasFields s (map (λ f. (string_bytes f.0, string_bytes f.1)) all) ms n)
+        HasFields s (map (λ f. (string_bytes f.0, string_bytes f.1)) all) ms n)
         (λ e. DeniesRead e ((ms : JsonMembers) × (j ≡ object ms) × HaveOneEach (entries_of ms))) }
 {
     match fields_in_place(fields, element) {

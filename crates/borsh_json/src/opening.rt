@@ -347,7 +347,7 @@ fn put_length(
 ) -> Result<(), ReadError>
     ensures { let l = lengths_of (form_of definition.now) in MatchResult result
         (λ _. (l.least ≤ count) × (count ≤ l.greatest) ×
-            (out.new.items ≡ out.old.items ++ tag l.width (pos count)))
+        (out.new.items ≡ out.old.items ++ tag l.width (pos count)))
         (λ e. DeniesRead e ((l.least ≤ count) × (count ≤ l.greatest))) }
 {
     let Definition::Sequence {
@@ -443,10 +443,7 @@ fn open_items<'a, 't, 's>(
     match array_of(element) {
         Array::Of(items, count) => match put_length(alloc, definition, count, out) {
             Ok(()) => Ok(Some(Frame {
-                place: Place::in_order(
-                    Parts::List(elements.at, count as u64),
-                    elements.order,
-                ),
+                place: Place::in_order(Parts::List(elements.at, count as u64), elements.order),
                 source: Source::Items(items),
             })),
             Err(error) => Err(error),

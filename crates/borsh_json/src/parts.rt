@@ -103,7 +103,7 @@ impl<'a, 't, 's> Reading<'a, 't, 's> {
             HasLeft F ns self.old.position.place.parts self.old.position.place.begun self.old.source l →
             HaveLeft F ns self.old.position.outer.items self.old.outer.items ls →
             AreRead F root j self.old.out.items
-                (λ ps. (rest : List JsonPart) × PartsOfAll (l ∷ ls) rest × (ps ≡ (x, i) ∷ rest)) →
+            (λ ps. (rest : List JsonPart) × PartsOfAll (l ∷ ls) rest × (ps ≡ (x, i) ∷ rest)) →
             ReadsOn definitions.now root j self.new result }
     {
         match open_part(definitions, at, part, &mut self.out) {
@@ -120,7 +120,7 @@ impl<'a, 't, 's> Reading<'a, 't, 's> {
         ensures frame { OnOk result ((self.new.position.place ≡ frame.entry.place) × (self.new.source ≡ frame.entry.source)) }
         ensures outer { OnOk result
             ((self.new.position.outer.items ≡ self.old.position.outer.items ++ self.old.position.place ∷ []) ×
-                (self.new.outer.items ≡ self.old.outer.items ++ self.old.source ∷ [])) }
+            (self.new.outer.items ≡ self.old.outer.items ++ self.old.source ∷ [])) }
         ensures same { OnOk result (self.new.out ≡ self.old.out) }
         ensures too_deep { IfErr result (IsOf TooDeep) }
     {

@@ -19,10 +19,10 @@ use std::collections::BTreeMap;
 /// definitions is refused with its path and what was expected; so are keys that come twice, the bits of a NaN, and arrays whose
 /// elements or keys don't ascend where they have to. The bytes are a member of the root.
 ///
-/// Determined: after `Ok` the text says the bytes, and no others; a text that says some bytes gives these, or an error of the
-/// next three. After any error but `OutOfMemory`, `Ambiguous`, and refusals for depth and order, the text says none. `NotJson`
-/// is of a text that isn't JSON, `Ambiguous` as of [`borsh_values::is_member`], and `NoMember` isn't returned. Left open:
-/// memory; that elements and keys ascend; the path and reason of a refusal; the byte of `NotJson`: tested.
+/// Determined: after `Ok` the text says the bytes, and no others. After any error but `OutOfMemory`, `Ambiguous`, and a refusal
+/// for depth or order, it says none. `NotJson` is of a text that isn't JSON, `Ambiguous` as of [`borsh_values::is_member`], and
+/// `NoMember` isn't returned. Left open: memory; whether elements and keys ascend; the path and reason of a refusal; the byte of
+/// `NotJson`: tested.
 ///
 /// ```
 /// let bytes = from_json(alloc, "(u8, bool)", &definitions, "[7, true]")?;

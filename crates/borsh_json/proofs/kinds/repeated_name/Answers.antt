@@ -33,8 +33,8 @@ loop-index-preserved c =
     let Q : ℕ → Type 0 = λ m. (k : ℕ) (d : Text) → k + 1 ≡ m → same_text (get_or ks.items k d) (get_or ks.items (k + 1) d) ≡ false in
     let before : (m : ℕ) → m < i → Q m = λ m h k d e. c.loop-index.invariant k d (omega (arith, e, h)) in
     let here : Q i = λ k d e. (
-      let q : i - 1 ≡ k = omega (arith, e) in
-      let p = subst (λ (n : ℕ). a ≡ get_or ks.items n a) q c.index-in-loop-index.ensures in
-      let r = subst (λ (n : ℕ). b ≡ get_or ks.items n b) (sym e) c.index.ensures in
-      same_at ks.items k (k + 1) a b d (omega (arith, e, l)) (omega (arith, e, l)) p r ∙ sym c.eq.ensures ∙ c.if-eq.false) in
+    let q : i - 1 ≡ k = omega (arith, e) in
+    let p = subst (λ (n : ℕ). a ≡ get_or ks.items n a) q c.index-in-loop-index.ensures in
+    let r = subst (λ (n : ℕ). b ≡ get_or ks.items n b) (sym e) c.index.ensures in
+    same_at ks.items k (k + 1) a b d (omega (arith, e, l)) (omega (arith, e, l)) p r ∙ sym c.eq.ensures ∙ c.if-eq.false) in
     λ k d h. below_more Q i before here (k + 1) h k d refl

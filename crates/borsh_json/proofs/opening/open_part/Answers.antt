@@ -14,8 +14,8 @@ undefined_says : (F : List ℕ → Option Form) (x : List ℕ) (j : Json) → F 
 undefined_says F x j e full s =
     let u = uncons F s.1 in
     elim u.4.1 [
-    | inl z ↦ full z.0
-    | inr d ↦ (let g = d.2 in cc)
+      | inl z ↦ full z.0
+      | inr d ↦ (let g = d.2 in cc)
     ]
 
 pub returns-then-is_zero_size : goal.returns-then-is_zero_size
