@@ -1,20 +1,20 @@
 -- Rows that grow, over the nodes of a value.
-use Rattle.std.proofs.Common.{◌≡◌, ℕ, ◌+◌, ◌<◌, List, [], ◌∷◌, ◌++◌, length, drop, get_or, refl, ap, sym, subst, ◌∙◌, arith, append-nil, append_assoc, length-append}
-use Rattle.std.proofs.lemmas.List.{drop_more}
+use Rattle.std.proofs.Common.{◌≡◌, ℕ, ◌+◌, ◌-◌, ◌^◌, ◌<◌, ◌≤◌, List, [], ◌∷◌, ◌++◌, length, min, take, inl, inr, refl, ap, sym, subst, ◌∙◌, arith, append-nil, append_assoc, length-append}
+use Rattle.std.proofs.Math.Nat.{min-eq_left}
 use Rattle.std.specs.Prelude.{ℤ, String, Vec, Option, Some, None, Result, Ok, Err, IfOk, MatchOption, map, option_map, slice_get, string_bytes}
 use Rattle.std.specs.Global.{Global}
-use Rattle.std.specs.BTreeMap.{BTreeMap, get_by_text}
-use Rattle.std.proofs.Common.{inl, inr}
 use Rattle.std.proofs.lemmas.Option.{slice_get-map}
 use Rattle.borsh_walks.specs.declared.definition.Definition.{Definition}
 use Rattle.borsh_walks.specs.declared.definition.Definition.TheVariants.{Primitive, Sequence, Enum}
 use Rattle.borsh_walks.specs.declared.definition.LengthRange.{LengthRange}
 use Rattle.borsh_walks.specs.Definitions.{shape_of}
-use Rattle.borsh_values.specs.Nodes.{AreElementsOf, AreOffsets, HaveDefinitions, IsCountOf, IsVariantOf, joined_bytes, views}
+use Rattle.borsh_values.specs.Nodes.{AreElementsOf, IsCountOf, IsVariantOf}
 use Rattle.borsh_values.specs.Tags.{IsVariantIndex}
 use Rattle.borsh_values.specs.declared.nodes.Node.{Node}
-use Rattle.borsh_json.specs.Forms.{Form, form_of, forms_in}
-use Rattle.borsh_json.specs.Rows.{joined_rows, AreRowOffsets, IsPrimitiveText, IsQuoted, IsText, IsValueText, TellBytes, counted}
+use Rattle.borsh_values.specs.declared.unpacked.Unpacked.{Unpacked}
+use Rattle.borsh_values.specs.Unpacked.{GivesNext, next_offset, rest_of}
+use Rattle.borsh_json.specs.Forms.{Form, form_of}
+use Rattle.borsh_json.specs.Rows.{joined_rows, AreRowOffsets, AreRowsOf, IsPrimitiveText, IsQuoted, IsText, IsTold, IsValueText, TellBytes, counted}
 use Rattle.borsh_json.specs.Table.{primitive_kind}
 use Rattle.borsh_json.specs.declared.rows.Row.{Row}
 use Rattle.borsh_json.proofs.FormsLaws.{twice}
@@ -32,61 +32,60 @@ offsets_more k (q ∷ rs) r h e =
     let f : r.offset ≡ k + length (q.bytes.now ++ joined_rows rs) = e in
     (h.0, offsets_more (k + length q.bytes.now) rs r h.1 (omega (arith, l, f)))
 
--- the rows so far and the bytes of the nodes that are left are those of all nodes, and the next node is where the rows end
-abbrev pub AreBetween : List Node → List Node → List Row → Type 0
-AreBetween all left rs = (joined_rows rs ++ joined_bytes (views left) ≡ joined_bytes (views all)) × AreRowOffsets 0 rs × AreOffsets (length (joined_rows rs)) left
+-- the rows so far and the bytes of the nodes that follow are all bytes, and the next node is where the rows end
+abbrev pub AreBetween : List ℕ → List Row → Unpacked → Type 0
+AreBetween all rs u = (joined_rows rs ++ rest_of u ≡ all) × AreRowOffsets 0 rs × (next_offset u ≡ length (joined_rows rs))
 
-next : (all : List Node) (i : ℕ) (rs : List Row) (n : Node) → i < length all → n ≡ get_or all i n → AreBetween all (drop i all) rs → AreBetween all (n ∷ drop (i + 1) all) rs
-next all i rs n h e b =
-    let d : drop i all ≡ n ∷ drop (i + 1) all = drop_more all i n h ∙ ap (λ (m : Node). m ∷ drop (i + 1) all) (sym e) in
-    subst (λ (left : List Node). AreBetween all left rs) d b
-
-grown : (all left : List Node) (rs : List Row) (n : Node) (r : Row) → r.bytes.now ≡ n.bytes.now → r.offset ≡ n.offset → AreBetween all (n ∷ left) rs → AreBetween all left (rs ++ r ∷ [])
-grown all left rs n r same at b =
-    let j : joined_rows (rs ++ r ∷ []) ≡ joined_rows rs ++ n.bytes.now = joined_more rs r ∙ ap (λ bs. joined_rows rs ++ bs) same in
-    let l : length (joined_rows rs ++ n.bytes.now) ≡ length (joined_rows rs) + length n.bytes.now = length-append (joined_rows rs) n.bytes.now in (
-      ap (λ bs. bs ++ joined_bytes (views left)) j ∙ append_assoc (joined_rows rs) n.bytes.now (joined_bytes (views left)) ∙ b.0,
-      offsets_more 0 rs r b.1 (omega (arith, at, b.2.0)),
-      subst (λ (k : ℕ). AreOffsets k left) (sym (ap length j ∙ l)) b.2.1,
-    )
+-- where the next node begins
+after : (all : List ℕ) (rs : List Row) (u v : Unpacked) (n : Node) → length all < 2 ^ 64 → joined_rows rs ++ (n.bytes.now ++ rest_of v) ≡ all → next_offset u ≡ length (joined_rows rs) → next_offset v ≡ min (next_offset u + length n.bytes.now) (2 ^ 64 - 1) → next_offset v ≡ length (joined_rows rs) + length n.bytes.now
+after all rs u v n small e at h =
+    let a = ap (λ l. length l) e in
+    let b = length-append (joined_rows rs) (n.bytes.now ++ rest_of v) in
+    let c = length-append n.bytes.now (rest_of v) in
+    let low : next_offset u + length n.bytes.now ≤ 2 ^ 64 - 1 = omega (arith, a, b, c, at, small) in
+    h ∙ min-eq_left low ∙ ap (λ i. i + length n.bytes.now) at
 
 -- a node with bytes gets a row
-pub pushed : (all : List Node) (i : ℕ) (rs : List Row) (n : Node) (r : Row) → i < length all → n ≡ get_or all i n → r.bytes.now ≡ n.bytes.now → r.offset ≡ n.offset → AreBetween all (drop i all) rs → AreBetween all (drop (i + 1) all) (rs ++ r ∷ [])
-pushed all i rs n r h e same at b = grown all (drop (i + 1) all) rs n r same at (next all i rs n h e b)
+pub pushed : (all : List ℕ) (rs : List Row) (u v : Unpacked) (n : Node) (r : Row) → length all < 2 ^ 64 → GivesNext u v n → r.bytes.now ≡ n.bytes.now → r.offset ≡ n.offset → AreBetween all rs u → AreBetween all (rs ++ r ∷ []) v
+pushed all rs u v n r small g same at b =
+    let j : joined_rows (rs ++ r ∷ []) ≡ joined_rows rs ++ n.bytes.now = joined_more rs r ∙ ap (λ bs. joined_rows rs ++ bs) same in
+    let e : joined_rows rs ++ (n.bytes.now ++ rest_of v) ≡ all = ap (λ bs. joined_rows rs ++ bs) (sym g.bytes) ∙ b.0 in
+    let l = length-append (joined_rows rs) n.bytes.now in (
+      ap (λ bs. bs ++ rest_of v) j ∙ append_assoc (joined_rows rs) n.bytes.now (rest_of v) ∙ e,
+      offsets_more 0 rs r b.1 (at ∙ g.offset ∙ b.2 ∙ omega arith),
+      after all rs u v n small e b.2 g.next ∙ sym (ap length j ∙ l),
+    )
 
 no_bytes : (bs : List ℕ) → length bs ≡ 0 → [] ≡ bs
 no_bytes [] h = refl
 no_bytes (b ∷ bs) h = absurd (omega arith)
 
 -- and one without has none
-pub skipped : (all : List Node) (i : ℕ) (rs : List Row) (n : Node) → i < length all → n ≡ get_or all i n → length n.bytes.now ≡ 0 → AreBetween all (drop i all) rs → AreBetween all (drop (i + 1) all) rs
-skipped all i rs n h e none b =
-    let m = next all i rs n h e b in
-    let left = drop (i + 1) all in (
-      ap (λ bs. joined_rows rs ++ (bs ++ joined_bytes (views left))) (no_bytes n.bytes.now none) ∙ m.0,
-      m.1,
-      subst (λ (k : ℕ). AreOffsets k left) (omega (arith, none)) m.2.1,
-    )
+pub skipped : (all : List ℕ) (rs : List Row) (u v : Unpacked) (n : Node) → length all < 2 ^ 64 → GivesNext u v n → length n.bytes.now ≡ 0 → AreBetween all rs u → AreBetween all rs v
+skipped all rs u v n small g none b =
+    let e : joined_rows rs ++ (n.bytes.now ++ rest_of v) ≡ all = ap (λ bs. joined_rows rs ++ bs) (sym g.bytes) ∙ b.0 in
+    (ap (λ bs. joined_rows rs ++ (bs ++ rest_of v)) (no_bytes n.bytes.now none) ∙ e, b.1, after all rs u v n small e b.2 g.next ∙ ap (λ i. length (joined_rows rs) + i) none ∙ omega arith)
+
+-- all nodes are given
+pub ended : (F : List ℕ → Option Form) (all : List ℕ) (rs : List Row) (u : Unpacked) → rest_of u ≡ [] → AreBetween all rs u → TellBytes F rs → AreRowsOf F all rs
+ended F all rs u e b t = record { whole = sym b.0 ∙ ap (λ l. joined_rows rs ++ l) e ∙ append-nil (joined_rows rs); placed = b.1; told = t }
 
 -- ---- what the rows say
-pub defined_next : {A : Type 0} (m : BTreeMap (String A) Definition) (all : List Node) (i : ℕ) (n : Node) → i < length all → n ≡ get_or all i n → HaveDefinitions m (drop i all) → HaveDefinitions m (n ∷ drop (i + 1) all)
-defined_next m all i n h e b =
-    let d : drop i all ≡ n ∷ drop (i + 1) all = drop_more all i n h ∙ ap (λ (k : Node). k ∷ drop (i + 1) all) (sym e) in
-    subst (λ (left : List Node). HaveDefinitions m left) d b
-
-pub told_more : (F : List ℕ → Option Form) (rs : List Row) (r : Row) → TellBytes F rs → (f : Form) × (F r.name.now ≡ Some f) × IsValueText F r.name.now f r.bytes.now (string_bytes r.value) → TellBytes F (rs ++ r ∷ [])
+pub told_more : (F : List ℕ → Option Form) (rs : List Row) (r : Row) → TellBytes F rs → IsTold F r.name.now r.bytes.now (string_bytes r.value) → TellBytes F (rs ++ r ∷ [])
 told_more F [] r t v = (v, tt)
 told_more F (q ∷ rs) r t v = (t.0, told_more F rs r t.1 v)
 
 -- the row of a node
-pub told_row : {A : Type 0} (m : BTreeMap (String A) Definition) (n : Node) (r : Row) (v : String Global) → get_by_text m n.name.now ≡ Some n.definition.now → r.bytes.now ≡ n.bytes.now → r.name ≡ n.name → r.value ≡ v → IsValueText (forms_in m) n.name.now (form_of n.definition.now) n.bytes.now (string_bytes v) → (f : Form) × (forms_in m r.name.now ≡ Some f) × IsValueText (forms_in m) r.name.now f r.bytes.now (string_bytes r.value)
-told_row m n r v e bytes name value t =
-    let F = forms_in m in
-    let f = form_of n.definition.now in
-    let x : r.name.now ≡ n.name.now = ap (λ b. b.now) name in
-    let t1 = subst (λ (own : List ℕ). IsValueText F n.name.now f own (string_bytes v)) (sym bytes) t in
-    let t2 = subst (λ (x : List ℕ). IsValueText F x f r.bytes.now (string_bytes v)) (sym x) t1 in
-    (f, ap (λ x. forms_in m x) x ∙ ap (λ o. option_map form_of o) e, subst (λ (v : String Global). IsValueText F r.name.now f r.bytes.now (string_bytes v)) (sym value) t2)
+pub told_row : (F : List ℕ → Option Form) (n : Node) (r : Row) (v : String Global) → r.bytes.now ≡ n.bytes.now → r.name ≡ n.name → r.value ≡ v → IsTold F n.name.now n.bytes.now (string_bytes v) → IsTold F r.name.now r.bytes.now (string_bytes r.value)
+told_row F n r v bytes name value t =
+    let t1 = subst (λ (own : List ℕ). IsTold F n.name.now own (string_bytes v)) (sym bytes) t in
+    let t2 = subst (λ (x : List ℕ). IsTold F x r.bytes.now (string_bytes v)) (sym (ap (λ b. b.now) name)) t1 in
+    subst (λ (v : String Global). IsTold F r.name.now r.bytes.now (string_bytes v)) (sym value) t2
+
+-- by a definition that was looked up
+pub told_by : {E : Type 0} (F : List ℕ → Option Form) (x own : List ℕ) (f : Form) → F x ≡ Some f → (r : Result (String Global) E) → IfOk r (λ v. IsValueText F x f own (string_bytes v)) → IfOk r (λ v. IsTold F x own (string_bytes v))
+told_by F x own f e (Ok v) h = (f, e, h)
+told_by F x own f e (Err z) h = tt
 
 module _ {E : Type 0} (F : List ℕ → Option Form) (x own : List ℕ) (d : Definition) where
   pub primitive_value : (n : ℕ) → d ≡ Primitive n → (r : Result (String Global) E) → IfOk r (λ v. IsPrimitiveText (primitive_kind x n) own (string_bytes v)) → IfOk r (λ v. IsValueText F x (form_of d) own (string_bytes v))
@@ -110,7 +109,7 @@ module _ (F : List ℕ → Option Form) (x own : List ℕ) (d : Definition) wher
   pub variant_value : (w : ℕ) (vs : Vec (ℤ × String Global × String Global) Global) → d ≡ Enum w vs → (found : Option ℕ) → IsVariantOf (shape_of d) own found → (t : List ℕ) → MatchOption found (t ≡ []) (λ i. (u : ℤ × String Global × String Global) × (slice_get vs.items i ≡ Some u) × (t ≡ string_bytes u.1)) → IsValueText F x (form_of d) own t
   variant_value w vs e found a t h =
       let b = subst (λ (d : Definition). IsVariantOf (shape_of d) own found) e a in
-      let c = subst (λ (us : List (ℤ × List ℕ)). IsVariantIndex us own found) (sym (twice texts (λ u. (u.0, u.2)) (λ u. (u.0, string_bytes u.2)) (λ u. refl) vs.items)) b in
+      let c = subst (λ (us : List (ℤ × List ℕ)). IsVariantIndex us (take w own) found) (sym (twice texts (λ u. (u.0, u.2)) (λ u. (u.0, string_bytes u.2)) (λ u. refl) vs.items)) b in
       subst (λ (d : Definition). IsValueText F x (form_of d) own t) (sym e) (found, c, listed found h)
     where
       listed : (found : Option ℕ) → MatchOption found (t ≡ []) (λ i. (u : ℤ × String Global × String Global) × (slice_get vs.items i ≡ Some u) × (t ≡ string_bytes u.1)) → MatchOption found (t ≡ []) (λ i. (k : ℤ) × (p : List ℕ) × (slice_get (map texts vs.items) i ≡ (let u : ℤ × List ℕ × List ℕ = (k, t, p) in Some u)))

@@ -1,5 +1,5 @@
 -- The rows of a value, and what each says of its bytes.
-use Rattle.std.specs.Prelude.{◌≡◌, ◌⊎◌, ⊤, ℕ, ℤ, ◌+◌, ◌==◌, List, [], ◌∷◌, ◌++◌, length, map, drop, false, codes, if◌then◌else◌, Option, Some, MatchOption, slice_get, string_bytes, IsUtf8}
+use Rattle.std.specs.Prelude.{◌≡◌, ◌⊎◌, ⊤, ℕ, ℤ, ◌+◌, ◌==◌, List, [], ◌∷◌, ◌++◌, length, map, take, drop, false, codes, if◌then◌else◌, Option, Some, MatchOption, slice_get, string_bytes, IsUtf8}
 use Rattle.std.specs.Fmt.{decimal}
 use Rattle.borsh_walks.specs.Container.{sequence as counted_sequence}
 use Rattle.borsh_values.specs.Nodes.{IsCountOf}
@@ -65,12 +65,16 @@ module _ (F : List ℕ → Option Form) where
   IsValueText x (newtype p) own v = ⊤
   IsValueText x (unnamed ps) own v = ⊤
   IsValueText x (named fs) own v = ⊤
-  IsValueText x (choice w vs) own v = (variant : Option ℕ) × IsVariantIndex (map (λ v. (v.0, v.2)) vs) own variant × MatchOption variant (v ≡ []) (λ i. (k : ℤ) × (p : List ℕ) × (slice_get vs i ≡ Some (k, v, p)))
+  IsValueText x (choice w vs) own v = (variant : Option ℕ) × IsVariantIndex (map (λ v. (v.0, v.2)) vs) (take w own) variant × MatchOption variant (v ≡ []) (λ i. (k : ℤ) × (p : List ℕ) × (slice_get vs i ≡ Some (k, v, p)))
+
+  -- the text says the own bytes of a part of this name, by its definition
+  abbrev pub IsTold : List ℕ → List ℕ → List ℕ → Type 0
+  IsTold x own v = (f : Form) × (F x ≡ Some f) × IsValueText x f own v
 
   -- each row says what its bytes say
   abbrev pub TellBytes : List Row → Type 0
   TellBytes [] = ⊤
-  TellBytes (r ∷ rs) = ((f : Form) × (F r.name.now ≡ Some f) × IsValueText r.name.now f r.bytes.now (string_bytes r.value)) × TellBytes rs
+  TellBytes (r ∷ rs) = IsTold r.name.now r.bytes.now (string_bytes r.value) × TellBytes rs
 
   -- the rows have all the bytes, each says where its own are, and what they say
   pub record AreRowsOf (bytes : List ℕ) (rs : List Row) : Type 0 where

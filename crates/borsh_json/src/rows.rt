@@ -1,15 +1,17 @@
 // What each of the bytes of a value is.
 ghost use Rattle.borsh_json.specs.Words.{IsNoRowsReason, IsPartError, IsPrimitiveKind, IsTooDeep, IsWhole, Member, definitions_in, form_of, forms_in, primitive_kind};
-ghost use Rattle.borsh_json.specs.Rows.{AreRowsOf, IsPrimitiveText, IsQuoted, IsText, IsValueText, counted};
-ghost use Rattle.borsh_values.specs.Nodes.{AreOffsets, HaveDefinitions, joined_bytes, views};
-ghost use Rattle.std.specs.Prelude.{◌≡◌, ◌≤◌, [], false, ℕ, Decides, IfErr, IfOk, List, MatchOption, OnOk, string_bytes};
+ghost use Rattle.borsh_json.specs.Rows.{AreRowsOf, IsPrimitiveText, IsQuoted, IsText, IsTold, IsValueText, counted};
+ghost use Rattle.borsh_values.specs.Nodes.{joined_bytes, views};
+ghost use Rattle.std.specs.Prelude.{◌≡◌, ◌≤◌, ◌<◌, ◌^◌, [], false, ℕ, Decides, IfErr, IfOk, List, MatchOption, OnOk, length, string_bytes};
 
 use crate::error::{JsonError, PartError, Refusal};
 use crate::floats::shortest;
 use crate::kinds::{Kind, kind_of_primitive};
 use crate::numbers::Number;
 use crate::opening::put_number;
-use borsh_values::{Decoded, Node, Path, Paths, count_of, decode, elements_of, variant_of};
+use borsh_values::{
+    Decoded, Layout, Node, Path, Paths, Unpacked, count_of, decode, elements_of, variant_of,
+};
 use borsh_walks::Definition;
 use itoa::Buffer;
 use json::MAX_DEPTH;
@@ -69,26 +71,30 @@ fn list_rows<'a, 'b>(
     map: &'a BTreeMap<String, Definition>,
     nodes: &[Node<'a, 'b>],
 ) -> Result<Vec<Row<'a, 'b>>, PartError<'a>>
-    requires placed { AreOffsets 0 nodes.now }
-    requires defined { HaveDefinitions map.now nodes.now }
+    requires { length (joined_bytes (views nodes.now)) < 2 ^ 64 }
     ensures rows { let bytes = joined_bytes (views nodes.now) in
         IfOk result (λ rows. AreRowsOf (forms_in map.now) bytes rows.items) }
     ensures refusal { IfErr result (IsPartError IsTooDeep) }
 {
     let mut rows = Vec::new(alloc);
     let mut paths = Paths::new(alloc, root);
-    for node in nodes {
-        paths.enter(node)?;
+    let layout = Layout::new(alloc, root, map)?;
+    let mut unpacked = Unpacked::new(alloc, &layout, nodes);
+    'nodes: for _ in 0..u64::MAX {
+        let Some(node) = unpacked.next()? else {
+            return Ok(rows);
+        };
+        paths.enter(&node)?;
         if node.depth > MAX_DEPTH {
             return Err(PartError::Refused(paths.path(alloc)?, Refusal::TooDeep));
         }
         if !node.bytes.is_empty() {
             let path = paths.path(alloc)?;
-            let value = value_of(alloc, map, node)?;
-            rows.push(row_of(node, path, value))?;
+            let value = value_of(alloc, map, &node)?;
+            rows.push(row_of(&node, path, value))?;
         }
     }
-    Ok(rows)
+    Err(PartError::Refused(paths.path(alloc)?, Refusal::TooDeep))
 }
 
 /// The row of a node.
@@ -106,8 +112,29 @@ fn row_of<'a, 'b>(node: &Node<'a, 'b>, path: Path<'a>, value: String) -> Row<'a,
     }
 }
 
-/// What the own bytes of a node say.
+/// What the own bytes of a node say, by the definition of its name.
 fn value_of<'a>(
+    alloc: Global,
+    map: &'a BTreeMap<String, Definition>,
+    node: &Node<'a, '_>,
+) -> Result<String, AllocError>
+    ensures { IfOk result (λ v. IsTold (forms_in map.now) node.now.name.now node.now.bytes.now (string_bytes v)) }
+{
+    match map.get(node.name) {
+        Some(definition) => own_text(
+            alloc,
+            map,
+            &Node {
+                definition,
+                ..*node
+            },
+        ),
+        // The name of a node has a definition.
+        None => Err(AllocError),
+    }
+}
+
+fn own_text<'a>(
     alloc: Global,
     map: &BTreeMap<String, Definition>,
     node: &Node<'a, '_>,

@@ -7,7 +7,7 @@ use crate::error::{JsonError, PartError, Refusal};
 use crate::floats::is_nan;
 use crate::kinds::{Elements, Kind, kind_of_primitive};
 use crate::order::{Ascent, first_descent};
-use borsh_values::{Decoded, Layout, Node, PathStep, Paths, elements_of};
+use borsh_values::{Decoded, Layout, Node, PathStep, Paths, Unpacked, elements_of};
 use borsh_walks::Definition;
 use std::alloc::{AllocError, Global};
 use std::collections::BTreeMap;
@@ -56,8 +56,12 @@ fn check_nodes<'a>(
     let mut paths = Paths::new(alloc, layout.root);
     // Of each node that the next one is in, where its elements have to ascend.
     let mut open: Vec<Option<Ascent>> = Vec::new(alloc);
-    for node in nodes {
-        paths.enter(node)?;
+    let mut unpacked = Unpacked::new(alloc, layout, nodes);
+    for _ in 0..u64::MAX {
+        let Some(node) = unpacked.next()? else {
+            break;
+        };
+        paths.enter(&node)?;
         open.truncate(node.depth);
         if let Some(Some(ascent)) = open.last_mut() {
             ascent.begin(node.offset);
@@ -65,10 +69,10 @@ fn check_nodes<'a>(
                 return Err(PartError::Refused(paths.path(alloc)?, Refusal::Descends));
             }
         }
-        let Some(kind) = definitions.kind_of_node(node) else {
+        let Some(kind) = definitions.kind_of_node(&node) else {
             return Err(PartError::Refused(paths.path(alloc)?, Refusal::OtherNodes));
         };
-        if let Some((index, refusal)) = wrong_in(&definitions, node, kind) {
+        if let Some((index, refusal)) = wrong_in(&definitions, &node, kind) {
             let mut path = paths.path(alloc)?;
             if let Some(index) = index {
                 path.steps.push(PathStep::Element(index as u64))?;

@@ -13,7 +13,7 @@ use crate::numbers::Number;
 use crate::order::Ordered;
 use crate::output::{Characters, LongNumbers, Output, Style};
 use crate::position::{Key, Part, Parts, Place, Position};
-use borsh_values::{Decoded, Layout, Node, Path, count_of, elements_of, variant_of};
+use borsh_values::{Decoded, Layout, Node, Path, Unpacked, count_of, elements_of, variant_of};
 use borsh_walks::Definition;
 use itoa::Buffer;
 use json::Token;
@@ -102,7 +102,7 @@ impl<'a, 'l> Definitions<'a, 'l> {
             long_numbers: style.long_numbers,
             out: Output::new(self.alloc, style.layout),
             bytes,
-            nodes: nodes.as_slice(),
+            nodes: Unpacked::new(self.alloc, self.layout, nodes.as_slice()),
             position: Position::new(self.alloc, root),
         };
         writing.write_all()?;
@@ -174,7 +174,7 @@ struct Writing<'a, 'd, 'l, 'b, 'n> {
     long_numbers: LongNumbers,
     out: Output,
     bytes: &'b [u8],
-    nodes: &'n [Node<'a, 'b>],
+    nodes: Unpacked<'a, 'l, 'b, 'n>,
     position: Position<'a>,
 }
 
@@ -262,9 +262,7 @@ impl<'a, 'd, 'l, 'b, 'n> Writing<'a, 'd, 'l, 'b, 'n> {
         let Some(ascent) = &mut self.position.place.ascent else {
             return Ok(());
         };
-        if let [node, ..] = self.nodes {
-            ascent.begin(node.offset);
-        }
+        ascent.begin(self.nodes.offset());
         if ascent.ascends(self.definitions, self.bytes)? {
             return Ok(());
         }
@@ -275,11 +273,8 @@ impl<'a, 'd, 'l, 'b, 'n> Writing<'a, 'd, 'l, 'b, 'n> {
     fn take_node(&mut self, at: usize) -> PartResult<'a, Node<'a, 'b>>
         ensures { IfErr result (IsPartError IsUnwritable) }
     {
-        match self.nodes {
-            [node, others @ ..] if node.name == self.definitions.name(at) => {
-                self.nodes = others;
-                Ok(*node)
-            }
+        match self.nodes.next()? {
+            Some(node) if node.name == self.definitions.name(at) => Ok(node),
             _ => Err(self.position.refused(Refusal::OtherNodes)),
         }
     }
@@ -332,9 +327,7 @@ impl<'a, 'd, 'l, 'b, 'n> Writing<'a, 'd, 'l, 'b, 'n> {
         ensures { IfErr result (IsPartError IsUnwritable) }
     {
         // The node of the pair, which has no bytes of its own.
-        if let [_, others @ ..] = self.nodes {
-            self.nodes = others;
-        }
+        let _pair = self.nodes.next()?;
         let node = self.take_node(entries.key)?;
         match entries.key_kind {
             KeyKind::Text => match str::from_utf8(elements_of(&node)) {

@@ -1,13 +1,13 @@
 -- Names whose members are all bytes of one length.
 use Rattle.std.proofs.Common.{◌≡◌, ℕ, suc, zero, ◌+◌, ◌*◌, ◌<◌, ◌≤◌, List, [], ◌∷◌, ◌++◌, length, take, drop, replicate, Some, refl, sym, ◌∙◌, ap, subst, arith, length-append, length-drop, take-append-drop, length-take-le}
-use Rattle.std.specs.Prelude.{Option, slice_get}
+use Rattle.std.specs.Prelude.{Option}
 use Rattle.std.proofs.Math.Nat.{suc-mul}
 use Rattle.std.proofs.lemmas.List.Elements.{All-take, All-drop}
 use Rattle.borsh_walks.specs.Container.{Shape, primitive, sequence, product, of_primitive, of_sequence, of_parts, Members, no_members, more_members}
 use Rattle.borsh_values.proofs.PrefixFree.{member_as}
 use Rattle.borsh_values.proofs.Required.{members_head, whole, unwhole, joined, parted}
 use Rattle.borsh_values.specs.Layouts.{parts_in}
-use Rattle.borsh_values.specs.Free.{FreeSize, FreeSizes, IsFreeArray}
+use Rattle.borsh_values.specs.Free.{FreeSize, FreeSizes}
 
 module _ (C : List ℕ → Option Shape) where
   pub free_none : FreeSizes C [] 0
@@ -78,13 +78,6 @@ module _ (C : List ℕ → Option Shape) where
 
   pub free_parts : {x : List ℕ} (ps : List (List ℕ)) (n : ℕ) (o : Option Shape) (s : Shape) → C x ≡ Some s → s ≡ product ps → o ≡ Some s → FreeSizes C (parts_in o) n → FreeSize C x n
   free_parts ps n o s c e h f = free_product ps n (c ∙ ap (λ s. Some s) e) (subst (λ q. FreeSizes C (parts_in q) n) (h ∙ ap (λ s. Some s) e) f)
-
-  pub free_row : {x : List ℕ} (w lo hi all : ℕ) (el : List ℕ) (o : Option Shape) (s : Shape) → C x ≡ Some s → s ≡ sequence w lo hi el → o ≡ Some s → w ≡ 0 → lo ≡ hi → IsFreeArray C (parts_in o) lo all → FreeSize C x all
-  free_row {x} w lo hi all el o s c e h z same f =
-      let a : Some f.0 ≡ Some el = sym f.2 ∙ ap (λ q. slice_get (parts_in q) 0) (h ∙ ap (λ s. Some s) e) in
-      let q : f.0 ≡ el = cc in
-      let g : FreeSize C el f.1 = subst (λ y. FreeSize C y f.1) q f.4 in
-      subst (λ i. FreeSize C x i) (sym f.3) (free_array w lo f.1 z (c ∙ ap (λ s. Some s) (e ∙ ap (λ k. sequence w lo k el) (sym same))) g)
 
 pub some_factor : (a b : ℕ) → 0 < a * b → 0 < b
 some_factor a zero h = absurd (omega (arith, h))

@@ -24,6 +24,8 @@ pub mod Places
 pub mod Going
 pub mod ZeroLaws
 pub mod FreeLaws
+pub mod SizesLaws
+pub mod Packing
 pub mod ReadsLaws
 pub mod FrontLaws
 pub mod NextLaws

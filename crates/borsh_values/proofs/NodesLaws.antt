@@ -1,11 +1,12 @@
 -- Laws of nodes.
-use Rattle.std.proofs.Common.{◌≡◌, ℕ, suc, zero, ◌*◌, ◌≤◌, List, [], ◌∷◌, ◌++◌, length, replicate, Some, refl, sym, ◌∙◌, ap, subst, arith, append_assoc, append-nil, inl, inr}
+use Rattle.std.proofs.Common.{◌≡◌, ℕ, suc, zero, ◌*◌, ◌<◌, ◌≤◌, List, [], ◌∷◌, ◌++◌, length, replicate, Some, refl, sym, ◌∙◌, ap, subst, arith, append_assoc, append-nil, inl, inr}
 use Rattle.std.specs.Prelude.{Option, pos}
 use Rattle.borsh_walks.specs.Container.{Shape, primitive, sequence, product, choice, IsIn, first, later, variant_names, references, element_unless_none, tag, Member, of_primitive, of_sequence, of_parts, of_choice, Members, no_members, more_members, IsZeroSize, onward, Reached}
 use Rattle.borsh_walks.proofs.Names.{among_append, among_one}
 use Rattle.borsh_walks.proofs.Laws.{one_definition, variant-listed, among-replicate, length-tag, tag-zero, zero_as}
 use Rattle.borsh_values.specs.Unambiguous.{UnambiguousShape, IsUnambiguous}
-use Rattle.borsh_values.specs.Nodes.{packed_size, OpensElements, Opens, NodeView, Nodes, nodes_none, nodes_zero, nodes_more, joined_bytes}
+use Rattle.borsh_values.specs.Nodes.{packed_size, OpensElements, Opens, NodeView, Nodes, nodes_none, nodes_zero, nodes_packed, nodes_more, joined_bytes}
+use Rattle.borsh_values.specs.Sizes.{known_sizes}
 use Rattle.borsh_values.specs.Steps.{OnlyEmpty}
 use Rattle.borsh_values.proofs.PrefixFree.{same_front, same_tags, one_count, one_variant}
 use Rattle.borsh_values.proofs.Packed.{packed_is, no_more, copies_of}
@@ -14,6 +15,12 @@ use Rattle.borsh_values.proofs.Required.{unwhole}
 no_bytes : (bs : List ℕ) → length bs ≡ 0 → bs ≡ []
 no_bytes [] e = refl
 no_bytes (b ∷ bs) e = absurd (omega arith)
+
+regroup : (us vs bs cs : List ℕ) → ((us ++ vs) ++ bs) ++ cs ≡ us ++ (vs ++ (bs ++ cs))
+regroup us vs bs cs = append_assoc (us ++ vs) bs cs ∙ append_assoc us vs (bs ++ cs)
+
+some_none : (n : ℕ) → 0 < n → n ≡ 0 → ⊥
+some_none n h z = omega arith
 
 -- ---- what a definition opens, once
 one_elements : (m : ℕ) (e : List ℕ) (j k : ℕ) (cs ds r s : List ℕ) {ms ns : List (List ℕ)} → j ≡ k → OpensElements m e j cs ms → OpensElements m e k ds ns → cs ++ r ≡ ds ++ s → (cs ≡ ds) × (r ≡ s) × (ms ≡ ns)
@@ -114,7 +121,8 @@ module _ (C : List ℕ → Option Shape) where
   zero_front : (ns : List (List ℕ)) {ps : List (List ℕ)} {bs : List ℕ} {es : List NodeView} → ((q : List ℕ) → IsIn q ns → IsZeroSize C q) → Nodes C (ns ++ ps) bs es → Members C ns [] × Nodes C ps bs es
   zero_front [] f n = (no_members, n)
   zero_front (x ∷ ns) f (nodes_zero z m n) = let r = zero_front ns (λ q a. f q (later a)) n in (more_members m r.0, r.1)
-  zero_front (x ∷ ns) f (nodes_more d ms off c o n) = absurd (off (f x first))
+  zero_front (x ∷ ns) f (nodes_packed d own more ms off c o k l small n) = absurd (off (f x first))
+  zero_front (x ∷ ns) f (nodes_more d ms off c o z n) = absurd (off (f x first))
 
   -- a name of zero size was opened
   pub nodes_opened_zero : {x bs : List ℕ} {qs : List (List ℕ)} {es : List NodeView} (d : Shape) (own : List ℕ) (ns : List (List ℕ)) → C x ≡ Some d → Opens C d own ns → IsZeroSize C x → Nodes C (ns ++ qs) bs es → Nodes C (x ∷ qs) (own ++ bs) es
@@ -127,7 +135,8 @@ module _ (C : List ℕ → Option Shape) where
   pub nodes_bytes : {ps : List (List ℕ)} {bs : List ℕ} {es : List NodeView} → Nodes C ps bs es → bs ≡ joined_bytes es
   nodes_bytes nodes_none = refl
   nodes_bytes (nodes_zero z m n) = nodes_bytes n
-  nodes_bytes (nodes_more {own = own} d ns off c o n) = ap (λ l. own ++ l) (nodes_bytes n)
+  nodes_bytes (nodes_packed d own more ns off c o k l small n) = ap (λ b. (own ++ more) ++ b) (nodes_bytes n)
+  nodes_bytes (nodes_more {own = own} d ns off c o z n) = ap (λ l. own ++ l) (nodes_bytes n)
 
   -- and nodes are of members
   module _ (root : List ℕ) (one : IsUnambiguous C root) where
@@ -138,9 +147,25 @@ module _ (C : List ℕ → Option Shape) where
     pub one_reading : {ps : List (List ℕ)} {bs cs : List ℕ} {es fs : List NodeView} (r s : List ℕ) → ((y : List ℕ) → IsIn y ps → Reached C root y) → Nodes C ps bs es → Nodes C ps cs fs → bs ++ r ≡ cs ++ s → es ≡ fs
     one_reading r s l nodes_none nodes_none e = refl
     one_reading r s l (nodes_zero z m n) (nodes_zero y k h) e = one_reading r s (λ y a. l y (later a)) n h e
-    one_reading r s l (nodes_zero z m n) (nodes_more d ns off c o h) e = absurd (off z)
-    one_reading r s l (nodes_more d ns off c o n) (nodes_zero z m h) e = absurd (off z)
-    one_reading r s l (nodes_more {x = x} {own = own} {bs = us} {ps = ps} {es = es} d ms off c o n) (nodes_more {own = other} {bs = vs} {es = fs} f ns off_too b p h) e =
+    one_reading r s l (nodes_zero z m n) (nodes_packed d own more ns off c o k j small h) e = absurd (off z)
+    one_reading r s l (nodes_zero z m n) (nodes_more d ns off c o k h) e = absurd (off z)
+    one_reading r s l (nodes_packed d own more ns off c o k j small n) (nodes_zero z m h) e = absurd (off z)
+    one_reading r s l (nodes_packed {x = x} {bs = us} {es = es} d own more ms off c o k j small n) (nodes_packed {bs = vs} {es = fs} f other less ns off_too b p q i little h) e =
+        let same : f ≡ d = one_definition b c in
+        let t = opens_one C d (more ++ (us ++ r)) (less ++ (vs ++ s)) (one x d (l x first) c) o (subst (λ i. Opens C i other ns) same p) (sym (regroup own more us r) ∙ e ∙ regroup other less vs s) in
+        let a = same_front more less (us ++ r) (vs ++ s) t.1 (j ∙ ap (λ l. known_sizes C l) t.2 ∙ sym i) in
+        let g = one_reading r s (λ y a. l y (later a)) n h a.1 in
+        ap (λ i. (x, d, i ++ more) ∷ es) t.0 ∙ ap (λ i. (x, d, other ++ i) ∷ es) a.0 ∙ ap (λ i. (x, d, other ++ less) ∷ i) g ∙ ap (λ i. (x, i, other ++ less) ∷ fs) (sym same)
+    one_reading r s l (nodes_packed {x = x} {bs = us} d own more ms off c o k j small n) (nodes_more {own = other} {bs = vs} f ns off_too b p z h) e =
+        let same : f ≡ d = one_definition b c in
+        let t = opens_one C d (more ++ (us ++ r)) (vs ++ s) (one x d (l x first) c) o (subst (λ i. Opens C i other ns) same p) (sym (regroup own more us r) ∙ e ∙ append_assoc other vs s) in
+        absurd (some_none (known_sizes C ms) k (ap (λ l. known_sizes C l) t.2 ∙ z))
+    one_reading r s l (nodes_more d ns off c o z n) (nodes_zero y m h) e = absurd (off y)
+    one_reading r s l (nodes_more {x = x} {own = own} {bs = us} d ms off c o z n) (nodes_packed {bs = vs} f other less ns off_too b p q i little h) e =
+        let same : f ≡ d = one_definition b c in
+        let t = opens_one C d (us ++ r) (less ++ (vs ++ s)) (one x d (l x first) c) o (subst (λ i. Opens C i other ns) same p) (sym (append_assoc own us r) ∙ e ∙ regroup other less vs s) in
+        absurd (some_none (known_sizes C ns) q (ap (λ l. known_sizes C l) (sym t.2) ∙ z))
+    one_reading r s l (nodes_more {x = x} {own = own} {bs = us} {ps = ps} {es = es} d ms off c o z n) (nodes_more {own = other} {bs = vs} {es = fs} f ns off_too b p y h) e =
         let same : f ≡ d = one_definition b c in
         let q : Opens C d other ns = subst (λ i. Opens C i other ns) same p in
         let t = opens_one C d (us ++ r) (vs ++ s) (one x d (l x first) c) o q (sym (append_assoc own us r) ∙ e ∙ append_assoc other vs s) in

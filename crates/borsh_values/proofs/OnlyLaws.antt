@@ -1,5 +1,5 @@
 -- Members that are the only ones where bytes begin so.
-use Rattle.std.proofs.Common.{◌≡◌, ℕ, suc, zero, ◌+◌, ◌-◌, ◌<◌, ◌≤◌, List, [], ◌∷◌, ◌++◌, length, take, drop, replicate, Some, None, refl, sym, ◌∙◌, ap, subst, arith, add-one, append_assoc, append-nil, length-drop, length-take-le, take-add}
+use Rattle.std.proofs.Common.{◌≡◌, ℕ, suc, zero, ◌+◌, ◌-◌, ◌<◌, ◌≤◌, List, [], ◌∷◌, ◌++◌, length, take, drop, replicate, Some, None, refl, sym, ◌∙◌, ap, subst, arith, add-one, append_assoc, append-nil, length-append, length-drop, length-take-le, take-add, take-append-drop}
 use Rattle.std.specs.Prelude.{Option, All, IfSome, slice_get, ℤ}
 use Rattle.std.proofs.lemmas.List.Elements.{All-take, All-drop}
 use Rattle.borsh_walks.specs.Container.{Shape, product, choice, Members, no_members}
@@ -7,6 +7,7 @@ use Rattle.borsh_walks.specs.Container.{variant_names}
 use Rattle.borsh_values.specs.declared.layout.Named.{Named}
 use Rattle.borsh_values.specs.declared.frames.Rest.TheVariants.{Copies}
 use Rattle.borsh_values.specs.declared.tags.Found.TheVariants.{One}
+use Rattle.borsh_values.specs.Faults.{BeginsWith}
 use Rattle.borsh_values.specs.Nodes.{Opens}
 use Rattle.borsh_values.specs.Steps.{OpensOnce, Takes, FoundAs, step_count}
 use Rattle.borsh_values.specs.Free.{FreeSize, FreeSizes, AreOnly, AreFirst, IsTagLength, IsRun, IsFreeFront, Passes}
@@ -65,6 +66,24 @@ module _ (C : List ℕ → Option Shape) where
 
   pub first_taken : {x : List ℕ} (d : Shape) (bytes : List ℕ) (n : ℕ) → C x ≡ Some d → Takes C d bytes n [] → AreFirst C (x ∷ []) bytes n
   first_taken {x} d bytes n c t = (t.within, subst (λ l. AreOnly C (x ∷ []) l) (append-nil (take n bytes)) (only_open d [] c t.opens t.once only_none))
+
+  -- a definition whose parts are of free sizes
+  pub first_packed : {x : List ℕ} (d : Shape) (bytes : List ℕ) (n m : ℕ) (ns : List (List ℕ)) → C x ≡ Some d → Takes C d bytes n ns → FreeSizes C ns m → n + m ≤ length bytes → All (λ b. b < 256) bytes → AreFirst C (x ∷ []) bytes (n + m)
+  first_packed {x} d bytes n m ns c t f low small =
+      let k = length-drop n bytes in
+      (low, subst (λ l. AreOnly C (x ∷ []) l) (sym (take-add n m bytes)) (only_open d ns c t.opens t.once (first_free (drop n bytes) m f (omega (arith, k, low)) (All-drop (λ b. b < 256) n bytes small)).1))
+
+  -- where there are too few bytes for them, no member begins
+  pub none_short : {x : List ℕ} (d : Shape) (bytes : List ℕ) (n m : ℕ) (ns : List (List ℕ)) → C x ≡ Some d → Takes C d bytes n ns → FreeSizes C ns m → length bytes < n + m → BeginsWith C x bytes → ⊥
+  none_short d bytes n m ns c t f low b =
+      let o = member_opens C d c b.2 in
+      let joins : o.0 ++ (o.2 ++ b.1) ≡ take n bytes ++ drop n bytes = sym (append_assoc o.0 o.2 b.1) ∙ ap (λ l. l ++ b.1) (sym o.5) ∙ sym b.3 ∙ sym (take-append-drop n bytes) in
+      let q = t.once o.0 o.1 (o.2 ++ b.1) (drop n bytes) o.3 joins in
+      let long : length o.2 ≡ m = (f o.2).0 (subst (λ l. Members C l o.2) q.2 o.4) in
+      let own : length o.0 ≡ n = ap (λ l. length l) q.0 ∙ length-take-le n bytes t.within in
+      let whole : length bytes ≡ length b.0 + length b.1 = ap (λ l. length l) b.3 ∙ length-append b.0 b.1 in
+      let part : length b.0 ≡ length o.0 + length o.2 = ap (λ l. length l) o.5 ∙ length-append o.0 o.2 in
+      omega (arith, long, own, whole, part, low)
 
   pub first_product : {x : List ℕ} (ps : List (List ℕ)) (bytes : List ℕ) (n : ℕ) → C x ≡ Some (product ps) → AreFirst C ps bytes n → AreFirst C (x ∷ []) bytes n
   first_product ps bytes n c h = (h.0, only_open (product ps) ps c (refl, refl) (opens_once C (product ps) [] ps tt (refl, refl)) h.1)

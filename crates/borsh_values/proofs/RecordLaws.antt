@@ -16,7 +16,7 @@ use Rattle.borsh_values.specs.Next.{IsFirst}
 use Rattle.borsh_values.specs.declared.faults.Fault.{Fault}
 use Rattle.borsh_values.proofs.NextLaws.{is_first}
 use Rattle.borsh_values.specs.declared.buffered.Buffered.{Buffered}
-use Rattle.borsh_values.specs.Records.{reader_of, held, Lost, IsUnread, ReadsMore, TakesHeld, IsFirstOf, IsRecordError, FaultsAre, Advances, AdvancesFrom, AdvancesHeld, SameRoot, Falls, most_at_once, turns_left, ahead, limit_of, next_offset, source_of, value_of}
+use Rattle.borsh_values.specs.Records.{reader_of, held, Lost, IsUnread, ReadsMore, TakesHeld, IsFirstOf, IsRecordError, FaultsAre, Advances, AdvancesFrom, AdvancesHeld, SameRoot, Falls, most_at_once, ahead, limit_of, next_offset, source_of, value_of}
 use Rattle.borsh_values.specs.declared.records.Records.{Records}
 use Rattle.borsh_values.specs.declared.records.RecordError.{RecordError}
 use Rattle.borsh_values.specs.declared.records.RecordError.TheVariants.{NoMember, CutShort, TooLong, EmptyValue, Ambiguous, Reader, OutOfMemory}

@@ -2,11 +2,12 @@
 use Rattle.std.proofs.Common.{◌≡◌, ℕ, List, [], ◌∷◌, ◌++◌, refl, sym, ◌∙◌, ap, subst, append_assoc}
 use Rattle.std.specs.Prelude.{Option, Bool, true, false}
 use Rattle.borsh_walks.specs.Container.{Shape, Member, Members, no_members, more_members}
-use Rattle.borsh_values.specs.Nodes.{NodeView, views, Nodes, nodes_none, nodes_zero, nodes_more, joined_bytes}
+use Rattle.borsh_values.specs.Nodes.{NodeView, views, Nodes, nodes_none, nodes_zero, nodes_packed, nodes_more, joined_bytes}
 use Rattle.borsh_values.specs.Encoded.{names_and_bytes, IsValueOf, HaveNodes}
 use Rattle.borsh_values.specs.Unambiguous.{IsUnambiguous}
 use Rattle.borsh_values.specs.declared.nodes.Node.{Node}
 use Rattle.borsh_values.proofs.NodesLaws.{nodes_bytes, opens_member}
+use Rattle.borsh_values.proofs.SizesLaws.{packed_members}
 use Rattle.borsh_values.proofs.Required.{parted}
 use Rattle.borsh_values.proofs.Required.{unwhole}
 
@@ -24,7 +25,8 @@ module _ (C : List ℕ → Option Shape) where
   nodes_members : {ps : List (List ℕ)} {bs : List ℕ} {es : List NodeView} → Nodes C ps bs es → Members C ps bs
   nodes_members nodes_none = no_members
   nodes_members (nodes_zero z m n) = more_members m (nodes_members n)
-  nodes_members (nodes_more {x = x} {own = own} {bs = bs} {ps = ps} d ns off c o n) =
+  nodes_members (nodes_packed d own more ns off c o k l small n) = more_members (opens_member C d own more ns c o (packed_members C ns more k l small)) (nodes_members n)
+  nodes_members (nodes_more {x = x} {own = own} {bs = bs} {ps = ps} d ns off c o z n) =
       let s = parted C ns (nodes_members n) in
       subst (λ l. Members C (x ∷ ps) l) (append_assoc own s.0 s.1 ∙ ap (λ l. own ++ l) (sym s.4)) (more_members (opens_member C d own s.0 ns c o s.2) s.3)
 

@@ -1,5 +1,5 @@
 -- Names whose members are all bytes of one length.
-use Rattle.std.specs.Prelude.{◌≡◌, ◌<◌, ◌≤◌, ◌*◌, ◌-◌, ℕ, suc, List, [], ◌∷◌, ◌++◌, length, take, replicate, All, IfSome, Option, Some, get_or, slice_get}
+use Rattle.std.specs.Prelude.{◌≡◌, ◌<◌, ◌≤◌, ◌-◌, ℕ, suc, List, [], ◌∷◌, ◌++◌, length, take, replicate, All, IfSome, Option, get_or}
 use Rattle.borsh_walks.specs.Container.{Shape, Member, Members}
 use Rattle.borsh_walks.specs.Definitions.{definitions_in}
 use Rattle.borsh_values.specs.declared.layout.Layout.{Layout}
@@ -12,6 +12,7 @@ use Rattle.borsh_values.specs.declared.free.Passed.{Passed}
 use Rattle.borsh_values.specs.Layouts.{name_at}
 use Rattle.borsh_values.specs.Steps.{remaining, step_count, Fits}
 use Rattle.borsh_values.specs.Zeros.{AreZeros}
+use Rattle.borsh_values.specs.Sizes.{AreSizes, known_size}
 
 module _ (C : List ℕ → Option Shape) where
   -- each n bytes are a member of the name, and it has no others
@@ -25,10 +26,6 @@ module _ (C : List ℕ → Option Shape) where
   -- a free size, or 0 where none is known
   abbrev pub IsFree : List ℕ → ℕ → Type 0
   IsFree x n = 0 < n → FreeSize x n
-
-  -- so many elements of the only name have that size together
-  abbrev pub IsFreeArray : List (List ℕ) → ℕ → ℕ → Type 0
-  IsFreeArray ps k all = (e : List ℕ) × (n : ℕ) × (slice_get ps 0 ≡ Some e) × (all ≡ k * n) × FreeSize e n
 
   -- the bytes are members of the names, one after another, and no others of these begin what begins so
   pub record AreOnly (ps : List (List ℕ)) (own : List ℕ) : Type 0 where
@@ -70,4 +67,5 @@ Passes at count r p = (0 < r.taken) × (p ≡ record { taken = r.taken; rest = C
 -- what a layout says of sizes is right: which are free, and which names have values without bytes
 pub record KnowsSizes (l : Layout) : Type 0 where
   pub free : AreFree (definitions_in l.map.now) l.names.items l.sizes.items
+  pub known : AreSizes (λ x. known_size (definitions_in l.map.now) x) l.names.items l.sizes.items
   pub zeros : AreZeros (definitions_in l.map.now) l.names.items l.zeros.items

@@ -3,6 +3,7 @@ pub mod Membership
 pub mod Numbers
 pub mod Tags
 pub mod Keys
+pub mod Sizes
 pub mod Nodes
 pub mod Faults
 pub mod Decoding
@@ -16,3 +17,4 @@ pub mod Passing
 pub mod Fronts
 pub mod Next
 pub mod Records
+pub mod Unpacked

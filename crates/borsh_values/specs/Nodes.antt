@@ -1,9 +1,10 @@
--- The nodes of a value: its parts in preorder, each with the bytes that it encodes before its own parts.
+-- The nodes of a value: its parts in preorder, each with the bytes that it encodes before its own parts, and with those of parts whose sizes are known.
 use Rattle.std.specs.Prelude.{◌≡◌, ◌⊎◌, ⊤, ℕ, suc, zero, ◌+◌, ◌*◌, ◌<◌, ◌≤◌, ℤ, pos, List, [], ◌∷◌, ◌++◌, length, replicate, take, drop, Option, Some, None, MatchOption, All, String}
 use Rattle.std.specs.BTreeMap.{BTreeMap, get_by_text}
 use Rattle.borsh_walks.specs.declared.definition.Definition.{Definition}
 use Rattle.borsh_values.specs.Numbers.{value_of}
 use Rattle.borsh_values.specs.Tags.{IsVariantIndex}
+use Rattle.borsh_values.specs.Sizes.{known_sizes}
 use Rattle.borsh_walks.specs.Definitions.{shape_of}
 use Rattle.borsh_values.specs.declared.nodes.Node.{Node}
 use Rattle.borsh_walks.specs.Container.{Shape, primitive, sequence, product, choice, IsListedVariant, tag, Member, IsZeroSize}
@@ -26,12 +27,12 @@ module _ (C : List ℕ → Option Shape) where
   Opens (product ps) own ns = (own ≡ []) × (ns ≡ ps)
   Opens (choice w vs) own ns = (k : ℤ) × (p : List ℕ) × IsListedVariant k p vs × (own ≡ tag w k) × (ns ≡ p ∷ [])
 
--- the place of the variant that own bytes encode; none of a definition of another kind
+-- the place of the variant that the first of the own bytes encode; none of a definition of another kind
 abbrev pub IsVariantOf : Shape → List ℕ → Option ℕ → Type 0
 IsVariantOf (primitive n) own found = found ≡ None
 IsVariantOf (sequence w lo hi e) own found = found ≡ None
 IsVariantOf (product ps) own found = found ≡ None
-IsVariantOf (choice w vs) own found = IsVariantIndex vs own found
+IsVariantOf (choice w vs) own found = IsVariantIndex vs (take w own) found
 
 -- the number of elements that the own bytes of a sequence say: that of its definition where no byte says it, else that of its first bytes, where there are as many, and at most eight; none of a definition of another kind
 abbrev pub IsCountOf : Shape → List ℕ → Option ℕ → Type 0
@@ -80,11 +81,12 @@ abbrev pub ListsNode : (List ℕ → Option Shape) → Node → List Node → Li
 ListsNode C n old new = ((n.bytes.now ≡ []) × IsZeroSize C n.name.now × (new ≡ old)) ⊎ ((n.bytes.now ≡ [] → IsZeroSize C n.name.now → ⊥) × (new ≡ old ++ n ∷ []))
 
 module _ (C : List ℕ → Option Shape) where
-  -- bytes are members of the names, one after another, and these are the nodes; a value of a name of zero size has no node
+  -- bytes are members of the names, one after another, and these are the nodes; a value of a name of zero size has no node, and where the sizes of all parts are known, their bytes are in the node around them
   pub data Nodes : List (List ℕ) → List ℕ → List NodeView → Type 0 where
     nodes_none : Nodes [] [] []
     nodes_zero : {x bs : List ℕ} {ps : List (List ℕ)} {es : List NodeView} → IsZeroSize C x → Member C x [] → Nodes ps bs es → Nodes (x ∷ ps) bs es
-    nodes_more : {x own bs : List ℕ} {ps : List (List ℕ)} {es : List NodeView} (d : Shape) (ns : List (List ℕ)) → (IsZeroSize C x → ⊥) → C x ≡ Some d → Opens C d own ns → Nodes (ns ++ ps) bs es → Nodes (x ∷ ps) (own ++ bs) ((x, d, own) ∷ es)
+    nodes_packed : {x bs : List ℕ} {ps : List (List ℕ)} {es : List NodeView} (d : Shape) (own more : List ℕ) (ns : List (List ℕ)) → (IsZeroSize C x → ⊥) → C x ≡ Some d → Opens C d own ns → 0 < known_sizes C ns → length more ≡ known_sizes C ns → All (λ b. b < 256) more → Nodes ps bs es → Nodes (x ∷ ps) ((own ++ more) ++ bs) ((x, d, own ++ more) ∷ es)
+    nodes_more : {x own bs : List ℕ} {ps : List (List ℕ)} {es : List NodeView} (d : Shape) (ns : List (List ℕ)) → (IsZeroSize C x → ⊥) → C x ≡ Some d → Opens C d own ns → known_sizes C ns ≡ 0 → Nodes (ns ++ ps) bs es → Nodes (x ∷ ps) (own ++ bs) ((x, d, own) ∷ es)
 
   -- bytes are read of the names ps and the names qs are left: each definition in turn is opened, and its parts come next
   pub data Reads : List (List ℕ) → List ℕ → List (List ℕ) → Type 0 where

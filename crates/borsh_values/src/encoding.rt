@@ -10,7 +10,8 @@ use borsh_walks::Definition;
 use std::alloc::{AllocError, Global};
 use std::collections::BTreeMap;
 
-fn node_at<'a, 'b>(nodes: &[Node<'a, 'b>], index: usize) -> Option<Node<'a, 'b>>
+/// The node at an index.
+pub fn node_at<'a, 'b>(nodes: &[Node<'a, 'b>], index: usize) -> Option<Node<'a, 'b>>
     ensures { result ≡ slice_get nodes.now index }
 {
     nodes.get(index).copied()

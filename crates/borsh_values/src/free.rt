@@ -1,9 +1,11 @@
 // Names whose members are all bytes of one length: these bytes are passed at once.
-ghost use Rattle.borsh_values.specs.Free.{AreFree, FreeSizes, IsFree, IsFreeArray, IsFreeFront, KnowsSizes};
-ghost use Rattle.borsh_values.specs.Layouts.{IsLaidOut, name_at, parts_in, shape_at};
-ghost use Rattle.borsh_values.specs.Steps.{Fits};
+ghost use Rattle.borsh_values.specs.Free.{AreFree, IsFreeFront, KnowsSizes};
+ghost use Rattle.borsh_values.specs.Layouts.{IsLaidOut, parts_in, shape_at};
+ghost use Rattle.borsh_values.specs.Passing.{Packs};
+ghost use Rattle.borsh_values.specs.Sizes.{AreSizes, AreSizesBy, fitting, known_by, known_size, known_sizes, together};
+ghost use Rattle.borsh_values.specs.Steps.{Fits, remaining};
 ghost use Rattle.borsh_walks.specs.Definitions.{definitions_in};
-ghost use Rattle.std.specs.Prelude.{IfOk, IfSome, OnOk, ◌*◌, ◌≡◌, ◌<◌, get_or, length, replicate, slice_set};
+ghost use Rattle.std.specs.Prelude.{IfOk, IfSome, List, Some, cond, drop, eqb, map, ℕ, ◌*◌, ◌≡◌, ◌<◌, ◌≤◌, get_or, length, replicate, slice_get};
 
 use crate::frames::{Rest, part_at};
 use crate::layout::Layout;
@@ -26,16 +28,10 @@ pub fn size_at(sizes: &Vec<u64>, at: usize) -> u64
     sizes.as_slice().get(at).copied().unwrap_or(0)
 }
 
-fn set_size(sizes: &mut Vec<u64>, at: usize, size: u64)
-    requires { at < length sizes.old.items }
-    ensures { sizes.new.items ≡ slice_set sizes.old.items at size }
-{
-    sizes[at] = size;
-}
-
 // The product, or 0 where it has more than 64 bits.
 fn product(count: u64, size: u64) -> u64
-    ensures { 0 < result → result ≡ count * size }
+    ensures some { 0 < result → result ≡ count * size }
+    ensures fitting { result ≡ fitting (count * size) }
 {
     match count.checked_mul(size) {
         Some(all) => all,
@@ -43,16 +39,16 @@ fn product(count: u64, size: u64) -> u64
     }
 }
 
-// The size of all parts of the struct or tuple at a place, by those that are known; 0 where one isn't.
-fn size_of_parts(layout: &Layout<'_>, sizes: &Vec<u64>, at: usize) -> u64
+// The size of the parts of the definition at a place together, from an index on, by the sizes of names.
+fn size_of_parts(layout: &Layout<'_>, sizes: &Vec<u64>, at: usize, next: usize) -> u64
     requires laid_out { IsLaidOut layout.now }
     requires within { at < length layout.now.names.items }
-    requires free { AreFree (definitions_in layout.now.map.now) layout.now.names.items sizes.now.items }
-    ensures { let parts = parts_in (shape_at layout.now.names.items at) in
-        0 < result → FreeSizes (definitions_in layout.now.map.now) parts result }
+    ensures { let parts = drop next (parts_in (shape_at layout.now.names.items at)) in
+        (P : List ℕ → ℕ) → AreSizes P layout.now.names.items sizes.now.items →
+        result ≡ together (map P parts) }
 {
     let mut total: u64 = 0;
-    let mut index: usize = 0;
+    let mut index = next;
     while let Some(part) = part_at(layout, at, index) {
         let size = size_at(sizes, part);
         if size == 0 {
@@ -67,45 +63,46 @@ fn size_of_parts(layout: &Layout<'_>, sizes: &Vec<u64>, at: usize) -> u64
     total
 }
 
-// The size of the array at a place, of so many elements, by that of an element; 0 where that isn't known.
-fn size_of_array(layout: &Layout<'_>, sizes: &Vec<u64>, at: usize, count: u64) -> u64
+// The size of the sequence at a place, of `start` to `end` elements that no count precedes, by the sizes of names.
+fn size_of_array(layout: &Layout<'_>, sizes: &Vec<u64>, at: usize, start: u64, end: u64) -> u64
     requires laid_out { IsLaidOut layout.now }
     requires within { at < length layout.now.names.items }
-    requires free { AreFree (definitions_in layout.now.map.now) layout.now.names.items sizes.now.items }
     ensures { let parts = parts_in (shape_at layout.now.names.items at) in
-        0 < result → IsFreeArray (definitions_in layout.now.map.now) parts count result }
+        (P : List ℕ → ℕ) (e : List ℕ) → AreSizes P layout.now.names.items sizes.now.items →
+        slice_get parts 0 ≡ Some e → result ≡ cond (eqb start end) (fitting (start * P e)) 0 }
 {
+    if start != end {
+        return 0;
+    }
     match part_at(layout, at, 0) {
-        Some(part) => product(count, size_at(sizes, part)),
+        Some(part) => product(start, size_at(sizes, part)),
         None => 0,
     }
 }
 
-// The size of the name at a place, by those of its parts; 0 where it has none, or none that is known.
-fn free_size(layout: &Layout<'_>, sizes: &Vec<u64>, at: usize) -> u64
+// The size of the name at a place, by the sizes of names; 0 where it isn't known.
+fn size_of_name(layout: &Layout<'_>, sizes: &Vec<u64>, at: usize) -> u64
     requires laid_out { IsLaidOut layout.now }
     requires within { at < length layout.now.names.items }
-    requires free { AreFree (definitions_in layout.now.map.now) layout.now.names.items sizes.now.items }
-    ensures { let name = name_at layout.now.names.items at in
-        IsFree (definitions_in layout.now.map.now) name result }
+    ensures { (P : List ℕ → ℕ) → AreSizes P layout.now.names.items sizes.now.items →
+        result ≡ known_by P (shape_at layout.now.names.items at) }
 {
     let Some(definition) = definition_at(&layout.names, at) else {
         return 0;
     };
     match definition {
         Definition::Primitive(size) => u64::from(*size),
-        Definition::Tuple { .. } => size_of_parts(layout, sizes, at),
-        Definition::Struct { .. } => size_of_parts(layout, sizes, at),
+        Definition::Tuple { .. } => size_of_parts(layout, sizes, at, 0),
+        Definition::Struct { .. } => size_of_parts(layout, sizes, at, 0),
         Definition::Sequence {
             length_width,
             length_range,
             ..
         } => {
-            if *length_width == 0 && length_range.start == length_range.end {
-                size_of_array(layout, sizes, at, length_range.start)
-            } else {
-                0
+            if *length_width != 0 {
+                return 0;
             }
+            size_of_array(layout, sizes, at, length_range.start, length_range.end)
         }
         Definition::Enum { .. } => 0,
     }
@@ -118,35 +115,89 @@ fn no_sizes(alloc: Global, count: usize) -> Result<Vec<u64>, AllocError>
     vec![in alloc; 0; count]
 }
 
-// Finds the sizes of names whose parts have known sizes, the last names first.
-fn find_sizes(layout: &Layout<'_>, sizes: &mut Vec<u64>)
-    requires laid_out { IsLaidOut layout.now }
-    requires long { length sizes.old.items ≡ length layout.now.names.items }
-    requires free { AreFree (definitions_in layout.now.map.now) layout.now.names.items sizes.old.items }
-    ensures long { length sizes.new.items ≡ length layout.now.names.items }
-    ensures free { AreFree (definitions_in layout.now.map.now) layout.now.names.items sizes.new.items }
+// The sizes of all names, by those that are known.
+fn next_sizes(alloc: Global, layout: &Layout<'_>, sizes: &Vec<u64>) -> Result<Vec<u64>, AllocError>
+    requires { IsLaidOut layout.now }
+    ensures { let ns = layout.now.names.items in
+        IfOk result (λ v. (P : List ℕ → ℕ) → AreSizes P ns sizes.now.items → AreSizesBy P ns v.items) }
 {
-    let mut at = layout.names.len();
-    while at > 0 {
-        at -= 1;
-        if size_at(sizes, at) == 0 {
-            let size = free_size(layout, sizes, at);
-            set_size(sizes, at, size);
-        }
+    let count = layout.names.len();
+    let mut found: Vec<u64> = Vec::with_capacity(alloc, count)?;
+    let mut at: usize = 0;
+    while at < count {
+        let size = size_of_name(layout, sizes, at);
+        found.push(size)?;
+        at += 1;
+    }
+    Ok(found)
+}
+
+/// The sizes that are known of the names of a layout.
+pub fn free_sizes(alloc: Global, layout: &Layout<'_>) -> Result<Vec<u64>, AllocError>
+    requires { IsLaidOut layout.now }
+    ensures free { let C = definitions_in layout.now.map.now in
+        IfOk result (λ v. AreFree C layout.now.names.items v.items) }
+    ensures known { let C = definitions_in layout.now.map.now in
+        IfOk result (λ v. AreSizes (λ x. known_size C x) layout.now.names.items v.items) }
+{
+    let mut sizes = no_sizes(alloc, layout.names.len())?;
+    let mut depth: usize = 0;
+    while depth < 8 {
+        sizes = next_sizes(alloc, layout, &sizes)?;
+        depth += 1;
+    }
+    Ok(sizes)
+}
+
+// The size of the names that are still to be read together, where that of each is known; else 0.
+fn size_of_rest(layout: &Layout<'_>, rest: Rest) -> u64
+    requires laid_out { IsLaidOut layout.now }
+    requires sizes { KnowsSizes layout.now }
+    requires fits { Fits layout.now.names.items rest }
+    ensures { let C = definitions_in layout.now.map.now in
+        result ≡ known_sizes C (remaining layout.now.names.items rest) }
+{
+    match rest {
+        Rest::Copies(at, count) => product(count, size_at(&layout.sizes, at)),
+        Rest::Parts(at, next) => size_of_parts(layout, &layout.sizes, at, next),
     }
 }
 
-/// The free sizes of the names of a layout, as far as three passes over the names find them.
-pub fn free_sizes(alloc: Global, layout: &Layout<'_>) -> Result<Vec<u64>, AllocError>
-    requires { IsLaidOut layout.now }
-    ensures { let C = definitions_in layout.now.map.now in
-        IfOk result (λ v. AreFree C layout.now.names.items v.items) }
+/// What the definition of the name at a place takes, of which `taken` bytes come before the parts `rest`: these too, if nodes are
+/// wanted, the size of each is known, and there are as many bytes.
+pub fn pack(
+    layout: &Layout<'_>,
+    wanted: bool,
+    at: usize,
+    taken: usize,
+    rest: Rest,
+    left: &[u8],
+) -> Passed
+    requires laid_out { IsLaidOut layout.now }
+    requires sizes { KnowsSizes layout.now }
+    requires within { at < length layout.now.names.items }
+    requires taken { taken ≤ length left.now }
+    requires fits { Fits layout.now.names.items rest }
+    ensures taken { result.taken ≤ length left.now }
+    ensures fits { Fits layout.now.names.items result.rest }
+    ensures packs { let C = definitions_in layout.now.map.now in
+        Packs C layout.now.names.items wanted taken rest left.now result }
 {
-    let mut sizes = no_sizes(alloc, layout.names.len())?;
-    find_sizes(layout, &mut sizes);
-    find_sizes(layout, &mut sizes);
-    find_sizes(layout, &mut sizes);
-    Ok(sizes)
+    let opened = Passed { taken, rest };
+    if !wanted {
+        return opened;
+    }
+    let size = size_of_rest(layout, rest);
+    if size == 0 {
+        return opened;
+    }
+    if size > (left.len() - taken) as u64 {
+        return opened;
+    }
+    Passed {
+        taken: taken + size as usize,
+        rest: Rest::Copies(at, 0),
+    }
 }
 
 /// The next names, as many as are passed at once: those of a free size, or a run of values.

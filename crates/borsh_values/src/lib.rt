@@ -2,7 +2,7 @@
 //! of the type are known.
 //!
 //! [`is_member`] says whether bytes are a value, and where they aren't; [`decode`] lists the nodes of the value,
-//! and [`encode_value`] gives the bytes of a value by its nodes. [`find_ambiguous`] says whether the definitions
+//! [`Unpacked`] also those of parts that lie in them, and [`encode_value`] gives the bytes of a value by its nodes. [`find_ambiguous`] says whether the definitions
 //! allow at most one value for any bytes. Each takes any definitions: names that lead back to themselves, names
 //! without a definition, and 18446744073709551615 elements without bytes. None recurses.
 #![tactic(auto)]
@@ -26,6 +26,7 @@ mod runs;
 mod tag_tables;
 mod tags;
 mod unambiguous;
+mod unpacked;
 mod zeros;
 
 pub use buffered::Buffered;
@@ -39,3 +40,4 @@ pub use nodes::{Node, count_of, elements_of, encode, variant_of};
 pub use paths::Paths;
 pub use records::{MOST_BYTES, RecordError, Records};
 pub use unambiguous::find_ambiguous;
+pub use unpacked::Unpacked;

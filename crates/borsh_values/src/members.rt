@@ -14,7 +14,7 @@ ghost use Rattle.std.specs.Prelude.{IfOk, IfSome, None, Some, ◌+◌, ◌-◌, 
 
 use crate::faults::{Fault, Path, Reason, no_member};
 use crate::frames::{Frame, Opened, Rest, after_copies, has_parts, next_part};
-use crate::free::free_front;
+use crate::free::{free_front, pack};
 use crate::fronts::Front;
 use crate::layout::{Layout, name_of};
 use crate::nodes::{Node, list_node};
@@ -408,7 +408,10 @@ pub fn decide<'a, 'b>(
                                 why,
                             );
                         }
-                        Opened::Taken(taken, rest) => {
+                        Opened::Taken(own, parts) => {
+                            let packed = pack(layout, wanted, step.at, own, parts, left);
+                            let taken = packed.taken;
+                            let rest = packed.rest;
                             let offset = offset_of(bytes, left);
                             let depth = stack.len();
                             let node = Node {

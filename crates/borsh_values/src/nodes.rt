@@ -3,7 +3,7 @@ ghost use Rattle.borsh_values.specs.Free.{KnowsSizes};
 ghost use Rattle.borsh_values.specs.Layouts.{name_at};
 ghost use Rattle.borsh_values.specs.Nodes.{AreElementsOf, IsCountOf, IsVariantOf, ListsNode, joined_bytes, views};
 ghost use Rattle.borsh_walks.specs.Definitions.{definitions_in, shape_of};
-ghost use Rattle.std.specs.Prelude.{IfOk, OnOk, ◌≡◌, ◌<◌, length, true};
+ghost use Rattle.std.specs.Prelude.{IfOk, OnOk, ◌≡◌, ◌<◌, length, take, true};
 
 use crate::layout::Layout;
 use crate::numbers::number;
@@ -13,8 +13,9 @@ use borsh_walks::Definition;
 use std::alloc::{AllocError, Global};
 
 /// A part of a value, or the value itself, with the bytes that it encodes before its own parts: a primitive all
-/// its bytes, a sequence its count, an enum its tag, a struct and a tuple none. The elements of a sequence that are
-/// primitives of some bytes are no parts: their bytes follow the count, in the node of the sequence.
+/// its bytes, a sequence its count, an enum its tag, a struct and a tuple none. The bytes of parts of known sizes follow
+/// these in the same node: of primitives of some bytes, and of structs, tuples and arrays of these, up to 8 within one
+/// another. [`crate::Unpacked`] gives such parts nodes of their own.
 ///
 /// [`variant_of`] gives the variant of an enum, [`count_of`] the number of elements of a sequence, [`elements_of`] their
 /// bytes where these are in its node, and [`crate::Paths`] the path of each node in turn.
@@ -42,8 +43,22 @@ pub fn variant_of(node: &Node<'_, '_>) -> Option<usize>
     ensures { IsVariantOf (shape_of node.now.definition.now) node.now.bytes.now result }
 {
     match node.definition {
-        Definition::Enum { variants, .. } => variant_at(variants, node.bytes),
+        Definition::Enum {
+            tag_width,
+            variants,
+        } => variant_at(variants, tag_in(node.bytes, usize::from(*tag_width))),
         _ => None,
+    }
+}
+
+// The first bytes, so many if there are as many.
+fn tag_in(bytes: &[u8], width: usize) -> &[u8]
+    ensures { result.now ≡ take width bytes.now }
+{
+    if width < bytes.len() {
+        &bytes[..width]
+    } else {
+        bytes
     }
 }
 

@@ -6,7 +6,7 @@ use super::definitions::{Definitions, text};
 use super::wrong::{Wrong, check, expect};
 use borsh_json::{JsonError, LongNumbers, Style, check_strict, from_json, rows_of, to_json};
 use borsh_values::{
-    Decoded, DecodedFront, Front, Layout, Membership, Next, Node, Paths, RecordError, Records,
+    Decoded, DecodedFront, Front, Layout, Membership, Next, Node, Paths, RecordError, Records, Unpacked,
     count_of, decode, elements_of, encode, encode_value, is_member, variant_of,
 };
 use std::alloc::Global;
@@ -255,19 +255,22 @@ impl<'a> Root<'a> {
         let Decoded::Nodes(nodes) = decode(alloc, self.name, self.map, bytes)? else {
             return check(alloc, false, "decode", "no nodes");
         };
-        let are_all = nodes.len() == wanted.len();
-        check(alloc, are_all, "nodes", "another number")?;
+        let layout = Layout::new(alloc, self.name, self.map)?;
+        let mut unpacked = Unpacked::new(alloc, &layout, nodes.as_slice());
         let mut paths = Paths::new(alloc, self.name);
-        for (node, wanted) in nodes.iter().zip(wanted) {
-            paths.enter(node)?;
+        for wanted in wanted {
+            let Some(node) = unpacked.next()? else {
+                return check(alloc, false, "nodes", "too few");
+            };
+            paths.enter(&node)?;
             let path = paths.path(alloc)?;
             let (depth, offset, name) = (node.depth, node.offset, node.name);
             let own = digits_of(alloc, node.bytes)?;
-            let detail = detail(alloc, node)?;
+            let detail = detail(alloc, &node)?;
             let line = format!(in alloc; "{depth} {offset} {path}: {name} {own}{detail}")?;
             expect(alloc, "a node", line.as_str(), wanted)?;
         }
-        Ok(())
+        check(alloc, unpacked.next()?.is_none(), "nodes", "too many")
     }
 }
 

@@ -1,16 +1,23 @@
-use Rattle.std.proofs.Common.{◌≡◌, ◌*◌, ◌<◌, subst, ap, ◌∙◌, arith}
-use Rattle.std.specs.Prelude.{get_or}
+use Rattle.std.proofs.Common.{◌≡◌, ◌*◌, ◌∙◌, Bool, true, false, cond, eqb, ℕ, Some, ap, sym, refl}
+use Rattle.std.proofs.lemmas.Bool.{eq-eqb, eqb-true}
 use Rattle.borsh_values.specs.Layouts.{name_at}
-use Rattle.borsh_values.proofs.FreeLaws.{some_factor}
+use Rattle.borsh_values.specs.Sizes.{fitting}
 use Rattle.borsh_values.proofs.free.size_of_array.Goals as goal
 
+other : (a b n : ℕ) (t : Bool) → eqb a b ≡ t → (a ≡ b → ⊥) → 0 ≡ cond t n 0
+other a b n true e f = absurd (f (eqb-true a b e))
+other a b n false e f = refl
+
+pub returns-then-start-end : goal.returns-then-start-end
+returns-then-start-end c = λ P e sizes first. other c.args.start c.args.end (fitting (c.args.start * P e)) (eqb c.args.start c.args.end) refl c.if-start-end.true
+
 pub returns-in-Some : goal.returns-in-Some
-returns-in-Some c = λ some.
+returns-in-Some c = λ P e sizes first.
     let ns = c.args.layout.now.names.items in
-    let part = c.in-Some.part in
-    let n = get_or c.args.sizes.now.items part 0 in
-    let e : c.product.result ≡ c.args.count * n = c.product.ensures some ∙ ap (λ i. c.args.count * i) c.size_at.ensures in
-    (name_at ns part, n, c.in-Some.ensures.place.1, e, c.requires.free part c.in-Some.ensures.place.0 (some_factor c.args.count n (subst (λ i. 0 < i) e some)))
+    let h = c.in-Some.ensures.place in
+    let s : Some (name_at ns c.in-Some.part) ≡ Some e = sym h.1 ∙ first in
+    let q : name_at ns c.in-Some.part ≡ e = cc in
+    c.product.ensures.fitting ∙ ap (λ n. fitting (c.args.start * n)) (c.size_at.ensures ∙ sizes c.in-Some.part h.0 ∙ ap (λ x. P x) q) ∙ sym (ap (λ t. cond t (fitting (c.args.start * P e)) 0) (eq-eqb c.args.start c.args.end c.if-start-end.false))
 
 pub returns-in-None : goal.returns-in-None
-returns-in-None c = λ some. absurd (omega (arith, some))
+returns-in-None c = λ P e sizes first. (let h = sym c.in-None.ensures.place ∙ first in cc)

@@ -1,11 +1,14 @@
-use Rattle.std.proofs.Common.{◌-◌, length, take}
-use Rattle.borsh_walks.specs.Definitions.{definitions_in}
+use Rattle.std.proofs.Common.{◌-◌, ◌<◌, ◌^◌, ℕ, List, length, drop}
 use Rattle.borsh_values.specs.Layouts.{parts_in, shape_at}
-use Rattle.borsh_values.specs.Free.{FreeSizes}
+use Rattle.borsh_values.specs.Sizes.{AreSizes}
+use Rattle.borsh_values.proofs.SizesLaws.{Summed}
 use Rattle.borsh_values.proofs.free.size_of_parts.Given as goal
 
 abbrev pub invariant-loop-part : goal.invariant-loop-part
-invariant-loop-part l = FreeSizes (definitions_in l.layout.map.now) (take l.index (parts_in (shape_at l.layout.names.items l.at))) l.total
+invariant-loop-part l = record {
+  summed : (P : List ℕ → ℕ) → AreSizes P l.layout.names.items l.sizes.items → Summed P (drop l.next (parts_in (shape_at l.layout.names.items l.at))) (drop l.index (parts_in (shape_at l.layout.names.items l.at))) l.total;
+  small : l.total < 2 ^ 64;
+}
 
 abbrev pub decreases-loop-part : goal.decreases-loop-part
 decreases-loop-part l = length (parts_in (shape_at l.layout.names.items l.at)) - l.index

@@ -1,4 +1,4 @@
-use Rattle.std.proofs.Common.{◌≡◌, ℕ, suc, ◌+◌, ◌<◌, ◌≤◌, List, [], ◌∷◌, ◌++◌, length, take, drop, length-drop, append-nil, zero, reverse, replicate, set, Some, None, Ok, Err, refl, sym, ◌∙◌, ap, subst, arith, true}
+use Rattle.std.proofs.Common.{◌≡◌, ℕ, suc, ◌+◌, ◌<◌, ◌≤◌, List, [], ◌∷◌, ◌++◌, length, take, drop, length-drop, take-append-drop, append-nil, zero, reverse, replicate, set, Some, None, Ok, Err, refl, sym, ◌∙◌, ap, subst, arith, true, inl, inr}
 use Rattle.std.specs.Prelude.{Bool, false, IfOk, Result}
 use Rattle.std.specs.BTreeMap.{btree_map_len, get_by_text}
 use Rattle.borsh_walks.specs.Definitions.{definitions_in, shape_of}
@@ -9,11 +9,13 @@ use Rattle.borsh_values.specs.declared.frames.Rest.TheVariants.{Copies}
 use Rattle.borsh_values.specs.declared.members.Mark.TheVariants.{Open}
 use Rattle.borsh_values.specs.declared.faults.Reason.TheVariants.{MissingDefinition, Recursive}
 use Rattle.borsh_values.specs.declared.nodes.Node.{Node}
+use Rattle.borsh_values.specs.Faults.{BeginsWith}
 use Rattle.borsh_values.specs.Layouts.{name_at}
 use Rattle.borsh_values.specs.Nodes.{AreOffsets, HaveDefinitions, Nodes, nodes_none, views}
 use Rattle.borsh_values.specs.Steps.{NoneBegins, OpensAs, pending, remaining}
-use Rattle.borsh_values.proofs.Answers.{before, before_start, suffix_start, suffix_on, refused_why, answers_no, is_front}
-use Rattle.borsh_values.proofs.Going.{Going, Listed, defined_in, going_start, skip_listed, going_skip, less_skip, going_reached, going_back, going_leads, going_next, going_denied, going_missing, room, going_new, going_on, going_past, less_new, less_on, less_past, listed_on, going_pass, fewer_pass, less_pass, going_up, going_up_empty, up_listed, less_up, going_end}
+use Rattle.borsh_values.proofs.Packing.{untaken, parts_left, as_opened, still_left}
+use Rattle.borsh_values.proofs.Answers.{before, before_whole, before_start, suffix_start, suffix_on, refused_why, answers_no, is_front}
+use Rattle.borsh_values.proofs.Going.{Going, Listed, defined_in, going_start, skip_listed, going_skip, less_skip, going_reached, going_back, going_leads, going_next, going_denied, going_missing, room, going_new, going_on, going_past, less_new, less_on, less_past, listed_on, going_pass, fewer_pass, less_pass, packed_front, listed_packed, parts_unknown, going_up, going_up_empty, up_listed, less_up, going_end}
 use Rattle.borsh_values.proofs.Listing.{all_views, definitions_more}
 use Rattle.borsh_values.proofs.NodesLaws.{nodes_bytes}
 use Rattle.borsh_values.proofs.Offsets.{total, placed_more}
@@ -40,7 +42,7 @@ loop-behind-init c =
       placed = λ _. (subst (λ q. AreOffsets 0 q) (sym c.requires.empty) tt, (let t = ap (λ q. total q) c.requires.empty in omega (arith, t)));
       definitions = λ _. subst (λ q. HaveDefinitions l.map.now q) (sym c.requires.empty) tt;
       tags = tables_none C c.new-tags.result (marks_none c.new-tags.result c.new-tags.ensures.empty);
-      listed = λ w cs es n. subst (λ q. Nodes C (l.root.now ∷ []) (before c.args.bytes.now c.args.bytes.now ++ cs) (views q ++ es)) (sym c.requires.empty) (subst (λ d. Nodes C (l.root.now ∷ []) (d ++ cs) es) (before_start c.args.bytes.now) (subst (λ x. Nodes C (x ∷ []) cs es) (root_there l.map.now l.root.now ns l.parts.items c.requires.laid_out).1 (subst (λ q. Nodes C (name_at ns 0 ∷ pending ns (reverse q)) cs es) c.new-stack.ensures.items n)));
+      listed = λ w m cs es n. subst (λ q. Nodes C (l.root.now ∷ []) (before c.args.bytes.now c.args.bytes.now ++ cs) (views q ++ es)) (sym c.requires.empty) (subst (λ d. Nodes C (l.root.now ∷ []) (d ++ cs) es) (before_start c.args.bytes.now) (subst (λ x. Nodes C (x ∷ []) cs es) (root_there l.map.now l.root.now ns l.parts.items c.requires.laid_out).1 (subst (λ q. Nodes C (name_at ns 0 ∷ pending ns (reverse q)) cs es) c.new-stack.ensures.items n)));
     }
 
 any_ok : {X E P : Type 0} (r : Result X E) → P → IfOk r (λ _. P)
@@ -87,7 +89,7 @@ loop-behind-preserved-in-Some c =
       placed = λ w. absurd (no_nodes c.args.wanted p.1 w);
       definitions = λ w. absurd (no_nodes c.args.wanted p.1 w);
       tags = i.tags;
-      listed = λ w. absurd (no_nodes c.args.wanted p.1 w);
+      listed = λ w m. absurd (no_nodes c.args.wanted p.1 w);
     }
 
 pub returns-in_default-clause-answer : goal.returns-in_default-clause-answer
@@ -159,7 +161,7 @@ loop-behind-preserved-in-Empty c =
       placed = i.placed;
       definitions = i.definitions;
       tags = c.in_ok-open_definition-in-Some-next_part.ensures.tables;
-      listed = λ w. subst (λ t. Listed l (before c.args.bytes.now c.loop-behind.left.now) (pending ns (with_rest c.loop-behind.frame t ∷ fs)) c.loop-behind.nodes.items) (sym c.after_copies-frame.ensures) (skip_listed l i.going s g c.in-Empty.ensures c.loop-behind.nodes.items (i.listed w));
+      listed = λ w m. subst (λ t. Listed l (before c.args.bytes.now c.loop-behind.left.now) (pending ns (with_rest c.loop-behind.frame t ∷ fs)) c.loop-behind.nodes.items) (sym c.after_copies-frame.ensures) (skip_listed l i.going s g c.in-Empty.ensures c.loop-behind.nodes.items (i.listed w m));
     }
 
 pub overflow_add-idle : goal.overflow_add-idle
@@ -173,9 +175,15 @@ overflow_add-idle c =
     let fs = reverse c.loop-behind.stack.items in
     let d = shape_of c.in-Some-definition_at.definition.now in
     let sh = sym c.in-Some-definition_at.ensures.shape in
-    let o = subst (λ o. OpensAs C ns d c.loop-behind.left.now o) c.in-Taken.is c.in_ok-open_definition-in-Some-next_part.ensures.opened in
-    let n = c.in-Taken.taken in
-    let r = c.in-Taken.rest in
+    let own = c.in-Taken.own in
+    let parts = c.in-Taken.parts in
+    let bytes = c.loop-behind.left.now in
+    let p = c.pack-packed.result in
+    let n = p.taken in
+    let r = p.rest in
+    let opened = subst (λ o. OpensAs C ns d bytes o) c.in-Taken.is c.in_ok-open_definition-in-Some-next_part.ensures.opened in
+    let leaves = untaken C ns c.args.wanted own parts bytes p c.if-taken-eq0.true c.pack-packed.ensures.packs in
+    let o = as_opened C ns c.args.wanted own parts bytes p d leaves opened in
     let q = room l i.going s g d sh n r o c.if-taken-eq0.true c.in-New.ensures in
     omega (arith, q)
 
@@ -190,9 +198,15 @@ loop-behind-smaller-in-New c =
     let fs = reverse c.loop-behind.stack.items in
     let d = shape_of c.in-Some-definition_at.definition.now in
     let sh = sym c.in-Some-definition_at.ensures.shape in
-    let o = subst (λ o. OpensAs C ns d c.loop-behind.left.now o) c.in-Taken.is c.in_ok-open_definition-in-Some-next_part.ensures.opened in
-    let n = c.in-Taken.taken in
-    let r = c.in-Taken.rest in
+    let own = c.in-Taken.own in
+    let parts = c.in-Taken.parts in
+    let bytes = c.loop-behind.left.now in
+    let p = c.pack-packed.result in
+    let n = p.taken in
+    let r = p.rest in
+    let opened = subst (λ o. OpensAs C ns d bytes o) c.in-Taken.is c.in_ok-open_definition-in-Some-next_part.ensures.opened in
+    let leaves = untaken C ns c.args.wanted own parts bytes p c.if-taken-eq0.true c.pack-packed.ensures.packs in
+    let o = as_opened C ns c.args.wanted own parts bytes p d leaves opened in
     let f : Frame = record { at = s.at; start = length c.loop-behind.left.now; rest = r } in
     let back = last_first c.loop-behind.stack.items c.push.new.self.items (with_rest c.loop-behind.frame s.others) c.in_ok-push-in-New.ensures.items in
     subst (λ q. left l.map.now ns (length c.loop-behind.left.now) (c.loop-behind.idle + 1) (f ∷ q) < left l.map.now ns (length c.loop-behind.left.now) c.loop-behind.idle (c.loop-behind.frame ∷ fs)) (sym back) (less_new l i.going s g d sh n r o c.if-taken-eq0.true c.in-New.ensures)
@@ -208,9 +222,15 @@ loop-behind-preserved-in-New c =
     let fs = reverse c.loop-behind.stack.items in
     let d = shape_of c.in-Some-definition_at.definition.now in
     let sh = sym c.in-Some-definition_at.ensures.shape in
-    let o = subst (λ o. OpensAs C ns d c.loop-behind.left.now o) c.in-Taken.is c.in_ok-open_definition-in-Some-next_part.ensures.opened in
-    let n = c.in-Taken.taken in
-    let r = c.in-Taken.rest in
+    let own = c.in-Taken.own in
+    let parts = c.in-Taken.parts in
+    let bytes = c.loop-behind.left.now in
+    let p = c.pack-packed.result in
+    let n = p.taken in
+    let r = p.rest in
+    let opened = subst (λ o. OpensAs C ns d bytes o) c.in-Taken.is c.in_ok-open_definition-in-Some-next_part.ensures.opened in
+    let leaves = untaken C ns c.args.wanted own parts bytes p c.if-taken-eq0.true c.pack-packed.ensures.packs in
+    let o = as_opened C ns c.args.wanted own parts bytes p d leaves opened in
     let node : Node = record { name = c.name_of-name.result; definition = c.in-Some-definition_at.definition; bytes = c.front.result; offset = c.offset_of-offset.result; depth = c.len-depth.result } in
     let f : Frame = record { at = s.at; start = length c.loop-behind.left.now; rest = r } in
     let back = last_first c.loop-behind.stack.items c.push.new.self.items (with_rest c.loop-behind.frame s.others) c.in_ok-push-in-New.ensures.items in
@@ -228,7 +248,7 @@ loop-behind-preserved-in-New c =
       placed = λ w. placed_more C node c.loop-behind.nodes.items c.list_node.new.nodes.items n all c.loop-behind.left.now c.loop-behind.left.now c.offset_of-offset.ensures c.front.ensures (sym same) (c.in_ok-list_node-in-New.ensures w) (i.placed w);
       definitions = λ w. definitions_more l.map.now C node c.loop-behind.nodes.items c.list_node.new.nodes.items (ap (λ x. get_by_text l.map.now x) c.name_of-name.ensures ∙ (looked_up_at l.map.now l.root.now ns l.parts.items i.going.laid s.at g.within ∙ sym c.in-Some-definition_at.ensures.definition)) (c.in_ok-list_node-in-New.ensures w) (i.definitions w);
       tags = c.in_ok-open_definition-in-Some-next_part.ensures.tables;
-      listed = λ w. subst (λ b. Listed l b (pending ns (f ∷ reverse c.push.new.self.items)) c.list_node.new.nodes.items) (none_taken n c.args.bytes.now c.loop-behind.left.now c.if-taken-eq0.true) (subst (λ q. Listed l (before c.args.bytes.now c.loop-behind.left.now ++ take n c.loop-behind.left.now) (remaining ns r ++ pending ns q) c.list_node.new.nodes.items) (sym back) (listed_on l i.going s g d sh n r o node c.loop-behind.nodes.items c.list_node.new.nodes.items c.name_of-name.ensures refl c.front.ensures (c.in_ok-list_node-in-New.ensures w) (i.listed w)));
+      listed = λ w m. subst (λ b. Listed l b (pending ns (f ∷ reverse c.push.new.self.items)) c.list_node.new.nodes.items) (none_taken n c.args.bytes.now c.loop-behind.left.now c.if-taken-eq0.true) (subst (λ q. Listed l (before c.args.bytes.now c.loop-behind.left.now ++ take n c.loop-behind.left.now) (remaining ns r ++ pending ns q) c.list_node.new.nodes.items) (sym back) (listed_on l i.going s g d sh n r o node c.loop-behind.nodes.items c.list_node.new.nodes.items c.name_of-name.ensures refl c.front.ensures (parts_unknown l i.going s g d sh n r o c.args.bytes.now (before_whole c.args.bytes.now bytes i.suffix) m (still_left C ns c.args.wanted own parts bytes p leaves w)) (c.in_ok-list_node-in-New.ensures w) (i.listed w m)));
     }
 
 positive : (n : ℕ) → (n ≡ 0 → ⊥) → 0 < n
@@ -249,9 +269,15 @@ loop-behind-smaller-then-has_parts c =
     let fs = reverse c.loop-behind.stack.items in
     let d = shape_of c.in-Some-definition_at.definition.now in
     let sh = sym c.in-Some-definition_at.ensures.shape in
-    let o = subst (λ o. OpensAs C ns d c.loop-behind.left.now o) c.in-Taken.is c.in_ok-open_definition-in-Some-next_part.ensures.opened in
-    let n = c.in-Taken.taken in
-    let r = c.in-Taken.rest in
+    let own = c.in-Taken.own in
+    let parts = c.in-Taken.parts in
+    let bytes = c.loop-behind.left.now in
+    let p = c.pack-packed.result in
+    let n = p.taken in
+    let r = p.rest in
+    let opened = subst (λ o. OpensAs C ns d bytes o) c.in-Taken.is c.in_ok-open_definition-in-Some-next_part.ensures.opened in
+    let leaves = parts_left C ns c.args.wanted own parts bytes p (c.has_parts.ensures.some c.if-has_parts.true) c.pack-packed.ensures.packs in
+    let o = as_opened C ns c.args.wanted own parts bytes p d leaves opened in
     let f : Frame = record { at = s.at; start = length c.loop-behind.left.now; rest = r } in
     let back = last_first c.loop-behind.stack.items c.push-then-has_parts.new.self.items (with_rest c.loop-behind.frame s.others) c.in_ok-push-in-Taken.ensures.items in
     let more = positive n c.if-taken-eq0.false in
@@ -269,11 +295,19 @@ loop-behind-smaller-else-has_parts c =
     let fs = reverse c.loop-behind.stack.items in
     let d = shape_of c.in-Some-definition_at.definition.now in
     let sh = sym c.in-Some-definition_at.ensures.shape in
-    let o = subst (λ o. OpensAs C ns d c.loop-behind.left.now o) c.in-Taken.is c.in_ok-open_definition-in-Some-next_part.ensures.opened in
-    let n = c.in-Taken.taken in
-    let r = c.in-Taken.rest in
+    let own = c.in-Taken.own in
+    let parts = c.in-Taken.parts in
+    let bytes = c.loop-behind.left.now in
+    let p = c.pack-packed.result in
+    let n = p.taken in
+    let r = p.rest in
+    let opened = subst (λ o. OpensAs C ns d bytes o) c.in-Taken.is c.in_ok-open_definition-in-Some-next_part.ensures.opened in
     let more = positive n c.if-taken-eq0.false in
-    subst (λ b. left l.map.now ns (length b) 0 (with_rest c.loop-behind.frame s.others ∷ fs) < left l.map.now ns (length c.loop-behind.left.now) c.loop-behind.idle (c.loop-behind.frame ∷ fs)) (sym c.after-left.ensures) (less_past l i.going s g d sh n r o more)
+    let less : left l.map.now ns (length (drop n bytes)) 0 (with_rest c.loop-behind.frame s.others ∷ fs) < left l.map.now ns (length bytes) c.loop-behind.idle (c.loop-behind.frame ∷ fs) = elim c.pack-packed.ensures.packs [
+      | inl h ↦ less_past l i.going s g d sh n r (as_opened C ns c.args.wanted own parts bytes p d h opened) more
+      | inr h ↦ less_pass l i.going (record { taken = n; rest = s.others }) (packed_front l i.going s g d sh own parts opened p h)
+    ] in
+    subst (λ b. left l.map.now ns (length b) 0 (with_rest c.loop-behind.frame s.others ∷ fs) < left l.map.now ns (length bytes) c.loop-behind.idle (c.loop-behind.frame ∷ fs)) (sym c.after-left.ensures) less
 
 pub loop-behind-preserved-then-has_parts : goal.loop-behind-preserved-then-has_parts
 loop-behind-preserved-then-has_parts c =
@@ -286,13 +320,19 @@ loop-behind-preserved-then-has_parts c =
     let fs = reverse c.loop-behind.stack.items in
     let d = shape_of c.in-Some-definition_at.definition.now in
     let sh = sym c.in-Some-definition_at.ensures.shape in
-    let o = subst (λ o. OpensAs C ns d c.loop-behind.left.now o) c.in-Taken.is c.in_ok-open_definition-in-Some-next_part.ensures.opened in
-    let n = c.in-Taken.taken in
-    let r = c.in-Taken.rest in
+    let own = c.in-Taken.own in
+    let parts = c.in-Taken.parts in
+    let bytes = c.loop-behind.left.now in
+    let p = c.pack-packed.result in
+    let n = p.taken in
+    let r = p.rest in
+    let opened = subst (λ o. OpensAs C ns d bytes o) c.in-Taken.is c.in_ok-open_definition-in-Some-next_part.ensures.opened in
+    let leaves = parts_left C ns c.args.wanted own parts bytes p (c.has_parts.ensures.some c.if-has_parts.true) c.pack-packed.ensures.packs in
+    let o = as_opened C ns c.args.wanted own parts bytes p d leaves opened in
     let node : Node = record { name = c.name_of-name.result; definition = c.in-Some-definition_at.definition; bytes = c.front.result; offset = c.offset_of-offset.result; depth = c.len-depth.result } in
     let more = positive n c.if-taken-eq0.false in
-    let ends = suffix_on n c.args.bytes.now c.loop-behind.left.now c.after-left.result.now i.within i.suffix c.after-left.ensures o.0.within in
-    let fewer = less_left n c.loop-behind.left.now c.after-left.result.now c.after-left.ensures more o.0.within in
+    let ends = suffix_on n c.args.bytes.now c.loop-behind.left.now c.after-left.result.now i.within i.suffix c.after-left.ensures c.pack-packed.ensures.taken in
+    let fewer = less_left n c.loop-behind.left.now c.after-left.result.now c.after-left.ensures more c.pack-packed.ensures.taken in
     let read : List ℕ = before c.args.bytes.now c.loop-behind.left.now ++ take n c.loop-behind.left.now in
     let D = btree_map_len l.map.now in
     let all = length c.args.bytes.now in
@@ -310,7 +350,7 @@ loop-behind-preserved-then-has_parts c =
       placed = λ w. placed_more C node old new n all c.loop-behind.left.now c.after-left.result.now c.offset_of-offset.ensures c.front.ensures c.after-left.ensures (c.in_ok-list_node-in-Taken.ensures w) (i.placed w);
       definitions = λ w. definitions_more l.map.now C node old new (ap (λ x. get_by_text l.map.now x) c.name_of-name.ensures ∙ (looked_up_at l.map.now l.root.now ns l.parts.items i.going.laid s.at g.within ∙ sym c.in-Some-definition_at.ensures.definition)) (c.in_ok-list_node-in-Taken.ensures w) (i.definitions w);
       tags = c.in_ok-open_definition-in-Some-next_part.ensures.tables;
-      listed = λ w. subst (λ b. Listed l b (pending ns (f ∷ reverse c.push-then-has_parts.new.self.items)) new) ends.2 (subst (λ q. Listed l read (remaining ns r ++ pending ns q) new) (sym back) (listed_on l i.going s g d sh n r o node old new c.name_of-name.ensures refl c.front.ensures (c.in_ok-list_node-in-Taken.ensures w) (i.listed w)));
+      listed = λ w m. subst (λ b. Listed l b (pending ns (f ∷ reverse c.push-then-has_parts.new.self.items)) new) ends.2 (subst (λ q. Listed l read (remaining ns r ++ pending ns q) new) (sym back) (listed_on l i.going s g d sh n r o node old new c.name_of-name.ensures refl c.front.ensures (parts_unknown l i.going s g d sh n r o c.args.bytes.now (before_whole c.args.bytes.now bytes i.suffix) m (still_left C ns c.args.wanted own parts bytes p leaves w)) (c.in_ok-list_node-in-Taken.ensures w) (i.listed w m)));
     }
 
 pub loop-behind-preserved-else-has_parts : goal.loop-behind-preserved-else-has_parts
@@ -324,21 +364,35 @@ loop-behind-preserved-else-has_parts c =
     let fs = reverse c.loop-behind.stack.items in
     let d = shape_of c.in-Some-definition_at.definition.now in
     let sh = sym c.in-Some-definition_at.ensures.shape in
-    let o = subst (λ o. OpensAs C ns d c.loop-behind.left.now o) c.in-Taken.is c.in_ok-open_definition-in-Some-next_part.ensures.opened in
-    let n = c.in-Taken.taken in
-    let r = c.in-Taken.rest in
+    let own = c.in-Taken.own in
+    let parts = c.in-Taken.parts in
+    let bytes = c.loop-behind.left.now in
+    let p = c.pack-packed.result in
+    let n = p.taken in
+    let r = p.rest in
+    let opened = subst (λ o. OpensAs C ns d bytes o) c.in-Taken.is c.in_ok-open_definition-in-Some-next_part.ensures.opened in
     let node : Node = record { name = c.name_of-name.result; definition = c.in-Some-definition_at.definition; bytes = c.front.result; offset = c.offset_of-offset.result; depth = c.len-depth.result } in
     let more = positive n c.if-taken-eq0.false in
-    let ends = suffix_on n c.args.bytes.now c.loop-behind.left.now c.after-left.result.now i.within i.suffix c.after-left.ensures o.0.within in
-    let fewer = less_left n c.loop-behind.left.now c.after-left.result.now c.after-left.ensures more o.0.within in
+    let ends = suffix_on n c.args.bytes.now c.loop-behind.left.now c.after-left.result.now i.within i.suffix c.after-left.ensures c.pack-packed.ensures.taken in
+    let fewer = less_left n c.loop-behind.left.now c.after-left.result.now c.after-left.ensures more c.pack-packed.ensures.taken in
     let read : List ℕ = before c.args.bytes.now c.loop-behind.left.now ++ take n c.loop-behind.left.now in
     let D = btree_map_len l.map.now in
     let all = length c.args.bytes.now in
     let old = c.loop-behind.nodes.items in
     let new = c.list_node-else-taken-eq0.new.nodes.items in
     let none = c.has_parts.ensures.none c.if-has_parts.false in
+    let going : Going l read c.loop-behind.marks.items fs (with_rest c.loop-behind.frame s.others) (drop n bytes) 0 = elim c.pack-packed.ensures.packs [
+      | inl h ↦ going_past l i.going s g d sh n r (as_opened C ns c.args.wanted own parts bytes p d h opened) more none
+      | inr h ↦ going_pass l i.going (record { taken = n; rest = s.others }) (packed_front l i.going s g d sh own parts opened p h)
+    ] in
+    let listed : (w : c.args.wanted ≡ true) → BeginsWith C l.root.now c.args.bytes.now → Listed l read (remaining ns s.others ++ pending ns fs) new = λ w m. elim c.pack-packed.ensures.packs [
+      | inl h ↦
+          let o = as_opened C ns c.args.wanted own parts bytes p d h opened in
+          subst (λ q. Listed l read (q ++ (remaining ns s.others ++ pending ns fs)) new) none (listed_on l i.going s g d sh n r o node old new c.name_of-name.ensures refl c.front.ensures (parts_unknown l i.going s g d sh n r o c.args.bytes.now (before_whole c.args.bytes.now bytes i.suffix) m (still_left C ns c.args.wanted own parts bytes p h w)) (c.in_ok-list_node-in-Taken.ensures w) (i.listed w m))
+      | inr h ↦ listed_packed l i.going s g d sh own parts opened p h node old new c.name_of-name.ensures refl c.front.ensures (c.in_ok-list_node-in-Taken.ensures w) (i.listed w m)
+    ] in
     record {
-      going = subst (λ d. Going l d c.loop-behind.marks.items fs (with_rest c.loop-behind.frame s.others) c.after-left.result.now 0) ends.2 (subst (λ b. Going l read c.loop-behind.marks.items fs (with_rest c.loop-behind.frame s.others) b 0) (sym c.after-left.ensures) (going_past l i.going s g d sh n r o more none));
+      going = subst (λ d. Going l d c.loop-behind.marks.items fs (with_rest c.loop-behind.frame s.others) c.after-left.result.now 0) ends.2 (subst (λ b. Going l read c.loop-behind.marks.items fs (with_rest c.loop-behind.frame s.others) b 0) (sym c.after-left.ensures) going);
       within = ends.0;
       suffix = ends.1;
       risen = omega (arith, i.risen, c.count_one-else-taken-eq0.ensures.risen);
@@ -347,7 +401,7 @@ loop-behind-preserved-else-has_parts c =
       placed = λ w. placed_more C node old new n all c.loop-behind.left.now c.after-left.result.now c.offset_of-offset.ensures c.front.ensures c.after-left.ensures (c.in_ok-list_node-in-Taken.ensures w) (i.placed w);
       definitions = λ w. definitions_more l.map.now C node old new (ap (λ x. get_by_text l.map.now x) c.name_of-name.ensures ∙ (looked_up_at l.map.now l.root.now ns l.parts.items i.going.laid s.at g.within ∙ sym c.in-Some-definition_at.ensures.definition)) (c.in_ok-list_node-in-Taken.ensures w) (i.definitions w);
       tags = c.in_ok-open_definition-in-Some-next_part.ensures.tables;
-      listed = λ w. subst (λ b. Listed l b (remaining ns s.others ++ pending ns fs) new) ends.2 (subst (λ q. Listed l read (q ++ (remaining ns s.others ++ pending ns fs)) new) none (listed_on l i.going s g d sh n r o node old new c.name_of-name.ensures refl c.front.ensures (c.in_ok-list_node-in-Taken.ensures w) (i.listed w)));
+      listed = λ w m. subst (λ b. Listed l b (remaining ns s.others ++ pending ns fs) new) ends.2 (listed w m);
     }
 
 pub loop-behind-smaller-then-frame-left : goal.loop-behind-smaller-then-frame-left
@@ -377,7 +431,7 @@ loop-behind-preserved-then-frame-left c =
       placed = i.placed;
       definitions = i.definitions;
       tags = i.tags;
-      listed = λ w. up_listed l (before c.args.bytes.now c.loop-behind.left.now) c.loop-behind.nodes.items (reverse c.pop.new.self.items) c.loop-behind.frame c.in-Some-pop.above c.in-None-next_part.ensures (subst (λ q. Listed l (before c.args.bytes.now c.loop-behind.left.now) (pending ns (c.loop-behind.frame ∷ q)) c.loop-behind.nodes.items) items (i.listed w));
+      listed = λ w m. up_listed l (before c.args.bytes.now c.loop-behind.left.now) c.loop-behind.nodes.items (reverse c.pop.new.self.items) c.loop-behind.frame c.in-Some-pop.above c.in-None-next_part.ensures (subst (λ q. Listed l (before c.args.bytes.now c.loop-behind.left.now) (pending ns (c.loop-behind.frame ∷ q)) c.loop-behind.nodes.items) items (i.listed w m));
     }
 
 pub loop-behind-smaller : goal.loop-behind-smaller
@@ -407,7 +461,7 @@ loop-behind-preserved c =
       placed = i.placed;
       definitions = i.definitions;
       tags = i.tags;
-      listed = λ w. up_listed l (before c.args.bytes.now c.loop-behind.left.now) c.loop-behind.nodes.items (reverse c.pop.new.self.items) c.loop-behind.frame c.in-Some-pop.above c.in-None-next_part.ensures (subst (λ q. Listed l (before c.args.bytes.now c.loop-behind.left.now) (pending ns (c.loop-behind.frame ∷ q)) c.loop-behind.nodes.items) items (i.listed w));
+      listed = λ w m. up_listed l (before c.args.bytes.now c.loop-behind.left.now) c.loop-behind.nodes.items (reverse c.pop.new.self.items) c.loop-behind.frame c.in-Some-pop.above c.in-None-next_part.ensures (subst (λ q. Listed l (before c.args.bytes.now c.loop-behind.left.now) (pending ns (c.loop-behind.frame ∷ q)) c.loop-behind.nodes.items) items (i.listed w m));
     }
 
 pub returns-in-None-pop-clause-answer : goal.returns-in-None-pop-clause-answer
@@ -426,10 +480,13 @@ returns-in-None-pop-clause-listed c = λ w.
     let i = c.loop-behind.invariant in
     let none = no_items c.loop-behind.stack.items (omega (arith, c.in-None-pop.ensures.cases.0, c.loop-behind.stack.ok.0)) in
     let same : pending ns (c.loop-behind.frame ∷ reverse c.loop-behind.stack.items) ≡ [] = ap (λ q. q ++ pending ns (reverse c.loop-behind.stack.items)) c.in-None-next_part.ensures ∙ ap (λ q. pending ns (reverse q)) none in
-    let n = i.listed w [] [] (subst (λ q. Nodes C q [] []) (sym same) nodes_none) in
+    let v = subst (λ q. Going l (before c.args.bytes.now c.loop-behind.left.now) c.loop-behind.marks.items (reverse q) c.loop-behind.frame c.loop-behind.left.now c.loop-behind.idle) none i.going in
+    let f = is_front C l.root.now c.args.bytes.now c.loop-behind.left.now c.offset_of.result c.offset_of.ensures i.suffix (going_end l v c.in-None-next_part.ensures) in
+    let m : BeginsWith C l.root.now c.args.bytes.now = (take c.offset_of.result c.args.bytes.now, drop c.offset_of.result c.args.bytes.now, f.member, sym (take-append-drop c.offset_of.result c.args.bytes.now)) in
+    let n = i.listed w m [] [] (subst (λ q. Nodes C q [] []) (sym same) nodes_none) in
     let read : before c.args.bytes.now c.loop-behind.left.now ++ [] ≡ take c.offset_of.result c.args.bytes.now = append-nil (before c.args.bytes.now c.loop-behind.left.now) ∙ ap (λ k. take k c.args.bytes.now) (sym c.offset_of.ensures) in
-    let m = subst (λ q. Nodes C (l.root.now ∷ []) (take c.offset_of.result c.args.bytes.now) q) (all_views (views c.loop-behind.nodes.items)) (subst (λ b. Nodes C (l.root.now ∷ []) b (views c.loop-behind.nodes.items ++ [])) read n) in
-    (m, nodes_bytes C m)
+    let all = subst (λ q. Nodes C (l.root.now ∷ []) (take c.offset_of.result c.args.bytes.now) q) (all_views (views c.loop-behind.nodes.items)) (subst (λ b. Nodes C (l.root.now ∷ []) b (views c.loop-behind.nodes.items ++ [])) read n) in
+    (all, nodes_bytes C all)
 
 pub returns-in-None-pop-clause-definitions : goal.returns-in-None-pop-clause-definitions
 returns-in-None-pop-clause-definitions c = λ w. c.loop-behind.invariant.definitions w

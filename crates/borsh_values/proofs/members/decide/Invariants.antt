@@ -1,6 +1,7 @@
 use Rattle.std.proofs.Common.{◌≡◌, ◌≤◌, ◌+◌, ◌-◌, ◌∷◌, length, drop, reverse, true}
 use Rattle.std.specs.BTreeMap.{btree_map_len}
 use Rattle.borsh_walks.specs.Definitions.{definitions_in}
+use Rattle.borsh_values.specs.Faults.{BeginsWith}
 use Rattle.borsh_values.specs.Nodes.{HaveDefinitions}
 use Rattle.borsh_values.specs.Steps.{pending}
 use Rattle.borsh_values.specs.TagTables.{AreTagTables}
@@ -21,7 +22,7 @@ invariant-loop-behind l = record {
   placed : l.wanted ≡ true → Placed (length l.fn.bytes) l.nodes.items l.left;
   definitions : l.wanted ≡ true → HaveDefinitions l.fn.layout.map.now l.nodes.items;
   tags : AreTagTables (definitions_in l.fn.layout.map.now) l.tags;
-  listed : l.wanted ≡ true → Listed l.fn.layout (before l.fn.bytes l.left) (pending l.fn.layout.names.items (l.frame ∷ reverse l.stack.items)) l.nodes.items;
+  listed : l.wanted ≡ true → BeginsWith (definitions_in l.fn.layout.map.now) l.fn.layout.root.now l.fn.bytes → Listed l.fn.layout (before l.fn.bytes l.left) (pending l.fn.layout.names.items (l.frame ∷ reverse l.stack.items)) l.nodes.items;
 }
 
 abbrev pub decreases-loop-behind : goal.decreases-loop-behind

@@ -1,4 +1,4 @@
-use Rattle.std.proofs.Common.{rules, arith, ap, drop, ◌≡◌, ◌+◌, ◌<◌, ◌≤◌, length}
+use Rattle.std.proofs.Common.{rules, ap, drop, ◌≡◌, ◌+◌, ◌<◌, ◌≤◌, length}
 use Rattle.std.proofs.lemmas.Result.{err_from_is_err_and}
 use Rattle.borsh_values.proofs.RecordLaws.{written, unwritten, from_zero, more-read, none-read, read-failed}
 use Rattle.borsh_values.proofs.buffered.Buffered.append.Goals as goal

@@ -1,5 +1,4 @@
-use Rattle.std.proofs.Common.{rules, ap, ◌∙◌, drop, ◌≡◌}
-use Rattle.borsh_values.specs.Records.{held}
+use Rattle.std.proofs.Common.{ap, ◌∙◌, drop}
 use Rattle.borsh_values.proofs.RecordLaws.{read-behind}
 use Rattle.borsh_values.proofs.buffered.Buffered.read_more.Goals as goal
 

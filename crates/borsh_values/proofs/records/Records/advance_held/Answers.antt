@@ -1,4 +1,3 @@
-use Rattle.std.proofs.Common.{rules, ◌≡◌}
 use Rattle.borsh_values.proofs.RecordLaws.{falls-held}
 use Rattle.borsh_values.proofs.records.Records.advance_held.Goals as goal
 

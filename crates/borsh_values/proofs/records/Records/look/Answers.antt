@@ -1,4 +1,4 @@
-use Rattle.std.proofs.Common.{rules, ◌≡◌, ◌++◌, take, subst, ap}
+use Rattle.std.proofs.Common.{rules, take, subst}
 use Rattle.borsh_walks.specs.Definitions.{definitions_in}
 use Rattle.borsh_values.specs.Fronts.{IsFrontAnswer}
 use Rattle.borsh_values.specs.Records.{ahead, limit_of}
