@@ -12,7 +12,9 @@ use crate::definitions::Definitions;
 use crate::error::{JsonError, PartError, Refusal};
 use crate::floats::shortest;
 use crate::kinds::Kind;
-use borsh_values::{Decoded, Layout, Node, Path, Paths, Unpacked, count_of, elements_of, variant_of};
+use borsh_values::{
+    Decoded, Layout, Node, Path, Paths, Unpacked, count_of, elements_of, variant_of,
+};
 use borsh_walks::Definition;
 use itoa::Buffer;
 use json::MAX_DEPTH;
