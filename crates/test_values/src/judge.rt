@@ -6,8 +6,8 @@ use super::definitions::{Definitions, text};
 use super::wrong::{Wrong, check, expect};
 use borsh_json::{JsonError, LongNumbers, Style, check_strict, from_json, rows_of, to_json};
 use borsh_values::{
-    Decoded, DecodedFront, Front, Layout, Membership, Next, Node, Paths, RecordError, Records, Unpacked,
-    count_of, decode, elements_of, encode, encode_value, is_member, variant_of,
+    Decoded, DecodedFront, Front, Layout, Membership, Next, Node, Paths, RecordError, Records,
+    Unpacked, count_of, decode, elements_of, encode, encode_value, is_member, variant_of,
 };
 use std::alloc::Global;
 use test_devices::{Course, TestReader, courses};
