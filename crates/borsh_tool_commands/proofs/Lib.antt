@@ -2,4 +2,5 @@ mod Told
 mod Painting
 mod Sending
 mod Failing
+mod LineLaws
 mod ManyLaws

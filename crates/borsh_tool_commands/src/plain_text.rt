@@ -45,6 +45,13 @@ impl PlainText {
         self.text.as_slice()
     }
 
+    /// The same as bytes of its own.
+    pub fn into_bytes(self) -> Vec<u8>
+        ensures { result.items ≡ self.text.items }
+    {
+        self.text
+    }
+
     /// Takes all of the text away, and keeps its room.
     pub fn clear(&mut self)
         ensures { self.new.text.items ≡ [] }

@@ -1,7 +1,5 @@
 // A run of the tool.
 ghost use Rattle.std.specs.Prelude.{IfErr, IfOk};
-ghost use Rattle.borsh_values.specs.Free.{KnowsSizes};
-ghost use Rattle.borsh_values.specs.Layouts.{IsLaidOut};
 ghost use Rattle.borsh_tool_commands.specs.Failures.{IsNoContainer};
 ghost use Rattle.borsh_tool_commands.specs.Printed.{printed};
 ghost use Rattle.borsh_tool_commands.specs.Questions.{AnswersRequest};
@@ -11,13 +9,11 @@ use super::command::{
     Action, Form, Request, ValueRequest, command, request_from, value_request_from,
 };
 use super::failure::{Failure, failure_line, usage_line};
-use super::many::{Many, answer_lines, count_records, decode_records, encode_records};
-use super::values::{
-    Schema, encoded, hex_line, json_text, member, no_container, own_schema, schema_from,
-    schema_in_front, schema_json, shown, strict_member,
-};
-use borsh::io::{Read, StdReader, Write};
-use borsh_json::{Characters, Layout, LongNumbers, Style};
+use super::many::{Many, answer_many};
+use super::replies::{Reply, reply_to, style_of};
+use super::values::{Schema, no_container, own_schema, schema_from, schema_in_front, schema_json};
+use borsh::io::{StdReader, Write};
+use borsh_json::{Characters, Layout, Style};
 use clap::ArgMatches;
 use hex::FromHexError;
 use std::alloc::{AllocError, Global};
@@ -200,33 +196,6 @@ fn perform_on_many<'a, R: Files + Input + AllocGlobal, W: Write>(
     }
 }
 
-/// Writes what is asked of many values, and returns whether the answer is yes.
-fn answer_many<'a, R: Read + Drop, W: Write>(
-    action: Action,
-    form: Form,
-    many: &Many<'a, '_, '_>,
-    input: R,
-    out: &mut W,
-) -> Result<bool, Failure<'a>>
-    requires laid_out { IsLaidOut many.now.layout.now }
-    requires sizes { KnowsSizes many.now.layout.now }
-{
-    match (action, form) {
-        (Action::Decode, Form::Records) => decode_records(many, input, out)?,
-        (Action::Decode, Form::Lines) => answer_lines(many, false, input, out)?,
-        (Action::Encode, Form::Records) => encode_records(many, input, out)?,
-        (Action::Encode, Form::Lines) => answer_lines(many, true, input, out)?,
-        (_, _) => {
-            let Answer { is_yes, text } = count_records(many, input)?;
-            return match out.write_all(text.as_bytes()) {
-                Ok(()) => Ok(is_yes),
-                Err(error) => Err(Failure::Unwritten(error)),
-            };
-        }
-    }
-    Ok(true)
-}
-
 /// The container in a file, or that of containers for `self`.
 fn schema_at<'a, R: Files + Input + AllocGlobal>(
     rt: &R,
@@ -248,56 +217,10 @@ fn answer_value<'a, R: Env + Print + AllocGlobal>(
     value: &[u8],
     is_terminal: bool,
 ) -> Result<bool, Failure<'a>> {
-    let alloc = rt.alloc();
-    match request.action {
-        Action::Decode => {
-            let text = json_text(alloc, schema, request.value, value, style_of(request))?;
-            print_bytes(rt, text.as_bytes())?;
-            Ok(true)
-        }
-        Action::Encode => {
-            let bytes = encoded(alloc, schema, request.value, request.with_schema, value)?;
-            if request.is_hex {
-                let text = hex_line(alloc, bytes.as_slice())?;
-                print_bytes(rt, text.as_bytes())?;
-            } else {
-                print_bytes(rt, bytes.as_slice())?;
-            }
-            Ok(true)
-        }
-        Action::Member => {
-            let Answer { is_yes, text } = if request.is_strict {
-                strict_member(alloc, schema, request.value, value)?
-            } else {
-                member(alloc, schema, request.value, value)?
-            };
-            print_bytes(rt, text.as_bytes())?;
-            Ok(is_yes)
-        }
-        Action::Show => {
-            let is_colored = is_terminal && !request.is_plain && !refuses_color(rt);
-            let text = shown(alloc, schema, request.value, value, is_colored)?;
-            print_bytes(rt, text.as_bytes())?;
-            Ok(true)
-        }
-    }
-}
-
-/// How JSON is written.
-fn style_of(request: &ValueRequest<'_>) -> Style {
-    Style {
-        layout: if request.is_compact {
-            Layout::Compact
-        } else {
-            Layout::Pretty
-        },
-        long_numbers: if request.has_quoted_numbers {
-            LongNumbers::Quoted
-        } else {
-            LongNumbers::Plain
-        },
-        ..Style::COMPACT
-    }
+    let is_colored = is_terminal && !request.is_plain && !refuses_color(rt);
+    let Reply { is_yes, output } = reply_to(rt.alloc(), request, schema, value, is_colored)?;
+    print_bytes(rt, output.as_slice())?;
+    Ok(is_yes)
 }
 
 /// Whether the variable `NO_COLOR` is set and isn't empty.

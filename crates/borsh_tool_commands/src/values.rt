@@ -1,13 +1,14 @@
 // What is asked of a value by its container.
-ghost use Rattle.std.specs.Prelude.{◌≡◌, IfErr, IfOk, OnOk, Decides, Some, false, flat_map, string_bytes, true};
+ghost use Rattle.std.specs.Prelude.{◌≡◌, ◌++◌, IfErr, IfOk, OnOk, Some, codes, false, flat_map, string_bytes, true};
 ghost use Rattle.borsh.specs.Errors.{error_kind};
-ghost use Rattle.borsh_tool_commands.specs.Answers.{line_of};
+ghost use Rattle.borsh_tool_commands.specs.Answers.{AnswersMember, line_of};
 ghost use Rattle.borsh_tool_commands.specs.Colors.{IsPainted};
 ghost use Rattle.borsh_tool_commands.specs.Colored.{printed_colors};
 ghost use Rattle.borsh_tool_commands.specs.Failures.{IsFailure, IsNoAnswer, IsNoContainer, IsNoContainerInFront, IsNoContainerJson, IsNoJson, IsNoMemory, IsNotShown, IsNoValue};
-ghost use Rattle.borsh_tool_commands.specs.Plain.{digits};
+ghost use Rattle.borsh_tool_commands.specs.Plain.{digits, escaped};
 ghost use Rattle.borsh_tool_commands.specs.Printed.{printed};
-ghost use Rattle.borsh_tool_commands.specs.Sent.{EncodesMember, IsContainer, IsJsonLine, IsOwnSchema, IsSent, schema_encoding};
+ghost use Rattle.borsh_tool_commands.specs.Json.{IsJson, IsJsonLine};
+ghost use Rattle.borsh_tool_commands.specs.Sent.{EncodesJson, IsContainer, IsOwnSchema, IsSent, schema_encoding};
 ghost use Rattle.borsh_io.specs.declared.error.ErrorKind.TheVariants.{OutOfMemory as NoRoom};
 ghost use Rattle.borsh_json.specs.declared.error.JsonError.TheVariants.{OutOfMemory as NoMemory};
 ghost use Rattle.borsh_walks.specs.Container.{Member};
@@ -157,7 +158,8 @@ pub fn json_text<'a>(
     bytes: &[u8],
     style: Style,
 ) -> Result<PlainText, Failure<'a>>
-    ensures ok { IfOk result (λ t. IsJsonLine schema.now bytes.now (printed t)) }
+    ensures ok { IfOk result (λ t. IsJsonLine schema.now.definitions (string_bytes schema.now.root)
+        bytes.now (printed t)) }
     ensures err { IfErr result (IsNoJson (definitions_in schema.now.definitions)
         (string_bytes schema.now.root) path.now bytes.now) }
 {
@@ -184,7 +186,7 @@ pub fn json_text<'a>(
 /// The bytes of the value that JSON says.
 ///
 /// Returns `NotText` if the JSON isn't UTF-8, `NotValue` with the path and the reason if it says no value of the root,
-/// and `OutOfMemory` if an allocation fails. Determined: after `Ok` the bytes are a member of the root; `NotText` exactly
+/// and `OutOfMemory` if an allocation fails. Determined: after `Ok` what [`from_json`] determines of them; `NotText` exactly
 /// if the JSON isn't UTF-8; `NotValue` only where [`from_json`] may return an error. Left open: as of [`from_json`].
 ///
 /// ```
@@ -196,8 +198,8 @@ pub fn bytes_said<'a>(
     path: &'a str,
     json: &[u8],
 ) -> Result<Vec<u8>, Failure<'a>>
-    ensures ok { IfOk result (λ bytes. Member (definitions_in schema.now.definitions)
-        (string_bytes schema.now.root) bytes.items) }
+    ensures ok { IfOk result (λ bytes. IsJson schema.now.definitions (string_bytes schema.now.root)
+        json.now bytes.items) }
     ensures err { IfErr result (IsNoValue (definitions_in schema.now.definitions)
         (string_bytes schema.now.root) path.now json.now) }
 {
@@ -224,7 +226,7 @@ pub fn encoded<'a>(
     is_sent: bool,
     json: &[u8],
 ) -> Result<Vec<u8>, Failure<'a>>
-    ensures ok { IfOk result (λ out. EncodesMember is_sent schema.now out.items) }
+    ensures ok { IfOk result (λ out. EncodesJson is_sent schema.now json.now out.items) }
     ensures err { IfErr result (IsNoValue (definitions_in schema.now.definitions)
         (string_bytes schema.now.root) path.now json.now) }
 {
@@ -239,8 +241,8 @@ pub fn encoded<'a>(
 /// `member`, or `no member`, where the bytes stop being one, and why.
 ///
 /// Returns `NotValue` if the container is ambiguous, and `OutOfMemory` if an allocation fails. Determined: after `Ok`
-/// whether the answer is yes, exactly; `NotValue` only if a definition is ambiguous or breaks a rule of widths. Left open:
-/// memory; the text; `NotValue` in place of yes or no for such definitions.
+/// whether the answer is yes, exactly, and the text up to where and why; `NotValue` only if a definition is ambiguous or breaks
+/// a rule of widths. Left open: memory; where and why: tested; `NotValue` in place of yes or no for such definitions.
 ///
 /// ```
 /// assert!(rt; member(alloc, &schema, "value.borsh", bytes.as_slice())?.is_yes);
@@ -251,16 +253,16 @@ pub fn member<'a>(
     path: &'a str,
     bytes: &[u8],
 ) -> Result<Answer, Failure<'a>>
-    ensures ok { IfOk result (λ a. Decides a.is_yes (Member (definitions_in schema.now.definitions)
-        (string_bytes schema.now.root) bytes.now)) }
+    ensures ok { IfOk result (λ a. AnswersMember (definitions_in schema.now.definitions)
+        (string_bytes schema.now.root) bytes.now false a.is_yes (printed a.text)) }
     ensures err { IfErr result (IsNoAnswer (definitions_in schema.now.definitions)
         (string_bytes schema.now.root) path.now) }
 {
     match is_member(alloc, schema.root.as_str(), &schema.definitions, bytes)? {
         Membership::Member => Ok(yes(alloc)?),
         Membership::NoMember(fault) => {
-            let why = format!(in alloc; "no member: {fault}")?;
-            Ok(no(alloc, why.as_str())?)
+            let why = format!(in alloc; "{fault}")?;
+            Ok(no(alloc, "no member: ", why.as_str())?)
         }
         Membership::Ambiguous(name) => Err(no_value(alloc, path, JsonError::Ambiguous(name))),
     }
@@ -268,8 +270,9 @@ pub fn member<'a>(
 
 /// `member`, or `no member`, or `not canonical` if the type refuses the bytes as far as names tell, and why.
 ///
-/// Returns `NotValue` if the container is ambiguous, and `OutOfMemory` if an allocation fails. Determined: after yes the
-/// bytes are a member of the root; `NotValue` as of [`member`]. Left open: memory; no for any member; the text: tested.
+/// Returns `NotValue` if the container is ambiguous, and `OutOfMemory` if an allocation fails. Determined: after yes and
+/// `not canonical` the bytes are a member of the root, after `no member` they are none; `NotValue` as of [`member`]. Left open:
+/// memory; `not canonical` for any member; where and why: tested.
 ///
 /// ```
 /// assert!(rt; !strict_member(alloc, &schema, "value.borsh", b"\x02")?.is_yes);
@@ -280,36 +283,41 @@ pub fn strict_member<'a>(
     path: &'a str,
     bytes: &[u8],
 ) -> Result<Answer, Failure<'a>>
-    ensures ok { IfOk result (λ a. a.is_yes ≡ true → Member (definitions_in schema.now.definitions)
-        (string_bytes schema.now.root) bytes.now) }
+    ensures ok { IfOk result (λ a. AnswersMember (definitions_in schema.now.definitions)
+        (string_bytes schema.now.root) bytes.now true a.is_yes (printed a.text)) }
     ensures err { IfErr result (IsNoAnswer (definitions_in schema.now.definitions)
         (string_bytes schema.now.root) path.now) }
 {
     match check_strict(alloc, schema.root.as_str(), &schema.definitions, bytes) {
         Ok(()) => Ok(yes(alloc)?),
         Err(JsonError::NoMember(fault)) => {
-            let why = format!(in alloc; "no member: {fault}")?;
-            Ok(no(alloc, why.as_str())?)
+            let why = format!(in alloc; "{fault}")?;
+            Ok(no(alloc, "no member: ", why.as_str())?)
         }
         Err(JsonError::Refused(part, refusal)) => {
-            let why = format!(in alloc; "not canonical: {part}: {refusal}")?;
-            Ok(no(alloc, why.as_str())?)
+            let why = format!(in alloc; "{part}: {refusal}")?;
+            Ok(no(alloc, "not canonical: ", why.as_str())?)
         }
         Err(error) => Err(no_value(alloc, path, error)),
     }
 }
 
 fn yes(alloc: Global) -> Result<Answer, AllocError>
-    ensures { IfOk result (λ a. a.is_yes ≡ true) }
+    ensures { IfOk result (λ a. (a.is_yes ≡ true) × (printed a.text ≡ line_of (codes "member"))) }
 {
     let text = line(alloc, "member")?;
     Ok(Answer { is_yes: true, text })
 }
 
-fn no(alloc: Global, why: &str) -> Result<Answer, AllocError>
-    ensures { IfOk result (λ a. a.is_yes ≡ false) }
+/// What is answered, and why, as a line.
+pub(crate) fn no(alloc: Global, answer: &str, why: &str) -> Result<Answer, AllocError>
+    ensures { let text = flat_map escaped answer.now ++ flat_map escaped why.now in
+        IfOk result (λ a. (a.is_yes ≡ false) × (printed a.text ≡ line_of text)) }
 {
-    let text = line(alloc, why)?;
+    let mut text = PlainText::new(alloc);
+    text.push(answer)?;
+    text.push(why)?;
+    text.end_line()?;
     Ok(Answer {
         is_yes: false,
         text,
