@@ -50,6 +50,7 @@ const ENCODE_LINES: &str =
     "Each line is the JSON of a value; answers each by a line of digits, or `-`";
 const SCHEMA_FILE: &str =
     "The encoded container: a file, its digits as `0x..`, `-` for standard input, or `self` for that of containers";
+const QUIET: &str = "With --records, prints no progress where standard error is a terminal";
 const STRICT_LINES: &str = "With --lines, ends the run at the first line that is no value";
 
 /// What is asked of a container, and where the container is.
@@ -113,6 +114,8 @@ pub struct ValueRequest<'a> {
     pub is_plain: bool,
     /// Whether raw bytes may go to a terminal.
     pub is_raw: bool,
+    /// Whether no progress is wanted.
+    pub is_quiet: bool,
 }
 
 /// The commands of the tool.
@@ -159,6 +162,7 @@ fn decode_command<'a>(alloc: Global) -> Result<Command<'a>, AllocError> {
         .arg(flag(alloc, "compact", "Prints one line, without white space"))?
         .arg(flag(alloc, "quoted", QUOTED))?
         .arg(records(alloc, DECODE_RECORDS)?)?
+        .arg(quiet(alloc)?)?
         .arg(lines(alloc, DECODE_LINES)?)?
         .arg(strict_lines(alloc)?)
 }
@@ -167,7 +171,8 @@ fn member_command<'a>(alloc: Global) -> Result<Command<'a>, AllocError> {
     on_bytes(alloc, "member", "Checks that bytes are a value")?
         .after_help(AFTER_MEMBER)
         .arg(flag(alloc, "strict", MEMBER_STRICT))?
-        .arg(records(alloc, MEMBER_RECORDS)?.conflicts_with("strict")?)
+        .arg(records(alloc, MEMBER_RECORDS)?.conflicts_with("strict")?)?
+        .arg(quiet(alloc)?)
 }
 
 fn show_command<'a>(alloc: Global) -> Result<Command<'a>, AllocError> {
@@ -217,6 +222,7 @@ fn encode_command<'a>(alloc: Global) -> Result<Command<'a>, AllocError> {
         .arg(schema_hex(alloc))?
         .arg(flag(alloc, "with-schema", WITH_SCHEMA))?
         .arg(records(alloc, ENCODE_RECORDS)?.conflicts_with("hex")?)?
+        .arg(quiet(alloc)?)?
         .arg(lines(alloc, ENCODE_LINES)?)?
         .arg(strict_lines(alloc)?)
 }
@@ -246,6 +252,11 @@ fn schema_hex<'a>(alloc: Global) -> Arg<'a> {
 /// That the bytes are values one after another.
 fn records<'a>(alloc: Global, help: &'a str) -> Result<Arg<'a>, AllocError> {
     flag(alloc, "records", help).conflicts_with("with-schema")
+}
+
+/// That no progress is printed.
+fn quiet<'a>(alloc: Global) -> Result<Arg<'a>, AllocError> {
+    flag(alloc, "quiet", QUIET).requires_arg("records")
 }
 
 /// That there is a value a line.
@@ -299,6 +310,7 @@ pub fn value_request_from<'a>(matches: &ArgMatches<'a>) -> Option<ValueRequest<'
         is_strict: inner.get_flag("strict"),
         is_plain: inner.get_flag("plain"),
         is_raw: inner.get_flag("raw"),
+        is_quiet: inner.get_flag("quiet"),
     })
 }
 

@@ -14,6 +14,7 @@ pub mod failure;
 mod lines;
 pub mod many;
 pub mod plain_text;
+pub mod progress;
 pub mod replies;
 pub mod runner;
 pub mod values;

@@ -20,6 +20,7 @@ use super::command::{Action, Form};
 use super::failure::Failure;
 use super::lines::{take_held_line, take_line};
 use super::plain_text::{Added, PlainText};
+use super::progress::Progress;
 use super::values::{hex_line, no};
 use borsh::io::{Read, Write};
 use borsh_json::{JsonError, Style, from_json_by, in_ascii, to_json_by};
@@ -69,13 +70,14 @@ pub enum Wanted {
 /// [`from_json_by`]; when a failure is returned, and texts of errors: tested.
 ///
 /// ```
-/// answer_many(Action::Decode, Form::Records, &many, StdReader::new(rt.stdin(), 1000), &mut out)?;
+/// answer_many(Action::Decode, Form::Records, &many, StdReader::new(rt.stdin(), 1000), &mut progress, &mut out)?;
 /// ```
-pub fn answer_many<'a, R: Read + Drop, W: Write>(
+pub fn answer_many<'a, E: Eprint, R: Read + Drop, W: Write>(
     action: Action,
     form: Form,
     many: &Many<'a, '_, '_>,
     input: R,
+    progress: &mut Progress<'_, E>,
     out: &mut W,
 ) -> Result<bool, Failure<'a>>
     requires laid_out { IsLaidOut many.now.layout.now }
@@ -85,16 +87,17 @@ pub fn answer_many<'a, R: Read + Drop, W: Write>(
         W.writing out.old out.new [] result }
 {
     let mut made = Vec::new(many.alloc);
-    let outcome = make_answers(action, form, many, input, &mut made, out);
+    let outcome = make_answers(action, form, many, input, progress, &mut made, out);
     write_made(&mut made, out)?;
     outcome
 }
 
-fn make_answers<'a, R: Read + Drop, W: Write>(
+fn make_answers<'a, E: Eprint, R: Read + Drop, W: Write>(
     action: Action,
     form: Form,
     many: &Many<'a, '_, '_>,
     input: R,
+    progress: &mut Progress<'_, E>,
     made: &mut Vec<u8>,
     out: &mut W,
 ) -> Result<bool, Failure<'a>>
@@ -108,22 +111,23 @@ fn make_answers<'a, R: Read + Drop, W: Write>(
     let is_lenient = !many.is_strict;
     match action {
         Action::Decode => match form {
-            Form::Records => decode_records(many, input, made, out),
-            Form::Lines => answer_lines(many, Wanted::Json, is_lenient, input, made, out),
+            Form::Records => decode_records(many, input, progress, made, out),
+            Form::Lines => answer_lines(many, Wanted::Json, is_lenient, input, progress, made, out),
         },
         Action::Encode => match form {
-            Form::Records => encode_records(many, input, made, out),
-            Form::Lines => answer_lines(many, Wanted::Digits, is_lenient, input, made, out),
+            Form::Records => encode_records(many, input, progress, made, out),
+            Form::Lines => answer_lines(many, Wanted::Digits, is_lenient, input, progress, made, out),
         },
-        Action::Member => make_count(many, input, made),
+        Action::Member => make_count(many, input, progress, made),
         Action::Show => Err(Failure::NoCommand),
     }
 }
 
 /// Makes a line of JSON for each value, and writes them.
-fn decode_records<'a, R: Read + Drop, W: Write>(
+fn decode_records<'a, E: Eprint, R: Read + Drop, W: Write>(
     many: &Many<'a, '_, '_>,
     input: R,
+    progress: &mut Progress<'_, E>,
     made: &mut Vec<u8>,
     out: &mut W,
 ) -> Result<bool, Failure<'a>>
@@ -140,14 +144,16 @@ fn decode_records<'a, R: Read + Drop, W: Write>(
             Ok(line) => made.extend_from_slice(line.as_slice())?,
             Err(error) => return Err(no_json(many, records.offset(), error)),
         }
+        progress.step(records.value().len());
     }
     Ok(true)
 }
 
 /// Makes the bytes of the value that each line of JSON says, and writes them, if no value is without bytes.
-fn encode_records<'a, R: Read + Drop, W: Write>(
+fn encode_records<'a, E: Eprint, R: Read + Drop, W: Write>(
     many: &Many<'a, '_, '_>,
     input: R,
+    progress: &mut Progress<'_, E>,
     made: &mut Vec<u8>,
     out: &mut W,
 ) -> Result<bool, Failure<'a>>
@@ -159,7 +165,7 @@ fn encode_records<'a, R: Read + Drop, W: Write>(
         W.writing out.old out.new made.new.items result }
 {
     let _none = records_of(many, b"".as_slice())?;
-    answer_lines(many, Wanted::Bytes, false, input, made, out)
+    answer_lines(many, Wanted::Bytes, false, input, progress, made, out)
 }
 
 /// The JSON of a value, and a line feed.
@@ -177,9 +183,10 @@ fn json_line<'s>(many: &Many<'_, '_, 's>, value: &[u8]) -> Result<Vec<u8>, JsonE
 }
 
 /// Makes the line that says how many values there are, and returns whether the bytes are that.
-fn make_count<'a, R: Read + Drop>(
+fn make_count<'a, E: Eprint, R: Read + Drop>(
     many: &Many<'a, '_, '_>,
     input: R,
+    progress: &mut Progress<'_, E>,
     made: &mut Vec<u8>,
 ) -> Result<bool, Failure<'a>>
     requires laid_out { IsLaidOut many.now.layout.now }
@@ -188,15 +195,16 @@ fn make_count<'a, R: Read + Drop>(
     ensures { let layout = many.now.layout.now in IfOk result (λ yes.
         IsCount (definitions_in layout.map.now) layout.root.now (R.stream input).bytes yes made.new.items) }
 {
-    let Answer { is_yes, text } = count_records(many, input)?;
+    let Answer { is_yes, text } = count_records(many, input, progress)?;
     made.extend_from_slice(text.as_bytes())?;
     Ok(is_yes)
 }
 
 /// How many values the bytes are, one after another; or where they stop being values.
-fn count_records<'a, R: Read + Drop>(
+fn count_records<'a, E: Eprint, R: Read + Drop>(
     many: &Many<'a, '_, '_>,
     input: R,
+    progress: &mut Progress<'_, E>,
 ) -> Result<Answer, Failure<'a>>
     requires laid_out { IsLaidOut many.now.layout.now }
     requires sizes { KnowsSizes many.now.layout.now }
@@ -206,7 +214,7 @@ fn count_records<'a, R: Read + Drop>(
     let mut records = records_of(many, input)?;
     for count in 0..u64::MAX {
         match records.advance(many.alloc) {
-            Ok(true) => (),
+            Ok(true) => progress.step(records.value().len()),
             Ok(false) => return Ok(counted(many.alloc, count)?),
             Err(RecordError::NoMember(offset, fault)) => {
                 return Ok(stopped(many.alloc, count, offset, fault)?);
@@ -256,11 +264,12 @@ fn stopped(
 }
 
 /// Makes an answer to each line, and writes them.
-fn answer_lines<'a, R: Read + Drop, W: Write>(
+fn answer_lines<'a, E: Eprint, R: Read + Drop, W: Write>(
     many: &Many<'a, '_, '_>,
     wanted: Wanted,
     is_lenient: bool,
     input: R,
+    progress: &mut Progress<'_, E>,
     made: &mut Vec<u8>,
     out: &mut W,
 ) -> Result<bool, Failure<'a>>
@@ -278,6 +287,7 @@ fn answer_lines<'a, R: Read + Drop, W: Write>(
         }
         let text = line_answer(many, wanted, is_lenient, number, lines.piece())?;
         made.extend_from_slice(text.as_slice())?;
+        progress.step(lines.piece().len());
     }
     Err(Failure::OutOfMemory)
 }

@@ -10,6 +10,7 @@ use super::command::{
 };
 use super::failure::{Failure, failure_line, usage_line};
 use super::many::{Many, answer_many};
+use super::progress::Progress;
 use super::replies::{Reply, reply_to, style_of};
 use super::values::{Schema, no_container, own_schema, schema_from, schema_in_front, schema_json};
 use borsh::io::{StdReader, Write};
@@ -26,28 +27,30 @@ const INTERRUPTIONS: u32 = 1000;
 
 /// Runs the command that the words name, the first of which is the program's own name, and returns the
 /// exit status: 0 for yes, 1 for no or for bytes that are no container, 2 for anything else that failed.
-/// The answer goes to standard output, and what is wrong to standard error, as one line.
+/// The answer goes to standard output, and what is wrong to standard error, as one line; that this can't be printed is passed over.
 ///
 /// `is_terminal` is whether standard output is a terminal: then `show` has colours, unless `--plain` is
 /// among the words or the variable `NO_COLOR` is set and isn't empty; and `encode` prints raw bytes only
-/// with `--raw`. Left open: everything, which is tested.
+/// with `--raw`. `is_watched` is whether standard error is: then `--records` prints its progress there, unless
+/// `--quiet` is among the words. Left open: everything, which is tested.
 ///
 /// ```
 /// let words: Vec<String> = env::args(&rt)?.collect(rt.alloc())?;
-/// let status = run(&rt, words.as_slice(), rt.stdout().is_terminal());
+/// let status = run(&rt, words.as_slice(), rt.stdout().is_terminal(), rt.stderr().is_terminal(), &mut out);
 /// ```
 pub fn run<R: Files + Env + Input + Print + Eprint + AllocGlobal, W: Write>(
     rt: &R,
     words: &[String],
     is_terminal: bool,
+    is_watched: bool,
     out: &mut W,
 ) -> u8 {
     match matches_of(rt.alloc(), words) {
-        Ok(matches) => match perform(rt, &matches, is_terminal, out) {
+        Ok(matches) => match perform(rt, &matches, is_terminal, is_watched, out) {
             Ok(true) => 0,
             Ok(false) => 1,
             Err(failure) => {
-                tell(rt, &failure);
+                let _told = tell_failure(rt, &failure);
                 failure.status()
             }
         },
@@ -59,8 +62,7 @@ fn matches_of<'a>(alloc: Global, words: &'a [String]) -> Result<ArgMatches<'a>, 
     command(alloc)?.try_get_matches_from(words)
 }
 
-/// Prints the help that was asked for, or what is wrong with the words. That it can't be printed is
-/// passed over.
+/// Prints the help that was asked for, or what is wrong with the words.
 fn refuse<R: Print + Eprint + AllocGlobal>(rt: &R, error: &clap::Error) -> u8 {
     if !error.use_stderr() {
         return match rt.print(error) {
@@ -78,11 +80,7 @@ fn tell_usage<R: Eprint + AllocGlobal>(rt: &R, error: &clap::Error) -> io::Resul
     rt.eprint(&line)
 }
 
-/// Prints why there is no answer. That it can't be printed is passed over.
-fn tell<R: Eprint + AllocGlobal>(rt: &R, failure: &Failure<'_>) {
-    let _told = tell_failure(rt, failure);
-}
-
+/// Prints why there is no answer.
 fn tell_failure<R: Eprint + AllocGlobal>(rt: &R, failure: &Failure<'_>) -> io::Result<()> {
     let text = format!(in rt.alloc(); "{failure}")?;
     let line = failure_line(rt.alloc(), text.as_str())?;
@@ -90,15 +88,17 @@ fn tell_failure<R: Eprint + AllocGlobal>(rt: &R, failure: &Failure<'_>) -> io::R
 }
 
 /// Prints the answer, and returns whether it is yes.
-fn perform<'a, R: Files + Env + Input + Print + AllocGlobal, W: Write>(
+fn perform<'a, R: Files + Env + Input + Print + Eprint + AllocGlobal, W: Write>(
     rt: &R,
     matches: &ArgMatches<'a>,
     is_terminal: bool,
+    is_watched: bool,
     out: &mut W,
 ) -> Result<bool, Failure<'a>> {
     if let Some(request) = value_request_from(matches) {
+        refuse_raw(&request, is_terminal)?;
         if let Some(form) = request.form {
-            return perform_on_many(rt, &request, form, is_terminal, out);
+            return perform_on_many(rt, &request, form, is_watched, out);
         }
         return perform_on_value(rt, &request, is_terminal);
     }
@@ -122,8 +122,6 @@ fn perform_on_value<'a, R: Files + Env + Input + Print + AllocGlobal>(
     request: &ValueRequest<'a>,
     is_terminal: bool,
 ) -> Result<bool, Failure<'a>> {
-    let is_encoding = request.action == Action::Encode;
-    refuse_raw(request, is_terminal)?;
     let Some(path) = request.schema else {
         let bytes = input(rt, request.value, request.is_hex)?;
         let (schema, value) = schema_in_front(rt.alloc(), request.value, bytes.as_slice())?;
@@ -133,7 +131,7 @@ fn perform_on_value<'a, R: Files + Env + Input + Print + AllocGlobal>(
         return Err(Failure::TwoInputs);
     }
     let schema = schema_at(rt, path, request.is_schema_hex)?;
-    let value = if is_encoding {
+    let value = if request.action == Action::Encode {
         file(rt, request.value)?
     } else {
         input(rt, request.value, request.is_hex)?
@@ -151,14 +149,13 @@ fn refuse_raw<'a>(request: &ValueRequest<'a>, is_terminal: bool) -> Result<(), F
 }
 
 /// Does a request about many values, which are read as they come.
-fn perform_on_many<'a, R: Files + Input + AllocGlobal, W: Write>(
+fn perform_on_many<'a, R: Files + Input + Eprint + AllocGlobal, W: Write>(
     rt: &R,
     request: &ValueRequest<'a>,
     form: Form,
-    is_terminal: bool,
+    is_watched: bool,
     out: &mut W,
 ) -> Result<bool, Failure<'a>> {
-    refuse_raw(request, is_terminal)?;
     let Some(path) = request.schema else {
         return Err(Failure::NoCommand);
     };
@@ -179,18 +176,31 @@ fn perform_on_many<'a, R: Files + Input + AllocGlobal, W: Write>(
         },
         is_strict: request.is_strict,
     };
+    let is_shown = is_watched && form == Form::Records && !request.is_quiet;
+    let mut progress = Progress::new(rt, is_shown);
     if request.is_hex || request.action != Action::Encode && request.value.starts_with("0x") {
         let bytes = input(rt, request.value, request.is_hex)?;
-        return answer_many(request.action, form, &many, bytes.as_slice(), out);
+        progress.all = bytes.len() as u64;
+        return answer_many(
+            request.action,
+            form,
+            &many,
+            bytes.as_slice(),
+            &mut progress,
+            out,
+        );
     }
     if request.value == "-" {
         let input = StdReader::new(rt.reader(), INTERRUPTIONS);
-        return answer_many(request.action, form, &many, input, out);
+        return answer_many(request.action, form, &many, input, &mut progress, out);
     }
     match fs::File::open(rt, request.value) {
         Ok(file) => {
+            if let Ok(metadata) = file.metadata() {
+                progress.all = metadata.len();
+            }
             let input = StdReader::new(file, INTERRUPTIONS);
-            answer_many(request.action, form, &many, input, out)
+            answer_many(request.action, form, &many, input, &mut progress, out)
         }
         Err(error) => Err(Failure::Unreadable(request.value, error)),
     }
