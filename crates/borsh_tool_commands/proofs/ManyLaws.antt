@@ -1,20 +1,18 @@
 -- What is written for many values.
 use Rattle.std.proofs.Common.{◌≡◌, ℕ, ◌+◌, inl, inr, true, false, List, [], ◌∷◌, ◌++◌, length, Option, None, Some, IfSome, Result, Ok, Err, refl, sym, ◌∙◌, ap, subst, append_assoc, append-nil}
-use Rattle.std.specs.Prelude.{Bool, IfOk, String, codes}
-use Rattle.std.specs.Global.{Global}
-use Rattle.std.specs.BTreeMap.{BTreeMap}
+use Rattle.std.specs.Prelude.{Bool, IfOk, codes}
 use Rattle.std.specs.Io.KnownBytes.{Consumes, IsAtEnd}
 use Rattle.std.proofs.lemmas.List.{length_push}
 use Rattle.borsh_io.specs.Sink.{WriterModel, WriterLaws, WroteBytes, NotWrittenWhole}
 use Rattle.borsh_io.specs.declared.error.ErrorKind.{ErrorKind}
 use Rattle.borsh_io.specs.Stream.{ReaderState}
 use Rattle.borsh_walks.specs.Container.{Shape, Member}
-use Rattle.borsh_walks.specs.declared.definition.Definition.{Definition}
 use Rattle.borsh_values.specs.Faults.{BeginsWith}
 use Rattle.borsh_values.specs.Fronts.{HasNoFront}
 use Rattle.borsh_values.specs.Next.{IsFirst}
 use Rattle.borsh_values.specs.Records.{Advances, ahead, source_of, value_of}
 use Rattle.borsh_values.specs.declared.faults.Fault.{Fault}
+use Rattle.borsh_values.specs.declared.layout.Layout.{Layout}
 use Rattle.borsh_values.specs.declared.records.Records.{Records}
 use Rattle.borsh_values.specs.declared.records.RecordError.TheVariants.{NoMember, CutShort}
 use Rattle.borsh_tool_commands.specs.declared.command.Action.{Action}
@@ -246,10 +244,10 @@ each-fails : {F : List ℕ → List ℕ → List ℕ → Type 0} {P : List ℕ �
 each-fails x h = record { pieces = h.pieces; left = h.left; answers = h.answers; first = h.first; all = tt }
 
 -- an output that goes with a result goes with a failure
-pub many-fails : (a : Action) (f : Form) (strict : Bool) (map : BTreeMap (String Global) Definition) (root : List ℕ) (bytes : Option (List ℕ)) (out : List ℕ) (r : Result Bool Failure) (x : Failure) → AnswersMany a f strict map root bytes out r → AnswersMany a f strict map root bytes out (Err x)
-many-fails Decode AsRecords strict map root bytes out r x h = each-fails x h
-many-fails Decode AsLines strict map root bytes out r x h = each-fails x h
-many-fails Encode AsRecords strict map root bytes out r x h = (each-fails x h.0, tt)
-many-fails Encode AsLines strict map root bytes out r x h = each-fails x h
-many-fails AskMember f strict map root bytes out r x h = tt
-many-fails Show f strict map root bytes out r x h = tt
+pub many-fails : (a : Action) (f : Form) (strict : Bool) (l : Layout) (bytes : Option (List ℕ)) (out : List ℕ) (r : Result Bool Failure) (x : Failure) → AnswersMany a f strict l bytes out r → AnswersMany a f strict l bytes out (Err x)
+many-fails Decode AsRecords strict l bytes out r x h = each-fails x h
+many-fails Decode AsLines strict l bytes out r x h = each-fails x h
+many-fails Encode AsRecords strict l bytes out r x h = (each-fails x h.0, tt)
+many-fails Encode AsLines strict l bytes out r x h = each-fails x h
+many-fails AskMember f strict l bytes out r x h = tt
+many-fails Show f strict l bytes out r x h = tt

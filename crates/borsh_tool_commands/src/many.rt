@@ -1,10 +1,10 @@
 // What is asked of values one after another, and of one value a line.
 ghost use Rattle.borsh_json.specs.Errors.{IsNoJsonReason};
-ghost use Rattle.borsh_json.specs.declared.error.JsonError.TheVariants.{OutOfMemory as NoMemory};
 ghost use Rattle.borsh_tool_commands.specs.Answers.{line_of};
+ghost use Rattle.borsh_tool_commands.specs.Failures.{HasReason, IsFailure};
 ghost use Rattle.borsh_tool_commands.specs.Json.{IsJson, IsJsonLine};
 ghost use Rattle.borsh_tool_commands.specs.Lines.{IsFirstLine, NextLine};
-ghost use Rattle.borsh_tool_commands.specs.Many.{AnswersEach, AnswersLine, AnswersMany, Flushes, IsAnswer, IsCount, IsErrorLine, IsRefused, IsUnwritten, SaysNoValue, Writes, count_text, digits_line as line_of_digits, said_by as said_by_digits, unmarked as unmarked_digits};
+ghost use Rattle.borsh_tool_commands.specs.Many.{AnswersEach, AnswersLine, AnswersMany, AnswersText, Flushes, IsCount, IsErrorLine, IsUnwritten, Writes, count_text, digits_line as line_of_digits, said_by as said_by_digits, unmarked as unmarked_digits};
 ghost use Rattle.borsh_tool_commands.specs.Printed.{Adds, printed};
 ghost use Rattle.borsh_values.specs.Free.{KnowsSizes};
 ghost use Rattle.borsh_values.specs.Layouts.{IsLaidOut};
@@ -13,7 +13,7 @@ ghost use Rattle.borsh_values.specs.Records.{Advances, SameRoot, ahead, layout_o
 ghost use Rattle.borsh_walks.specs.Container.{Member};
 ghost use Rattle.borsh_walks.specs.Definitions.{definitions_in};
 ghost use Rattle.hex.specs.declared.error.FromHexError.TheVariants.{OutOfMemory as NoDigitsMemory};
-ghost use Rattle.std.specs.Prelude.{[], IfErr, IfOk, List, MatchResult, Ok, Err, OnErr, OnOk, codes, false, true, ℕ, ◌≡◌, ◌++◌, ◌⊎◌};
+ghost use Rattle.std.specs.Prelude.{[], IfErr, IfOk, List, Ok, Err, OnErr, OnOk, codes, false, true, ℕ, ◌≡◌, ◌++◌, ◌⊎◌};
 
 use super::answers::{Answer, line};
 use super::command::{Action, Form};
@@ -21,9 +21,9 @@ use super::failure::Failure;
 use super::lines::{take_held_line, take_line};
 use super::plain_text::{Added, PlainText};
 use super::progress::Progress;
-use super::values::{hex_line, no};
+use super::values::{hex_line, no, no_value};
 use borsh::io::{Read, Write};
-use borsh_json::{JsonError, Style, from_json_by, in_ascii, to_json_by};
+use borsh_json::{Style, from_json_by, in_ascii, to_json_by};
 use borsh_values::{Buffered, Fault, Layout, MOST_BYTES, RecordError, Records};
 use hex::FromHexError;
 use json::Writer;
@@ -80,11 +80,9 @@ pub fn answer_many<'a, E: Eprint, R: Read + Drop, W: Write>(
     progress: &mut Progress<'_, E>,
     out: &mut W,
 ) -> Result<bool, Failure<'a>>
-    requires laid_out { IsLaidOut many.now.layout.now }
-    requires sizes { KnowsSizes many.now.layout.now }
-    ensures { let layout = many.now.layout.now in
-        Writes (AnswersMany action form many.now.is_strict layout.map.now layout.root.now (R.stream input).bytes)
-        W.writing out.old out.new [] result }
+    requires { IsLaidOut many.now.layout.now × KnowsSizes many.now.layout.now }
+    ensures { let l = many.now.layout.now in
+        Writes (AnswersMany action form many.now.is_strict l (R.stream input).bytes) W.writing out.old out.new [] result }
 {
     let mut made = Vec::new(many.alloc);
     let outcome = make_answers(action, form, many, input, progress, &mut made, out);
@@ -101,12 +99,10 @@ fn make_answers<'a, E: Eprint, R: Read + Drop, W: Write>(
     made: &mut Vec<u8>,
     out: &mut W,
 ) -> Result<bool, Failure<'a>>
-    requires laid_out { IsLaidOut many.now.layout.now }
-    requires sizes { KnowsSizes many.now.layout.now }
+    requires known { IsLaidOut many.now.layout.now × KnowsSizes many.now.layout.now }
     requires none { made.old.items ≡ [] }
-    ensures { let layout = many.now.layout.now in
-        Writes (AnswersMany action form many.now.is_strict layout.map.now layout.root.now (R.stream input).bytes)
-        W.writing out.old out.new made.new.items result }
+    ensures { let l = many.now.layout.now in
+        Writes (AnswersMany action form many.now.is_strict l (R.stream input).bytes) W.writing out.old out.new made.new.items result }
 {
     let is_lenient = !many.is_strict;
     match action {
@@ -131,18 +127,19 @@ fn decode_records<'a, E: Eprint, R: Read + Drop, W: Write>(
     made: &mut Vec<u8>,
     out: &mut W,
 ) -> Result<bool, Failure<'a>>
-    requires laid_out { IsLaidOut many.now.layout.now }
-    requires sizes { KnowsSizes many.now.layout.now }
+    requires known { IsLaidOut many.now.layout.now × KnowsSizes many.now.layout.now }
     requires none { made.old.items ≡ [] }
-    ensures { let map = many.now.layout.now.map.now in let root = many.now.layout.now.root.now in
-        Writes (AnswersEach (IsFirst (definitions_in map) root) (IsJsonLine map root) (R.stream input).bytes)
+    ensures { let l = many.now.layout.now in
+        Writes (AnswersMany Action.Decode Form.Records many.now.is_strict l (R.stream input).bytes)
         W.writing out.old out.new made.new.items result }
 {
     let mut records = records_of(many, input)?;
     while next_record(many, &mut records, made, out)? {
         match json_line(many, records.value()) {
             Ok(line) => made.extend_from_slice(line.as_slice())?,
-            Err(error) => return Err(no_json(many, records.offset(), error)),
+            Err(failure) => {
+                return Err(placed(many.alloc, failure, "value at byte", records.offset()));
+            }
         }
         progress.step(records.value().len());
     }
@@ -157,11 +154,10 @@ fn encode_records<'a, E: Eprint, R: Read + Drop, W: Write>(
     made: &mut Vec<u8>,
     out: &mut W,
 ) -> Result<bool, Failure<'a>>
-    requires laid_out { IsLaidOut many.now.layout.now }
-    requires sizes { KnowsSizes many.now.layout.now }
+    requires known { IsLaidOut many.now.layout.now × KnowsSizes many.now.layout.now }
     requires none { made.old.items ≡ [] }
-    ensures { let layout = many.now.layout.now in
-        Writes (AnswersMany Action.Encode Form.Records many.now.is_strict layout.map.now layout.root.now (R.stream input).bytes)
+    ensures { let l = many.now.layout.now in
+        Writes (AnswersMany Action.Encode Form.Records many.now.is_strict l (R.stream input).bytes)
         W.writing out.old out.new made.new.items result }
 {
     let _none = records_of(many, b"".as_slice())?;
@@ -169,17 +165,21 @@ fn encode_records<'a, E: Eprint, R: Read + Drop, W: Write>(
 }
 
 /// The JSON of a value, and a line feed.
-fn json_line<'s>(many: &Many<'_, '_, 's>, value: &[u8]) -> Result<Vec<u8>, JsonError<'s>>
-    requires laid_out { IsLaidOut many.now.layout.now }
-    requires sizes { KnowsSizes many.now.layout.now }
-    ensures ok { let layout = many.now.layout.now in
-        IfOk result (λ line. IsJsonLine layout.map.now layout.root.now value.now line.items) }
-    ensures err { let layout = many.now.layout.now in
-        IfErr result (IsNoJsonReason (definitions_in layout.map.now) layout.root.now value.now) }
+fn json_line<'a>(many: &Many<'a, '_, '_>, value: &[u8]) -> Result<Vec<u8>, Failure<'a>>
+    requires { IsLaidOut many.now.layout.now × KnowsSizes many.now.layout.now }
+    ensures ok { let l = many.now.layout.now in
+        IfOk result (λ line. IsJsonLine l.map.now l.root.now value.now line.items) }
+    ensures err { let l = many.now.layout.now in IfErr result (IsFailure many.now.path.now ⊥
+        (HasReason (IsNoJsonReason (definitions_in l.map.now) l.root.now value.now)) ⊥) }
 {
-    let mut line = to_json_by(many.alloc, many.layout, value, many.style)?.into_bytes();
-    line.push(b'\n')?;
-    Ok(line)
+    match to_json_by(many.alloc, many.layout, value, many.style) {
+        Ok(text) => {
+            let mut line = text.into_bytes();
+            line.push(b'\n')?;
+            Ok(line)
+        }
+        Err(error) => Err(no_value(many.alloc, many.path, error)),
+    }
 }
 
 /// Makes the line that says how many values there are, and returns whether the bytes are that.
@@ -189,8 +189,7 @@ fn make_count<'a, E: Eprint, R: Read + Drop>(
     progress: &mut Progress<'_, E>,
     made: &mut Vec<u8>,
 ) -> Result<bool, Failure<'a>>
-    requires laid_out { IsLaidOut many.now.layout.now }
-    requires sizes { KnowsSizes many.now.layout.now }
+    requires known { IsLaidOut many.now.layout.now × KnowsSizes many.now.layout.now }
     requires none { made.old.items ≡ [] }
     ensures { let layout = many.now.layout.now in IfOk result (λ yes.
         IsCount (definitions_in layout.map.now) layout.root.now (R.stream input).bytes yes made.new.items) }
@@ -206,8 +205,7 @@ fn count_records<'a, E: Eprint, R: Read + Drop>(
     input: R,
     progress: &mut Progress<'_, E>,
 ) -> Result<Answer, Failure<'a>>
-    requires laid_out { IsLaidOut many.now.layout.now }
-    requires sizes { KnowsSizes many.now.layout.now }
+    requires { IsLaidOut many.now.layout.now × KnowsSizes many.now.layout.now }
     ensures { let layout = many.now.layout.now in IfOk result (λ a.
         IsCount (definitions_in layout.map.now) layout.root.now (R.stream input).bytes a.is_yes (printed a.text)) }
 {
@@ -273,11 +271,10 @@ fn answer_lines<'a, E: Eprint, R: Read + Drop, W: Write>(
     made: &mut Vec<u8>,
     out: &mut W,
 ) -> Result<bool, Failure<'a>>
-    requires laid_out { IsLaidOut many.now.layout.now }
-    requires sizes { KnowsSizes many.now.layout.now }
+    requires known { IsLaidOut many.now.layout.now × KnowsSizes many.now.layout.now }
     requires none { made.old.items ≡ [] }
-    ensures { let layout = many.now.layout.now in
-        Writes (AnswersEach IsFirstLine (AnswersLine layout.map.now layout.root.now wanted is_lenient) (R.stream input).bytes)
+    ensures { let l = many.now.layout.now in
+        Writes (AnswersEach IsFirstLine (AnswersLine l wanted is_lenient) (R.stream input).bytes)
         W.writing out.old out.new made.new.items result }
 {
     let mut lines = Buffered::new(many.alloc, input);
@@ -300,28 +297,25 @@ fn line_answer<'a>(
     number: u64,
     line: &[u8],
 ) -> Result<Vec<u8>, Failure<'a>>
-    requires laid_out { IsLaidOut many.now.layout.now }
-    requires sizes { KnowsSizes many.now.layout.now }
-    ensures { let layout = many.now.layout.now in IfOk result (λ out.
-        AnswersLine layout.map.now layout.root.now wanted is_lenient line.now out.items) }
+    requires { IsLaidOut many.now.layout.now × KnowsSizes many.now.layout.now }
+    ensures { IfOk result (λ out.
+        AnswersLine many.now.layout.now wanted is_lenient line.now out.items) }
 {
-    match text_answer(many, wanted, line.trim_ascii())? {
+    match text_answer(many, wanted, line.trim_ascii()) {
         Ok(text) => Ok(text),
-        Err(why) if is_lenient => Ok(error_line(many.alloc, why.as_str())?),
-        Err(why) => Err(no_line(many, number, why)),
+        Err(Failure::NotValue(_, why)) if is_lenient => Ok(error_line(many.alloc, why.as_str())?),
+        Err(failure) => Err(placed(many.alloc, failure, "line", number)),
     }
 }
 
-/// An answer, or why there is none.
-type Said = Result<Result<Vec<u8>, String>, AllocError>;
-
-/// The answer to a text.
-fn text_answer(many: &Many<'_, '_, '_>, wanted: Wanted, text: &[u8]) -> Said
-    requires laid_out { IsLaidOut many.now.layout.now }
-    requires sizes { KnowsSizes many.now.layout.now }
-    ensures { let map = many.now.layout.now.map.now in let root = many.now.layout.now.root.now in
-        IfOk result (λ r. MatchResult r (λ out. IsAnswer map root wanted text.now out.items)
-        (λ _. IsRefused map root wanted text.now)) }
+/// The answer to a text, or why it is no value.
+fn text_answer<'a>(
+    many: &Many<'a, '_, '_>,
+    wanted: Wanted,
+    text: &[u8],
+) -> Result<Vec<u8>, Failure<'a>>
+    requires { IsLaidOut many.now.layout.now × KnowsSizes many.now.layout.now }
+    ensures { AnswersText many.now.layout.now wanted many.now.path.now text.now result }
 {
     match wanted {
         Wanted::Json => json_said(many, text),
@@ -331,21 +325,17 @@ fn text_answer(many: &Many<'_, '_, '_>, wanted: Wanted, text: &[u8]) -> Said
 }
 
 /// The JSON of the value whose digits a text is, as a line.
-fn json_said(many: &Many<'_, '_, '_>, digits: &[u8]) -> Said
-    requires laid_out { IsLaidOut many.now.layout.now }
-    requires sizes { KnowsSizes many.now.layout.now }
-    ensures { let map = many.now.layout.now.map.now in let root = many.now.layout.now.root.now in
-        IfOk result (λ r. MatchResult r (λ out. IsAnswer map root Wanted.Json digits.now out.items)
-        (λ _. IsRefused map root Wanted.Json digits.now)) }
+fn json_said<'a>(many: &Many<'a, '_, '_>, digits: &[u8]) -> Result<Vec<u8>, Failure<'a>>
+    requires { IsLaidOut many.now.layout.now × KnowsSizes many.now.layout.now }
+    ensures { AnswersText many.now.layout.now Wanted.Json many.now.path.now digits.now result }
 {
-    let bytes = match said_by(many.alloc, digits) {
-        Ok(bytes) => bytes,
-        Err(FromHexError::OutOfMemory) => return Err(AllocError),
-        Err(error) => return Ok(Err(format!(in many.alloc; "{error}")?)),
-    };
-    match json_line(many, bytes.as_slice()) {
-        Ok(line) => Ok(Ok(line)),
-        Err(error) => Ok(Err(reason(many.alloc, error)?)),
+    match said_by(many.alloc, digits) {
+        Ok(bytes) => json_line(many, bytes.as_slice()),
+        Err(FromHexError::OutOfMemory) => Err(Failure::OutOfMemory),
+        Err(error) => {
+            let why = format!(in many.alloc; "{error}")?;
+            Err(Failure::NotValue(many.path, why))
+        }
     }
 }
 
@@ -370,20 +360,13 @@ fn unmarked(text: &[u8]) -> &[u8]
 }
 
 /// The digits of the value whose JSON a text is, as a line; `-` for no bytes.
-fn digits_said(many: &Many<'_, '_, '_>, json: &[u8]) -> Said
-    requires laid_out { IsLaidOut many.now.layout.now }
-    requires sizes { KnowsSizes many.now.layout.now }
-    ensures { let map = many.now.layout.now.map.now in let root = many.now.layout.now.root.now in
-        IfOk result (λ r. MatchResult r (λ out. IsAnswer map root Wanted.Digits json.now out.items)
-        (λ _. IsRefused map root Wanted.Digits json.now)) }
+fn digits_said<'a>(many: &Many<'a, '_, '_>, json: &[u8]) -> Result<Vec<u8>, Failure<'a>>
+    requires { IsLaidOut many.now.layout.now × KnowsSizes many.now.layout.now }
+    ensures { AnswersText many.now.layout.now Wanted.Digits many.now.path.now json.now result }
 {
-    match bytes_said(many, json)? {
-        Ok(bytes) => {
-            let text = digits_line(many.alloc, bytes.as_slice())?;
-            Ok(Ok(text.into_bytes()))
-        }
-        Err(why) => Ok(Err(why)),
-    }
+    let bytes = bytes_said(many, json)?;
+    let line = digits_line(many.alloc, bytes.as_slice())?;
+    Ok(line.into_bytes())
 }
 
 fn digits_line(alloc: Global, bytes: &[u8]) -> Result<PlainText, AllocError>
@@ -396,30 +379,18 @@ fn digits_line(alloc: Global, bytes: &[u8]) -> Result<PlainText, AllocError>
 }
 
 /// The bytes of the value whose JSON a text is.
-fn bytes_said(many: &Many<'_, '_, '_>, json: &[u8]) -> Said
-    requires laid_out { IsLaidOut many.now.layout.now }
-    requires sizes { KnowsSizes many.now.layout.now }
-    ensures { let map = many.now.layout.now.map.now in let root = many.now.layout.now.root.now in
-        IfOk result (λ r. MatchResult r (λ bytes. IsJson map root json.now bytes.items)
-        (λ _. SaysNoValue map root json.now)) }
+fn bytes_said<'a>(many: &Many<'a, '_, '_>, json: &[u8]) -> Result<Vec<u8>, Failure<'a>>
+    requires { IsLaidOut many.now.layout.now × KnowsSizes many.now.layout.now }
+    ensures { AnswersText many.now.layout.now Wanted.Bytes many.now.path.now json.now result }
 {
     let Ok(text) = str::from_utf8(json) else {
-        return Ok(Err(String::from_str(many.alloc, "not UTF-8")?));
+        let why = String::from_str(many.alloc, "not UTF-8")?;
+        return Err(Failure::NotValue(many.path, why));
     };
     match from_json_by(many.alloc, many.layout, text) {
-        Ok(bytes) => Ok(Ok(bytes)),
-        Err(error) => Ok(Err(reason(many.alloc, error)?)),
+        Ok(bytes) => Ok(bytes),
+        Err(error) => Err(no_value(many.alloc, many.path, error)),
     }
-}
-
-/// The text of an error, unless an allocation failed.
-fn reason(alloc: Global, error: JsonError<'_>) -> Result<String, AllocError>
-    ensures { OnOk result (error.entry ≡ NoMemory → ⊥) }
-{
-    if matches!(error, JsonError::OutOfMemory) {
-        return Err(AllocError);
-    }
-    format!(in alloc; "{error}")
 }
 
 /// `{"error": ..}`, and a line feed.
@@ -448,8 +419,7 @@ fn records_of<'a, 'l, 's, R: Read + Drop>(
     many: &Many<'a, 'l, 's>,
     input: R,
 ) -> Result<Records<'s, 'l, R>, Failure<'a>>
-    requires laid_out { IsLaidOut many.now.layout.now }
-    requires sizes { KnowsSizes many.now.layout.now }
+    requires { IsLaidOut many.now.layout.now × KnowsSizes many.now.layout.now }
     ensures first { IfOk result (λ r. (source_of r ≡ input) × (ahead r ≡ [])) }
     ensures same { IfOk result (λ r. layout_of r ≡ many.now.layout) }
     ensures nonempty { let layout = many.now.layout.now in
@@ -539,21 +509,13 @@ fn no_record<'a>(many: &Many<'a, '_, '_>, error: RecordError<'_>) -> Failure<'a>
     }
 }
 
-/// The failure of a value that has no JSON.
-fn no_json<'a>(many: &Many<'a, '_, '_>, offset: u64, error: JsonError<'_>) -> Failure<'a> {
-    if matches!(error, JsonError::OutOfMemory) {
-        return Failure::OutOfMemory;
-    }
-    match format!(in many.alloc; "value at byte {offset}: {error}") {
-        Ok(text) => Failure::NotValue(many.path, text),
-        Err(_) => Failure::OutOfMemory,
-    }
-}
-
-/// The failure of a line that is no value.
-fn no_line<'a>(many: &Many<'a, '_, '_>, number: u64, why: String) -> Failure<'a> {
-    match format!(in many.alloc; "line {number}: {why}") {
-        Ok(text) => Failure::NotValue(many.path, text),
-        Err(_) => Failure::OutOfMemory,
+/// The failure, with its place in front of why there is no value.
+fn placed<'a>(alloc: Global, failure: Failure<'a>, place: &str, number: u64) -> Failure<'a> {
+    match failure {
+        Failure::NotValue(path, why) => match format!(in alloc; "{place} {number}: {why}") {
+            Ok(text) => Failure::NotValue(path, text),
+            Err(_) => Failure::OutOfMemory,
+        },
+        failure => failure,
     }
 }

@@ -38,7 +38,7 @@ const INTERRUPTIONS: u32 = 1000;
 /// let words: Vec<String> = env::args(&rt)?.collect(rt.alloc())?;
 /// let status = run(&rt, words.as_slice(), rt.stdout().is_terminal(), rt.stderr().is_terminal(), &mut out);
 /// ```
-pub fn run<R: Files + Env + Input + Print + Eprint + AllocGlobal, W: Write>(
+pub fn run<R: Files + Env + Input + Print + Eprint + AllocGlobal + Drop, W: Write>(
     rt: &R,
     words: &[String],
     is_terminal: bool,
@@ -88,7 +88,7 @@ fn tell_failure<R: Eprint + AllocGlobal>(rt: &R, failure: &Failure<'_>) -> io::R
 }
 
 /// Prints the answer, and returns whether it is yes.
-fn perform<'a, R: Files + Env + Input + Print + Eprint + AllocGlobal, W: Write>(
+fn perform<'a, R: Files + Env + Input + Print + Eprint + AllocGlobal + Drop, W: Write>(
     rt: &R,
     matches: &ArgMatches<'a>,
     is_terminal: bool,
@@ -149,7 +149,7 @@ fn refuse_raw<'a>(request: &ValueRequest<'a>, is_terminal: bool) -> Result<(), F
 }
 
 /// Does a request about many values, which are read as they come.
-fn perform_on_many<'a, R: Files + Input + Eprint + AllocGlobal, W: Write>(
+fn perform_on_many<'a, R: Files + Input + Eprint + AllocGlobal + Drop, W: Write>(
     rt: &R,
     request: &ValueRequest<'a>,
     form: Form,
@@ -180,7 +180,7 @@ fn perform_on_many<'a, R: Files + Input + Eprint + AllocGlobal, W: Write>(
     let mut progress = Progress::new(rt, is_shown);
     if request.is_hex || request.action != Action::Encode && request.value.starts_with("0x") {
         let bytes = input(rt, request.value, request.is_hex)?;
-        progress.all = bytes.len() as u64;
+        progress.all = Some(bytes.len() as u64);
         return answer_many(
             request.action,
             form,
@@ -197,7 +197,7 @@ fn perform_on_many<'a, R: Files + Input + Eprint + AllocGlobal, W: Write>(
     match fs::File::open(rt, request.value) {
         Ok(file) => {
             if let Ok(metadata) = file.metadata() {
-                progress.all = metadata.len();
+                progress.all = Some(metadata.len());
             }
             let input = StdReader::new(file, INTERRUPTIONS);
             answer_many(request.action, form, &many, input, &mut progress, out)

@@ -384,7 +384,8 @@ fn line_and_column(text: &str, offset: usize) -> (usize, usize) {
     (line, last.chars().count().saturating_add(1))
 }
 
-fn no_value<'a>(alloc: Global, path: &'a str, error: JsonError<'_>) -> Failure<'a>
+/// The failure of a value that has no JSON, or of JSON that says no value.
+pub(crate) fn no_value<'a>(alloc: Global, path: &'a str, error: JsonError<'_>) -> Failure<'a>
     ensures { IsFailure path.now ⊥ (error.entry ≡ NoMemory → ⊥) ⊥ result }
 {
     if matches!(error, JsonError::OutOfMemory) {

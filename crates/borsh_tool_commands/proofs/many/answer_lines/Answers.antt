@@ -9,13 +9,13 @@ use Rattle.borsh_tool_commands.proofs.many.answer_lines.Goals as goal
 pub loop-number-init : goal.loop-number-init
 loop-number-init g c =
     let l = c.args.many.now.layout.now in
-    begins-at g.met.W.Write.lawful IsFirstLine (AnswersLine l.map.now l.root.now c.args.wanted c.args.is_lenient) (g.R.Read.stream c.args.input).bytes c.args.out.now _ (held c.new-lines.result) c.args.made.now.items
+    begins-at g.met.W.Write.lawful IsFirstLine (AnswersLine l c.args.wanted c.args.is_lenient) (g.R.Read.stream c.args.input).bytes c.args.out.now _ (held c.new-lines.result) c.args.made.now.items
     (ap (λ s. (g.R.Read.stream s).bytes) c.new-lines.ensures.reader) c.new-lines.ensures.none.0 c.requires.none
 
 pub returns-in_err-next_line : goal.returns-in_err-next_line
 returns-in_err-next_line g c =
     let l = c.args.many.now.layout.now in
-    let P : List ℕ → List ℕ → Type 0 = AnswersLine l.map.now l.root.now c.args.wanted c.args.is_lenient in
+    let P : List ℕ → List ℕ → Type 0 = AnswersLine l c.args.wanted c.args.is_lenient in
     let bytes = (g.R.Read.stream c.args.input).bytes in
     let x = c.in_err-next_line.field-0.0 in
     let e : c.from_residual-in_err-next_line.result ≡ Err x = search rules in
@@ -28,12 +28,12 @@ returns-then-branch g c =
     let n = subst (λ b. NextLine g.R.Read.stream c.loop-number.lines c.next_line.new.lines b) c.if-branch.true c.in_ok-next_line.ensures.next in
     let f = subst (λ b. Flushes g.W.Write.writing c.loop-number.out c.next_line.new.out c.loop-number.made.items c.next_line.new.made.items (Ok b)) c.if-branch.true c.in_ok-next_line.ensures.flushes in
     let none = n.none refl in
-    ends g.met.W.Write.lawful IsFirstLine (AnswersLine l.map.now l.root.now c.args.wanted c.args.is_lenient) (g.R.Read.stream c.args.input).bytes false _ n.read c.loop-number.invariant n.taken none.0 none.1 f
+    ends g.met.W.Write.lawful IsFirstLine (AnswersLine l c.args.wanted c.args.is_lenient) (g.R.Read.stream c.args.input).bytes false _ n.read c.loop-number.invariant n.taken none.0 none.1 f
 
 pub returns-in_err-text : goal.returns-in_err-text
 returns-in_err-text g c =
     let l = c.args.many.now.layout.now in
-    let P : List ℕ → List ℕ → Type 0 = AnswersLine l.map.now l.root.now c.args.wanted c.args.is_lenient in
+    let P : List ℕ → List ℕ → Type 0 = AnswersLine l c.args.wanted c.args.is_lenient in
     let bytes = (g.R.Read.stream c.args.input).bytes in
     let x = c.in_err-text.field-0.0 in
     let e : c.from_residual-in_err-text.result ≡ Err x = search rules in
@@ -43,7 +43,7 @@ returns-in_err-text g c =
 pub returns-in_err-extend_from_slice : goal.returns-in_err-extend_from_slice
 returns-in_err-extend_from_slice g c =
     let l = c.args.many.now.layout.now in
-    let P : List ℕ → List ℕ → Type 0 = AnswersLine l.map.now l.root.now c.args.wanted c.args.is_lenient in
+    let P : List ℕ → List ℕ → Type 0 = AnswersLine l c.args.wanted c.args.is_lenient in
     let bytes = (g.R.Read.stream c.args.input).bytes in
     let e : c.from_residual-in_err-extend_from_slice.result ≡ Err OutOfMemory = search rules in
     let same : c.extend_from_slice.new.self.items ≡ c.next_line.new.made.items = search rules in
@@ -54,13 +54,13 @@ returns-in_err-extend_from_slice g c =
 pub loop-number-preserved : goal.loop-number-preserved
 loop-number-preserved g c =
     let l = c.args.many.now.layout.now in
-    let P : List ℕ → List ℕ → Type 0 = AnswersLine l.map.now l.root.now c.args.wanted c.args.is_lenient in
+    let P : List ℕ → List ℕ → Type 0 = AnswersLine l c.args.wanted c.args.is_lenient in
     let bytes = (g.R.Read.stream c.args.input).bytes in
     let old = c.loop-number.lines in
     let new = c.next_line.new.lines in
     let n = subst (λ b. NextLine g.R.Read.stream old new b) c.if-branch.false c.in_ok-next_line.ensures.next in
     let f = subst (λ b. Flushes g.W.Write.writing c.loop-number.out c.next_line.new.out c.loop-number.made.items c.next_line.new.made.items (Ok b)) c.if-branch.false c.in_ok-next_line.ensures.flushes in
-    let t = subst (λ v. AnswersLine l.map.now l.root.now c.args.wanted c.args.is_lenient v c.in_ok-text.text.items) c.piece.ensures c.in_ok-text.ensures in
+    let t = subst (λ v. AnswersLine l c.args.wanted c.args.is_lenient v c.in_ok-text.text.items) c.piece.ensures c.in_ok-text.ensures in
     let e : c.extend_from_slice.new.self.items ≡ c.next_line.new.made.items ++ c.in_ok-text.text.items = search rules in
     answered g.met.W.Write.lawful IsFirstLine P bytes _ n.read (held new) _ (piece new) c.in_ok-text.text.items (goes_on g.met.W.Write.lawful IsFirstLine P bytes true c.loop-number.invariant f) n.taken (n.some refl) t e
 
@@ -68,4 +68,4 @@ pub returns : goal.returns
 returns g c =
     let l = c.args.many.now.layout.now in
     let laws = g.met.W.Write.lawful in
-    stops laws IsFirstLine (AnswersLine l.map.now l.root.now c.args.wanted c.args.is_lenient) (g.R.Read.stream c.args.input).bytes (Err OutOfMemory) OutOfMemory c.loop-number.invariant (not-flushed laws c.loop-number.out (Err OutOfMemory) refl) (λ u. u)
+    stops laws IsFirstLine (AnswersLine l c.args.wanted c.args.is_lenient) (g.R.Read.stream c.args.input).bytes (Err OutOfMemory) OutOfMemory c.loop-number.invariant (not-flushed laws c.loop-number.out (Err OutOfMemory) refl) (λ u. u)
