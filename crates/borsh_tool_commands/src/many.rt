@@ -82,7 +82,8 @@ pub fn answer_many<'a, E: Eprint, R: Read + Drop, W: Write>(
 ) -> Result<bool, Failure<'a>>
     requires { IsLaidOut many.now.layout.now × KnowsSizes many.now.layout.now }
     ensures { let l = many.now.layout.now in
-        Writes (AnswersMany action form many.now.is_strict l (R.stream input).bytes) W.writing out.old out.new [] result }
+        Writes (AnswersMany action form many.now.is_strict l (R.stream input).bytes)
+        W.writing out.old out.new [] result }
 {
     let mut made = Vec::new(many.alloc);
     let outcome = make_answers(action, form, many, input, progress, &mut made, out);
@@ -102,7 +103,8 @@ fn make_answers<'a, E: Eprint, R: Read + Drop, W: Write>(
     requires known { IsLaidOut many.now.layout.now × KnowsSizes many.now.layout.now }
     requires none { made.old.items ≡ [] }
     ensures { let l = many.now.layout.now in
-        Writes (AnswersMany action form many.now.is_strict l (R.stream input).bytes) W.writing out.old out.new made.new.items result }
+        Writes (AnswersMany action form many.now.is_strict l (R.stream input).bytes)
+        W.writing out.old out.new made.new.items result }
 {
     let is_lenient = !many.is_strict;
     match action {
@@ -298,8 +300,7 @@ fn line_answer<'a>(
     line: &[u8],
 ) -> Result<Vec<u8>, Failure<'a>>
     requires { IsLaidOut many.now.layout.now × KnowsSizes many.now.layout.now }
-    ensures { IfOk result (λ out.
-        AnswersLine many.now.layout.now wanted is_lenient line.now out.items) }
+    ensures { IfOk result (λ out. AnswersLine many.now.layout.now wanted is_lenient line.now out.items) }
 {
     match text_answer(many, wanted, line.trim_ascii()) {
         Ok(text) => Ok(text),
