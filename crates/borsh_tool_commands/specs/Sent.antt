@@ -6,7 +6,7 @@ use Rattle.borsh_schema.specs.Codecs.{container}
 use Rattle.borsh_schema.specs.Containers.{IsContainerOf}
 use Rattle.borsh_schema.specs.declared.container.BorshSchemaContainer.{BorshSchemaContainer}
 use Rattle.borsh_tool_commands.specs.declared.values.Schema.{Schema}
-use Rattle.borsh_tool_commands.specs.Json.{IsJson}
+use Rattle.borsh_tool_commands.specs.Json.{IsJson, IsJsonLine}
 
 -- the bytes of a container
 abbrev pub schema_encoding : Schema → Option (List ℕ)
@@ -34,3 +34,7 @@ EncodesJson sent s text out = (value : List ℕ) × IsJson s.definitions (string
 -- the container of containers
 abbrev pub IsOwnSchema : Schema → Type 0
 IsOwnSchema s = (c : BorshSchemaContainer) × IsContainerOf (codes "BorshSchemaContainer") container_definitions c × (schema_encoding s ≡ container.encoding c)
+
+-- the JSON of a container's bytes by it, as a line
+abbrev pub IsSchemaJson : List ℕ → List ℕ → Type 0
+IsSchemaJson bytes out = (s : Schema) × IsOwnSchema s × IsJsonLine s.definitions (string_bytes s.root) bytes out

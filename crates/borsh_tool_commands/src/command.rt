@@ -1,4 +1,4 @@
-// The command line. Left open of each call: everything, which is tested.
+// The command line.
 use super::answers::Question;
 use clap::{Arg, ArgAction, ArgMatches, Command};
 use std::alloc::{AllocError, Global};
@@ -119,11 +119,6 @@ pub struct ValueRequest<'a> {
 }
 
 /// The commands of the tool.
-///
-/// ```
-/// let matches = command(alloc)?.try_get_matches_from(words)?;
-/// let request = request_from(&matches);
-/// ```
 pub fn command<'a>(alloc: Global) -> Result<Command<'a>, AllocError> {
     Command::new(alloc, "borsh")
         .bin_name("borsh")?

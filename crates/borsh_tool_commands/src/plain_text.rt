@@ -12,7 +12,7 @@ use std::{fmt, str};
 pub type Added = Result<(), AllocError>;
 
 /// Text of printable ASCII and line feeds. So nothing in it can move a terminal's cursor, change its
-/// colours or hide what follows, whatever names a container has. Left open of each call: memory; the text after an error.
+/// colours or hide what follows, whatever names a container has.
 #[derive(Debug, Drop)]
 pub struct PlainText {
     text: Vec<u8>,

@@ -1,4 +1,4 @@
-// How far a run over many values is. Left open of each call: everything.
+// How far a run over many values is.
 
 /// After how many bytes a line is printed.
 const STEP: u64 = 67108864;

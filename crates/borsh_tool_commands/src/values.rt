@@ -8,7 +8,7 @@ ghost use Rattle.borsh_tool_commands.specs.Failures.{IsFailure, IsNoAnswer, IsNo
 ghost use Rattle.borsh_tool_commands.specs.Plain.{digits, escaped};
 ghost use Rattle.borsh_tool_commands.specs.Printed.{printed};
 ghost use Rattle.borsh_tool_commands.specs.Json.{IsJson, IsJsonLine};
-ghost use Rattle.borsh_tool_commands.specs.Sent.{EncodesJson, IsContainer, IsOwnSchema, IsSent, schema_encoding};
+ghost use Rattle.borsh_tool_commands.specs.Sent.{EncodesJson, IsContainer, IsOwnSchema, IsSchemaJson, IsSent, schema_encoding};
 ghost use Rattle.borsh_io.specs.declared.error.ErrorKind.TheVariants.{OutOfMemory as NoRoom};
 ghost use Rattle.borsh_json.specs.declared.error.JsonError.TheVariants.{OutOfMemory as NoMemory};
 ghost use Rattle.borsh_walks.specs.Container.{Member};
@@ -36,14 +36,7 @@ pub struct Schema {
     pub definitions: BTreeMap<String, Definition>,
 }
 
-/// The container whose encoding the bytes are.
-///
-/// Returns `NotContainer` with the path if they are none, and `OutOfMemory` if an allocation fails. Left open: memory.
-///
-/// ```
-/// let schema = schema_from(alloc, "readme.borsh", bytes.as_slice())?;
-/// println!(rt; "{}", schema.root)?;
-/// ```
+/// The container whose encoding the bytes are. `NotContainer` has the path.
 pub fn schema_from<'a>(alloc: Global, path: &'a str, bytes: &[u8]) -> Result<Schema, Failure<'a>>
     ensures ok { IfOk result (λ s. schema_encoding s ≡ Some bytes.now) }
     ensures err { IfErr result (IsNoContainer path.now bytes.now) }
@@ -55,13 +48,7 @@ pub fn schema_from<'a>(alloc: Global, path: &'a str, bytes: &[u8]) -> Result<Sch
     }
 }
 
-/// The container whose encoding is in front of other bytes, and these.
-///
-/// The errors are those of [`schema_from`]. Left open: as there.
-///
-/// ```
-/// let (schema, value) = schema_in_front(alloc, "sent.borsh", bytes.as_slice())?;
-/// ```
+/// The container whose encoding is in front of other bytes, and these. The errors are those of [`schema_from`].
 pub fn schema_in_front<'a, 'b>(
     alloc: Global,
     path: &'a str,
@@ -79,14 +66,7 @@ pub fn schema_in_front<'a, 'b>(
     }
 }
 
-/// The encoding of a container, and behind it the bytes of a value. Returns `OutOfMemory` if an allocation fails. Left open:
-/// memory.
-///
-/// ```
-/// let sent = with_schema(alloc, &schema, value)?;
-/// let (again, rest) = schema_in_front(alloc, "sent.borsh", sent.as_slice())?;
-/// assert_eq!(rt; rest, value);
-/// ```
+/// The encoding of a container, and behind it the bytes of a value.
 pub fn with_schema(alloc: Global, schema: &Schema, value: &[u8]) -> Result<Vec<u8>, AllocError>
     ensures { IfOk result (λ sent. IsSent schema.now value.now sent.items) }
 {
@@ -98,7 +78,7 @@ pub fn with_schema(alloc: Global, schema: &Schema, value: &[u8]) -> Result<Vec<u
     Ok(sent)
 }
 
-/// The container of containers. Returns `OutOfMemory` if an allocation fails. Left open: memory.
+/// The container of containers.
 pub fn own_schema<'a>(alloc: Global) -> Result<Schema, Failure<'a>>
     ensures ok { IfOk result IsOwnSchema }
     ensures err { IfErr result IsNoMemory }
@@ -112,11 +92,8 @@ pub fn own_schema<'a>(alloc: Global) -> Result<Schema, Failure<'a>>
     }
 }
 
-/// The container whose encoding the bytes are as JSON, and a line feed: what [`json_text`] says of them by the
-/// container of containers, and what [`bytes_said`] makes a container of.
-///
-/// The errors are those of [`schema_from`]. Determined: after `Ok` the bytes are the encoding of a container; `NotContainer`
-/// exactly if they are that of none. Left open: memory; `NotValue` for any container; any text: tested.
+/// The container whose encoding the bytes are as JSON by the container of containers, and a line feed. The errors are those of
+/// [`schema_from`]. Left open: memory; `NotValue` for any container; as of [`to_json`].
 ///
 /// ```
 /// let text = schema_json(alloc, "readme.borsh", bytes.as_slice())?;
@@ -124,7 +101,7 @@ pub fn own_schema<'a>(alloc: Global) -> Result<Schema, Failure<'a>>
 /// assert_eq!(rt; again.as_slice(), bytes.as_slice());
 /// ```
 pub fn schema_json<'a>(alloc: Global, path: &'a str, bytes: &[u8]) -> Result<PlainText, Failure<'a>>
-    ensures ok { OnOk result (IsContainer bytes.now) }
+    ensures ok { IfOk result (λ t. IsContainer bytes.now × IsSchemaJson bytes.now (printed t)) }
     ensures err { IfErr result (IsNoContainerJson path.now bytes.now) }
 {
     let _schema = schema_from(alloc, path, bytes)?;
@@ -142,15 +119,7 @@ pub(crate) fn no_container<'a>(path: &'a str, error: Error) -> Failure<'a>
     Failure::NotContainer(path, error)
 }
 
-/// The value that the bytes are as JSON, and a line feed.
-///
-/// Returns `NotValue` with the path and the reason if the bytes are no value of the root or one without JSON, and
-/// `OutOfMemory` if an allocation fails. Determined: what [`to_json`] determines of the text in front of the line feed;
-/// `NotValue` only where [`to_json`] may return an error. Left open: as of [`to_json`].
-///
-/// ```
-/// let text = json_text(alloc, &schema, "value.borsh", bytes.as_slice(), Style::COMPACT)?;
-/// ```
+/// The value that the bytes are as JSON, and a line feed. `NotValue` has the path and the reason.
 pub fn json_text<'a>(
     alloc: Global,
     schema: &Schema,
@@ -183,15 +152,7 @@ pub fn json_text<'a>(
     }
 }
 
-/// The bytes of the value that JSON says.
-///
-/// Returns `NotText` if the JSON isn't UTF-8, `NotValue` with the path and the reason if it says no value of the root,
-/// and `OutOfMemory` if an allocation fails. Determined: after `Ok` what [`from_json`] determines of them; `NotText` exactly
-/// if the JSON isn't UTF-8; `NotValue` only where [`from_json`] may return an error. Left open: as of [`from_json`].
-///
-/// ```
-/// let bytes = bytes_said(alloc, &schema, "value.json", b"{\"x\": 12}".as_slice())?;
-/// ```
+/// The bytes of the value that JSON says. `NotValue` has the path and the reason; `NotText` is of JSON that isn't UTF-8.
 pub fn bytes_said<'a>(
     alloc: Global,
     schema: &Schema,
@@ -212,13 +173,7 @@ pub fn bytes_said<'a>(
     }
 }
 
-/// The bytes of the value that JSON says, behind those of its container if `is_sent` is true. The errors are those of
-/// [`bytes_said`]. Left open: as there.
-///
-/// ```
-/// let sent = encoded(alloc, &schema, "value.json", true, b"{\"x\": 12}".as_slice())?;
-/// let (again, value) = schema_in_front(alloc, "sent.borsh", sent.as_slice())?;
-/// ```
+/// The bytes of the value that JSON says, behind those of its container if `is_sent` is true.
 pub fn encoded<'a>(
     alloc: Global,
     schema: &Schema,
@@ -238,15 +193,7 @@ pub fn encoded<'a>(
     }
 }
 
-/// `member`, or `no member`, where the bytes stop being one, and why.
-///
-/// Returns `NotValue` if the container is ambiguous, and `OutOfMemory` if an allocation fails. Determined: after `Ok`
-/// whether the answer is yes, exactly, and the text up to where and why; `NotValue` only if a definition is ambiguous or breaks
-/// a rule of widths. Left open: memory; where and why: tested; `NotValue` in place of yes or no for such definitions.
-///
-/// ```
-/// assert!(rt; member(alloc, &schema, "value.borsh", bytes.as_slice())?.is_yes);
-/// ```
+/// `member`, or `no member`, where the bytes stop being one, and why. `NotValue` is of an ambiguous container.
 pub fn member<'a>(
     alloc: Global,
     schema: &Schema,
@@ -269,14 +216,6 @@ pub fn member<'a>(
 }
 
 /// `member`, or `no member`, or `not canonical` if the type refuses the bytes as far as names tell, and why.
-///
-/// Returns `NotValue` if the container is ambiguous, and `OutOfMemory` if an allocation fails. Determined: after yes and
-/// `not canonical` the bytes are a member of the root, after `no member` they are none; `NotValue` as of [`member`]. Left open:
-/// memory; `not canonical` for any member; where and why: tested.
-///
-/// ```
-/// assert!(rt; !strict_member(alloc, &schema, "value.borsh", b"\x02")?.is_yes);
-/// ```
 pub fn strict_member<'a>(
     alloc: Global,
     schema: &Schema,
@@ -325,14 +264,6 @@ pub(crate) fn no(alloc: Global, answer: &str, why: &str) -> Result<Answer, Alloc
 }
 
 /// What each byte of the value is, one line for each number, text, count and tag; in colours if `is_colored` is true.
-///
-/// Returns `NotValue` with the path and the reason if the bytes are no value of the root, and `OutOfMemory` if an
-/// allocation fails. Determined: after `Ok` the bytes are a member of the root, and the text has no colours unless they are
-/// asked for; `NotValue` only where [`rows_of`] may return an error. Left open: as of [`rows_of`]; any text: tested.
-///
-/// ```
-/// let text = shown(alloc, &schema, "value.borsh", bytes.as_slice(), false)?;
-/// ```
 pub fn shown<'a>(
     alloc: Global,
     schema: &Schema,
@@ -352,7 +283,7 @@ pub fn shown<'a>(
     }
 }
 
-/// Bytes as hexadecimal digits, and a line feed. Left open: memory.
+/// Bytes as hexadecimal digits, and a line feed.
 pub fn hex_line(alloc: Global, bytes: &[u8]) -> Result<PlainText, AllocError>
     ensures { IfOk result (λ t. printed t ≡ line_of (flat_map digits bytes.now)) }
 {
