@@ -5,9 +5,11 @@ use Rattle.borsh_walks.specs.Definitions.{definitions_in}
 use Rattle.borsh_tool_commands.specs.declared.command.Action.{Action}
 use Rattle.borsh_tool_commands.specs.declared.command.Action.TheVariants.{Decode, Encode, Member as AskMember, Show}
 use Rattle.borsh_tool_commands.specs.declared.command.ValueRequest.{ValueRequest}
+use Rattle.borsh_tool_commands.specs.declared.failure.Failure.{Failure}
 use Rattle.borsh_tool_commands.specs.declared.values.Schema.{Schema}
 use Rattle.borsh_tool_commands.specs.Answers.{AnswersMember, line_of}
 use Rattle.borsh_tool_commands.specs.Colors.{IsPainted}
+use Rattle.borsh_tool_commands.specs.Failures.{IsNoAnswer, IsNoJson, IsNoValue, IsNotShown}
 use Rattle.borsh_tool_commands.specs.Json.{IsJsonLine}
 use Rattle.borsh_tool_commands.specs.Plain.{digits}
 use Rattle.borsh_tool_commands.specs.Sent.{EncodesJson}
@@ -22,3 +24,10 @@ Replies Decode r s value colored is_yes out = (is_yes ≡ true) × IsJsonLine s.
 Replies Encode r s value colored is_yes out = (is_yes ≡ true) × ((sent : List ℕ) × EncodesJson r.with_schema s value sent × (out ≡ in_digits r.is_hex sent))
 Replies AskMember r s value colored is_yes out = AnswersMember (definitions_in s.definitions) (string_bytes s.root) value r.is_strict is_yes out
 Replies Show r s value colored is_yes out = (is_yes ≡ true) × Member (definitions_in s.definitions) (string_bytes s.root) value × IsPainted colored out
+
+-- why there is no reply: of this path, by the command
+abbrev pub IsNoReply : Action → Schema → (path value : List ℕ) → Failure → Type 0
+IsNoReply Decode s path value = IsNoJson (definitions_in s.definitions) (string_bytes s.root) path value
+IsNoReply Encode s path value = IsNoValue (definitions_in s.definitions) (string_bytes s.root) path value
+IsNoReply AskMember s path value = IsNoAnswer (definitions_in s.definitions) (string_bytes s.root) path
+IsNoReply Show s path value = IsNotShown (definitions_in s.definitions) (string_bytes s.root) path value

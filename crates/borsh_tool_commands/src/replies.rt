@@ -1,6 +1,6 @@
 // What is replied to a request about a value.
-ghost use Rattle.std.specs.Prelude.{◌≡◌, IfOk, true};
-ghost use Rattle.borsh_tool_commands.specs.Replies.{Replies};
+ghost use Rattle.std.specs.Prelude.{◌≡◌, IfErr, IfOk, true};
+ghost use Rattle.borsh_tool_commands.specs.Replies.{IsNoReply, Replies};
 
 use super::answers::Answer;
 use super::command::{Action, ValueRequest};
@@ -17,7 +17,13 @@ pub struct Reply {
 }
 
 /// What is replied to a request about a value, whose bytes or, for `encode`, whose JSON are given; `show` has colours if
-/// `is_colored` is true. The errors and what is left open are those of the functions of [`values`](super::values).
+/// `is_colored` is true. Errors have the path that the request has for it.
+///
+/// Determined: of `decode` JSON of the bytes as a line; of `encode` the bytes that the JSON is of, behind their container if that
+/// is asked for, or their digits as a line; of `member` yes exactly for a member, but for one that `--strict` says isn't canonical,
+/// and the line up to where and why; of `show` that the bytes are a member, and text with no codes but those of colours;
+/// `NotValue` and `NotText` only for a reason. Left open: memory; which members aren't canonical; which text `show` has, and where and why:
+/// tested; as of [`borsh_json`].
 ///
 /// ```
 /// let reply = reply_to(alloc, &request, &schema, bytes.as_slice(), false)?;
@@ -30,8 +36,9 @@ pub fn reply_to<'a>(
     value: &[u8],
     is_colored: bool,
 ) -> Result<Reply, Failure<'a>>
-    ensures { IfOk result (λ r. Replies request.now.action request.now schema.now value.now
+    ensures ok { IfOk result (λ r. Replies request.now.action request.now schema.now value.now
         is_colored r.is_yes r.output.items) }
+    ensures err { IfErr result (IsNoReply request.now.action schema.now request.now.value.now value.now) }
 {
     let path = request.value;
     match request.action {
