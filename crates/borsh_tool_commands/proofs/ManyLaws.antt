@@ -1,6 +1,6 @@
 -- What is written for many values.
 use Rattle.std.proofs.Common.{◌≡◌, ℕ, ◌+◌, inl, inr, true, false, List, [], ◌∷◌, ◌++◌, length, Option, None, Some, IfSome, Result, Ok, Err, refl, sym, ◌∙◌, ap, subst, append_assoc, append-nil}
-use Rattle.std.specs.Prelude.{Bool, IfOk, codes}
+use Rattle.std.specs.Prelude.{Bool, IfOk, OnOk, codes}
 use Rattle.std.specs.Io.KnownBytes.{Consumes, IsAtEnd}
 use Rattle.std.proofs.lemmas.List.{length_push}
 use Rattle.borsh_io.specs.Sink.{WriterModel, WriterLaws, WroteBytes, NotWrittenWhole}
@@ -71,6 +71,14 @@ module _ {W : Type 0} {w : WriterModel W} (laws : WriterLaws W w) (P : List ℕ 
   -- nothing was written, and all that was made is kept
   pub only-made : (a : W) (made : List ℕ) (r : Result Bool Failure) → P made r → Writes P w a a made r
   only-made a made r p = record { written = []; lost = []; wrote = laws.none a; output = p; whole = inl refl }
+
+pub writes-as : {W : Type 0} {w : WriterModel W} {P Q : List ℕ → Result Bool Failure → Type 0} {a b : W} {made : List ℕ} {r : Result Bool Failure} → Writes P w a b made r → ((out : List ℕ) → P out r → Q out r) → Writes Q w a b made r
+writes-as d k = record { written = d.written; lost = d.lost; wrote = d.wrote; output = k _ d.output; whole = d.whole }
+
+-- what holds without a result holds with one
+pub held : {A E P : Type 0} (result : Result A E) → P → OnOk result P
+held (Ok a) p = p
+held (Err e) p = tt
 
 -- ---- the first pieces of a reader's bytes
 
