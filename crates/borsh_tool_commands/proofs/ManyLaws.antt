@@ -44,8 +44,8 @@ nothing-left (x ∷ xs) ys e = absurd (cc)
 
 module _ {W : Type 0} {w : WriterModel W} (laws : WriterLaws W w) (P : List ℕ → Result Bool Failure → Type 0) where
   -- the writer's bytes after a flush, whatever comes of it
-  pub flushed : {A : Type 0} {a b c : W} {made after : List ℕ} (r : Result A Failure) (q : Result Bool Failure) (written : List ℕ) → w.wrote a b written → P (written ++ made) q → Flushes w b c made after r → (IsUnwritten r → IsUnwritten q) → Writes P w a c after q
-  flushed {a = a} {b = b} {c = c} {made = made} {after = after} r q written wrote p f g = record {
+  pub flushed : {A : Type 0} {a b c : W} {made after : List ℕ} (r : Result A Failure) (q : Result Bool Failure) (written : List ℕ) → w.wrote a b written → Flushes w b c made after r → P (written ++ made) q → (IsUnwritten r → IsUnwritten q) → Writes P w a c after q
+  flushed {a = a} {b = b} {c = c} {made = made} {after = after} r q written wrote f p g = record {
     written = written ++ f.written;
     lost = f.lost;
     wrote = laws.more a b c written f.written wrote f.wrote;
@@ -58,7 +58,7 @@ module _ {W : Type 0} {w : WriterModel W} (laws : WriterLaws W w) (P : List ℕ 
       → (IsUnwritten f → IsUnwritten q) → (IsUnwritten r → IsUnwritten q) → ((out : List ℕ) → P out r → P out q) → Writes P w a c after q
   finished {a = a} {b = b} {c = c} {made = made} {after = after} r f q d x none g h k =
       elim d.whole [
-        | inl e ↦ flushed f q d.written d.wrote (k (d.written ++ made) (subst (λ l. P (d.written ++ (l ++ made)) r) e d.output)) x g
+        | inl e ↦ flushed f q d.written d.wrote x (k (d.written ++ made) (subst (λ l. P (d.written ++ (l ++ made)) r) e d.output)) g
         | inr u ↦ (let front : x.written ≡ [] = nothing-left x.written (x.lost ++ after) (sym u.1 ∙ x.split) in record {
           written = d.written ++ x.written;
           lost = d.lost;
@@ -164,18 +164,18 @@ module _ {W : Type 0} {w : WriterModel W} (laws : WriterLaws W w) (F : List ℕ 
       → Writes (AnswersEach F P bytes) w a c kept (Err x)
   stops {now = now} {ahead = ahead} r x s f g =
       let l = ahead-left F bytes now ahead s.pieces s.taken in
-      flushed laws (AnswersEach F P bytes) r (Err x) s.written s.wrote (record { pieces = s.pieces; left = l.0; answers = s.answers; first = l.1; all = tt }) f g
+      flushed laws (AnswersEach F P bytes) r (Err x) s.written s.wrote f (record { pieces = s.pieces; left = l.0; answers = s.answers; first = l.1; all = tt }) g
 
   -- nothing was read or made
   pub stops-first : (a : W) (made : List ℕ) (x : Failure) → made ≡ [] → Writes (AnswersEach F P bytes) w a a made (Err x)
-  stops-first a made x e = subst (λ m. Writes (AnswersEach F P bytes) w a a m (Err x)) (sym e) (stops (Err x) x (begins a) (not-flushed laws a {made = []} {after = []} (Err x) refl) (λ u. u))
+  stops-first a made x e = subst (λ m. Writes (AnswersEach F P bytes) w a a m (Err x)) (sym e) (stops {A = Bool} (Err x) x (begins a) (not-flushed laws a {made = []} {after = []} (Err x) refl) (λ u. u))
 
   -- all is answered
   pub ends : {A : Type 0} {now : Option (List ℕ)} {ahead : List ℕ} {a b c : W} {made kept : List ℕ} (v : A) (new : Option (List ℕ)) (read : List ℕ) → SoFar F P w bytes now ahead a b made → Consumes now new read → ahead ++ read ≡ [] → IsAtEnd new → Flushes w b c made kept (Ok v)
       → Writes (AnswersEach F P bytes) w a c kept (Ok true)
   ends {now = now} {ahead = ahead} v new read s c e h f =
       let first = ahead-ends F bytes new (ahead ++ read) s.pieces (ahead-read F bytes now new ahead read s.pieces s.taken c) e h in
-      flushed laws (AnswersEach F P bytes) (Ok v) (Ok true) s.written s.wrote (record { pieces = s.pieces; left = []; answers = s.answers; first = first; all = (refl, refl) }) f (λ u. u)
+      flushed laws (AnswersEach F P bytes) (Ok v) (Ok true) s.written s.wrote f (record { pieces = s.pieces; left = []; answers = s.answers; first = first; all = (refl, refl) }) (λ u. u)
 
 -- ---- values counted
 

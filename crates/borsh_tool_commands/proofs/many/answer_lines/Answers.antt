@@ -1,4 +1,4 @@
-use Rattle.std.proofs.Common.{rules, ℕ, List, ◌≡◌, ◌++◌, [], Ok, Err, true, false, refl, sym, ap, ◌∙◌, subst}
+use Rattle.std.proofs.Common.{rules, ℕ, Bool, List, ◌≡◌, ◌++◌, [], Ok, Err, true, false, refl, sym, ap, ◌∙◌, subst}
 use Rattle.borsh_values.specs.Records.{held, piece, reader_of}
 use Rattle.borsh_tool_commands.specs.declared.failure.Failure.TheVariants.{OutOfMemory}
 use Rattle.borsh_tool_commands.specs.Lines.{IsFirstLine, NextLine}
@@ -9,7 +9,7 @@ use Rattle.borsh_tool_commands.proofs.many.answer_lines.Goals as goal
 pub loop-number-init : goal.loop-number-init
 loop-number-init g c =
     let l = c.args.many.now.layout.now in
-    begins-at g.met.W.Write.lawful IsFirstLine (AnswersLine l c.args.wanted c.args.is_lenient) (g.R.Read.stream c.args.input).bytes c.args.out.now _ (held c.new-lines.result) c.args.made.now.items
+    begins-at g.met.W.Write.lawful IsFirstLine (AnswersLine l c.args.wanted c.args.is_lenient) (g.R.Read.stream c.args.input).bytes c.args.out.now (g.R.Read.stream (reader_of c.new-lines.result)).bytes (held c.new-lines.result) c.args.made.now.items
     (ap (λ s. (g.R.Read.stream s).bytes) c.new-lines.ensures.reader) c.new-lines.ensures.none.0 c.requires.none
 
 pub returns-in_err-next_line : goal.returns-in_err-next_line
@@ -28,7 +28,7 @@ returns-then-branch g c =
     let n = subst (λ b. NextLine g.R.Read.stream c.loop-number.lines c.next_line.new.lines b) c.if-branch.true c.in_ok-next_line.ensures.next in
     let f = subst (λ b. Flushes g.W.Write.writing c.loop-number.out c.next_line.new.out c.loop-number.made.items c.next_line.new.made.items (Ok b)) c.if-branch.true c.in_ok-next_line.ensures.flushes in
     let none = n.none refl in
-    ends g.met.W.Write.lawful IsFirstLine (AnswersLine l c.args.wanted c.args.is_lenient) (g.R.Read.stream c.args.input).bytes false _ n.read c.loop-number.invariant n.taken none.0 none.1 f
+    ends g.met.W.Write.lawful IsFirstLine (AnswersLine l c.args.wanted c.args.is_lenient) (g.R.Read.stream c.args.input).bytes false (g.R.Read.stream (reader_of c.next_line.new.lines)).bytes n.read c.loop-number.invariant n.taken none.0 none.1 f
 
 pub returns-in_err-text : goal.returns-in_err-text
 returns-in_err-text g c =
@@ -62,10 +62,10 @@ loop-number-preserved g c =
     let f = subst (λ b. Flushes g.W.Write.writing c.loop-number.out c.next_line.new.out c.loop-number.made.items c.next_line.new.made.items (Ok b)) c.if-branch.false c.in_ok-next_line.ensures.flushes in
     let t = subst (λ v. AnswersLine l c.args.wanted c.args.is_lenient v c.in_ok-text.text.items) c.piece.ensures c.in_ok-text.ensures in
     let e : c.extend_from_slice.new.self.items ≡ c.next_line.new.made.items ++ c.in_ok-text.text.items = search rules in
-    answered g.met.W.Write.lawful IsFirstLine P bytes _ n.read (held new) _ (piece new) c.in_ok-text.text.items (goes_on g.met.W.Write.lawful IsFirstLine P bytes true c.loop-number.invariant f) n.taken (n.some refl) t e
+    answered g.met.W.Write.lawful IsFirstLine P bytes (g.R.Read.stream (reader_of new)).bytes n.read (held new) c.extend_from_slice.new.self.items (piece new) c.in_ok-text.text.items (goes_on g.met.W.Write.lawful IsFirstLine P bytes true c.loop-number.invariant f) n.taken (n.some refl) t e
 
 pub returns : goal.returns
 returns g c =
     let l = c.args.many.now.layout.now in
     let laws = g.met.W.Write.lawful in
-    stops laws IsFirstLine (AnswersLine l c.args.wanted c.args.is_lenient) (g.R.Read.stream c.args.input).bytes (Err OutOfMemory) OutOfMemory c.loop-number.invariant (not-flushed laws c.loop-number.out (Err OutOfMemory) refl) (λ u. u)
+    stops laws IsFirstLine (AnswersLine l c.args.wanted c.args.is_lenient) (g.R.Read.stream c.args.input).bytes {A = Bool} (Err OutOfMemory) OutOfMemory c.loop-number.invariant (not-flushed laws c.loop-number.out (Err OutOfMemory) refl) (λ u. u)

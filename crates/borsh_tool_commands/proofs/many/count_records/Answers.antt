@@ -11,7 +11,7 @@ loop-count-init g c =
     let r = c.in_ok-records.records in
     record {
       layout = c.in_ok-records.ensures.same;
-      so_far = count-begins (definitions_in l.map.now) l.root.now (g.R.Read.stream c.args.input).bytes _ (ahead r) (ap (λ s. (g.R.Read.stream s).bytes) c.in_ok-records.ensures.first.0) c.in_ok-records.ensures.first.1;
+      so_far = count-begins (definitions_in l.map.now) l.root.now (g.R.Read.stream c.args.input).bytes (g.R.Read.stream (source_of r)).bytes (ahead r) (ap (λ s. (g.R.Read.stream s).bytes) c.in_ok-records.ensures.first.0) c.in_ok-records.ensures.first.1;
     }
 
 pub loop-count-preserved : goal.loop-count-preserved

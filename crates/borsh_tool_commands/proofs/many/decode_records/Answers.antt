@@ -27,7 +27,7 @@ loop-records-init g c =
     let r = c.in_ok-records.records in
     record {
       layout = c.in_ok-records.ensures.same;
-      so_far = begins-at g.met.W.Write.lawful (IsFirst (definitions_in l.map.now) l.root.now) (IsJsonLine l.map.now l.root.now) bytes c.args.out.now _ (ahead r) c.args.made.now.items
+      so_far = begins-at g.met.W.Write.lawful (IsFirst (definitions_in l.map.now) l.root.now) (IsJsonLine l.map.now l.root.now) bytes c.args.out.now (g.R.Read.stream (source_of r)).bytes (ahead r) c.args.made.now.items
           (ap (λ s. (g.R.Read.stream s).bytes) c.in_ok-records.ensures.first.0) c.in_ok-records.ensures.first.1 c.requires.none;
     }
 
@@ -74,7 +74,7 @@ loop-records-preserved g c =
     let e : c.extend_from_slice.new.self.items ≡ c.next_record.new.made.items ++ c.in-Ok.line.items = search rules in
     record {
       layout = c.next_record.ensures.same.0 ∙ c.loop-records.invariant.layout;
-      so_far = answered g.met.W.Write.lawful F P bytes _ b.read (ahead new) _ (value_of new) c.in-Ok.line.items (goes_on g.met.W.Write.lawful F P bytes true c.loop-records.invariant.so_far f) b.lost.bytes (λ more _. b.goes.found refl more) j e;
+      so_far = answered g.met.W.Write.lawful F P bytes (g.R.Read.stream (source_of new)).bytes b.read (ahead new) c.extend_from_slice.new.self.items (value_of new) c.in-Ok.line.items (goes_on g.met.W.Write.lawful F P bytes true c.loop-records.invariant.so_far f) b.lost.bytes (λ more _. b.goes.found refl more) j e;
     }
 
 pub returns-in-Err : goal.returns-in-Err
@@ -91,4 +91,4 @@ returns g c =
     let b = subst (λ k. Advances (definitions_in k.now.map.now) k.now.root.now g.R.Read.stream old new (Ok false)) c.loop-records.invariant.layout a in
     let f = subst (λ b. Flushes g.W.Write.writing c.loop-records.out c.next_record.new.out c.loop-records.made.items c.next_record.new.made.items (Ok b)) c.if-branch.false c.in_ok-next_record.ensures.flushes in
     let none = b.goes.none refl in
-    ends g.met.W.Write.lawful (IsFirst (definitions_in l.map.now) l.root.now) (IsJsonLine l.map.now l.root.now) (g.R.Read.stream c.args.input).bytes false _ b.read c.loop-records.invariant.so_far b.lost.bytes none.0 none.1 f
+    ends g.met.W.Write.lawful (IsFirst (definitions_in l.map.now) l.root.now) (IsJsonLine l.map.now l.root.now) (g.R.Read.stream c.args.input).bytes false (g.R.Read.stream (source_of new)).bytes b.read c.loop-records.invariant.so_far b.lost.bytes none.0 none.1 f
