@@ -85,7 +85,7 @@ module _ {R : Type 0} (state : R → ReaderState) where
   -- the reader is at its end, and all that is held is the last line, or there is none
   pub reading-ends : (old now read new : Buffered R) (searched s : ℕ) (found : Bool) → ReadSoFar old now searched → HasNoFeed (held now) → s ≡ length (held now) → ReadsMore state now read (Ok 0) → TakesHeld read new s
       → (found ≡ true → 0 < s) → (found ≡ false → s ≡ 0) → NextLine state old new found
-  reading-ends old now read new searched s found r none e m t yes no =
+  reading-ends old now read new searched s found r none e m t if_some if_none =
       let nothing : m.read ≡ [] = empty m.read (sym m.number) in
       let same : held read ≡ held now = m.held ∙ ap (λ l. held now ++ l) nothing ∙ append-nil (held now) in
       let all : held old ++ (r.read ++ m.read) ≡ held now = sym (append_assoc (held old) r.read m.read) ∙ ap (λ l. l ++ m.read) (sym r.kept) ∙ ap (λ l. held now ++ l) nothing ∙ append-nil (held now) in
@@ -95,6 +95,6 @@ module _ {R : Type 0} (state : R → ReaderState) where
       record {
         read = r.read ++ m.read;
         taken = subst (λ x. Consumes (state (reader_of old)).bytes (state x).bytes (r.read ++ m.read)) (sym t.reader) (Consumes-trans _ _ _ r.read m.read r.taken m.lost.bytes);
-        some = λ y more is. last-line (held now) (piece new) (held old ++ (r.read ++ m.read)) (held new) more none (omega (arith, e, yes y)) all taken left (subst IsAtEnd is at_end);
-        none = λ f. (all ∙ empty (held now) (sym e ∙ no f), at_end);
+        some = λ y more is. last-line (held now) (piece new) (held old ++ (r.read ++ m.read)) (held new) more none (omega (arith, e, if_some y)) all taken left (subst IsAtEnd is at_end);
+        none = λ f. (all ∙ empty (held now) (sym e ∙ if_none f), at_end);
       }

@@ -32,25 +32,42 @@ const AFTER_SHOW: &str =
 
 // The help of arguments.
 const QUOTED: &str = "Prints numbers of 64 bits as strings, since JavaScript rounds them";
+
 const DECODE_RECORDS: &str = "The bytes are values one after another; prints a line for each";
+
 const DECODE_LINES: &str = "Each line is the digits of a value, or `-`; answers each by a line";
+
 const MEMBER_STRICT: &str = "Says no to bytes that the type refuses, as far as names tell";
+
 const MEMBER_RECORDS: &str = "The bytes are values one after another; prints how many";
-const CONTAINER_FILE: &str = "The encoded container: a file, its digits as `0x..`, or `-` for standard input";
+
+const CONTAINER_FILE: &str =
+    "The encoded container: a file, its digits as `0x..`, or `-` for standard input";
+
 const FILE_HEX: &str = "The input is hexadecimal digits; white space in it counts for nothing";
+
 const VALUE_FILE: &str =
     "The bytes of the value: a file, their digits as `0x..`, or `-` for standard input";
+
 const VALUE_HEX: &str = "The bytes of the value are hexadecimal digits";
+
 const IN_FRONT: &str = "The bytes have their container in front, and SCHEMA is left out";
+
 const RAW_ON_TERMINAL: &str = "Prints raw bytes where standard output is a terminal, too";
+
 const WITH_SCHEMA: &str = "Prints the bytes of the container in front";
+
 const ENCODE_RECORDS: &str =
     "Each line is the JSON of a value; prints their bytes one after another";
+
 const ENCODE_LINES: &str =
     "Each line is the JSON of a value; answers each by a line of digits, or `-`";
+
 const SCHEMA_FILE: &str =
     "The encoded container: a file, its digits as `0x..`, `-` for standard input, or `self` for that of containers";
+
 const QUIET: &str = "With --records, prints no progress where standard error is a terminal";
+
 const STRICT_LINES: &str = "With --lines, ends the run at the first line that is no value";
 
 /// What is asked of a container, and where the container is.

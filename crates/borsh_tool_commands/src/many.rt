@@ -114,7 +114,15 @@ fn make_answers<'a, E: Eprint, R: Read + Drop, W: Write>(
         },
         Action::Encode => match form {
             Form::Records => encode_records(many, input, progress, made, out),
-            Form::Lines => answer_lines(many, Wanted::Digits, is_lenient, input, progress, made, out),
+            Form::Lines => answer_lines(
+                many,
+                Wanted::Digits,
+                is_lenient,
+                input,
+                progress,
+                made,
+                out,
+            ),
         },
         Action::Member => make_count(many, input, progress, made),
         Action::Show => Err(Failure::NoCommand),
@@ -177,7 +185,7 @@ fn json_line<'a>(many: &Many<'a, '_, '_>, value: &[u8]) -> Result<Vec<u8>, Failu
     match to_json_by(many.alloc, many.layout, value, many.style) {
         Ok(text) => {
             let mut line = text.into_bytes();
-            line.push(b'\n')?;
+            line.extend_from_slice(b"\n".as_slice())?;
             Ok(line)
         }
         Err(error) => Err(no_value(many.alloc, many.path, error)),
@@ -250,12 +258,7 @@ fn push_count(count: u64, out: &mut PlainText) -> Added
 }
 
 /// The answer that the bytes stop being values behind so many.
-fn stopped(
-    alloc: Global,
-    count: u64,
-    offset: u64,
-    fault: Fault<'_>,
-) -> Result<Answer, AllocError>
+fn stopped(alloc: Global, count: u64, offset: u64, fault: Fault<'_>) -> Result<Answer, AllocError>
     ensures { IfOk result (λ a. (a.is_yes ≡ false) × ((why : List ℕ) ×
         (printed a.text ≡ line_of (codes "no member: " ++ why)))) }
 {

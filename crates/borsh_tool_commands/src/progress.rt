@@ -36,8 +36,12 @@ impl<'r, E: Eprint> Progress<'r, E> {
         }
         let (bytes, values) = (self.bytes, self.values);
         let _told = match self.all {
-            Some(all) => self.rt.eprintln(format_args!("{bytes} of {all} bytes, {values} values")),
-            None => self.rt.eprintln(format_args!("{bytes} bytes, {values} values")),
+            Some(all) => self
+                .rt
+                .eprintln(format_args!("{bytes} of {all} bytes, {values} values")),
+            None => self
+                .rt
+                .eprintln(format_args!("{bytes} bytes, {values} values")),
         };
     }
 }

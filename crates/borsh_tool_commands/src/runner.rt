@@ -19,6 +19,7 @@ use clap::ArgMatches;
 use hex::FromHexError;
 use std::alloc::{AllocError, Global};
 use std::env::VarError;
+use std::fs::OpenFile;
 use std::rt::{Env, Files};
 use std::{env, fs, io};
 
