@@ -18,17 +18,18 @@ returns-in_err-next_line g c =
     let P : List ℕ → List ℕ → Type 0 = AnswersLine l c.args.wanted c.args.is_lenient in
     let bytes = (g.R.Read.stream c.args.input).bytes in
     let x = c.in_err-next_line.field-0.0 in
-    let e : c.from_residual-in_err-next_line.result ≡ Err x = search rules in
+    let e : c.from_residual.result ≡ Err x = search rules in
     subst (λ r. Writes (AnswersEach IsFirstLine P bytes) g.W.Write.writing c.args.out.now c.next_line.new.out c.next_line.new.made.items r) (sym e)
     (stops g.met.W.Write.lawful IsFirstLine P bytes (Err x) x c.loop-number.invariant c.in_err-next_line.ensures.flushes (λ u. u))
 
-pub returns-then-branch : goal.returns-then-branch
-returns-then-branch g c =
+pub returns-then-not-branch : goal.returns-then-not-branch
+returns-then-not-branch g c =
     let l = c.args.many.now.layout.now in
-    let n = subst (λ b. NextLine g.R.Read.stream c.loop-number.lines c.next_line.new.lines b) c.if-branch.true c.in_ok-next_line.ensures.next in
-    let f = subst (λ b. Flushes g.W.Write.writing c.loop-number.out c.next_line.new.out c.loop-number.made.items c.next_line.new.made.items (Ok b)) c.if-branch.true c.in_ok-next_line.ensures.flushes in
-    let none = n.none refl in
-    ends g.met.W.Write.lawful IsFirstLine (AnswersLine l c.args.wanted c.args.is_lenient) (g.R.Read.stream c.args.input).bytes false (g.R.Read.stream (reader_of c.next_line.new.lines)).bytes n.read c.loop-number.invariant n.taken none.0 none.1 f
+    let none : c.in_ok-next_line.field-0 ≡ false = search rules in
+    let n = subst (λ b. NextLine g.R.Read.stream c.loop-number.lines c.next_line.new.lines b) none c.in_ok-next_line.ensures.next in
+    let f = subst (λ b. Flushes g.W.Write.writing c.loop-number.out c.next_line.new.out c.loop-number.made.items c.next_line.new.made.items (Ok b)) none c.in_ok-next_line.ensures.flushes in
+    let end = n.none refl in
+    ends g.met.W.Write.lawful IsFirstLine (AnswersLine l c.args.wanted c.args.is_lenient) (g.R.Read.stream c.args.input).bytes false (g.R.Read.stream (reader_of c.next_line.new.lines)).bytes n.read c.loop-number.invariant n.taken end.0 end.1 f
 
 pub returns-in_err-text : goal.returns-in_err-text
 returns-in_err-text g c =
@@ -58,8 +59,9 @@ loop-number-preserved g c =
     let bytes = (g.R.Read.stream c.args.input).bytes in
     let old = c.loop-number.lines in
     let new = c.next_line.new.lines in
-    let n = subst (λ b. NextLine g.R.Read.stream old new b) c.if-branch.false c.in_ok-next_line.ensures.next in
-    let f = subst (λ b. Flushes g.W.Write.writing c.loop-number.out c.next_line.new.out c.loop-number.made.items c.next_line.new.made.items (Ok b)) c.if-branch.false c.in_ok-next_line.ensures.flushes in
+    let some : c.in_ok-next_line.field-0 ≡ true = search rules in
+    let n = subst (λ b. NextLine g.R.Read.stream old new b) some c.in_ok-next_line.ensures.next in
+    let f = subst (λ b. Flushes g.W.Write.writing c.loop-number.out c.next_line.new.out c.loop-number.made.items c.next_line.new.made.items (Ok b)) some c.in_ok-next_line.ensures.flushes in
     let t = subst (λ v. AnswersLine l c.args.wanted c.args.is_lenient v c.in_ok-text.text.items) c.piece.ensures c.in_ok-text.ensures in
     let e : c.extend_from_slice.new.self.items ≡ c.next_line.new.made.items ++ c.in_ok-text.text.items = search rules in
     answered g.met.W.Write.lawful IsFirstLine P bytes (g.R.Read.stream (reader_of new)).bytes n.read (held new) c.extend_from_slice.new.self.items (piece new) c.in_ok-text.text.items (goes_on g.met.W.Write.lawful IsFirstLine P bytes true c.loop-number.invariant f) n.taken (n.some refl) t e

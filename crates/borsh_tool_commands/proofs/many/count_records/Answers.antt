@@ -26,8 +26,8 @@ loop-count-preserved g c =
       so_far = count-more (definitions_in l.map.now) l.root.now (g.R.Read.stream c.args.input).bytes g.R.Read.stream old new c.loop-count.count c.loop-count.invariant.so_far b;
     }
 
-pub returns-in_ok-counted-in-Ok-false : goal.returns-in_ok-counted-in-Ok-false
-returns-in_ok-counted-in-Ok-false g c =
+pub returns-in-Ok-false : goal.returns-in-Ok-false
+returns-in-Ok-false g c =
     let l = c.args.many.now.layout.now in
     let old = c.loop-count.records in
     let new = c.advance.new.self in
@@ -35,8 +35,8 @@ returns-in_ok-counted-in-Ok-false g c =
     let b = subst (λ k. Advances (definitions_in k.now.map.now) k.now.root.now g.R.Read.stream old new (Ok false)) c.loop-count.invariant.layout a in
     count-ends (definitions_in l.map.now) l.root.now (g.R.Read.stream c.args.input).bytes g.R.Read.stream old new c.loop-count.count c.loop-count.invariant.so_far b c.in_ok-counted-in-Ok-false.ensures
 
-pub returns-in_ok-stopped-in-Err-NoMember : goal.returns-in_ok-stopped-in-Err-NoMember
-returns-in_ok-stopped-in-Err-NoMember g c =
+pub returns-in-Err-NoMember : goal.returns-in-Err-NoMember
+returns-in-Err-NoMember g c =
     let l = c.args.many.now.layout.now in
     let old = c.loop-count.records in
     let new = c.advance.new.self in
@@ -46,8 +46,8 @@ returns-in_ok-stopped-in-Err-NoMember g c =
     let b = subst (λ k. Advances (definitions_in k.now.map.now) k.now.root.now g.R.Read.stream old new (Err (NoMember o f))) c.loop-count.invariant.layout a in
     count-none (definitions_in l.map.now) l.root.now (g.R.Read.stream c.args.input).bytes g.R.Read.stream old new c.loop-count.count c.loop-count.invariant.so_far o f b c.in_ok-stopped-in-Err-NoMember.ensures
 
-pub returns-in_ok-stopped-in-Err-CutShort : goal.returns-in_ok-stopped-in-Err-CutShort
-returns-in_ok-stopped-in-Err-CutShort g c =
+pub returns-in-Err-CutShort : goal.returns-in-Err-CutShort
+returns-in-Err-CutShort g c =
     let l = c.args.many.now.layout.now in
     let old = c.loop-count.records in
     let new = c.advance.new.self in

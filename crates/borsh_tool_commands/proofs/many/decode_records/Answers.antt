@@ -80,7 +80,7 @@ loop-records-preserved g c =
 pub returns-in-Err : goal.returns-in-Err
 returns-in-Err g c =
     let l = c.args.many.now.layout.now in
-    stops g.met.W.Write.lawful (IsFirst (definitions_in l.map.now) l.root.now) (IsJsonLine l.map.now l.root.now) (g.R.Read.stream c.args.input).bytes (Ok c.in_ok-next_record.field-0) c.no_json.result c.loop-records.invariant.so_far c.in_ok-next_record.ensures.flushes (λ u. absurd u)
+    stops g.met.W.Write.lawful (IsFirst (definitions_in l.map.now) l.root.now) (IsJsonLine l.map.now l.root.now) (g.R.Read.stream c.args.input).bytes (Ok c.in_ok-next_record.field-0) c.placed.result c.loop-records.invariant.so_far c.in_ok-next_record.ensures.flushes (λ u. absurd u)
 
 pub returns : goal.returns
 returns g c =

@@ -4,10 +4,15 @@ use Rattle.borsh_tool_commands.proofs.LineLaws.{line-found, reading-begins}
 use Rattle.borsh_tool_commands.proofs.ManyLaws.{not-flushed}
 use Rattle.borsh_tool_commands.proofs.many.next_line.Goals as goal
 
-pub returns-then-is_held-clause-next : goal.returns-then-is_held-clause-next
-returns-then-is_held-clause-next g c =
+pub returns-then-len-lt-ROOM-clause-next : goal.returns-then-len-lt-ROOM-clause-next
+returns-then-len-lt-ROOM-clause-next g c =
     let old = c.args.lines.now in
     line-found g.R.Read.stream old old c.take_held_line-is_held.new.input 0 (reading-begins g.R.Read.stream old) c.take_held_line-is_held.ensures.reader (c.take_held_line-is_held.ensures.found c.if-is_held.true)
+
+pub returns-then-is_held-2-clause-next : goal.returns-then-is_held-2-clause-next
+returns-then-is_held-2-clause-next g c =
+    let old = c.args.lines.now in
+    line-found g.R.Read.stream old old c.take_held_line-is_held.new.input 0 (reading-begins g.R.Read.stream old) c.take_held_line-is_held.ensures.reader (c.take_held_line-is_held.ensures.found c.if-is_held-2.true)
 
 pub returns-clause-next : goal.returns-clause-next
 returns-clause-next g c =
