@@ -22,10 +22,10 @@ use Rattle.json.specs.Json.{Json, boolean, number, string, array, object, no_mem
 use Rattle.borsh_walks.specs.Container.{tag}
 use Rattle.borsh_json.specs.Forms.{Form, primitive, sequence, tuple, newtype, unnamed, named, choice, HasNoBytes, IsByte, IsOption, IsMap}
 use Rattle.borsh_json.specs.Table.{Lengths, Keys, texts, numbers, Kind, no_bytes, truth, whole, float, raw, utf8, byte_list, list, row, inner, fields, optional, variants, entries, number_types, number_kind, primitive_kind, AreKeys, SequenceKind, a_text, some_bytes, an_object, some_elements, ChoiceKind, nullable, by_name, DefinedKind, HasKind, InRange, IsWhole, IsNumber, IsHex, IsPrefixed, Part, row_parts, list_parts, field_parts, IsVariant, this, that, Entry, entries_of, key_order, entry_parts, IsArray, Says}
-use Rattle.borsh_json.specs.Represents.{HaveBytes, none_left, next_part, Represents, TextRepresents}
+use Rattle.borsh_json.specs.Represents.{HaveBytes, none_left, next_part, TextSays}
 
 -- ---- the ascending arrangement of a map's entries is the only one
-abbrev IsAmong : {X : Type 0} → X → List X → Type 0
+abbrev pub IsAmong : {X : Type 0} → X → List X → Type 0
 IsAmong x [] = ⊥
 IsAmong x (y ∷ ys) = (x ≡ y) ⊎ IsAmong x ys
 
@@ -39,7 +39,7 @@ at_place x [] k h e = absurd (omega (arith, h))
 at_place x (y ∷ ys) zero h e = inl (sym e)
 at_place x (y ∷ ys) (suc k) h e = inr (at_place x ys k (omega (arith, h)) e)
 
-moved : {X : Type 0} (x : X) (xs ys : List X) → IsPermutation xs ys → IsAmong x xs → IsAmong x ys
+pub moved : {X : Type 0} (x : X) (xs ys : List X) → IsPermutation xs ys → IsAmong x xs → IsAmong x ys
 moved x xs ys p i =
     let r = place_of x xs i in
     let s = in_moved xs p.moves r.0 x p.below r.1 r.2 in
@@ -93,20 +93,20 @@ decimal_nat m n p q e = sym (decimal_is_IsNumeral_wide m p).1 ∙ ap (digits_val
 no_minus : (n : ℕ) (ds : List ℕ) → n < 10 ^ 64 → decimal n ≡ 45 ∷ ds → ⊥
 no_minus n ds h e = omega (arith, digit_from_value 45 (subst (AllDigits 10) e (decimal_is_IsNumeral_wide n h).0.1).0)
 
-abbrev IsShort : ℤ → Type 0
+abbrev pub IsShort : ℤ → Type 0
 IsShort (pos n) = n < 2 ^ 128
 IsShort (negsuc n) = n < 2 ^ 128
 
-decimal_one : (y z : ℤ) → IsShort y → IsShort z → signed_decimal y ≡ signed_decimal z → y ≡ z
+pub decimal_one : (y z : ℤ) → IsShort y → IsShort z → signed_decimal y ≡ signed_decimal z → y ≡ z
 decimal_one (pos m) (pos n) p q e = ap pos (decimal_nat m n (omega arith) (omega arith) e)
 decimal_one (pos m) (negsuc n) p q e = absurd (no_minus m (decimal (suc n)) (omega arith) e)
 decimal_one (negsuc m) (pos n) p q e = absurd (no_minus n (decimal (suc m)) (omega arith) (sym e))
 decimal_one (negsuc m) (negsuc n) p q e = ap negsuc (omega (arith, decimal_nat (suc m) (suc n) (omega arith) (omega arith) (ap (drop 1) e)))
 
-power_most : (n : ℕ) → n ≤ 16 → 256 ^ n ≤ 2 ^ 128
+pub power_most : (n : ℕ) → n ≤ 16 → 256 ^ n ≤ 2 ^ 128
 power_most n h = omega (arith, pow-le-pow_right {n = 256} (omega arith) h)
 
-short : (n : ℕ) (s : Bool) (z : ℤ) → n ≤ 16 → InRange n s z → IsShort z
+pub short : (n : ℕ) (s : Bool) (z : ℤ) → n ≤ 16 → InRange n s z → IsShort z
 short n false (pos m) h r = omega (arith, power_most n h)
 short n false (negsuc m) h r = absurd r
 short n true (pos m) h r = omega (arith, power_most n h)
@@ -115,14 +115,14 @@ short n true (negsuc m) h r = omega (arith, power_most n h)
 whole_one : (n : ℕ) (s z : Bool) {t a b : List ℕ} → n ≤ 16 → IsWhole n s z t a → IsWhole n s z t b → a ≡ b
 whole_one n s z h p q = p.2 ∙ ap (λ k. tag n k) (decimal_one p.0 q.0 (short n s p.0 h p.3) (short n s q.0 h q.3) (sym p.1 ∙ q.1)) ∙ sym q.2
 
-number_one : (n : ℕ) (s t : List ℕ) (j : Json) → IsNumber n s j → IsNumber n t j → s ≡ t
+pub number_one : (n : ℕ) (s t : List ℕ) (j : Json) → IsNumber n s j → IsNumber n t j → s ≡ t
 number_one n s t j (inl p) (inl q) = let e : number s ≡ number t = sym p.1 ∙ q.1 in cc
 number_one n s t j (inl p) (inr q) = let e : number s ≡ string t = sym p.1 ∙ q.1 in cc
 number_one n s t j (inr p) (inl q) = let e : string s ≡ number t = sym p.1 ∙ q.1 in cc
 number_one n s t j (inr p) (inr q) = let e : string s ≡ string t = sym p.1 ∙ q.1 in cc
 
 -- numbers have at most 16 bytes
-abbrev IsSmall : Kind → Type 0
+abbrev pub IsSmall : Kind → Type 0
 IsSmall kind = (n : ℕ) (s z : Bool) → kind ≡ whole n s z → n ≤ 16
 
 small_if : (b : Bool) (k l : Kind) → IsSmall k → IsSmall l → IsSmall (if b then k else l)
@@ -136,7 +136,7 @@ number_small : (ts : List (List ℕ × ℕ × Bool × Bool)) (x : List ℕ) (n :
 number_small [] x n h = λ m s z e. cc
 number_small (t ∷ ts) x n h = small_if (bytes_eq x t.0 && (t.1 == n)) (whole t.1 t.2 t.3) (number_kind ts x n) (whole_small t.1 t.2 t.3 h.0) (number_small ts x n h.1)
 
-primitive_small : (x : List ℕ) (n : ℕ) → IsSmall (primitive_kind x n)
+pub primitive_small : (x : List ℕ) (n : ℕ) → IsSmall (primitive_kind x n)
 primitive_small x n =
     let others = number_small number_types x n (omega arith) in
     let doubles = small_if (bytes_eq x (codes "f64") && (n == 8)) (float 8 0x7ff0000000000000) (number_kind number_types x n) (λ m s z e. cc) others in
@@ -144,7 +144,7 @@ primitive_small x n =
     small_if (bytes_eq x (codes "bool") && (n == 1)) truth _ (λ m s z e. cc) floats
 
 -- ---- what JSON of a kind says
-hex_one : {j : Json} {a b : List ℕ} → IsHex j a → IsHex j b → a ≡ b
+pub hex_one : {j : Json} {a b : List ℕ} → IsHex j a → IsHex j b → a ≡ b
 hex_one p q =
     let e : string (48 ∷ 120 ∷ p.0) ≡ string (48 ∷ 120 ∷ q.0) = sym p.1 ∙ q.1 in
     let d : p.0 ≡ q.0 = cc in
@@ -171,7 +171,7 @@ named_apart : {k : ℤ} {v p u : List ℕ} {vs : List (ℤ × List ℕ × List �
 named_apart {v = v} {u = u} this e n = differ u v e n.0
 named_apart (that a) e n = named_apart a e n.1
 
-variant_one : {j k : ℤ} {u v p q : List ℕ} {vs : List (ℤ × List ℕ × List ℕ)} → IsDistinct bytes_eq (map (λ (v : ℤ × List ℕ × List ℕ). v.1) vs) → IsVariant j u p vs → IsVariant k v q vs → u ≡ v → (j ≡ k) × (p ≡ q)
+pub variant_one : {j k : ℤ} {u v p q : List ℕ} {vs : List (ℤ × List ℕ × List ℕ)} → IsDistinct bytes_eq (map (λ (v : ℤ × List ℕ × List ℕ). v.1) vs) → IsVariant j u p vs → IsVariant k v q vs → u ≡ v → (j ≡ k) × (p ≡ q)
 variant_one d this this e = (refl, refl)
 variant_one d this (that b) e = absurd (named_apart b e (IsDistinct-head bytes_eq _ _ d))
 variant_one d (that a) this e = absurd (named_apart a (sym e) (IsDistinct-head bytes_eq _ _ d))
@@ -198,7 +198,7 @@ module _ (F : List ℕ → Option Form) where
       a.3 ∙ ap (λ z. (z, a.0) ∷ []) h ∙ ap (λ z. (q, z) ∷ []) d ∙ sym b.3
 
   -- JSON of a kind says one thing
-  says_one : (kind : Kind) (j : Json) {a b : List ℕ} {ps qs : List Part} → IsSmall kind → Says F kind j a ps → Says F kind j b qs → (a ≡ b) × (ps ≡ qs)
+  pub says_one : (kind : Kind) (j : Json) {a b : List ℕ} {ps qs : List Part} → IsSmall kind → Says F kind j a ps → Says F kind j b qs → (a ≡ b) × (ps ≡ qs)
   says_one no_bytes j h p q = (p.1 ∙ sym q.1, p.2 ∙ sym q.2)
   says_one truth j h p q =
       let e : boolean p.0 ≡ boolean q.0 = sym p.1 ∙ q.1 in
@@ -246,14 +246,14 @@ module _ (F : List ℕ → Option Form) where
       (prefixed_one l (length p.1) (length q.1) [] [] (ap (λ es. length es) e) refl p.5 q.5, p.6 ∙ ap (λ es. entry_parts keys k v es) e ∙ sym q.6)
 
   -- ---- a name has one kind
-  byte_or_map : {x e k v : List ℕ} {w lo hi : ℕ} → F x ≡ Some (sequence w lo hi e) → IsByte F e → IsMap F x k v → ⊥
+  pub byte_or_map : {x e k v : List ℕ} {w lo hi : ℕ} → F x ≡ Some (sequence w lo hi e) → IsByte F e → IsMap F x k v → ⊥
   byte_or_map {e = e} {k = k} {v = v} {w = w} {lo = lo} {hi = hi} f b m =
       let g : Some (sequence w lo hi e) ≡ Some (sequence 4 0 4294967295 m.0) = sym f ∙ m.1 in
       let d : m.0 ≡ e = cc in
       let h : Some (tuple (k ∷ v ∷ [])) ≡ Some (primitive 1) = sym m.2 ∙ ap F d ∙ b.1 in
       cc
 
-  map_one : {x k v l w : List ℕ} → IsMap F x k v → IsMap F x l w → (k ≡ l) × (v ≡ w)
+  pub map_one : {x k v l w : List ℕ} → IsMap F x k v → IsMap F x l w → (k ≡ l) × (v ≡ w)
   map_one {k = k} {v = v} {l = l} {w = w} m n =
       let g : Some (sequence 4 0 4294967295 m.0) ≡ Some (sequence 4 0 4294967295 n.0) = sym m.1 ∙ n.1 in
       let d : m.0 ≡ n.0 = cc in
@@ -292,7 +292,7 @@ module _ (F : List ℕ → Option Form) where
   sequence_one f (some_elements n o z y) (an_object {k = k} {v = v} {keys = a} m i) = absurd (o k v a m i)
   sequence_one f (some_elements n m z y) (some_elements o l u t) = refl
 
-  option_one : {x p q : List ℕ} → IsOption F x p → IsOption F x q → p ≡ q
+  pub option_one : {x p q : List ℕ} → IsOption F x p → IsOption F x q → p ≡ q
   option_one {p = p} {q = q} a b =
       let g : Some (choice 1 ((pos 0, codes "None", a.0) ∷ (pos 1, codes "Some", p) ∷ [])) ≡ Some (choice 1 ((pos 0, codes "None", b.0) ∷ (pos 1, codes "Some", q) ∷ [])) = sym a.1 ∙ b.1 in
       let u : ℤ × List ℕ × List ℕ = (pos 1, codes "Some", p) in
@@ -315,7 +315,7 @@ module _ (F : List ℕ → Option Form) where
   defined_one (named fs) f p q = p ∙ sym q
   defined_one (choice w vs) f p q = choice_one p q
 
-  kind_one : {x : List ℕ} {kind other : Kind} → HasKind F x kind → HasKind F x other → kind ≡ other
+  pub kind_one : {x : List ℕ} {kind other : Kind} → HasKind F x kind → HasKind F x other → kind ≡ other
   kind_one (inl p) (inl q) = p.1 ∙ sym q.1
   kind_one (inl p) (inr q) = absurd (q.0 p.0)
   kind_one (inr p) (inl q) = absurd (p.0 q.0)
@@ -337,12 +337,12 @@ module _ (F : List ℕ → Option Form) where
   defined_small x (choice w vs) (nullable t) = λ m s z e. cc
   defined_small x (choice w vs) (by_name t) = λ m s z e. cc
 
-  kind_small : {x : List ℕ} {kind : Kind} → HasKind F x kind → IsSmall kind
+  pub kind_small : {x : List ℕ} {kind : Kind} → HasKind F x kind → IsSmall kind
   kind_small (inl p) = λ m s z e. let f = p.1 in cc
   kind_small {x = x} (inr p) = defined_small x p.1 p.3
 
   -- ---- parts have one encoding
-  bytes_one : {ps : List Part} {bs cs : List ℕ} → HaveBytes F ps bs → HaveBytes F ps cs → bs ≡ cs
+  pub bytes_one : {ps : List Part} {bs cs : List ℕ} → HaveBytes F ps bs → HaveBytes F ps cs → bs ≡ cs
   bytes_one none_left none_left = refl
   bytes_one (next_part {bs = bs} {j = j} {ps = ps} kind a qs h p r) (next_part {bs = cs} other b rs i q s) =
       let d = kind_one i h in
@@ -350,13 +350,9 @@ module _ (F : List ℕ → Option Form) where
       let f = bytes_one r (subst (λ (l : List Part). HaveBytes F (l ++ ps) cs) (sym e.1) s) in
       ap (λ z. z ++ bs) e.0 ∙ ap (λ z. b ++ z) f
 
-  -- a JSON value represents one byte string
-  pub represents_one : (root : List ℕ) (j : Json) {a b : List ℕ} → Represents F root j a → Represents F root j b → a ≡ b
-  represents_one root j p q = bytes_one p.0 q.0
-
-  -- and so does a text
-  pub text_one : (root text : List ℕ) {a b : List ℕ} → TextRepresents F root text a → TextRepresents F root text b → a ≡ b
+  -- and so has a text
+  pub text_one : (root text : List ℕ) {a b : List ℕ} → TextSays F root text a → TextSays F root text b → a ≡ b
   text_one root text {b = b} p q =
       let g : Some q.0 ≡ Some p.0 = sym q.1 ∙ p.1 in
       let d : q.0 ≡ p.0 = cc in
-      represents_one root p.0 p.2 (subst (λ j. Represents F root j b) d q.2)
+      bytes_one p.2 (subst (λ j. HaveBytes F ((root, j) ∷ []) b) d q.2)

@@ -8,6 +8,8 @@ use Rattle.borsh_json.specs.declared.error.JsonError.{JsonError}
 use Rattle.borsh_json.specs.declared.error.JsonError.TheVariants.{OutOfMemory, NoMember, NoValue, Ambiguous, NotJson, Refused}
 use Rattle.borsh_json.specs.declared.error.PartError.{PartError}
 use Rattle.borsh_json.specs.declared.error.PartError.TheVariants.{OutOfMemory as NoMemory, Refused as RefusedPart}
+use Rattle.borsh_json.specs.declared.error.ReadError.{ReadError}
+use Rattle.borsh_json.specs.declared.error.ReadError.TheVariants.{OutOfMemory as NoRoom, Refused as RefusedRead, Descends as DescendsAt}
 use Rattle.borsh_json.specs.declared.error.Refusal.{Refusal}
 use Rattle.borsh_json.specs.declared.error.Refusal.TheVariants.{TooDeep, RepeatedName, EmptyElements, NotBool, NotUtf8, Zero, NotNumber, Descends, OtherNodes, Expected, MissingField, UnknownName, RepeatedKey, Undefined}
 
@@ -64,10 +66,33 @@ IsUnreadable (UnknownName name) = ⊤
 IsUnreadable (RepeatedKey name) = ⊤
 IsUnreadable (Undefined name) = ⊤
 
+-- the refusal shows that P doesn't hold; but depth and order show nothing
+abbrev pub Denies : Refusal → Type 0 → Type 0
+Denies TooDeep P = ⊤
+Denies (RepeatedName name) P = P → ⊥
+Denies EmptyElements P = P → ⊥
+Denies NotBool P = ⊥
+Denies NotUtf8 P = ⊥
+Denies Zero P = ⊥
+Denies NotNumber P = P → ⊥
+Denies Descends P = ⊤
+Denies OtherNodes P = P → ⊥
+Denies (Expected wanted) P = P → ⊥
+Denies MissingField P = P → ⊥
+Denies (UnknownName name) P = P → ⊥
+Denies (RepeatedKey name) P = P → ⊥
+Denies (Undefined name) P = P → ⊥
+
 -- an allocation failed, or a part is refused in one of these ways
 abbrev pub IsPartError : (Refusal → Type 0) → PartError → Type 0
 IsPartError May NoMemory = ⊤
 IsPartError May (RefusedPart path refusal) = May refusal
+
+-- an allocation failed, or a part can't be read
+abbrev pub IsReadRefusal : ReadError → Type 0
+IsReadRefusal NoRoom = ⊤
+IsReadRefusal (RefusedRead refusal) = IsUnreadable refusal
+IsReadRefusal (DescendsAt index) = ⊤
 
 -- the error of a part, as that of the whole value
 abbrev pub error_of : PartError → JsonError
@@ -117,11 +142,11 @@ module _ (C : List ℕ → Option Shape) (root : List ℕ) where
   IsTextReason text (NotJson offset) = document text ≡ None
   IsTextReason text (Refused path refusal) = IsTextRefusal text refusal
 
-  -- the error is a true reason why bytes that were read are not answered
-  abbrev pub IsBytesReason : JsonError → Type 0
-  IsBytesReason OutOfMemory = ⊤
-  IsBytesReason (NoMember f) = ⊥
-  IsBytesReason NoValue = ⊤
-  IsBytesReason (Ambiguous x) = IsUndecided C root x.now
-  IsBytesReason (NotJson offset) = ⊥
-  IsBytesReason (Refused path refusal) = ⊥
+-- the error shows that P doesn't hold; but want of memory, definitions that are undecided, depth and order show nothing
+abbrev pub DeniesValue : JsonError → Type 0 → Type 0
+DeniesValue OutOfMemory P = ⊤
+DeniesValue (NoMember f) P = P → ⊥
+DeniesValue NoValue P = P → ⊥
+DeniesValue (Ambiguous x) P = ⊤
+DeniesValue (NotJson offset) P = P → ⊥
+DeniesValue (Refused path refusal) P = Denies refusal P

@@ -2,6 +2,13 @@ pub mod Ascii
 pub mod Errors
 pub mod Forms
 pub mod Table
+pub mod Ranks
+pub mod Places
 pub mod InOrder
 pub mod Represents
+pub mod Known
+pub mod Found
+pub mod Reads
+pub mod Frames
 pub mod Rows
+pub mod Words

@@ -1,4 +1,4 @@
--- Which bytes a JSON value represents, by the definitions of a container.
+-- Which bytes a JSON text says, by the definitions of a container.
 use Rattle.std.specs.Prelude.{◌≡◌, ℕ, List, [], ◌∷◌, ◌++◌, Option, Some}
 use Rattle.json.specs.Json.{Json, document}
 use Rattle.borsh_walks.specs.Container.{Member}
@@ -12,10 +12,10 @@ module _ (F : List ℕ → Option Form) where
     none_left : HaveBytes [] []
     next_part : {x bs : List ℕ} {j : Json} {ps : List Part} (kind : Kind) (own : List ℕ) (qs : List Part) → HasKind F x kind → Says F kind j own qs → HaveBytes (qs ++ ps) bs → HaveBytes ((x, j) ∷ ps) (own ++ bs)
 
-  -- the JSON value represents the bytes as a value of the root: they are what it says, a member, and in order
-  abbrev pub Represents : List ℕ → Json → List ℕ → Type 0
-  Represents root j bytes = HaveBytes ((root, j) ∷ []) bytes × Member (shapes F) root bytes × InOrder F root bytes
+  -- the text is JSON that says the bytes, and these are a member of the root
+  abbrev pub TextSays : List ℕ → List ℕ → List ℕ → Type 0
+  TextSays root text bytes = (j : Json) × (document text ≡ Some j) × HaveBytes ((root, j) ∷ []) bytes × Member (shapes F) root bytes
 
-  -- the text is JSON that represents the bytes
+  -- and the elements of its sets and the keys of its maps are in order
   abbrev pub TextRepresents : List ℕ → List ℕ → List ℕ → Type 0
-  TextRepresents root text bytes = (j : Json) × (document text ≡ Some j) × Represents root j bytes
+  TextRepresents root text bytes = TextSays root text bytes × InOrder F root bytes

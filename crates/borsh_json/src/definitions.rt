@@ -1,4 +1,7 @@
 // A layout, and what was found out about its names. Names are known by their places.
+ghost use Rattle.borsh_json.specs.Words.{Form, HasKinds, HasNoBytes, IsAlike, IsAt, IsKindAt, IsKnown, IsLaidOut, KnowsSizes, form_of, forms_in, references, shape_of_form};
+ghost use Rattle.std.specs.Prelude.{◌≡◌, ℕ, List, Decides, IfOk, OnOk, Some, option_map, slice_get};
+
 use crate::kinds::{Kind, kind_of};
 use crate::order::{Ordered, ordered_as};
 use borsh_values::{Layout, Node};
@@ -13,35 +16,68 @@ enum Known {
     Order(Option<Ordered>),
 }
 
-/// A layout, and what was found out about its names.
+/// A layout, and how the values of its names are written as JSON. [`to_json`](crate::to_json) and [`from_json`](crate::from_json)
+/// make one for each call; a caller with many values of one type makes it once.
 #[derive(Drop)]
 pub struct Definitions<'a, 'l> {
     pub alloc: Global,
-    layout: &'l Layout<'a>,
-    /// Empty where there is one name: its kind is asked for once, unless it contains itself.
-    kinds: Vec<Option<Kind<'a>>>,
+    pub layout: &'l Layout<'a>,
+    /// Of each name its definition, if it has one, and how its values are written.
+    kinds: Vec<Option<(&'a Definition, Kind<'a>)>>,
     /// Empty until an order is asked for.
     orders: Vec<Known>,
 }
 
 impl<'a, 'l> Definitions<'a, 'l> {
-    pub fn new(alloc: Global, layout: &'l Layout<'a>) -> Result<Definitions<'a, 'l>, AllocError> {
+    /// The JSON of values of the layout's root. The only error is that an allocation failed. Left open: memory.
+    ///
+    /// ```
+    /// let layout = Layout::new(alloc, "(u8, bool)", &definitions)?;
+    /// let json = Json::new(alloc, &layout)?;
+    /// for record in records {
+    ///     let text = json.to_json(record, Style::COMPACT)?;
+    ///     assert_eq!(rt; json.from_json(text.as_str())?.as_slice(), record);
+    /// }
+    /// ```
+    pub fn new(alloc: Global, layout: &'l Layout<'a>) -> Result<Definitions<'a, 'l>, AllocError>
+        ensures known { IsLaidOut layout.now → KnowsSizes layout.now → IfOk result (λ d. HasKinds d) }
+        ensures layout { IfOk result (λ d. d.layout.now ≡ layout.now) }
+    {
         let count = layout.names.len();
-        let kinds = if count == 1 {
-            Vec::new(alloc)
-        } else {
-            vec![in alloc; None; count]?
-        };
-        Ok(Definitions {
+        let kinds = Vec::with_capacity(alloc, count)?;
+        let mut definitions = Definitions {
             alloc,
             layout,
             kinds,
             orders: Vec::new(alloc),
-        })
+        };
+        for at in 0..count {
+            let kind = definitions.find_kind(at)?;
+            definitions.kinds.push(kind)?;
+        }
+        Ok(definitions)
+    }
+
+    /// Finds the definition of the name at a place, if it has one, and how its values are written.
+    fn find_kind(&mut self, at: usize) -> Result<Option<(&'a Definition, Kind<'a>)>, AllocError>
+        ensures kind { let ns = self.old.layout.now.names.items in let F = forms_in self.old.layout.now.map.now in
+            IsKnown self.old → IfOk result (λ kind. IsKindAt F ns at kind) }
+        ensures same { OnOk result (IsAlike self.old self.new) }
+    {
+        match self.get(at) {
+            Some(definition) => {
+                let kind = kind_of(self, at, definition)?;
+                Ok(Some((definition, kind)))
+            }
+            None => Ok(None),
+        }
     }
 
     /// The definition of the name at a place, if it has one.
-    pub fn get(&self, at: usize) -> Option<&'a Definition> {
+    pub(crate) fn get(&self, at: usize) -> Option<&'a Definition>
+        ensures { IsKnown self.now → (x : List ℕ) → IsAt self.now.layout.now.names.items at x →
+            option_map (λ d. form_of d.now) result ≡ forms_in self.now.layout.now.map.now x }
+    {
         match self.layout.names.as_slice().get(at).copied() {
             Some(named) => named.definition,
             None => None,
@@ -49,7 +85,10 @@ impl<'a, 'l> Definitions<'a, 'l> {
     }
 
     /// The name at a place.
-    pub fn name(&self, at: usize) -> &'a str {
+    pub(crate) fn name(&self, at: usize) -> &'a str
+        ensures { IsKnown self.now → (x : List ℕ) → IsAt self.now.layout.now.names.items at x →
+            result.now ≡ x }
+    {
         match self.layout.names.as_slice().get(at).copied() {
             Some(named) => named.name,
             None => "",
@@ -57,7 +96,11 @@ impl<'a, 'l> Definitions<'a, 'l> {
     }
 
     /// The place of a part of the definition at a place; past its parts a place that no name has.
-    pub fn part(&self, at: usize, index: usize) -> usize {
+    pub(crate) fn part(&self, at: usize, index: usize) -> usize
+        ensures { let ns = self.now.layout.now.names.items in let F = forms_in self.now.layout.now.map.now in
+            IsKnown self.now → (x y : List ℕ) (f : Form) → IsAt ns at x → F x ≡ Some f →
+            slice_get (references (shape_of_form f)) index ≡ Some y → IsAt ns result y }
+    {
         match self.layout.parts.as_slice().get(at) {
             Some(parts) => parts.as_slice().get(index).copied().unwrap_or(usize::MAX),
             None => usize::MAX,
@@ -65,7 +108,10 @@ impl<'a, 'l> Definitions<'a, 'l> {
     }
 
     /// Whether the values of the name at a place have no bytes.
-    pub fn is_zero_size(&self, at: usize) -> bool {
+    pub(crate) fn is_zero_size(&self, at: usize) -> bool
+        ensures { IsKnown self.now → (x : List ℕ) → IsAt self.now.layout.now.names.items at x →
+            Decides result (HasNoBytes (forms_in self.now.layout.now.map.now) x) }
+    {
         self.layout
             .zeros
             .as_slice()
@@ -75,25 +121,27 @@ impl<'a, 'l> Definitions<'a, 'l> {
     }
 
     /// How the value of a node is written.
-    pub fn kind_of_node(&mut self, node: &Node<'a, '_>) -> Result<Kind<'a>, AllocError> {
-        let at = self.layout.places.get(node.name).copied();
-        self.kind(at.unwrap_or(usize::MAX), node.definition)
+    pub(crate) fn kind_of_node(&self, node: &Node<'a, '_>) -> Option<Kind<'a>> {
+        let at = self.layout.places.get(node.name).copied()?;
+        let (_, kind) = self.kind(at)?;
+        Some(kind)
     }
 
-    /// How the values of the name at a place, which has this definition, are written.
-    pub fn kind(&mut self, at: usize, definition: &'a Definition) -> Result<Kind<'a>, AllocError> {
-        if let Some(Some(kind)) = self.kinds.as_slice().get(at).copied() {
-            return Ok(kind);
+    /// The definition of the name at a place, if it has one, and how its values are written.
+    pub(crate) fn kind(&self, at: usize) -> Option<(&'a Definition, Kind<'a>)>
+        ensures { let ns = self.now.layout.now.names.items in let F = forms_in self.now.layout.now.map.now in
+            HasKinds self.now → IsKindAt F ns at result }
+    {
+        match self.kinds.as_slice().get(at).copied() {
+            Some(found) => found,
+            None => None,
         }
-        let kind = kind_of(self, at, definition)?;
-        if let Some(known) = self.kinds.get_mut(at) {
-            *known = Some(kind);
-        }
-        Ok(kind)
     }
 
     /// How the values of the name at a place are ordered; none where that isn't known.
-    pub fn order_of(&mut self, at: usize) -> Result<Option<Ordered>, AllocError> {
+    pub(crate) fn order_of(&mut self, at: usize) -> Result<Option<Ordered>, AllocError>
+        ensures { OnOk result (IsAlike self.old self.new) }
+    {
         if self.orders.is_empty() {
             self.orders = vec![in self.alloc; Known::Nothing; self.layout.names.len()]?;
         }
@@ -104,7 +152,7 @@ impl<'a, 'l> Definitions<'a, 'l> {
     }
 
     /// How the values of the name are ordered, where [`Definitions::order_of`] found that for it or for a name that needs it.
-    pub fn known_order(&self, at: usize) -> Option<Ordered> {
+    pub(crate) fn known_order(&self, at: usize) -> Option<Ordered> {
         match self.known_at(at) {
             Known::Order(order) => order,
             Known::Nothing => None,
@@ -119,14 +167,18 @@ impl<'a, 'l> Definitions<'a, 'l> {
             .unwrap_or(Known::Order(None))
     }
 
-    fn set_order(&mut self, at: usize, order: Option<Ordered>) {
+    fn set_order(&mut self, at: usize, order: Option<Ordered>)
+        ensures { IsAlike self.old self.new }
+    {
         if let Some(known) = self.orders.get_mut(at) {
             *known = Known::Order(order);
         }
     }
 
     /// Finds the order of a name and of those that it needs. It isn't known if that of one of them isn't, as in a circle of names.
-    fn find_order(&mut self, at: usize) -> Result<(), AllocError> {
+    fn find_order(&mut self, at: usize) -> Result<(), AllocError>
+        ensures { OnOk result (IsAlike self.old self.new) }
+    {
         let mut open: Vec<(usize, Ordered, usize)> = Vec::new(self.alloc);
         let mut at = at;
         for _ in 0..u64::MAX {
@@ -153,7 +205,9 @@ impl<'a, 'l> Definitions<'a, 'l> {
     fn next_needed(
         &mut self,
         open: &mut Vec<(usize, Ordered, usize)>,
-    ) -> Result<Option<usize>, AllocError> {
+    ) -> Result<Option<usize>, AllocError>
+        ensures { OnOk result (IsAlike self.old self.new) }
+    {
         for _ in 0..u64::MAX {
             let Some((at, order, index)) = open.pop() else {
                 break;

@@ -2,6 +2,7 @@
 ghost use Rattle.borsh_json.specs.Errors.{error_of};
 ghost use Rattle.borsh_json.specs.declared.error.JsonError.TheVariants.{OutOfMemory};
 ghost use Rattle.borsh_json.specs.declared.error.PartError.TheVariants.{OutOfMemory as NoMemory};
+ghost use Rattle.borsh_json.specs.declared.error.ReadError.TheVariants.{OutOfMemory as NoRoom};
 ghost use Rattle.std.specs.Prelude.{◌≡◌};
 
 use borsh_values::{Fault, Path};
@@ -32,6 +33,17 @@ pub enum PartError<'a> {
     OutOfMemory,
     /// The part, by its path, and what is wrong with it.
     Refused(Path<'a>, Refusal),
+}
+
+/// Why a part of a value was not read; the reader knows its path.
+#[derive(Drop)]
+pub enum ReadError {
+    /// An allocation failed.
+    OutOfMemory,
+    /// What is wrong with the part.
+    Refused(Refusal),
+    /// The element of this index isn't above the one before it.
+    Descends(usize),
 }
 
 /// What a step of reading or writing parts returns.
@@ -99,6 +111,22 @@ impl<'a, T: Drop> From<AllocFailed<T>> for PartError<'a> {
 
     fn from(_: AllocFailed<T>) -> PartError<'a> {
         PartError::OutOfMemory
+    }
+}
+
+impl From<AllocError> for ReadError {
+    ghost from_gives = { λ _ e. e ≡ NoRoom };
+
+    fn from(_: AllocError) -> ReadError {
+        ReadError::OutOfMemory
+    }
+}
+
+impl<T: Drop> From<AllocFailed<T>> for ReadError {
+    ghost from_gives = { λ _ e. e ≡ NoRoom };
+
+    fn from(_: AllocFailed<T>) -> ReadError {
+        ReadError::OutOfMemory
     }
 }
 

@@ -1,10 +1,15 @@
 // Floats, by their bits.
+ghost use Rattle.borsh_json.specs.Words.{IsInfinity, IsNoNan, bytes_eq};
+ghost use Rattle.std.specs.Prelude.{◌≡◌, ◌==◌, ◌&&◌, ◌||◌, MatchBool, codes, length, ℕ};
+
 use ryu::{Buffer, Float};
 use std::alloc::{AllocError, Global};
 use std::num::{f32_from_bits_with_nan, f64_from_bits_with_nan};
 
 /// Whether the primitive of this name and size is a float of the format.
-pub fn is_float(name: &str, size: u8) -> bool {
+pub fn is_float(name: &str, size: u8) -> bool
+    ensures { result ≡ (bytes_eq name.now (codes "f32") && (size == 4)) || (bytes_eq name.now (codes "f64") && (size == 8)) }
+{
     match size {
         4 => name == "f32",
         8 => name == "f64",
@@ -13,7 +18,10 @@ pub fn is_float(name: &str, size: u8) -> bool {
 }
 
 /// Whether the bytes of a float are those of a NaN, which its type refuses: all bits of the exponent are set, and one below them.
-pub fn is_nan(bytes: &[u8]) -> bool {
+pub fn is_nan(bytes: &[u8]) -> bool
+    ensures { (n bits : ℕ) → IsInfinity n bits → length bytes.now ≡ n →
+        MatchBool result (IsNoNan n bits bytes.now → ⊥) (IsNoNan n bits bytes.now) }
+{
     match bytes {
         [a, b, c, d] => u32::from_le_bytes([*a, *b, *c, *d]) & 0x7fffffff > 0x7f800000,
         [a, b, c, d, e, f, g, h] => {

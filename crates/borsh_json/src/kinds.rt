@@ -1,7 +1,10 @@
 // How the values of a name are written in JSON.
+ghost use Rattle.borsh_json.specs.Words.{AreEntries, AreKeys, AreKeysOf, HasForm, HasNoBytes, IsAlike, IsAt, IsByte, IsCollection, IsKindOf, IsKnown, IsMap, IsNamed, IsNullable, IsPrimitiveKind, IsRefusedList, IsRepeated, Keys, MayBeNull, TellsKind, form_of, form_of_struct, forms_in, forms_of, primitive_kind, sequence, texts};
+ghost use Rattle.std.specs.Prelude.{◌≡◌, ℕ, List, Decides, IfOk, MatchBool, MatchOption, OnOk, Some, map, string_bytes};
+
 use crate::definitions::Definitions;
 use crate::floats::is_float;
-use crate::formats::{Collection, collection_of, is_newtype, option_part};
+use crate::formats::{Collection, collection_of, is_list, is_newtype, option_part};
 use crate::numbers::Number;
 use crate::order::Ordered;
 use borsh_walks::{Declaration, Definition, DiscriminantValue, FieldName, Fields, VariantName};
@@ -81,7 +84,13 @@ pub fn kind_of<'a>(
     definitions: &mut Definitions<'a, '_>,
     at: usize,
     definition: &'a Definition,
-) -> Result<Kind<'a>, AllocError> {
+) -> Result<Kind<'a>, AllocError>
+    ensures kind { let ns = definitions.old.layout.now.names.items in
+        let F = forms_in definitions.old.layout.now.map.now in
+        IsKnown definitions.old → IfOk result (λ kind. (x : List ℕ) → IsAt ns at x →
+        F x ≡ Some (form_of definition.now) → (HasNoBytes F x → ⊥) → IsKindOf F ns x (form_of definition.now) kind) }
+    ensures same { OnOk result (IsAlike definitions.old definitions.new) }
+{
     match definition {
         Definition::Primitive(size) => Ok(kind_of_primitive(definitions.name(at), *size)),
         Definition::Sequence { .. } => kind_of_sequence(definitions, at, definition),
@@ -90,9 +99,9 @@ pub fn kind_of<'a>(
         Definition::Enum {
             tag_width,
             variants,
-        } => match option_part(definitions, at, definition) {
-            Some(part) if !may_be_null(definitions, part) => Ok(Kind::Optional(part)),
-            _ => match repeated_variant(definitions.alloc, variants)? {
+        } => match nullable_part(definitions, at, definition) {
+            Some(part) => Ok(Kind::Optional(part)),
+            None => match repeated_variant(definitions.alloc, variants)? {
                 Some(name) => Ok(Kind::Repeated(name)),
                 None => Ok(Kind::Choice(*tag_width, variants)),
             },
@@ -100,8 +109,28 @@ pub fn kind_of<'a>(
     }
 }
 
+/// The place of the value of an `Option` that is never `null`; none if the name at the place isn't one.
+fn nullable_part(
+    definitions: &Definitions<'_, '_>,
+    at: usize,
+    definition: &Definition,
+) -> Option<usize>
+    ensures { (x : List ℕ) → HasForm definitions.now at (form_of definition.now) x → MatchOption result
+        ((p : List ℕ) → IsNullable (forms_of definitions.now) x p → ⊥)
+        (λ k. (p : List ℕ) × IsNamed definitions.now k p × IsNullable (forms_of definitions.now) x p) }
+{
+    let part = option_part(definitions, at, definition)?;
+    if may_be_null(definitions, part) {
+        None
+    } else {
+        Some(part)
+    }
+}
+
 /// How the values of a primitive of this name and size are written.
-pub fn kind_of_primitive<'a>(name: &str, size: u8) -> Kind<'a> {
+pub fn kind_of_primitive<'a>(name: &str, size: u8) -> Kind<'a>
+    ensures { IsPrimitiveKind result (primitive_kind name.now size) }
+{
     if name == "bool" && size == 1 {
         return Kind::Bool;
     }
@@ -118,25 +147,29 @@ fn kind_of_struct<'a>(
     definitions: &Definitions<'a, '_>,
     at: usize,
     fields: &'a Fields,
-) -> Result<Kind<'a>, AllocError> {
+) -> Result<Kind<'a>, AllocError>
+    ensures { IfOk result (TellsKind definitions.now at (form_of_struct fields.now)) }
+{
     match fields {
         Fields::NamedFields(fields) => match repeated_field(definitions.alloc, fields)? {
             Some(name) => Ok(Kind::Repeated(name)),
             None => Ok(Kind::Object(fields)),
         },
-        Fields::UnnamedFields(parts) if parts.len() == 1 => {
-            Ok(Kind::Newtype(definitions.part(at, 0)))
+        Fields::UnnamedFields(parts) => {
+            if parts.len() == 1 {
+                Ok(Kind::Newtype(definitions.part(at, 0)))
+            } else {
+                Ok(Kind::Row(parts.len()))
+            }
         }
-        Fields::UnnamedFields(parts) => Ok(Kind::Row(parts.len())),
         Fields::Empty => Ok(Kind::Row(0)),
     }
 }
 
 /// A name that two fields have.
-fn repeated_field<'a>(
-    alloc: Global,
-    fields: &'a NamedFields,
-) -> Result<Option<&'a str>, AllocError> {
+fn repeated_field<'a>(alloc: Global, fields: &'a NamedFields) -> Result<Option<&'a str>, AllocError>
+    ensures { IfOk result (IsRepeated (map (λ f. string_bytes f.0) fields.now.items)) }
+{
     let mut names: Vec<&'a str> = Vec::with_capacity(alloc, fields.len())?;
     for (field, _) in fields {
         names.push(field.as_str())?;
@@ -148,7 +181,9 @@ fn repeated_field<'a>(
 fn repeated_variant<'a>(
     alloc: Global,
     variants: &'a Variants,
-) -> Result<Option<&'a str>, AllocError> {
+) -> Result<Option<&'a str>, AllocError>
+    ensures { IfOk result (IsRepeated (map (λ v. string_bytes v.1) variants.now.items)) }
+{
     let mut names: Vec<&'a str> = Vec::with_capacity(alloc, variants.len())?;
     for (_, variant, _) in variants {
         names.push(variant.as_str())?;
@@ -156,14 +191,14 @@ fn repeated_variant<'a>(
     Ok(repeated_name(names))
 }
 
-/// A name that is there twice.
-fn repeated_name<'a>(mut names: Vec<&'a str>) -> Option<&'a str> {
+fn repeated_name<'a>(mut names: Vec<&'a str>) -> Option<&'a str>
+    ensures { IsRepeated (map (λ n. n.now) names.entry.items) result }
+{
     names.sort_unstable();
-    for pair in names.as_slice().windows(2) {
-        if let [name, other] = pair
-            && name == other
-        {
-            return Some(*name);
+    for index in 1..names.len() {
+        let name = names[index];
+        if names[index - 1] == name {
+            return Some(name);
         }
     }
     None
@@ -173,67 +208,147 @@ fn kind_of_sequence<'a>(
     definitions: &mut Definitions<'a, '_>,
     at: usize,
     definition: &'a Definition,
-) -> Result<Kind<'a>, AllocError> {
+) -> Result<Kind<'a>, AllocError>
+    ensures kind { (w lo hi : ℕ) (e : List ℕ) → form_of definition.now ≡ sequence w lo hi e →
+        IfOk result (TellsKind definitions.old at (form_of definition.now)) }
+    ensures same { OnOk result (IsAlike definitions.old definitions.new) }
+{
     let element = definitions.part(at, 0);
-    let element_definition = definitions.get(element);
-    let is_byte = is_byte(definitions, element);
-    if is_byte && definitions.name(at) == "String" {
+    if is_byte(definitions, element) {
+        kind_of_bytes(definitions, at, element, definition)
+    } else {
+        kind_of_list(definitions, at, element, definition)
+    }
+}
+
+fn kind_of_bytes<'a>(
+    definitions: &mut Definitions<'a, '_>,
+    at: usize,
+    element: usize,
+    definition: &'a Definition,
+) -> Result<Kind<'a>, AllocError>
+    ensures kind { (w lo hi : ℕ) (e : List ℕ) → form_of definition.now ≡ sequence w lo hi e →
+        IsNamed definitions.old element e → IsByte (forms_of definitions.old) e →
+        IfOk result (TellsKind definitions.old at (form_of definition.now)) }
+    ensures same { OnOk result (IsAlike definitions.old definitions.new) }
+{
+    if definitions.name(at) == "String" {
         return Ok(Kind::Text);
     }
-    let mut elements = Elements {
+    let collection = collection_of(definitions, at, definition);
+    let order = order_in(definitions, element, collection)?;
+    Ok(Kind::ByteList(Elements {
+        at: element,
+        size: 1,
+        order,
+        is_refused: false,
+    }))
+}
+
+fn kind_of_list<'a>(
+    definitions: &mut Definitions<'a, '_>,
+    at: usize,
+    element: usize,
+    definition: &'a Definition,
+) -> Result<Kind<'a>, AllocError>
+    ensures kind { (w lo hi : ℕ) (e : List ℕ) → form_of definition.now ≡ sequence w lo hi e →
+        IsNamed definitions.old element e → (IsByte (forms_of definitions.old) e → ⊥) →
+        IfOk result (TellsKind definitions.old at (form_of definition.now)) }
+    ensures same { OnOk result (IsAlike definitions.old definitions.new) }
+{
+    let collection = collection_of(definitions, at, definition);
+    if definitions.is_zero_size(element) {
+        return Ok(refused_list(element));
+    }
+    if has_empty_keys(definitions, collection) {
+        return Ok(refused_list(element));
+    }
+    if let Some(entries) = entries_of(definitions, collection) {
+        return Ok(Kind::Map(entries, order_of_keys(entries.key_kind)));
+    }
+    let size = size_of_primitive(definitions.get(element));
+    let order = order_in(definitions, element, collection)?;
+    let elements = Elements {
+        at: element,
+        size,
+        order,
+        is_refused: false,
+    };
+    if size == 0 {
+        Ok(Kind::List(elements))
+    } else {
+        Ok(Kind::Numbers(elements))
+    }
+}
+
+fn refused_list<'a>(element: usize) -> Kind<'a>
+    ensures { IsRefusedList result }
+{
+    Kind::List(Elements {
         at: element,
         size: 0,
         order: None,
-        is_refused: definitions.is_zero_size(element),
-    };
-    match collection_of(definitions, at, definition) {
-        Collection::List => {}
-        Collection::Set => elements.order = definitions.order_of(element)?,
-        Collection::Map(key, value) => {
-            if definitions.is_zero_size(key) {
-                elements.is_refused = true;
-            }
-            elements.order = definitions.order_of(key)?;
-            if let Some(order) = elements.order
-                && let Some(entries) = entries_of(definitions, key, value, order)
-            {
-                return Ok(Kind::Map(entries, order));
-            }
-        }
+        is_refused: true,
+    })
+}
+
+/// How many bytes a primitive has; 0 for other definitions.
+fn size_of_primitive(definition: Option<&Definition>) -> u8 {
+    match definition {
+        Some(Definition::Primitive(size)) => *size,
+        _ => 0,
     }
-    match element_definition {
-        Some(Definition::Primitive(size)) if *size != 0 => {
-            elements.size = *size;
-            if is_byte {
-                Ok(Kind::ByteList(elements))
-            } else {
-                Ok(Kind::Numbers(elements))
-            }
-        }
-        _ => Ok(Kind::List(elements)),
+}
+
+/// Whether a map's keys have no bytes.
+fn has_empty_keys(definitions: &Definitions<'_, '_>, collection: Collection) -> bool
+    ensures { let ns = definitions.now.layout.now.names.items in IsKnown definitions.now → (x : List ℕ) →
+        IsCollection (forms_of definitions.now) ns x collection → MatchBool result
+        ((k v : List ℕ) × IsMap (forms_of definitions.now) x k v × HasNoBytes (forms_of definitions.now) k)
+        ((k v : List ℕ) → IsMap (forms_of definitions.now) x k v → HasNoBytes (forms_of definitions.now) k → ⊥) }
+{
+    match collection {
+        Collection::Map(key, _) => definitions.is_zero_size(key),
+        _ => false,
+    }
+}
+
+/// How the elements of a set, or the keys of a map, are ordered, where that is known.
+fn order_in(
+    definitions: &mut Definitions<'_, '_>,
+    element: usize,
+    collection: Collection,
+) -> Result<Option<Ordered>, AllocError>
+    ensures { OnOk result (IsAlike definitions.old definitions.new) }
+{
+    match collection {
+        Collection::List => Ok(None),
+        Collection::Set => definitions.order_of(element),
+        Collection::Map(key, _) => definitions.order_of(key),
     }
 }
 
 /// Whether the name at a place is `u8`, of one byte.
-pub fn is_byte(definitions: &Definitions<'_, '_>, at: usize) -> bool {
+pub fn is_byte(definitions: &Definitions<'_, '_>, at: usize) -> bool
+    ensures { (x : List ℕ) → IsNamed definitions.now at x →
+        Decides result (IsByte (forms_of definitions.now) x) }
+{
     definitions.name(at) == "u8" && matches!(definitions.get(at), Some(Definition::Primitive(1)))
 }
 
 /// The entries of a map whose keys are texts or numbers.
-fn entries_of<'a>(
-    definitions: &Definitions<'a, '_>,
-    key: usize,
-    value: usize,
-    order: Ordered,
-) -> Option<Entries<'a>> {
-    let key_definition = definitions.get(key)?;
-    let key_kind = match order {
-        Ordered::Text => KeyKind::Text,
-        Ordered::Unsigned(size) | Ordered::Signed(size) => {
-            KeyKind::Number(Number::named(definitions.name(key), size)?)
-        }
-        _ => return None,
+fn entries_of<'a>(definitions: &Definitions<'a, '_>, collection: Collection) -> Option<Entries<'a>>
+    ensures { let ns = definitions.now.layout.now.names.items in IsKnown definitions.now → (x : List ℕ) →
+        IsCollection (forms_of definitions.now) ns x collection → MatchOption result
+        ((k v : List ℕ) (keys : Keys) → IsMap (forms_of definitions.now) x k v → AreKeys (forms_of definitions.now) k keys → ⊥)
+        (λ es. (k v : List ℕ) × IsAt ns es.key k × IsAt ns es.value v ×
+        IsMap (forms_of definitions.now) x k v × AreEntries (forms_of definitions.now) ns es k) }
+{
+    let Collection::Map(key, value) = collection else {
+        return None;
     };
+    let key_definition = definitions.get(key)?;
+    let key_kind = kind_of_key(definitions, key, key_definition)?;
     Some(Entries {
         key,
         key_definition,
@@ -242,12 +357,57 @@ fn entries_of<'a>(
     })
 }
 
+/// How keys that are texts or numbers are read.
+fn kind_of_key(
+    definitions: &Definitions<'_, '_>,
+    at: usize,
+    definition: &Definition,
+) -> Option<KeyKind>
+    ensures { let ns = definitions.now.layout.now.names.items in
+        (k : List ℕ) → HasForm definitions.now at (form_of definition.now) k → MatchOption result
+        ((keys : Keys) → AreKeys (forms_of definitions.now) k keys → ⊥)
+        (λ kind. (keys : Keys) × AreKeys (forms_of definitions.now) k keys ×
+        AreKeysOf (forms_of definitions.now) ns k (form_of definition.now) kind keys) }
+{
+    match definition {
+        Definition::Primitive(size) => {
+            let number = Number::named(definitions.name(at), *size)?;
+            Some(KeyKind::Number(number))
+        }
+        Definition::Sequence { .. } if is_text(definitions, at, definition) => Some(KeyKind::Text),
+        _ => None,
+    }
+}
+
+/// Whether the name at a place is `String`, with its definition.
+fn is_text(definitions: &Definitions<'_, '_>, at: usize, definition: &Definition) -> bool
+    ensures { (x : List ℕ) → HasForm definitions.now at (form_of definition.now) x →
+        Decides result (AreKeys (forms_of definitions.now) x texts) }
+{
+    if !is_list(definition) || definitions.name(at) != "String" {
+        return false;
+    }
+    is_byte(definitions, definitions.part(at, 0))
+}
+
+/// How keys that are texts or numbers are ordered.
+fn order_of_keys(kind: KeyKind) -> Ordered {
+    match kind {
+        KeyKind::Text => Ordered::Text,
+        KeyKind::Number(number) if number.is_signed => Ordered::Signed(number.size),
+        KeyKind::Number(number) => Ordered::Unsigned(number.size),
+    }
+}
+
 /// How many parts without names of their own are gone through to see whether a value may be `null`.
 const MOST_NEWTYPES: usize = 128;
 
 /// Whether the JSON of a value of the name at a place may be `null`. It says so too of an `Option` that is never written as `null`, and of
 /// structs whose only parts lead further than [`MOST_NEWTYPES`]: an `Option` of these is written as a variant.
-fn may_be_null(definitions: &Definitions<'_, '_>, at: usize) -> bool {
+fn may_be_null(definitions: &Definitions<'_, '_>, at: usize) -> bool
+    ensures { (x : List ℕ) → IsNamed definitions.now at x →
+        MatchBool result (MayBeNull (forms_of definitions.now) 128 x) (MayBeNull (forms_of definitions.now) 128 x → ⊥) }
+{
     let mut at = at;
     for _ in 0..MOST_NEWTYPES {
         if definitions.is_zero_size(at) {
@@ -256,7 +416,7 @@ fn may_be_null(definitions: &Definitions<'_, '_>, at: usize) -> bool {
         let Some(definition) = definitions.get(at) else {
             return false;
         };
-        if option_part(definitions, at, definition).is_some() {
+        if let Some(_) = option_part(definitions, at, definition) {
             return true;
         }
         if !is_newtype(definition) {

@@ -6,25 +6,33 @@
 
 mod ascii;
 mod definitions;
+mod digits;
 mod error;
 mod floats;
 mod formats;
 mod kinds;
 mod laws;
+mod maps;
+mod not_json;
 mod numbers;
+mod opening;
 mod order;
 mod output;
+mod parts;
 mod position;
+mod prefixes;
 mod reading;
 mod rows;
+mod sources;
 mod strict;
 mod writing;
 
 pub use ascii::in_ascii;
+pub use definitions::Definitions as Json;
 pub use error::{JsonError, Refusal};
 pub use laws::text_determines_bytes;
 pub use output::{Characters, Layout, LongNumbers, Style};
-pub use reading::{from_json, from_json_by};
-pub use rows::{Row, rows_by, rows_of};
-pub use strict::{check_strict, check_strict_by};
-pub use writing::{to_json, to_json_by};
+pub use reading::from_json;
+pub use rows::{Row, rows_of};
+pub use strict::check_strict;
+pub use writing::to_json;

@@ -1,9 +1,9 @@
 // Where in a value the reader or writer is.
-ghost use Rattle.borsh_json.specs.Errors.{IsPartError, IsUnreadable, IsUnwritable};
-ghost use Rattle.std.specs.Prelude.{IfErr};
+ghost use Rattle.borsh_json.specs.Words.{GivesPart, IsKnown, IsOf, IsOfRead, IsPartError, IsReadRefusal, IsUnreadable, IsUnwritable, Root, TooDeep};
+ghost use Rattle.std.specs.Prelude.{◌≡◌, ◌+◌, ◌^◌, ◌<◌, ◌≤◌, ◌∷◌, ◌++◌, [], true, false, ℕ, List, IfErr, IfSome, MatchOption, OnOk};
 
 use crate::definitions::Definitions;
-use crate::error::{PartError, PartResult, Refusal};
+use crate::error::{PartError, PartResult, ReadError, Refusal};
 use crate::kinds::{Elements, Entries, NamedFields};
 use crate::order::{Ascent, Ordered, first_descent};
 use borsh_values::{Path, PathStep};
@@ -50,16 +50,18 @@ pub enum Key<'a> {
     Entry(Entries<'a>),
 }
 
-/// A part: the place of the name of its type, its key in an object, and whether it may be without bytes.
+/// A part: the place of the name of its type, and its key in an object.
 #[derive(Clone, Copy)]
 pub struct Part<'a> {
     pub at: usize,
     pub key: Key<'a>,
-    pub may_be_empty: bool,
 }
 
 impl<'a> Place<'a> {
-    pub fn new(parts: Parts<'a>) -> Place<'a> {
+    pub fn new(parts: Parts<'a>) -> Place<'a>
+        ensures parts { result.parts ≡ parts.entry }
+        ensures begun { result.begun ≡ 0 }
+    {
         Place {
             parts,
             begun: 0,
@@ -68,7 +70,10 @@ impl<'a> Place<'a> {
     }
 
     /// Parts that have to ascend where their order is known.
-    pub fn in_order(parts: Parts<'a>, order: Option<Ordered>) -> Place<'a> {
+    pub fn in_order(parts: Parts<'a>, order: Option<Ordered>) -> Place<'a>
+        ensures parts { result.parts ≡ parts.entry }
+        ensures begun { result.begun ≡ 0 }
+    {
         Place {
             ascent: order.map(Ascent::new),
             ..Place::new(parts)
@@ -76,34 +81,40 @@ impl<'a> Place<'a> {
     }
 
     /// The next part, which is begun; none if there are no more.
-    pub fn next_part(&mut self, definitions: &Definitions<'a, '_>) -> Option<Part<'a>> {
+    pub fn next_part(&mut self, definitions: &Definitions<'a, '_>) -> Option<Part<'a>>
+        ensures part { IsKnown definitions.now →
+            GivesPart definitions.now self.old.parts self.old.begun self.new.parts self.new.begun result }
+        ensures same { self.new.parts ≡ self.old.parts }
+    {
         let part = self.part_at(definitions, self.begun)?;
         self.begun = self.begun.saturating_add(1);
         Some(part)
     }
 
-    fn part_at(&self, definitions: &Definitions<'a, '_>, index: usize) -> Option<Part<'a>> {
-        let (count, at, key, may_be_empty) = match self.parts {
-            Parts::Root => (1, 0, Key::None, true),
-            Parts::Newtype(at) | Parts::Some(at) => (1, at, Key::None, false),
-            Parts::Variant(variant, at) => (1, at, Key::Name(variant), false),
-            Parts::List(at, count) => (count, at, Key::None, false),
-            Parts::Entries(entries, count) => (count, entries.value, Key::Entry(entries), true),
-            Parts::Row(at, count) => (count as u64, definitions.part(at, index), Key::None, true),
-            Parts::Object(at, fields) => {
-                let (field, _) = fields.get(index)?;
-                let key = Key::Name(field.as_str());
-                (u64::MAX, definitions.part(at, index), key, true)
+    fn part_at(&self, definitions: &Definitions<'a, '_>, index: usize) -> Option<Part<'a>>
+        ensures part { IsKnown definitions.now →
+            GivesPart definitions.now self.now.parts index self.now.parts (index + 1) result }
+        ensures more { IfSome result (λ p. index + 1 < 2 ^ 64) }
+    {
+        match self.parts {
+            Parts::Root => copy_at(0, 1, Key::None, index),
+            Parts::Newtype(at) | Parts::Some(at) => copy_at(at, 1, Key::None, index),
+            Parts::Variant(variant, at) => copy_at(at, 1, Key::Name(variant), index),
+            Parts::List(at, count) => copy_at(at, count, Key::None, index),
+            Parts::Entries(entries, count) => {
+                copy_at(entries.value, count, Key::Entry(entries), index)
             }
-        };
-        if index as u64 >= count {
-            return None;
+            Parts::Row(at, count) => {
+                copy_at(definitions.part(at, index), count as u64, Key::None, index)
+            }
+            Parts::Object(at, fields) => match fields.get(index) {
+                Some((field, _)) => Some(Part {
+                    at: definitions.part(at, index),
+                    key: Key::Name(field.as_str()),
+                }),
+                None => None,
+            },
         }
-        Some(Part {
-            at,
-            key,
-            may_be_empty,
-        })
     }
 
     /// The step to the part that was begun last; of the value of an entry, the step to the entry.
@@ -120,6 +131,17 @@ impl<'a> Place<'a> {
     }
 }
 
+/// The part of an index, of so many of the name at a place.
+fn copy_at<'a>(at: usize, count: u64, key: Key<'a>, index: usize) -> Option<Part<'a>>
+    ensures { MatchOption result (count ≤ index) (λ p. (index < count) × (p.at ≡ at) × (p.key ≡ key.entry)) }
+{
+    if (index as u64) < count {
+        Some(Part { at, key })
+    } else {
+        None
+    }
+}
+
 /// Where the reader or writer is: the parts that it is in, the innermost in `place`.
 #[derive(Drop)]
 pub struct Position<'a> {
@@ -131,7 +153,10 @@ pub struct Position<'a> {
 
 impl<'a> Position<'a> {
     /// In front of a value of this name.
-    pub fn new(alloc: Global, root: &'a str) -> Position<'a> {
+    pub fn new(alloc: Global, root: &'a str) -> Position<'a>
+        ensures outer { result.outer.items ≡ [] }
+        ensures place { (result.place.parts ≡ Root) × (result.place.begun ≡ 0) }
+    {
         Position {
             alloc,
             root,
@@ -144,6 +169,9 @@ impl<'a> Position<'a> {
     pub fn enter(&mut self, place: Place<'a>) -> PartResult<'a, ()>
         ensures reading { IfErr result (IsPartError IsUnreadable) }
         ensures writing { IfErr result (IsPartError IsUnwritable) }
+        ensures too_deep { IfErr result (IsOf TooDeep) }
+        ensures place { OnOk result (self.new.place ≡ place.entry) }
+        ensures outer { OnOk result (self.new.outer.items ≡ self.old.outer.items ++ self.old.place ∷ []) }
     {
         if self.outer.len() >= MAX_DEPTH {
             return Err(self.refused(Refusal::TooDeep));
@@ -154,7 +182,10 @@ impl<'a> Position<'a> {
     }
 
     /// Goes back to the parts around these; says no at the value itself.
-    pub fn leave(&mut self) -> bool {
+    pub fn leave(&mut self) -> bool
+        ensures left { result ≡ true → self.old.outer.items ≡ self.new.outer.items ++ self.new.place ∷ [] }
+        ensures all { result ≡ false → self.old.outer.items ≡ [] }
+    {
         match self.outer.pop() {
             Some(outer) => {
                 self.place = outer;
@@ -173,25 +204,35 @@ impl<'a> Position<'a> {
             return Ok(());
         };
         match first_descent(order, usize::from(elements.size), bytes) {
-            Some(index) => {
-                let mut path = self.path()?;
-                path.steps.push(PathStep::Element(index as u64))?;
-                Err(PartError::Refused(path, Refusal::Descends))
-            }
+            Some(index) => Err(refused_at(self.path_to(index), Refusal::Descends)),
             None => Ok(()),
         }
     }
 
     /// The error of the part that was begun last.
     pub fn refused(&self, refusal: Refusal) -> PartError<'a>
+        ensures same { IsOf refusal result }
         ensures reading { IsUnreadable refusal → IsPartError IsUnreadable result }
         ensures writing { IsUnwritable refusal → IsPartError IsUnwritable result }
     {
         refused_at(self.path(), refusal)
     }
 
+    /// The error of the part that was begun last, or of an element of it.
+    pub fn refused_part(&self, error: ReadError) -> PartError<'a>
+        ensures same { IsOfRead error result }
+        ensures reading { IsReadRefusal error → IsPartError IsUnreadable result }
+    {
+        match error {
+            ReadError::OutOfMemory => PartError::OutOfMemory,
+            ReadError::Refused(refusal) => self.refused(refusal),
+            ReadError::Descends(index) => refused_at(self.path_to(index), Refusal::Descends),
+        }
+    }
+
     /// The error of the element or entry that was begun last.
     pub fn refused_element(&self, refusal: Refusal) -> PartError<'a>
+        ensures same { IsOf refusal result }
         ensures reading { IsUnreadable refusal → IsPartError IsUnreadable result }
         ensures writing { IsUnwritable refusal → IsPartError IsUnwritable result }
     {
@@ -210,6 +251,12 @@ impl<'a> Position<'a> {
         if let Parts::Entries(_, _) = self.place.parts {
             path.steps.push(PathStep::Place(1))?;
         }
+        Ok(path)
+    }
+
+    fn path_to(&self, index: usize) -> Result<Path<'a>, AllocError> {
+        let mut path = self.path()?;
+        path.steps.push(PathStep::Element(index as u64))?;
         Ok(path)
     }
 
@@ -240,6 +287,7 @@ impl<'a> Position<'a> {
 }
 
 fn refused_at<'a>(path: Result<Path<'a>, AllocError>, refusal: Refusal) -> PartError<'a>
+    ensures same { IsOf refusal result }
     ensures reading { IsUnreadable refusal → IsPartError IsUnreadable result }
     ensures writing { IsUnwritable refusal → IsPartError IsUnwritable result }
 {

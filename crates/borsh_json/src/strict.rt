@@ -1,9 +1,5 @@
 // Whether a type takes a member, as far as names tell.
-ghost use Rattle.borsh_values.specs.Free.{KnowsSizes};
-ghost use Rattle.borsh_values.specs.Layouts.{IsLaidOut};
-ghost use Rattle.borsh_walks.specs.Container.{Member};
-ghost use Rattle.borsh_walks.specs.Definitions.{definitions_in};
-ghost use Rattle.borsh_json.specs.Errors.{IsNoJsonReason, IsPartError, IsUnwritable};
+ghost use Rattle.borsh_json.specs.Words.{IsNoJsonReason, IsPartError, IsUnwritable, Member, definitions_in};
 ghost use Rattle.std.specs.Prelude.{IfErr, IfSome, OnOk};
 
 use crate::definitions::Definitions;
@@ -40,29 +36,9 @@ pub fn check_strict<'a>(
     ensures member { OnOk result (Member (definitions_in map.now) root.now bytes.now) }
     ensures reason { IfErr result (λ e. IsNoJsonReason (definitions_in map.now) root.now bytes.now e) }
 {
-    check_strict_by(alloc, &Layout::new(alloc, root, map)?, bytes)
-}
-
-/// As [`check_strict`], for a layout that was made before. Left open: as there.
-///
-/// ```
-/// let layout = Layout::new(alloc, "bool", &definitions)?;
-/// assert!(rt; check_strict_by(alloc, &layout, &[1]).is_ok());
-/// ```
-pub fn check_strict_by<'a>(
-    alloc: Global,
-    layout: &Layout<'a>,
-    bytes: &[u8],
-) -> Result<(), JsonError<'a>>
-    requires laid_out { IsLaidOut layout.now }
-    requires sizes { KnowsSizes layout.now }
-    ensures member { let C = definitions_in layout.now.map.now in
-        OnOk result (Member C layout.now.root.now bytes.now) }
-    ensures reason { let C = definitions_in layout.now.map.now in
-        IfErr result (λ e. IsNoJsonReason C layout.now.root.now bytes.now e) }
-{
+    let layout = Layout::new(alloc, root, map)?;
     match layout.decode(alloc, bytes)? {
-        Decoded::Nodes(nodes) => Ok(check_nodes(alloc, layout, bytes, nodes.as_slice())?),
+        Decoded::Nodes(nodes) => Ok(check_nodes(alloc, &layout, bytes, nodes.as_slice())?),
         Decoded::NoMember(fault) => Err(JsonError::NoMember(fault)),
         Decoded::Ambiguous(name) => Err(JsonError::Ambiguous(name)),
     }
@@ -76,7 +52,7 @@ fn check_nodes<'a>(
 ) -> Result<(), PartError<'a>>
     ensures { IfErr result (IsPartError IsUnwritable) }
 {
-    let mut definitions = Definitions::new(alloc, layout)?;
+    let definitions = Definitions::new(alloc, layout)?;
     let mut paths = Paths::new(alloc, layout.root);
     // Of each node that the next one is in, where its elements have to ascend.
     let mut open: Vec<Option<Ascent>> = Vec::new(alloc);
@@ -89,7 +65,9 @@ fn check_nodes<'a>(
                 return Err(PartError::Refused(paths.path(alloc)?, Refusal::Descends));
             }
         }
-        let kind = definitions.kind_of_node(node)?;
+        let Some(kind) = definitions.kind_of_node(node) else {
+            return Err(PartError::Refused(paths.path(alloc)?, Refusal::OtherNodes));
+        };
         if let Some((index, refusal)) = wrong_in(&definitions, node, kind) {
             let mut path = paths.path(alloc)?;
             if let Some(index) = index {

@@ -1,13 +1,8 @@
 // A value as JSON.
-ghost use Rattle.borsh_values.specs.Free.{KnowsSizes};
-ghost use Rattle.borsh_values.specs.Layouts.{IsLaidOut};
-ghost use Rattle.borsh_walks.specs.Container.{Member};
-ghost use Rattle.borsh_walks.specs.Definitions.{definitions_in};
+ghost use Rattle.borsh_json.specs.Words.{HasKinds, IsNoJsonReason, IsPartError, IsUnwritable, Member, SaysBy, TextSays, definitions_in, forms_in};
 ghost use Rattle.borsh_json.specs.Ascii.{IsPlain};
-ghost use Rattle.borsh_json.specs.Errors.{IsNoJsonReason, IsPartError, IsUnwritable};
 ghost use Rattle.borsh_json.specs.declared.output.Characters.TheVariants.{Ascii};
-ghost use Rattle.json.specs.Json.{document};
-ghost use Rattle.std.specs.Prelude.{◌≡◌, All, IfErr, IfOk, IsSome, OnOk, string_bytes};
+ghost use Rattle.std.specs.Prelude.{◌≡◌, All, IfErr, IfOk, OnOk, string_bytes};
 
 use crate::ascii::{in_ascii, is_ascii};
 use crate::definitions::Definitions;
@@ -21,7 +16,7 @@ use crate::position::{Key, Part, Parts, Place, Position};
 use borsh_values::{Decoded, Layout, Node, Path, count_of, elements_of, variant_of};
 use borsh_walks::Definition;
 use itoa::Buffer;
-use json::{Scratch, Token, is_valid};
+use json::Token;
 use std::alloc::{AllocError, Global};
 use std::collections::BTreeMap;
 use std::str;
@@ -44,10 +39,11 @@ use std::str;
 /// whose keys have none, and values that nest more than 128 deep. The order of keys is known of numbers, `bool`, texts, and of
 /// tuples, arrays, lists, ordered sets and maps, and options of these, and not of structs and enums.
 ///
-/// Determined: after `Ok` the bytes are a member of the root, and the text is JSON, of the characters of the style. After `NoMember` they are none, and
-/// after `Refused` they are one; `NoMember` and `Ambiguous` are as of [`borsh_values::decode`], and `NoValue` and
-/// `NotJson` aren't returned. Left open: memory; `Refused` for any member, for any reason that a value has; the text of another value, or in another
-/// layout: tested, by tables and by round trips.
+/// Determined: after `Ok` the text is JSON that says these bytes, of the characters of the style. So no other bytes have this
+/// text, they are a member of the root ([`crate::text_determines_bytes`]), and they are what [`crate::from_json`] gives for it,
+/// if anything. After `NoMember` they are none, and after `Refused` they are one; `NoMember` and `Ambiguous` are as of
+/// [`borsh_values::decode`], and `NoValue` and `NotJson` aren't returned. Left open: memory, of which texts from 4 GiB on are said
+/// to want some; `Refused` for any member, for any reason that a value has; which of the texts that say the bytes: tested.
 ///
 /// ```
 /// let text = to_json(alloc, "(u8, bool)", &definitions, &[7, 1], Style::COMPACT)?;
@@ -60,70 +56,80 @@ pub fn to_json<'a>(
     bytes: &[u8],
     style: Style,
 ) -> Result<String, JsonError<'a>>
-    ensures member { OnOk result (Member (definitions_in map.now) root.now bytes.now) }
-    ensures json { IfOk result (λ text. IsSome (document (string_bytes text))) }
+    ensures says { let F = forms_in map.now in
+        IfOk result (λ text. TextSays F root.now (string_bytes text) bytes.now) }
     ensures ascii { style.characters ≡ Ascii → IfOk result (λ text. All IsPlain (string_bytes text)) }
     ensures reason { IfErr result (λ e. IsNoJsonReason (definitions_in map.now) root.now bytes.now e) }
 {
-    to_json_by(alloc, &Layout::new(alloc, root, map)?, bytes, style)
+    let layout = Layout::new(alloc, root, map)?;
+    let json = Definitions::new(alloc, &layout)?;
+    json.to_json(bytes, style)
 }
 
-/// As [`to_json`], for a layout that was made before. Left open: as there.
-///
-/// ```
-/// let layout = Layout::new(alloc, "(u8, bool)", &definitions)?;
-/// for record in records {
-///     let text = to_json_by(alloc, &layout, record, Style::COMPACT)?;
-/// }
-/// ```
-pub fn to_json_by<'a>(
-    alloc: Global,
-    layout: &Layout<'a>,
-    bytes: &[u8],
-    style: Style,
-) -> Result<String, JsonError<'a>>
-    requires laid_out { IsLaidOut layout.now }
-    requires sizes { KnowsSizes layout.now }
-    ensures member { let C = definitions_in layout.now.map.now in
-        OnOk result (Member C layout.now.root.now bytes.now) }
-    ensures json { IfOk result (λ text. IsSome (document (string_bytes text))) }
-    ensures ascii { style.characters ≡ Ascii → IfOk result (λ text. All IsPlain (string_bytes text)) }
-    ensures reason { let C = definitions_in layout.now.map.now in
-        IfErr result (λ e. IsNoJsonReason C layout.now.root.now bytes.now e) }
-{
-    match layout.decode(alloc, bytes)? {
-        Decoded::Nodes(nodes) => Ok(write_nodes(alloc, layout, bytes, nodes.as_slice(), style)?),
-        Decoded::NoMember(fault) => Err(JsonError::NoMember(fault)),
-        Decoded::Ambiguous(name) => Err(JsonError::Ambiguous(name)),
+impl<'a, 'l> Definitions<'a, 'l> {
+    /// As the function [`to_json`]. Left open: as there.
+    pub fn to_json(&self, bytes: &[u8], style: Style) -> Result<String, JsonError<'a>>
+        requires { HasKinds self.now }
+        ensures says { IfOk result (λ text. SaysBy self.now (string_bytes text) bytes.now) }
+        ensures ascii { style.characters ≡ Ascii → IfOk result (λ text. All IsPlain (string_bytes text)) }
+        ensures reason { let l = self.now.layout.now in
+            IfErr result (λ e. IsNoJsonReason (definitions_in l.map.now) l.root.now bytes.now e) }
+    {
+        match self.layout.decode(self.alloc, bytes)? {
+            Decoded::Nodes(nodes) => {
+                let text = self.write_nodes(bytes, nodes, style)?;
+                self.check_text(text.as_str(), bytes)?;
+                Ok(text)
+            }
+            Decoded::NoMember(fault) => Err(JsonError::NoMember(fault)),
+            Decoded::Ambiguous(name) => Err(JsonError::Ambiguous(name)),
+        }
     }
-}
 
-fn write_nodes<'a>(
-    alloc: Global,
-    layout: &Layout<'a>,
-    bytes: &[u8],
-    nodes: &[Node<'a, '_>],
-    style: Style,
-) -> Result<String, PartError<'a>>
-    ensures json { IfOk result (λ text. IsSome (document (string_bytes text))) }
-    ensures ascii { style.characters ≡ Ascii → IfOk result (λ text. All IsPlain (string_bytes text)) }
-    ensures refusal { IfErr result (IsPartError IsUnwritable) }
-{
-    let root = layout.root;
-    let mut writing = Writing {
-        alloc,
-        definitions: Definitions::new(alloc, layout)?,
-        long_numbers: style.long_numbers,
-        out: Output::new(alloc, style.layout),
-        bytes,
-        nodes,
-        position: Position::new(alloc, root),
-    };
-    writing.write_all()?;
-    let text = text_of(alloc, root, writing.out.into_bytes())?;
-    let text = in_characters(alloc, root, text, style.characters)?;
-    check_json(alloc, root, text.as_str())?;
-    Ok(text)
+    /// The text of the nodes, which aren't needed any more.
+    fn write_nodes(
+        &self,
+        bytes: &[u8],
+        nodes: Vec<Node<'a, '_>>,
+        style: Style,
+    ) -> PartResult<'a, String>
+        ensures ascii { style.characters ≡ Ascii → IfOk result (λ text. All IsPlain (string_bytes text)) }
+        ensures refusal { IfErr result (IsPartError IsUnwritable) }
+    {
+        let root = self.layout.root;
+        let mut writing = Writing {
+            definitions: self,
+            long_numbers: style.long_numbers,
+            out: Output::new(self.alloc, style.layout),
+            bytes,
+            nodes: nodes.as_slice(),
+            position: Position::new(self.alloc, root),
+        };
+        writing.write_all()?;
+        let text = text_of(self.alloc, root, writing.out.into_bytes())?;
+        in_characters(self.alloc, root, text, style.characters)
+    }
+
+    /// Refuses a text that doesn't say the bytes, by reading it.
+    fn check_text(&self, text: &str, bytes: &[u8]) -> PartResult<'a, ()>
+        requires { HasKinds self.now }
+        ensures says { let l = self.now.layout.now in Member (definitions_in l.map.now) l.root.now bytes.now →
+            OnOk result (SaysBy self.now text.now bytes.now) }
+        ensures refusal { IfErr result (IsPartError IsUnwritable) }
+    {
+        match self.read_text(text) {
+            Ok(read) => {
+                let is_same = read.as_slice() == bytes;
+                if is_same {
+                    Ok(())
+                } else {
+                    Err(no_json(self.alloc, self.layout.root))
+                }
+            }
+            Err(JsonError::OutOfMemory) => Err(PartError::OutOfMemory),
+            Err(_) => Err(no_json(self.alloc, self.layout.root)),
+        }
+    }
 }
 
 /// The text, with these characters alone.
@@ -153,19 +159,7 @@ fn text_of<'a>(alloc: Global, root: &'a str, bytes: Vec<u8>) -> Result<String, P
     }
 }
 
-/// Refuses a text that isn't JSON.
-fn check_json<'a>(alloc: Global, root: &'a str, text: &str) -> Result<(), PartError<'a>>
-    ensures json { OnOk result (IsSome (document text.now)) }
-    ensures refusal { IfErr result (IsPartError IsUnwritable) }
-{
-    if is_valid(text, &mut Scratch::new(alloc))? {
-        Ok(())
-    } else {
-        Err(no_json(alloc, root))
-    }
-}
-
-/// That the text that was written isn't JSON, as it is where the nodes are those of the definitions.
+/// That the text that was written doesn't say the bytes, as it does where the nodes are those of the definitions.
 fn no_json<'a>(alloc: Global, root: &'a str) -> PartError<'a>
     ensures { IsPartError IsUnwritable result }
 {
@@ -175,9 +169,8 @@ fn no_json<'a>(alloc: Global, root: &'a str) -> PartError<'a>
 
 /// The nodes that are left, and where the writer is.
 #[derive(Drop)]
-struct Writing<'a, 'l, 'b, 'n> {
-    alloc: Global,
-    definitions: Definitions<'a, 'l>,
+struct Writing<'a, 'd, 'l, 'b, 'n> {
+    definitions: &'d Definitions<'a, 'l>,
     long_numbers: LongNumbers,
     out: Output,
     bytes: &'b [u8],
@@ -185,12 +178,12 @@ struct Writing<'a, 'l, 'b, 'n> {
     position: Position<'a>,
 }
 
-impl<'a, 'l, 'b, 'n> Writing<'a, 'l, 'b, 'n> {
+impl<'a, 'd, 'l, 'b, 'n> Writing<'a, 'd, 'l, 'b, 'n> {
     fn write_all(&mut self) -> PartResult<'a, ()>
         ensures { IfErr result (IsPartError IsUnwritable) }
     {
         for _ in 0..u64::MAX {
-            match self.position.place.next_part(&self.definitions) {
+            match self.position.place.next_part(self.definitions) {
                 Some(part) => {
                     self.check_order()?;
                     self.write_part(part)?;
@@ -225,11 +218,13 @@ impl<'a, 'l, 'b, 'n> Writing<'a, 'l, 'b, 'n> {
             Key::Name(name) => self.out.put(Token::Key(name))?,
             Key::Entry(entries) => self.write_key(entries)?,
         }
-        if part.may_be_empty && self.definitions.is_zero_size(part.at) {
+        if self.definitions.is_zero_size(part.at) {
             return Ok(self.out.put(Token::Null)?);
         }
         let node = self.take_node(part.at)?;
-        let kind = self.definitions.kind(part.at, node.definition)?;
+        let Some((_, kind)) = self.definitions.kind(part.at) else {
+            return Err(self.position.refused(Refusal::OtherNodes));
+        };
         match kind {
             Kind::Number(_) | Kind::Bool | Kind::Bytes(_) | Kind::Float(_) => {
                 self.write_primitive(kind, node.bytes)
@@ -254,7 +249,7 @@ impl<'a, 'l, 'b, 'n> Writing<'a, 'l, 'b, 'n> {
             },
             Kind::Choice(_, variants) => self.open_variant(part.at, &node, variants),
             Kind::Repeated(name) => {
-                let name = String::from_str(self.alloc, name)?;
+                let name = String::from_str(self.definitions.alloc, name)?;
                 Err(self.position.refused(Refusal::RepeatedName(name)))
             }
         }
@@ -270,7 +265,7 @@ impl<'a, 'l, 'b, 'n> Writing<'a, 'l, 'b, 'n> {
         if let [node, ..] = self.nodes {
             ascent.begin(node.offset);
         }
-        if ascent.ascends(&self.definitions, self.bytes)? {
+        if ascent.ascends(self.definitions, self.bytes)? {
             return Ok(());
         }
         Err(self.position.refused_element(Refusal::Descends))
@@ -391,7 +386,7 @@ impl<'a, 'l, 'b, 'n> Writing<'a, 'l, 'b, 'n> {
         self.open(parts)?;
         let kind = kind_of_primitive(self.definitions.name(elements.at), elements.size);
         for element in bytes.chunks_exact(size) {
-            let _part = self.position.place.next_part(&self.definitions);
+            let _part = self.position.place.next_part(self.definitions);
             self.write_primitive(kind, element)?;
         }
         Ok(())
@@ -452,8 +447,8 @@ impl<'a, 'l, 'b, 'n> Writing<'a, 'l, 'b, 'n> {
     fn write_bytes(&mut self, bytes: &[u8]) -> PartResult<'a, ()>
         ensures { IfErr result (IsPartError IsUnwritable) }
     {
-        let digits = hex::encode(self.alloc, bytes)?;
-        let text = format!(in self.alloc; "0x{digits}")?;
+        let digits = hex::encode(self.definitions.alloc, bytes)?;
+        let text = format!(in self.definitions.alloc; "0x{digits}")?;
         Ok(self.out.put(Token::String(text.as_str()))?)
     }
 }

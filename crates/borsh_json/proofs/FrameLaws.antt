@@ -1,0 +1,117 @@
+-- What is left of a frame, part by part.
+use Rattle.std.proofs.Common.{◌≡◌, ◌⊎◌, ℕ, suc, zero, ◌+◌, ◌<◌, ◌≤◌, List, [], ◌∷◌, ◌++◌, length, map, drop, get_or, Bool, true, false, Option, Some, None, refl, sym, ◌∙◌, ap, subst, arith, string_bytes}
+use Rattle.std.specs.Prelude.{option_map, slice_get, MatchOption, String, Vec, cond, is_some, if◌then◌else◌}
+use Rattle.std.specs.Borrow.{Bor}
+use Rattle.std.specs.Global.{Global}
+use Rattle.std.specs.BTreeMap.{BTreeMap, UpdatesBy, btree_map_len}
+use Rattle.std.specs.Cmp.Lexicographic.{slice_cmp}
+use Rattle.std.specs.Ordering.{nat_cmp}
+use Rattle.std.specs.Str.{bytes_eq}
+use Rattle.std.specs.List.{AllByRecursion, IsDistinct}
+use Rattle.std.proofs.lemmas.Map.Keys.{IsDistinct-head, IsDistinct-tail}
+use Rattle.std.proofs.lemmas.Map.Text.{btree_map_updates_str}
+use Rattle.json.specs.Token.{Token}
+use Rattle.json.specs.Json.{Json, Members, no_members, member}
+use Rattle.json.specs.Find.{BeginsWith, InMembers, get_member, Finds}
+use Rattle.borsh_walks.specs.Container.{references}
+use Rattle.borsh_walks.specs.Tables.{mark_of}
+use Rattle.borsh_values.specs.declared.layout.Named.{Named}
+use Rattle.borsh_json.specs.declared.kinds.KeyKind.{KeyKind}
+use Rattle.borsh_json.specs.declared.kinds.KeyKind.TheVariants.{Text as TextKeys, Number as NumberKeys}
+use Rattle.borsh_json.specs.declared.position.Key.TheVariants.{None as NoKey, Name}
+use Rattle.borsh_json.specs.declared.position.Part.{Part}
+use Rattle.borsh_json.specs.declared.position.Parts.TheVariants.{Row, Object}
+use Rattle.borsh_json.specs.declared.sources.EntryKey.TheVariants.{Text as TextKey}
+use Rattle.borsh_json.specs.declared.sources.Source.TheVariants.{Members as TheMembers, Entries as InPlace}
+use Rattle.borsh_json.specs.Forms.{Form, named, shape_of_form}
+use Rattle.borsh_json.specs.Frames.{Wanted, IsWanted, IsKey, AreFound, HasFields, HasEntries, IsEntryKey}
+use Rattle.borsh_json.specs.Places.{IsAt}
+use Rattle.borsh_json.specs.Table.{Entry, entries_of}
+
+-- ---- lists from an index on
+pub drop_at : {A : Type 0} (xs : List A) (i : ℕ) (a : A) → slice_get xs i ≡ Some a → drop i xs ≡ a ∷ drop (suc i) xs
+drop_at [] zero a e = cc
+drop_at [] (suc i) a e = cc
+drop_at (x ∷ xs) zero a e = (let h : x ≡ a = cc in ap (λ y. y ∷ xs) h)
+drop_at (x ∷ xs) (suc i) a e = drop_at xs i a e
+
+pub drop_all : {A : Type 0} (xs : List A) (i : ℕ) → length xs ≤ i → drop i xs ≡ []
+drop_all [] zero h = refl
+drop_all [] (suc i) h = refl
+drop_all (x ∷ xs) zero h = absurd (omega arith)
+drop_all (x ∷ xs) (suc i) h = drop_all xs i (omega arith)
+
+pub get_map : {A B : Type 0} (f : A → B) (xs : List A) (i : ℕ) (a : A) → slice_get xs i ≡ Some a → slice_get (map f xs) i ≡ Some (f a)
+get_map f [] zero a e = cc
+get_map f [] (suc i) a e = cc
+get_map f (x ∷ xs) zero a e = (let h : x ≡ a = cc in ap (λ y. Some (f y)) h)
+get_map f (x ∷ xs) (suc i) a e = get_map f xs i a e
+
+pub get_there : {A : Type 0} (xs : List A) (i : ℕ) → i < length xs → (a : A) × (slice_get xs i ≡ Some a)
+get_there [] i h = absurd (omega arith)
+get_there (x ∷ xs) zero h = (x, refl)
+get_there (x ∷ xs) (suc i) h = get_there xs i (omega arith)
+
+pub get_from : {A : Type 0} (xs : List A) (i : ℕ) (a : A) → i < length xs → a ≡ get_or xs i a → slice_get xs i ≡ Some a
+get_from [] i a h e = absurd (omega arith)
+get_from (x ∷ xs) zero a h e = ap (λ y. Some y) (sym e)
+get_from (x ∷ xs) (suc i) a h e = get_from xs i a (omega arith) e
+
+pub length_map : {A B : Type 0} (f : A → B) (xs : List A) → length (map f xs) ≡ length xs
+length_map f [] = refl
+length_map f (x ∷ xs) = ap suc (length_map f xs)
+
+-- ---- what is wanted next
+
+module _ (F : List ℕ → Option Form) (ns : List Named) where
+  -- the place is that of a part
+  abbrev IsPart : ℕ → ℕ → ℕ → Type 0
+  IsPart at i place = (x y : List ℕ) (f : Form) → IsAt ns at x → F x ≡ Some f → slice_get (references (shape_of_form f)) i ≡ Some y → IsAt ns place y
+
+  pub row_next : (at n i place : ℕ) (o : Option Part) → IsPart at i place → MatchOption o (n ≤ i) (λ p. (i < n) × (p.at ≡ place) × (p.key ≡ NoKey)) → (ws : List Wanted) → IsWanted F ns (Row at n) i ws → MatchOption o (ws ≡ []) (λ p. (w : Wanted) × (rest : List Wanted) × (ws ≡ w ∷ rest) × IsAt ns p.at w.1 × IsKey (Row at n) p.key w.0 × IsWanted F ns (Row at n) (i + 1) rest)
+  row_next at n i place None g h ws w =
+      let refs = references (shape_of_form w.1) in
+      let f : List ℕ → Wanted = λ y. ([], y) in
+      let l = length_map f refs in
+      let k = w.4 in
+      w.5 ∙ drop_all (map f refs) i (omega (arith, l, k, h))
+  row_next at n i place (Some p) g h ws w =
+      let refs = references (shape_of_form w.1) in
+      let f : List ℕ → Wanted = λ y. ([], y) in
+      let t = get_there refs i (subst (λ k. i < k) (sym w.4) h.0) in
+      let s : suc i ≡ i + 1 = omega arith in
+      (f t.0, drop (suc i) (map f refs), w.5 ∙ drop_at (map f refs) i (f t.0) (get_map f refs i t.0 t.1), subst (λ k. IsAt ns k t.0) (sym h.1) (g w.0 t.0 w.1 w.2 w.3 t.1), h.2, (w.0, w.1, w.2, w.3, w.4, ap (λ k. drop k (map f refs)) s))
+
+  pub object_next : (at i place : ℕ) (fs : Bor (Vec (String Global × String Global) Global)) (a : String Global × String Global) (key : Bor (List ℕ)) → slice_get fs.now.items i ≡ Some a → key.now ≡ string_bytes a.0 → IsPart at i place → (ws : List Wanted) → IsWanted F ns (Object at fs) i ws → (w : Wanted) × (rest : List Wanted) × (ws ≡ w ∷ rest) × IsAt ns place w.1 × IsKey (Object at fs) (Name key) w.0 × IsWanted F ns (Object at fs) (i + 1) rest
+  object_next at i place fs a key e k g ws w =
+      let f : String Global × String Global → Wanted = λ f. (string_bytes f.0, string_bytes f.1) in
+      let all = map f fs.now.items in
+      let here = get_map f fs.now.items i a e in
+      let s : suc i ≡ i + 1 = omega arith in
+      let second : Wanted → List ℕ = λ f. f.1 in
+      (f a, drop (suc i) all, w.3 ∙ drop_at all i (f a) here, g w.0 (string_bytes a.1) (named all) w.1 w.2 (get_map second all i (f a) here), (key, refl, k), (w.0, w.1, w.2, ap (λ k. drop k all) s))
+
+-- ---- fields
+found_still : (m n : BTreeMap (Bor (List ℕ)) (List Token)) (name : List ℕ) (ms : Members) → ((q : List ℕ) → mark_of n q ≡ cond (bytes_eq name q) None (mark_of m q)) → (fs : List Wanted) → AllByRecursion (λ y. bytes_eq name y ≡ false) (map (λ (f : Wanted). f.0) fs) → AreFound m fs ms → AreFound n fs ms
+found_still m n name ms u [] a h = tt
+found_still m n name ms u (f ∷ fs) a h = (subst (λ (o : Option (List Token)). Finds o (get_member f.0 ms)) (sym (u f.0 ∙ ap (λ b. cond b None (mark_of m f.0)) a.0)) h.0, found_still m n name ms u fs a.1 h.1)
+
+pub fields_taken : (m n : BTreeMap (Bor (List ℕ)) (List Token)) (name : List ℕ) (o : Option (List Token)) → o ≡ mark_of m name → UpdatesBy (λ x y. slice_cmp nat_cmp x.now y.now) (λ q. slice_cmp nat_cmp name q.now) m n None → btree_map_len n + (if is_some o then 1 else 0) ≡ btree_map_len m → (f : Wanted) (fs : List Wanted) (ms : Members) (k : ℕ) → HasFields (TheMembers m) (f ∷ fs) ms k → name ≡ f.0 → MatchOption o (get_member f.0 ms ≡ None) (λ e. (j : Json) × (l : ℕ) × (get_member f.0 ms ≡ Some j) × BeginsWith e j × (k ≡ suc l) × HasFields (TheMembers n) fs ms l)
+fields_taken m n name None v u l f fs ms k h e = subst (λ (r : Option (List Token)). Finds r (get_member f.0 ms)) (sym (v ∙ ap (λ x. mark_of m x) e)) h.1.0
+fields_taken m n name (Some t) v u l f fs ms k h e =
+    let q = subst (λ (r : Option (List Token)). Finds r (get_member f.0 ms)) (sym (v ∙ ap (λ x. mark_of m x) e)) h.1.0 in
+    let a = IsDistinct-head bytes_eq f.0 (map (λ (f : Wanted). f.0) fs) h.0 in
+    let b = subst (λ (x : List ℕ). AllByRecursion (λ y. bytes_eq x y ≡ false) (map (λ (f : Wanted). f.0) fs)) (sym e) a in
+    let c : k ≡ suc (btree_map_len n) = (let g = h.2 in omega (arith, g, l)) in
+    (q.0, btree_map_len n, q.1, q.2, c, (IsDistinct-tail bytes_eq f.0 (map (λ (f : Wanted). f.0) fs) h.0, found_still m n name ms (btree_map_updates_str name m n None u) fs b h.1.1, refl))
+
+-- ---- entries in place
+pub entry_taken : (kind : KeyKind) (old new : List Token) (text : Bor (List ℕ)) (e : List Token) → ((ms : Members) → InMembers old ms → (j : Json) × (rest : Members) × (ms ≡ member text.now j rest) × BeginsWith e j × InMembers new rest) → (es : List Entry) → HasEntries kind (InPlace old) es → (k : List ℕ) × (j : Json) × (rest : List Entry) × (es ≡ (k, j) ∷ rest) × IsEntryKey kind (TextKey text) k × BeginsWith e j × HasEntries kind (InPlace new) rest
+entry_taken TextKeys old new text e v es h =
+    let t = v h.0 h.1 in
+    (text.now, t.0, entries_of t.1, h.2 ∙ ap (λ ms. entries_of ms) t.2, refl, t.3, (t.1, t.4, refl))
+entry_taken (NumberKeys n) old new text e v es h = absurd h
+
+pub entry_none : (kind : KeyKind) (old : List Token) → ((ms : Members) → InMembers old ms → ms ≡ no_members) → (es : List Entry) → HasEntries kind (InPlace old) es → es ≡ []
+entry_none TextKeys old v es h = h.2 ∙ ap (λ ms. entries_of ms) (v h.0 h.1)
+entry_none (NumberKeys n) old v es h = absurd h

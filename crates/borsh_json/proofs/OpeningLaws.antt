@@ -1,0 +1,225 @@
+-- What JSON of a kind opens.
+use Rattle.std.proofs.Common.{◌≡◌, ◌⊎◌, inl, inr, ℕ, suc, zero, ◌+◌, ◌<◌, ◌≤◌, List, [], ◌∷◌, ◌++◌, length, map, replicate, drop, Bool, true, false, Option, Some, None, refl, sym, ◌∙◌, ap, subst, arith, append-nil, string_bytes}
+use Rattle.std.specs.Prelude.{Result, Ok, Err, String, ℤ, slice_get, MatchOption}
+use Rattle.std.specs.Global.{Global}
+use Rattle.json.specs.Token.{Token}
+use Rattle.json.specs.Json.{Json, null, boolean, number, string, array, object, Items, no_items, item, Members}
+use Rattle.json.specs.Find.{BeginsWith, is_null, as_bool, as_str, as_number, as_array, as_object, get_member}
+use Rattle.borsh_walks.specs.Container.{tag}
+use Rattle.borsh_values.specs.declared.layout.Named.{Named}
+use Rattle.borsh_json.specs.declared.error.PartError.{PartError}
+use Rattle.borsh_json.specs.declared.error.PartError.TheVariants.{OutOfMemory as NoMemory, Refused as RefusedPart}
+use Rattle.borsh_json.specs.declared.error.ReadError.{ReadError}
+use Rattle.borsh_json.specs.declared.error.ReadError.TheVariants.{OutOfMemory, Refused, Descends as DescendsAt}
+use Rattle.borsh_json.specs.declared.error.Refusal.{Refusal}
+use Rattle.borsh_json.specs.declared.error.Refusal.TheVariants.{TooDeep, RepeatedName, EmptyElements, NotBool, NotUtf8, Zero, NotNumber, Descends, OtherNodes, Expected, MissingField, UnknownName, RepeatedKey, Undefined}
+use Rattle.borsh_json.specs.declared.opening.Frame.{Frame}
+use Rattle.borsh_json.specs.declared.position.Parts.{Parts}
+use Rattle.borsh_json.specs.declared.sources.Source.{Source}
+use Rattle.borsh_json.specs.declared.sources.Source.TheVariants.{One}
+use Rattle.borsh_json.specs.Errors.{Denies, IsUnreadable, IsPartError}
+use Rattle.borsh_json.specs.Forms.{Form, HasNoBytes}
+use Rattle.borsh_json.specs.Frames.{DeniesRead, DeniesPart, IsOf, IsOfRead, IsExpected, IsFound, IsOpened, HasLeft, HasItems, IsWanted, IsMapPlace, Wanted}
+use Rattle.borsh_json.specs.Reads.{Left, items_left, PartsOf, SaysFirst, SaysSome, IsOnly}
+use Rattle.borsh_json.specs.Represents.{HaveBytes}
+use Rattle.borsh_json.specs.Table.{Lengths, Kind, HasKind, Part, row_parts, list_parts, IsPrefixed, IsVariant, this, that, Says, truth, no_bytes}
+use Rattle.borsh_json.proofs.FrameLaws.{drop_at}
+use Rattle.borsh_json.proofs.ReaderLaws.{uncons}
+use Rattle.borsh_json.proofs.RepresentsLaws.{kind_one, says_one, kind_small}
+use Rattle.borsh_json.proofs.StepLaws.{mapped, item_back}
+
+-- ---- JSON by its type
+pub null_is : (j : Json) → is_null j ≡ true → j ≡ null
+null_is null e = refl
+null_is (boolean b) e = cc
+null_is (number s) e = cc
+null_is (string s) e = cc
+null_is (array js) e = cc
+null_is (object ms) e = cc
+
+pub bool_is : (j : Json) (b : Bool) → as_bool j ≡ Some b → j ≡ boolean b
+bool_is null b e = cc
+bool_is (boolean c) b e = (let q : c ≡ b = cc in ap boolean q)
+bool_is (number s) b e = cc
+bool_is (string s) b e = cc
+bool_is (array js) b e = cc
+bool_is (object ms) b e = cc
+
+pub string_is : (j : Json) (s : List ℕ) → as_str j ≡ Some s → j ≡ string s
+string_is null s e = cc
+string_is (boolean b) s e = cc
+string_is (number t) s e = cc
+string_is (string t) s e = (let q : t ≡ s = cc in ap (λ t. string t) q)
+string_is (array js) s e = cc
+string_is (object ms) s e = cc
+
+pub number_is : (j : Json) (s : List ℕ) → as_number j ≡ Some s → j ≡ number s
+number_is null s e = cc
+number_is (boolean b) s e = cc
+number_is (string t) s e = cc
+number_is (number t) s e = (let q : t ≡ s = cc in ap (λ t. number t) q)
+number_is (array js) s e = cc
+number_is (object ms) s e = cc
+
+-- ---- errors
+pub denies_from : (r : Refusal) (P Q : Type 0) → (Q → P) → Denies r P → Denies r Q
+denies_from TooDeep P Q f d = tt
+denies_from (RepeatedName n) P Q f d = λ q. d (f q)
+denies_from EmptyElements P Q f d = λ q. d (f q)
+denies_from NotBool P Q f d = d
+denies_from NotUtf8 P Q f d = d
+denies_from Zero P Q f d = d
+denies_from NotNumber P Q f d = λ q. d (f q)
+denies_from Descends P Q f d = tt
+denies_from OtherNodes P Q f d = λ q. d (f q)
+denies_from (Expected w) P Q f d = λ q. d (f q)
+denies_from MissingField P Q f d = λ q. d (f q)
+denies_from (UnknownName n) P Q f d = λ q. d (f q)
+denies_from (RepeatedKey n) P Q f d = λ q. d (f q)
+denies_from (Undefined n) P Q f d = λ q. d (f q)
+
+pub denies_read : (e : ReadError) {P Q : Type 0} → (Q → P) → DeniesRead e P → DeniesRead e Q
+denies_read OutOfMemory f d = tt
+denies_read (Refused r) {P} {Q} f d = denies_from r P Q f d
+denies_read (DescendsAt i) f d = tt
+
+pub denies_of : (r : Refusal) (e : PartError) (P : Type 0) → IsOf r e → Denies r P → DeniesPart e P
+denies_of r NoMemory P i d = tt
+denies_of r (RefusedPart path other) P i d = subst (λ (r : Refusal). Denies r P) (sym i) d
+
+pub denies_part : (r : ReadError) (e : PartError) (P : Type 0) → IsOfRead r e → DeniesRead r P → DeniesPart e P
+denies_part OutOfMemory e P i d = subst (λ (e : PartError). DeniesPart e P) (sym i) tt
+denies_part (Refused r) e P i d = denies_of r e P i d
+denies_part (DescendsAt k) e P i d = denies_of Descends e P i tt
+
+pub denies_expected : (e : ReadError) {P : Type 0} → IsExpected e → (P → ⊥) → DeniesRead e P
+denies_expected e {P} (inl i) d = subst (λ (e : ReadError). DeniesRead e P) (sym i) tt
+denies_expected e {P} (inr i) d = subst (λ (e : ReadError). DeniesRead e P) (sym i.1) d
+
+unreadable : (r : Refusal) (P : Type 0) → Denies r P → IsUnreadable r
+unreadable TooDeep P d = tt
+unreadable (RepeatedName n) P d = tt
+unreadable EmptyElements P d = tt
+unreadable NotBool P d = d
+unreadable NotUtf8 P d = d
+unreadable Zero P d = d
+unreadable NotNumber P d = tt
+unreadable Descends P d = tt
+unreadable OtherNodes P d = tt
+unreadable (Expected w) P d = tt
+unreadable MissingField P d = tt
+unreadable (UnknownName n) P d = tt
+unreadable (RepeatedKey n) P d = tt
+unreadable (Undefined n) P d = tt
+
+-- what denies is a reason why JSON can't be read
+pub part_unreadable : (e : PartError) (P : Type 0) → DeniesPart e P → IsPartError IsUnreadable e
+part_unreadable NoMemory P d = tt
+part_unreadable (RefusedPart path r) P d = unreadable r P d
+
+module _ (F : List ℕ → Option Form) (ns : List Named) (x : List ℕ) (j : Json) where
+  first_one : {a b : List ℕ} {ps qs : List Part} → SaysFirst F x j a ps → SaysFirst F x j b qs → (a ≡ b) × (ps ≡ qs)
+  first_one {a} {b} {ps} {qs} p q = says_one F p.0 j (kind_small F p.1) p.2 (subst (λ k. Says F k j b qs) (kind_one F q.1 p.1) q.2)
+
+  -- JSON of which nothing is said by its kind
+  pub denied : (kind : Kind) → HasKind F x kind → ((own : List ℕ) (ps : List Part) → Says F kind j own ps → ⊥) → SaysSome F x j → ⊥
+  denied kind h d s =
+      let u = uncons F s.1 in
+      let f = u.4 in
+      d u.0 u.1 (subst (λ k. Says F k j u.0 u.1) (kind_one F f.1 h) f.2)
+
+  pub said : (kind : Kind) → HasKind F x kind → SaysSome F x j → (own : List ℕ) × (ps : List Part) × Says F kind j own ps
+  said kind h s =
+      let u = uncons F s.1 in
+      let f = u.4 in
+      (u.0, u.1, subst (λ k. Says F k j u.0 u.1) (kind_one F f.1 h) f.2)
+
+  pub unsaid : ((own : List ℕ) (ps : List Part) → SaysFirst F x j own ps → ⊥) → SaysSome F x j → ⊥
+  unsaid d s = let u = uncons F s.1 in d u.0 u.1 u.4
+
+  pub leaf : (kind : Kind) (own : List ℕ) → HasKind F x kind → Says F kind j own [] → IsOnly (SaysFirst F x j) own (λ ps. ps ≡ [])
+  leaf kind own h s = record {
+    says = λ ps e. (kind, h, subst (λ l. Says F kind j own l) (sym e) s);
+    only = λ bs ps t. first_one t (kind, h, s);
+  }
+
+  pub framed : (kind : Kind) (own : List ℕ) (l : Left) (ps : List Part) → HasKind F x kind → Says F kind j own ps → PartsOf l ps → ((qs : List Part) → PartsOf l qs → qs ≡ ps) → IsOnly (SaysFirst F x j) own (PartsOf l)
+  framed kind own l ps h s p u = record {
+    says = λ qs q. (kind, h, subst (λ l. Says F kind j own l) (sym (u qs q)) s);
+    only = λ bs qs t. let o = first_one t (kind, h, s) in (o.0, subst (λ l'. PartsOf l l') (sym o.1) p);
+  }
+
+  pub opened_leaf : (kind : Kind) (old new own : List ℕ) → HasKind F x kind → new ≡ old ++ own → Says F kind j own [] → IsOpened F ns x j old new (Ok None)
+  opened_leaf kind old new own h e s = (own, e, leaf kind own h s)
+
+  -- without own bytes the output may be any
+  pub unmoved : (out : List ℕ) (r : Result (Option Frame) ReadError) → IsOpened F ns x j [] [] r → IsOpened F ns x j out out r
+  unmoved out (Ok found) o = (o.0, sym (append-nil out) ∙ ap (λ l. out ++ l) o.1, o.2)
+  unmoved out (Err e) o = o
+
+-- ---- rows and lists
+row_there : (xs : List (List ℕ)) (js : Items) → length (list_parts [] js) ≡ length xs → (ps : List Part) × (row_parts xs js ≡ Some ps)
+row_there [] no_items e = ([], refl)
+row_there [] (item j js) e = absurd (omega arith)
+row_there (x ∷ xs) no_items e = absurd (omega arith)
+row_there (x ∷ xs) (item j js) e = let r = row_there xs js (omega arith) in ((x, j) ∷ r.0, item_back x xs j js r.0 r.1)
+
+pub row_fits : (xs : List (List ℕ)) (js : Items) (ps : List Part) → row_parts xs js ≡ Some ps → length (list_parts [] js) ≡ length xs
+row_fits [] no_items ps e = refl
+row_fits [] (item j js) ps e = cc
+row_fits (x ∷ xs) no_items ps e = cc
+row_fits (x ∷ xs) (item j js) ps e = let m = mapped (λ ps. (x, j) ∷ ps) (row_parts xs js) e in ap suc (row_fits xs js m.0 m.1)
+
+pub rows_there : (xs : List (List ℕ)) (js : Items) (n : ℕ) → n ≡ length (list_parts [] js) → length xs ≡ n → (ps : List Part) × (row_parts xs js ≡ Some ps)
+rows_there xs js n e f = row_there xs js (sym e ∙ sym f)
+
+pub list_row : (e : List ℕ) (js : Items) → row_parts (replicate (length (list_parts [] js)) e) js ≡ Some (list_parts e js)
+list_row e no_items = refl
+list_row e (item j js) = item_back e (replicate (length (list_parts [] js)) e) j js (list_parts e js) (list_row e js)
+
+pub list_length : (e : List ℕ) (js : Items) → length (list_parts e js) ≡ length (list_parts [] js)
+list_length e no_items = refl
+list_length e (item j js) = ap suc (list_length e js)
+
+-- the types of parts that are wanted
+pub second_map : (xs : List (List ℕ)) → map (λ (w : Wanted). w.1) (map (λ y. ([], y)) xs) ≡ xs
+second_map [] = refl
+second_map (x ∷ xs) = ap (λ l. x ∷ l) (second_map xs)
+
+pub second_copies : (n : ℕ) (x : List ℕ) → map (λ (w : Wanted). w.1) (replicate n ([], x)) ≡ replicate n x
+second_copies zero x = refl
+second_copies (suc n) x = ap (λ l. x ∷ l) (second_copies n x)
+
+pub some_one : {A : Type 0} (a b : A) → Some a ≡ Some b → b ≡ a
+some_one a b e = cc
+
+pub one_string : (s t : List ℕ) → string s ≡ string t → s ≡ t
+one_string s t e = cc
+
+-- ---- variants
+pub variant_here : (k : ℤ) (v p : List ℕ) (vs : List (ℤ × List ℕ × List ℕ)) (i : ℕ) → slice_get vs i ≡ Some (k, v, p) → IsVariant k v p vs
+variant_here k v p [] zero e = cc
+variant_here k v p [] (suc i) e = cc
+variant_here k v p (w ∷ vs) zero e = (let u : ℤ × List ℕ × List ℕ = (k, v, p) in let h : u ≡ w = cc in subst (λ (w : ℤ × List ℕ × List ℕ). IsVariant k v p (w ∷ vs)) h this)
+variant_here k v p (w ∷ vs) (suc i) e = that (variant_here k v p vs i e)
+
+other_first : (k : ℤ) (v p : List ℕ) (w : ℤ × List ℕ × List ℕ) (vs : List (ℤ × List ℕ × List ℕ)) → (w.1 ≡ v → ⊥) → IsVariant k v p (w ∷ vs) → IsVariant k v p vs
+other_first k v p w vs n this = absurd (n refl)
+other_first k v p w vs n (that h) = h
+
+pub variant_later : (k : ℤ) (v p : List ℕ) (vs : List (ℤ × List ℕ × List ℕ)) (i : ℕ) (w : ℤ × List ℕ × List ℕ) → slice_get vs i ≡ Some w → (w.1 ≡ v → ⊥) → IsVariant k v p (drop i vs) → IsVariant k v p (drop (suc i) vs)
+variant_later k v p vs i w e n h = other_first k v p w (drop (suc i) vs) n (subst (λ (l : List (ℤ × List ℕ × List ℕ)). IsVariant k v p l) (drop_at vs i w e) h)
+
+pub no_variant : (k : ℤ) (v p : List ℕ) (vs : List (ℤ × List ℕ × List ℕ)) → vs ≡ [] → IsVariant k v p vs → ⊥
+no_variant k v p vs e h = elim (subst (λ (l : List (ℤ × List ℕ × List ℕ)). IsVariant k v p l) e h) [ ]
+
+-- ---- a value whose only part is another
+module _ (F : List ℕ → Option Form) (ns : List Named) (x : List ℕ) (j : Json) where
+  -- where the place wants one part
+  pub only_found : (kind : Kind) (own : List ℕ) (p : Parts) (y : List ℕ) (i : Json) (e : List Token) (o : Option Frame) → MatchOption o ⊥ (λ f. (f.place.parts ≡ p) × (f.place.begun ≡ 0) × (f.source ≡ One (Some e))) → ((b : ℕ) → (z : List ℕ) × (z ≡ y) × ((ws : List Wanted) → ws ≡ drop b (([], z) ∷ []) → IsWanted F ns p b ws)) → (IsMapPlace p → ⊥) → HasKind F x kind → BeginsWith e i → Says F kind j own ((y, i) ∷ []) → IsFound F ns (SaysFirst F x j) own o
+  only_found kind own p y i e None o g n h b s = absurd o
+  only_found kind own p y i e (Some f) o g n h b s =
+      let w = g 0 in
+      let l = items_left (y ∷ []) (item i no_items) in
+      let there : HasLeft F ns p 0 (One (Some e)) l = (([], y) ∷ [], w.2 (([], y) ∷ []) (ap (λ (z : List ℕ). ([], z) ∷ []) (sym w.1)), refl, (i, refl, b), (y, i) ∷ [], refl, n) in
+      (l, subst (λ (q : Parts). HasLeft F ns q f.place.begun f.source l) (sym o.0) (subst (λ (k : ℕ). HasLeft F ns p k f.source l) (sym o.1) (subst (λ (t : Source). HasLeft F ns p 0 t l) (sym o.2) there)), framed F ns x j kind own l ((y, i) ∷ []) h s refl (λ qs q. some_one ((y, i) ∷ []) qs q))

@@ -1,0 +1,229 @@
+-- Rows, lists, objects and variants that are opened.
+use Rattle.std.proofs.Common.{◌≡◌, ◌⊎◌, inl, inr, ℕ, suc, zero, ◌+◌, ◌<◌, ◌≤◌, List, [], ◌∷◌, ◌++◌, length, map, replicate, drop, Bool, true, false, Option, Some, None, refl, sym, ◌∙◌, ap, subst, arith, append-nil, string_bytes}
+use Rattle.std.specs.Prelude.{Result, Ok, Err, String, Vec, ℤ, pos, slice_get, ◌-◌, ◌&&◌, ◌==◌, if◌then◌else◌, codes}
+use Rattle.std.specs.Borrow.{Bor}
+use Rattle.std.specs.Global.{Global}
+use Rattle.std.specs.BTreeMap.{BTreeMap, btree_map_len}
+use Rattle.std.specs.Str.{bytes_eq}
+use Rattle.std.specs.List.{IsDistinct}
+use Rattle.json.specs.Token.{Token}
+use Rattle.json.specs.Json.{Json, null, boolean, number, string, array, object, Items, no_items, item, Members, no_members, member}
+use Rattle.json.specs.Find.{BeginsWith, InItems, Finds, as_str, as_array, get_member}
+use Rattle.borsh_walks.specs.Container.{tag, references, variant_names}
+use Rattle.borsh_walks.specs.Tables.{mark_of}
+use Rattle.borsh_values.specs.declared.layout.Named.{Named}
+use Rattle.borsh_json.specs.declared.error.ReadError.{ReadError}
+use Rattle.borsh_json.specs.declared.opening.Frame.{Frame}
+use Rattle.borsh_json.specs.declared.position.Parts.{Parts}
+use Rattle.borsh_json.specs.declared.position.Parts.TheVariants.{List as Elements, Row, Object}
+use Rattle.borsh_json.specs.declared.position.Place.{Place}
+use Rattle.borsh_json.specs.declared.sources.Source.{Source}
+use Rattle.borsh_json.specs.declared.sources.Source.TheVariants.{Items as TheItems}
+use Rattle.borsh_json.specs.Forms.{Form, primitive, sequence, tuple, newtype, unnamed, named, choice, shape_of_form, HasNoBytes}
+use Rattle.borsh_json.specs.Frames.{DeniesRead, Wanted, AreFound, HasFields, HasLeft, IsFound, IsOpened, NamesVariant}
+use Rattle.borsh_json.specs.Places.{IsAt, IsUnsayable}
+use Rattle.borsh_json.specs.Reads.{Left, items_left, fields_left, PartsOf, SaysFirst, SaysSome, IsOnly}
+use Rattle.borsh_json.specs.Table.{Lengths, Kind, no_bytes, truth, whole, float, raw, utf8, byte_list, list, row, inner, fields, optional, variants, entries, number_types, number_kind, primitive_kind, SequenceKind, a_text, some_bytes, an_object, some_elements, ChoiceKind, nullable, by_name, DefinedKind, HasKind, Part, row_parts, list_parts, field_parts, entries_of, IsVariant, IsHex, IsPrefixed, IsArray, Says}
+use Rattle.borsh_json.proofs.ReaderLaws.{uncons}
+use Rattle.borsh_json.proofs.RepresentsLaws.{kind_one, variant_one}
+use Rattle.borsh_json.proofs.OpeningLaws.{denied, said, framed, denies_read, row_fits, rows_there, list_row, list_length, second_map, second_copies, some_one}
+
+array_one : (js ks : Items) → array js ≡ array ks → js ≡ ks
+array_one js ks e = cc
+
+object_one : (ms ns : Members) → object ms ≡ object ns → ms ≡ ns
+object_one ms ns e = cc
+
+module _ (F : List ℕ → Option Form) (ns : List Named) (x : List ℕ) (j : Json) where
+  -- nothing is said of the name
+  pub unsayable : IsUnsayable F ns x → SaysSome F x j → ⊥
+  unsayable h s = let u = uncons F s.1 in let f = u.4 in h f.0 j u.0 u.1 f.1 f.2
+
+  -- ---- rows
+  module _ (f : Form) (at n : ℕ) (i : IsAt ns at x) (d : F x ≡ Some f) (h : HasKind F x (row (references (shape_of_form f)))) (c : length (references (shape_of_form f)) ≡ n) where
+    pub row_opened : (place : Place) (ts : List Token) (js : Items) (k : ℕ) → place.parts ≡ Row at n → place.begun ≡ 0 → j ≡ array js → InItems ts js → k ≡ length (list_parts [] js) → k ≡ n → IsOpened F ns x j [] [] (Ok (Some (record { place = place; source = TheItems ts })))
+    row_opened place ts js k p b e t l q =
+        let refs = references (shape_of_form f) in
+        let nameless : List ℕ → Wanted = λ y. ([], y) in
+        let r = rows_there refs js k l (c ∙ sym q) in
+        let left = items_left refs js in
+        let there : HasLeft F ns (Row at n) 0 (TheItems ts) left = (map nameless refs, (x, f, i, d, c, refl), sym (second_map refs), t, r.0, r.1, λ z. z) in
+        ([], refl, (left, subst (λ (q : Parts). HasLeft F ns q place.begun (TheItems ts) left) (sym p) (subst (λ (m : ℕ). HasLeft F ns (Row at n) m (TheItems ts) left) (sym b) there), framed F ns x j (row refs) [] left r.0 h (refl, js, e, r.1) r.1 (λ qs q. some_one r.0 qs (sym r.1 ∙ q))))
+
+    pub row_count : (js : Items) (k : ℕ) → j ≡ array js → k ≡ length (list_parts [] js) → (k ≡ n → ⊥) → SaysSome F x j → ⊥
+    row_count js k e l q = denied F ns x j (row (references (shape_of_form f))) h (λ own ps s.
+        let o = array_one s.1 js (sym s.2 ∙ e) in
+        q (l ∙ ap (λ js. length (list_parts [] js)) (sym o) ∙ row_fits (references (shape_of_form f)) s.1 ps s.3 ∙ c))
+
+    pub no_row : as_array j ≡ None → SaysSome F x j → ⊥
+    no_row e = denied F ns x j (row (references (shape_of_form f))) h (λ own ps s. let g = ap as_array s.2 in cc)
+
+  -- ---- lists
+  module _ (kind : Kind) (l : Lengths) (e : List ℕ) (at : ℕ) (i : IsAt ns at e) (h : HasKind F x kind)
+      (to : (own : List ℕ) (ps : List Part) → IsArray l e j own ps → Says F kind j own ps)
+      (back : (own : List ℕ) (ps : List Part) → Says F kind j own ps → IsArray l e j own ps) where
+    pub list_opened : (place : Place) (ts : List Token) (js : Items) (n : ℕ) (old new : List ℕ) → place.parts ≡ Elements at n → place.begun ≡ 0 → j ≡ array js → InItems ts js → n ≡ length (list_parts [] js) → l.least ≤ n → n ≤ l.greatest → new ≡ old ++ tag l.width (pos n) → IsOpened F ns x j old new (Ok (Some (record { place = place; source = TheItems ts })))
+    list_opened place ts js n old new p b g t c low high o =
+        let ps = list_parts e js in
+        let k : length ps ≡ n = list_length e js ∙ sym c in
+        let own = tag l.width (pos (length ps)) ++ [] in
+        let left = items_left (replicate n e) js in
+        let least : n ≡ n - 0 = omega arith in
+        let r : row_parts (replicate n e) js ≡ Some ps = ap (λ m. row_parts (replicate m e) js) c ∙ list_row e js in
+        let there : HasLeft F ns (Elements at n) 0 (TheItems ts) left = (replicate n ([], e), (e, i, ap (λ (k : ℕ). replicate k ([], e)) least), sym (second_copies n e), t, ps, r, λ z. z) in
+        let q : own ≡ tag l.width (pos n) = append-nil (tag l.width (pos (length ps))) ∙ ap (λ m. tag l.width (pos m)) k in
+        (own, o ∙ ap (λ z. old ++ z) (sym q), (left, subst (λ (q : Parts). HasLeft F ns q place.begun (TheItems ts) left) (sym p) (subst (λ (m : ℕ). HasLeft F ns (Elements at n) m (TheItems ts) left) (sym b) there), framed F ns x j kind own left ps h (to own ps (js, g, refl, (omega (arith, k, low), omega (arith, k, high), refl))) r (λ qs z. some_one ps qs (sym r ∙ z))))
+
+    pub no_list : as_array j ≡ None → SaysSome F x j → ⊥
+    no_list g = denied F ns x j kind h (λ own ps s. let q = back own ps s in let k = ap as_array q.1 in cc)
+
+    pub list_range : (error : ReadError) (js : Items) (n : ℕ) → j ≡ array js → n ≡ length (list_parts [] js) → DeniesRead error ((l.least ≤ n) × (n ≤ l.greatest)) → DeniesRead error (SaysSome F x j)
+    list_range error js n g c d = denies_read error (λ s.
+        let t = said F ns x j kind h s in
+        let q = back t.0 t.1 t.2 in
+        let o = array_one q.0 js (sym q.1 ∙ g) in
+        let k : length t.1 ≡ n = ap (λ l. length l) q.2 ∙ list_length e q.0 ∙ ap (λ js. length (list_parts [] js)) o ∙ sym c in
+        (let low = q.3.0 in omega (arith, k, low), let high = q.3.1 in omega (arith, k, high))) d
+
+-- ---- objects
+-- neither of fields nor of variants
+abbrev IsFieldless : Kind → Type 0
+IsFieldless kind = ((fs : List (List ℕ × List ℕ)) → kind ≡ fields fs → ⊥) × ((w : ℕ) (vs : List (ℤ × List ℕ × List ℕ)) → kind ≡ variants w vs → ⊥)
+
+fieldless_if : (b : Bool) (k l : Kind) → IsFieldless k → IsFieldless l → IsFieldless (if b then k else l)
+fieldless_if true k l p q = p
+fieldless_if false k l p q = q
+
+number_fieldless : (ts : List (List ℕ × ℕ × Bool × Bool)) (x : List ℕ) (n : ℕ) → IsFieldless (number_kind ts x n)
+number_fieldless [] x n = ((λ fs e. cc), (λ w vs e. cc))
+number_fieldless (t ∷ ts) x n = fieldless_if (bytes_eq x t.0 && (t.1 == n)) (whole t.1 t.2 t.3) (number_kind ts x n) ((λ fs e. cc), (λ w vs e. cc)) (number_fieldless ts x n)
+
+primitive_fieldless : (x : List ℕ) (n : ℕ) → IsFieldless (primitive_kind x n)
+primitive_fieldless x n =
+    let doubles = fieldless_if (bytes_eq x (codes "f64") && (n == 8)) (float 8 0x7ff0000000000000) (number_kind number_types x n) ((λ fs e. cc), (λ w vs e. cc)) (number_fieldless number_types x n) in
+    let floats = fieldless_if (bytes_eq x (codes "f32") && (n == 4)) (float 4 0x7f800000) _ ((λ fs e. cc), (λ w vs e. cc)) doubles in
+    fieldless_if (bytes_eq x (codes "bool") && (n == 1)) truth _ ((λ fs e. cc), (λ w vs e. cc)) floats
+
+named_is : (F : List ℕ → Option Form) (x : List ℕ) (d : Form) (kind : Kind) (fs : List (List ℕ × List ℕ)) → kind ≡ fields fs → DefinedKind F x d kind → d ≡ named fs
+named_is F x (primitive n) kind fs e p = absurd ((primitive_fieldless x n).0 fs (sym p ∙ e))
+named_is F x (sequence w lo hi y) kind fs e (a_text s b) = cc
+named_is F x (sequence w lo hi y) kind fs e (some_bytes s b) = cc
+named_is F x (sequence w lo hi y) kind fs e (an_object s b) = cc
+named_is F x (sequence w lo hi y) kind fs e (some_elements s b c d) = cc
+named_is F x (tuple ps) kind fs e p = let q : row ps ≡ fields fs = sym p ∙ e in cc
+named_is F x (newtype y) kind fs e p = let q : inner y ≡ fields fs = sym p ∙ e in cc
+named_is F x (unnamed ps) kind fs e p = let q : row ps ≡ fields fs = sym p ∙ e in cc
+named_is F x (named gs) kind fs e p = let q : fields gs ≡ fields fs = sym p ∙ e in let r : gs ≡ fs = cc in ap named r
+named_is F x (choice w vs) kind fs e (nullable s) = cc
+named_is F x (choice w vs) kind fs e (by_name s) = cc
+
+form_named : (F : List ℕ → Option Form) (x : List ℕ) (fs : List (List ℕ × List ℕ)) → HasKind F x (fields fs) → F x ≡ Some (named fs)
+form_named F x fs (inl h) = let e = h.1 in cc
+form_named F x fs (inr h) = h.2 ∙ ap (λ d. Some d) (named_is F x h.1 (fields fs) fs refl h.3)
+
+pub all_found : (m : BTreeMap (Bor (List ℕ)) (List Token)) (fs : List Wanted) (ms : Members) → ((name : List ℕ) → Finds (mark_of m name) (get_member name ms)) → AreFound m fs ms
+all_found m [] ms h = tt
+all_found m (f ∷ fs) ms h = (h f.0, all_found m fs ms h)
+
+pub names_of : {A : Type 0} (a b : A → List ℕ) (xs : List A) → map (λ (f : Wanted). f.0) (map (λ x. (a x, b x)) xs) ≡ map a xs
+names_of a b [] = refl
+names_of a b (x ∷ xs) = ap (λ l. a x ∷ l) (names_of a b xs)
+
+module _ (F : List ℕ → Option Form) (ns : List Named) (x : List ℕ) (j : Json) (at : ℕ) (fs : Bor (Vec (String Global × String Global) Global)) (i : IsAt ns at x) where
+  pub object_opened : (place : Place) (s : Source) (ms : Members) (n : ℕ) → HasKind F x (fields (map (λ f. (string_bytes f.0, string_bytes f.1)) fs.now.items)) → IsDistinct bytes_eq (map (λ f. string_bytes f.0) fs.now.items) → place.parts ≡ Object at fs → place.begun ≡ 0 → j ≡ object ms → n ≡ length (entries_of ms) → HasFields s (map (λ f. (string_bytes f.0, string_bytes f.1)) fs.now.items) ms n → IsOpened F ns x j [] [] (Ok (Some (record { place = place; source = s })))
+  object_opened place s ms n h u p b e c g =
+      let pair : String Global × String Global → Wanted = λ f. (string_bytes f.0, string_bytes f.1) in
+      let all = map pair fs.now.items in
+      let d = subst (λ (l : List (List ℕ)). IsDistinct bytes_eq l) (sym (names_of (λ (f : String Global × String Global). string_bytes f.0) (λ f. string_bytes f.1) fs.now.items)) u in
+      let left = fields_left all ms n in
+      let there : HasLeft F ns (Object at fs) 0 s left = (tt, (x, i, form_named F x all h, refl), g) in (
+        [],
+        refl,
+        (
+          left,
+          subst (λ (q : Parts). HasLeft F ns q place.begun s left) (sym p) (subst (λ (k : ℕ). HasLeft F ns (Object at fs) k s left) (sym b) there),
+          record {
+            says = λ ps q. (fields all, h, (d, refl, ms, e, sym c ∙ q.1, q.0));
+            only = λ bs ps t.
+                let v = subst (λ k. Says F k j bs ps) (kind_one F t.1 h) t.2 in
+                let o = object_one v.2 ms (sym v.3 ∙ e) in
+                (v.1, (ap (λ ms. field_parts all ms) (sym o) ∙ v.5, c ∙ ap (λ ms. length (entries_of ms)) (sym o) ∙ v.4));
+          },
+        ),
+      )
+
+-- ---- variants
+choice_is : (F : List ℕ → Option Form) (x : List ℕ) (d : Form) (kind : Kind) (w : ℕ) (vs : List (ℤ × List ℕ × List ℕ)) → kind ≡ variants w vs → DefinedKind F x d kind → d ≡ choice w vs
+choice_is F x (primitive n) kind w vs e p = absurd ((primitive_fieldless x n).1 w vs (sym p ∙ e))
+choice_is F x (sequence u lo hi y) kind w vs e (a_text s b) = cc
+choice_is F x (sequence u lo hi y) kind w vs e (some_bytes s b) = cc
+choice_is F x (sequence u lo hi y) kind w vs e (an_object s b) = cc
+choice_is F x (sequence u lo hi y) kind w vs e (some_elements s b c d) = cc
+choice_is F x (tuple ps) kind w vs e p = let q : row ps ≡ variants w vs = sym p ∙ e in cc
+choice_is F x (newtype y) kind w vs e p = let q : inner y ≡ variants w vs = sym p ∙ e in cc
+choice_is F x (unnamed ps) kind w vs e p = let q : row ps ≡ variants w vs = sym p ∙ e in cc
+choice_is F x (named gs) kind w vs e p = let q : fields gs ≡ variants w vs = sym p ∙ e in cc
+choice_is F x (choice u us) kind w vs e (nullable s) = cc
+choice_is F x (choice u us) kind w vs e (by_name s) = let a : u ≡ w = cc in let b : us ≡ vs = cc in ap (λ u. choice u us) a ∙ ap (λ us. choice w us) b
+
+pub form_choice : (F : List ℕ → Option Form) (x : List ℕ) (w : ℕ) (vs : List (ℤ × List ℕ × List ℕ)) → HasKind F x (variants w vs) → F x ≡ Some (choice w vs)
+form_choice F x w vs (inl h) = let e = h.1 in cc
+form_choice F x w vs (inr h) = h.2 ∙ ap (λ d. Some d) (choice_is F x h.1 (variants w vs) w vs refl h.3)
+
+pub variant_part : (vs : List (ℤ × List ℕ × List ℕ)) (i : ℕ) (k : ℤ) (v p : List ℕ) → slice_get vs i ≡ Some (k, v, p) → slice_get (variant_names (map (λ (v : ℤ × List ℕ × List ℕ). (v.0, v.2)) vs)) i ≡ Some p
+variant_part [] zero k v p e = cc
+variant_part [] (suc i) k v p e = cc
+variant_part (u ∷ vs) zero k v p e = (let t : ℤ × List ℕ × List ℕ = (k, v, p) in let h : u ≡ t = cc in ap (λ (u : ℤ × List ℕ × List ℕ). Some u.2) h)
+variant_part (u ∷ vs) (suc i) k v p e = variant_part vs i k v p e
+
+module _ (F : List ℕ → Option Form) (ns : List Named) (x : List ℕ) (j : Json) (w : ℕ) (vs : List (ℤ × List ℕ × List ℕ)) (h : HasKind F x (variants w vs)) where
+  pub no_variant_json : ((v : List ℕ) → j ≡ string v → ⊥) → ((v : List ℕ) (i : Json) → j ≡ object (member v i no_members) → ⊥) → SaysSome F x j → ⊥
+  no_variant_json f g = denied F ns x j (variants w vs) h (λ own ps s. elim s.6 [ inl a ↦ f s.2 a.0 | inr a ↦ g s.2 a.0 a.1 ])
+
+  module _ (v : List ℕ) (d : IsDistinct bytes_eq (map (λ (v : ℤ × List ℕ × List ℕ). v.1) vs)) where
+    -- the name alone
+    module _ (e : j ≡ string v) where
+      pub no_name : ((k : ℤ) (p : List ℕ) → IsVariant k v p vs → ⊥) → SaysSome F x j → ⊥
+      no_name f = denied F ns x j (variants w vs) h (λ own ps s. elim s.6 [
+        | inl a ↦ (let q : string v ≡ string s.2 = sym e ∙ a.0 in let n : s.2 ≡ v = cc in f s.1 s.3 (subst (λ (v : List ℕ). IsVariant s.1 v s.3 vs) n s.4))
+        | inr a ↦ (let q : string v ≡ object (member s.2 a.0 no_members) = sym e ∙ a.1 in cc)
+      ])
+
+      pub wants_value : (k : ℤ) (p : List ℕ) → IsVariant k v p vs → (HasNoBytes F p → ⊥) → SaysSome F x j → ⊥
+      wants_value k p i z = denied F ns x j (variants w vs) h (λ own ps s. elim s.6 [
+        | inl a ↦ (let q : string v ≡ string s.2 = sym e ∙ a.0 in let n : s.2 ≡ v = cc in z (subst (λ (p : List ℕ). HasNoBytes F p) (variant_one d s.4 i n).1 a.1))
+        | inr a ↦ (let q : string v ≡ object (member s.2 a.0 no_members) = sym e ∙ a.1 in cc)
+      ])
+
+    -- the name with a value
+    module _ (i : Json) (e : j ≡ object (member v i no_members)) where
+      pub no_key : ((k : ℤ) (p : List ℕ) → IsVariant k v p vs → ⊥) → SaysSome F x j → ⊥
+      no_key f = denied F ns x j (variants w vs) h (λ own ps s. elim s.6 [
+        | inl a ↦ (let q : object (member v i no_members) ≡ string s.2 = sym e ∙ a.0 in cc)
+        | inr a ↦ (let q : object (member v i no_members) ≡ object (member s.2 a.0 no_members) = sym e ∙ a.1 in let n : s.2 ≡ v = cc in f s.1 s.3 (subst (λ (v : List ℕ). IsVariant s.1 v s.3 vs) n s.4))
+      ])
+
+      pub wants_none : (k : ℤ) (p : List ℕ) → IsVariant k v p vs → HasNoBytes F p → SaysSome F x j → ⊥
+      wants_none k p c z = denied F ns x j (variants w vs) h (λ own ps s. elim s.6 [
+        | inl a ↦ (let q : object (member v i no_members) ≡ string s.2 = sym e ∙ a.0 in cc)
+        | inr a ↦ (let q : object (member v i no_members) ≡ object (member s.2 a.0 no_members) = sym e ∙ a.1 in let n : s.2 ≡ v = cc in a.2 (subst (λ (p : List ℕ). HasNoBytes F p) (sym (variant_one d s.4 c n).1) z))
+      ])
+
+-- ---- lists of bytes
+module _ (F : List ℕ → Option Form) (j : Json) (l : Lengths) (e : List ℕ) (own : List ℕ) (ps : List Part) where
+  pub no_text : as_str j ≡ None → Says F (byte_list l e) j own ps → IsArray l e j own ps
+  no_text g (inl p) = (let k = ap as_str p.1.1 in cc)
+  no_text g (inr p) = p
+
+  pub byte_said : (t : List ℕ) → j ≡ string t → Says F (byte_list l e) j own ps → (bs : List ℕ) × IsHex (string t) bs × IsPrefixed l (length bs) bs own
+  byte_said t g (inl p) = (p.0, subst (λ (i : Json). IsHex i p.0) g p.1, p.2)
+  byte_said t g (inr p) = (let k : string t ≡ array p.0 = sym g ∙ p.1 in cc)
+
+pub third_names : {A : Type 0} (k : A → ℤ) (n t : A → List ℕ) (xs : List A) → map (λ (v : ℤ × List ℕ × List ℕ). v.1) (map (λ a. (k a, n a, t a)) xs) ≡ map n xs
+third_names k n t [] = refl
+third_names k n t (x ∷ xs) = ap (λ l. n x ∷ l) (third_names k n t xs)
+
+-- a name that no variant has
+pub unknown_variant : (F : List ℕ → Option Form) (ns : List Named) (x : List ℕ) (j : Json) (w : ℕ) (vs : List (ℤ × List ℕ × List ℕ)) → HasKind F x (variants w vs) → (v : List ℕ) → IsDistinct bytes_eq (map (λ (v : ℤ × List ℕ × List ℕ). v.1) vs) → (o : Option (List Token)) → NamesVariant j (Some (v, o)) → ((k : ℤ) (p : List ℕ) → IsVariant k v p vs → ⊥) → SaysSome F x j → ⊥
+unknown_variant F ns x j w vs h v d None n f = no_name F ns x j w vs h v d n f
+unknown_variant F ns x j w vs h v d (Some e) n f = no_key F ns x j w vs h v d n.0 n.1 f

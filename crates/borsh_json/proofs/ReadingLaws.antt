@@ -1,0 +1,107 @@
+-- The reader's loop.
+use Rattle.std.proofs.Common.{◌≡◌, ℕ, List, [], ◌∷◌, ◌++◌, Option, Some, None, refl, sym, ◌∙◌, ap, subst}
+use Rattle.std.specs.Prelude.{Bool, true, false, Result, Ok, Err, MatchResult, MatchOption, IfOk, OnOk, IfErr}
+use Rattle.json.specs.Token.{Token}
+use Rattle.json.specs.Json.{Json, no_items, item}
+use Rattle.json.specs.Find.{BeginsWith}
+use Rattle.borsh_values.specs.declared.layout.Layout.{Layout}
+use Rattle.borsh_values.specs.declared.layout.Named.{Named}
+use Rattle.borsh_values.specs.Layouts.{IsLaidOut}
+use Rattle.borsh_json.specs.declared.definitions.Definitions.{Definitions}
+use Rattle.borsh_json.specs.declared.error.PartError.{PartError}
+use Rattle.borsh_json.specs.declared.error.ReadError.{ReadError}
+use Rattle.borsh_json.specs.declared.error.Refusal.TheVariants.{TooDeep}
+use Rattle.borsh_json.specs.declared.opening.Frame.{Frame}
+use Rattle.borsh_json.specs.declared.parts.Next.{Next}
+use Rattle.borsh_json.specs.declared.parts.Next.TheVariants.{Part, Missing, End}
+use Rattle.borsh_json.specs.declared.position.Parts.{Parts}
+use Rattle.borsh_json.specs.declared.position.Parts.TheVariants.{Root}
+use Rattle.borsh_json.specs.declared.position.Place.{Place}
+use Rattle.borsh_json.specs.declared.sources.Source.{Source}
+use Rattle.borsh_json.specs.declared.sources.Source.TheVariants.{One}
+use Rattle.borsh_json.specs.Forms.{Form, forms_in}
+use Rattle.borsh_json.specs.Frames.{DeniesPart, DeniesRead, IsOf, IsReading, IsReadOn, HasLeft, HaveLeft, IsNext, IsFound, IsOpened, NoneLeft}
+use Rattle.borsh_json.specs.Known.{IsKnown}
+use Rattle.borsh_json.specs.Places.{IsAt}
+use Rattle.borsh_json.specs.Reads.{Left, items_left, PartsOf, PartsOfAll, SaysFirst, SaysSome, AreRead}
+use Rattle.borsh_json.specs.Represents.{HaveBytes}
+use Rattle.borsh_json.specs.Table.{Part as JsonPart}
+use Rattle.borsh_json.proofs.ReaderLaws.{read_start, read_same, read_end, front_says}
+use Rattle.borsh_json.proofs.StepLaws.{read_leaf, read_frame, pushed, popped, bottom, alone}
+use Rattle.borsh_json.proofs.OpeningLaws.{denies_of, denies_read, some_one}
+
+module _ (F : List ℕ → Option Form) (ns : List Named) (root : List ℕ) (j : Json) where
+  pub reading_start : (e : List Token) (ps : List Place) (ss : List Source) → IsAt ns 0 root → BeginsWith e j → ps ≡ [] → ss ≡ [] → IsReading F ns root j Root 0 (One (Some e)) ps ss []
+  reading_start e ps ss i b p q =
+      let inner = items_left (root ∷ []) (item j no_items) in
+      record {
+        inner = inner;
+        around = [];
+        here = (([], root) ∷ [], (root, i, refl), refl, (j, refl, b), (root, j) ∷ [], refl, λ z. z);
+        there = subst (λ (ps : List Place). HaveLeft F ns ps ss []) (sym p) (subst (λ (ss : List Source). HaveLeft F ns [] ss []) (sym q) refl);
+        read = read_same F root j (λ ps. ps ≡ (root, j) ∷ []) (PartsOfAll (inner ∷ [])) (λ ps e. ((root, j) ∷ [], [], refl, refl, e)) (λ ps p. p.4 ∙ ap (λ b. p.0 ++ b) p.3 ∙ ap (λ a. a ++ []) (some_one ((root, j) ∷ []) p.0 p.2)) (read_start F root j);
+      }
+
+  -- the place's order is looked at
+  pub reading_same : {p q : Parts} {b c : ℕ} {s : Source} {ps : List Place} {ss : List Source} {out : List ℕ} → q ≡ p → c ≡ b → IsReading F ns root j p b s ps ss out → IsReading F ns root j q c s ps ss out
+  reading_same {p} {q} {b} {c} {s} {ps} {ss} {out} e f r = subst (λ (q : Parts). IsReading F ns root j q c s ps ss out) (sym e) (subst (λ (c : ℕ). IsReading F ns root j p c s ps ss out) (sym f) r)
+
+  -- a part is read: leaf or frame
+  module _ (place : Place) (s : Source) (ps : List Place) (ss : List Source) (ls : List Left) (out : List ℕ) (there : HaveLeft F ns ps ss ls) (x : List ℕ) (i : Json) (l : Left) (here : HasLeft F ns place.parts place.begun s l) (read : AreRead F root j out (λ ps. (rest : List JsonPart) × PartsOfAll (l ∷ ls) rest × (ps ≡ (x, i) ∷ rest))) where
+    pub reading_leaf : (new own : List ℕ) → new ≡ out ++ own → IsFound F ns (SaysFirst F x i) own None → IsReading F ns root j place.parts place.begun s ps ss new
+    reading_leaf new own e f = record {
+      inner = l;
+      around = ls;
+      here = here;
+      there = there;
+      read = subst (λ (o : List ℕ). AreRead F root j o (PartsOfAll (l ∷ ls))) (sym e) (read_leaf F root j x i out own (PartsOfAll (l ∷ ls)) f read);
+    }
+
+    pub reading_frame : (new own : List ℕ) (f : Frame) (qs : List Place) (ts : List Source) → new ≡ out ++ own → IsFound F ns (SaysFirst F x i) own (Some f) → qs ≡ ps ++ place ∷ [] → ts ≡ ss ++ s ∷ [] → IsReading F ns root j f.place.parts f.place.begun f.source qs ts new
+    reading_frame new own f qs ts e g a b = record {
+      inner = g.0;
+      around = l ∷ ls;
+      here = g.1;
+      there = subst (λ (qs : List Place). HaveLeft F ns qs ts (l ∷ ls)) (sym a) (subst (λ (ts : List Source). HaveLeft F ns (ps ++ place ∷ []) ts (l ∷ ls)) (sym b) (pushed F ns ps ss ls place s l there here));
+      read = subst (λ (o : List ℕ). AreRead F root j o (PartsOfAll (g.0 ∷ l ∷ ls))) (sym e) (read_frame F root j x i out own g.0 (l ∷ ls) g.2 read);
+    }
+
+    -- or refused
+    pub reading_denied : (e : ReadError) → DeniesRead e (SaysSome F x i) → DeniesRead e (SaysSome F root j)
+    reading_denied e d = denies_read e (front_says F root j x i out (PartsOfAll (l ∷ ls)) read) d
+
+  -- the innermost frame has ended
+  pub reading_up : (place : Place) (around : Source) (ps qs : List Place) (ss ts : List Source) (ls : List Left) (out : List ℕ) → HaveLeft F ns ps ss ls → AreRead F root j out (PartsOfAll ls) → ps ≡ qs ++ place ∷ [] → ss ≡ ts ++ around ∷ [] → IsReading F ns root j place.parts place.begun around qs ts out
+  reading_up place around ps qs ss ts ls out there read p q =
+      let h = popped F ns qs ts ls place around (subst (λ (ss : List Source). HaveLeft F ns (qs ++ place ∷ []) ss ls) q (subst (λ (ps : List Place). HaveLeft F ns ps ss ls) p there)) in
+      record {
+        inner = h.0;
+        around = h.1;
+        here = h.2;
+        there = h.3;
+        read = subst (λ (l : List Left). AreRead F root j out (PartsOfAll l)) h.4 read;
+      }
+
+  -- and it was the last
+  pub reading_end : (ps : List Place) (ss : List Source) (ls : List Left) (out : List ℕ) → HaveLeft F ns ps ss ls → AreRead F root j out (PartsOfAll ls) → ps ≡ [] → HaveBytes F ((root, j) ∷ []) out
+  reading_end ps ss ls out there read p =
+      let z = bottom F ns ss ls (subst (λ (ps : List Place). HaveLeft F ns ps ss ls) p there) in
+      read_end F root j out (PartsOfAll []) refl (subst (λ (l : List Left). AreRead F root j out (PartsOfAll l)) z.0 read)
+
+  pub no_around : (ps qs : List Place) (place : Place) (ss : List Source) (ls : List Left) → HaveLeft F ns ps ss ls → ss ≡ [] → ps ≡ qs ++ place ∷ [] → ⊥
+  no_around ps qs place ss ls there e p =
+      let a = alone F ns ps ls (subst (λ (ss : List Source). HaveLeft F ns ps ss ls) e there) in
+      longer qs (sym p ∙ a)
+    where
+      longer : (qs : List Place) → qs ++ place ∷ [] ≡ [] → ⊥
+      longer [] e = cc
+      longer (q ∷ qs) e = cc
+
+-- ---- what the steps return
+module _ (F : List ℕ → Option Form) (ns : List Named) (root : List ℕ) (j : Json) where
+  -- a frame was entered
+  pub frame_read : (place : Place) (s : Source) (ps : List Place) (ss : List Source) (ls : List Left) (out : List ℕ) → HaveLeft F ns ps ss ls → (x : List ℕ) (i : Json) (l : Left) → HasLeft F ns place.parts place.begun s l → AreRead F root j out (λ ps. (rest : List JsonPart) × PartsOfAll (l ∷ ls) rest × (ps ≡ (x, i) ∷ rest)) → (new own : List ℕ) (f : Frame) → new ≡ out ++ own → IsFound F ns (SaysFirst F x i) own (Some f) → (r : Result Bool PartError) (q : Place) (t : Source) (qs : List Place) (ts : List Source) (last : List ℕ) → IfOk r (λ more. more ≡ true) → OnOk r ((q ≡ f.place) × (t ≡ f.source)) → OnOk r ((qs ≡ ps ++ place ∷ []) × (ts ≡ ss ++ s ∷ [])) → OnOk r (last ≡ new) → IfErr r (λ e. IsOf TooDeep e) → MatchResult r (λ more. IsReadOn F ns root j more q t qs ts last) (λ e. DeniesPart e (SaysSome F root j))
+  frame_read place s ps ss ls out there x i l here read new own f e g (Ok more) q t qs ts last m a b c d =
+      let k = reading_frame F ns root j place s ps ss ls out there x i l here read new own f qs ts e g b.0 b.1 in
+      subst (λ (more : Bool). IsReadOn F ns root j more q t qs ts last) (sym m) (subst (λ (o : List ℕ). IsReading F ns root j q.parts q.begun t qs ts o) (sym c) (subst (λ (q : Place). IsReading F ns root j q.parts q.begun t qs ts new) (sym a.0) (subst (λ (t : Source). IsReading F ns root j f.place.parts f.place.begun t qs ts new) (sym a.1) k)))
+  frame_read place s ps ss ls out there x i l here read new own f e g (Err r) q t qs ts last m a b c d = denies_of TooDeep r (SaysSome F root j) d tt

@@ -1,0 +1,27 @@
+use Rattle.std.proofs.Common.{◌≡◌, ◌∙◌, Some, refl, sym, ap, subst}
+use Rattle.std.specs.Prelude.{codes}
+use Rattle.std.proofs.lemmas.Slice.Eq.{bytes_eq-Decides}
+use Rattle.borsh_json.specs.Forms.{sequence}
+use Rattle.borsh_json.specs.Table.{HasKind, utf8, byte_list}
+use Rattle.borsh_json.specs.Places.{lengths_of}
+use Rattle.borsh_json.specs.Found.{forms_of}
+use Rattle.borsh_json.proofs.NameLaws.{text_kind, bytes_kind}
+use Rattle.borsh_json.proofs.kinds.kind_of_bytes.Goals as goal
+
+pub returns-then-eq-clause-kind : goal.returns-then-eq-clause-kind
+returns-then-eq-clause-kind c = λ w lo hi e q i b x h full.
+    let F = forms_of c.args.definitions.now in
+    let f : F x ≡ Some (sequence w lo hi e) = h.2 ∙ ap (λ f. Some f) q in
+    let t = sym (c.name.ensures h.0 x h.1) ∙ (bytes_eq-Decides c.name.result.now (codes "String")).0 (sym c.eq.ensures ∙ c.if-eq.true) in
+    subst (λ f. HasKind F x (utf8 (lengths_of f))) (sym q) (text_kind F x full w lo hi e f t b)
+
+pub returns-clause-kind : goal.returns-clause-kind
+returns-clause-kind c = λ w lo hi e q i b x h full.
+    let F = forms_of c.args.definitions.now in
+    let f : F x ≡ Some (sequence w lo hi e) = h.2 ∙ ap (λ f. Some f) q in (
+      e,
+      i.1,
+      subst (λ f. HasKind F x (byte_list (lengths_of f) e)) (sym q) (bytes_kind F x full w lo hi e f (λ s.
+          (let t = c.eq.ensures ∙ (bytes_eq-Decides c.name.result.now (codes "String")).1 (c.name.ensures h.0 x h.1 ∙ s) in let g = c.if-eq.false in cc)) b),
+      refl,
+    )

@@ -1,0 +1,58 @@
+use Rattle.std.proofs.Common.{◌≡◌, ◌∙◌, inl, inr, Some, sym, ap, subst}
+use Rattle.borsh_json.specs.Forms.{form_of, sequence}
+use Rattle.borsh_json.specs.Table.{HasKind, list, entries}
+use Rattle.borsh_json.specs.Places.{lengths_of}
+use Rattle.borsh_json.specs.Found.{forms_of}
+use Rattle.borsh_json.proofs.FoundLaws.{on_true, on_false, not_true}
+use Rattle.borsh_json.proofs.NameLaws.{refused, refused_is, entries_kind, list_kind}
+use Rattle.borsh_json.proofs.kinds.kind_of_list.Goals as goal
+
+pub returns-then-is_zero_size-clause-kind : goal.returns-then-is_zero_size-clause-kind
+returns-then-is_zero_size-clause-kind c = λ w lo hi e q i b x h full.
+    let d = c.args.definitions.now in
+    let F = forms_of d in
+    let ns = d.layout.now.names.items in
+    let f : F x ≡ Some (sequence w lo hi e) = h.2 ∙ ap (λ f. Some f) q in
+    refused_is F ns x (form_of c.args.definition.now) c.refused_list.result c.refused_list.ensures
+    (refused F x full w lo hi e f ns (inl ((c.is_zero_size.ensures h.0 e i.1).0 c.if-is_zero_size.true)))
+
+pub returns-then-has_empty_keys-clause-kind : goal.returns-then-has_empty_keys-clause-kind
+returns-then-has_empty_keys-clause-kind c = λ w lo hi e q i b x h full.
+    let d = c.args.definitions.now in
+    let F = forms_of d in
+    let ns = d.layout.now.names.items in
+    let f : F x ≡ Some (sequence w lo hi e) = h.2 ∙ ap (λ f. Some f) q in
+    let l = c.collection_of-collection.ensures x h in
+    let k = on_true _ c.has_empty_keys.result c.if-has_empty_keys.true (c.has_empty_keys.ensures h.0 x l) in
+    refused_is F ns x (form_of c.args.definition.now) c.refused_list-then-has_empty_keys.result c.refused_list-then-has_empty_keys.ensures
+    (refused F x full w lo hi e f ns (inr (k.0, k.1, k.2, k.3)))
+
+pub returns-in-Some-clause-kind : goal.returns-in-Some-clause-kind
+returns-in-Some-clause-kind c = λ w lo hi e q i b x h full.
+    let d = c.args.definitions.now in
+    let F = forms_of d in
+    let f : F x ≡ Some (sequence w lo hi e) = h.2 ∙ ap (λ f. Some f) q in
+    let l = c.collection_of-collection.ensures x h in
+    let s = c.in-Some.ensures h.0 x l in
+    let keys = s.5.0 in
+    (s.0, s.1, keys, s.2, s.3, subst (λ f. HasKind F x (entries (lengths_of f) keys s.0 s.1)) (sym q) (entries_kind F x full w lo hi e f s.0 s.1 keys s.4 s.5.2), s.5.3)
+
+pub returns-then-size-eq0-clause-kind : goal.returns-then-size-eq0-clause-kind
+returns-then-size-eq0-clause-kind c = λ w lo hi e q i b x h full.
+    let d = c.args.definitions.now in
+    let F = forms_of d in
+    let f : F x ≡ Some (sequence w lo hi e) = h.2 ∙ ap (λ f. Some f) q in
+    let l = c.collection_of-collection.ensures x h in
+    let z = not_true c.is_zero_size.result (c.is_zero_size.ensures h.0 e i.1) c.if-is_zero_size.false in
+    let k = on_false _ c.has_empty_keys.result c.if-has_empty_keys.false (c.has_empty_keys.ensures h.0 x l) in
+    (e, i.1, subst (λ f. HasKind F x (list (lengths_of f) e)) (sym q) (list_kind F x full w lo hi e f b (c.in_default.ensures h.0 x l) z k))
+
+pub returns-else-size-eq0-clause-kind : goal.returns-else-size-eq0-clause-kind
+returns-else-size-eq0-clause-kind c = λ w lo hi e q i b x h full.
+    let d = c.args.definitions.now in
+    let F = forms_of d in
+    let f : F x ≡ Some (sequence w lo hi e) = h.2 ∙ ap (λ f. Some f) q in
+    let l = c.collection_of-collection.ensures x h in
+    let z = not_true c.is_zero_size.result (c.is_zero_size.ensures h.0 e i.1) c.if-is_zero_size.false in
+    let k = on_false _ c.has_empty_keys.result c.if-has_empty_keys.false (c.has_empty_keys.ensures h.0 x l) in
+    (e, i.1, subst (λ f. HasKind F x (list (lengths_of f) e)) (sym q) (list_kind F x full w lo hi e f b (c.in_default.ensures h.0 x l) z k))

@@ -1,0 +1,22 @@
+use Rattle.std.proofs.Common.{◌∙◌, Some, refl, ap}
+use Rattle.borsh_json.specs.declared.kinds.Kind.{Kind as Found}
+use Rattle.borsh_json.specs.Forms.{form_of, sequence}
+use Rattle.borsh_json.specs.Found.{TellsKind}
+use Rattle.borsh_json.proofs.FoundLaws.{if_ok, at_ok, not_true}
+use Rattle.borsh_json.proofs.kinds.kind_of_sequence.Goals as goal
+
+pub returns-then-is_byte-clause-kind : goal.returns-then-is_byte-clause-kind
+returns-then-is_byte-clause-kind c = λ w lo hi e q.
+    let d = c.args.definitions.now in
+    let tells : Found → Type 0 = λ kind. TellsKind d c.args.at (form_of c.args.definition.now) kind in
+    if_ok tells c.kind_of_bytes.result (λ kind r x h full.
+    let i = c.part-element.ensures h.0 x e (sequence w lo hi e) h.1 (h.2 ∙ ap (λ f. Some f) q) refl in
+    at_ok tells c.kind_of_bytes.result kind r (c.kind_of_bytes.ensures.kind w lo hi e q (h.0, i) ((c.is_byte.ensures e (h.0, i)).0 c.if-is_byte.true)) x h full)
+
+pub returns-else-is_byte-clause-kind : goal.returns-else-is_byte-clause-kind
+returns-else-is_byte-clause-kind c = λ w lo hi e q.
+    let d = c.args.definitions.now in
+    let tells : Found → Type 0 = λ kind. TellsKind d c.args.at (form_of c.args.definition.now) kind in
+    if_ok tells c.kind_of_list.result (λ kind r x h full.
+    let i = c.part-element.ensures h.0 x e (sequence w lo hi e) h.1 (h.2 ∙ ap (λ f. Some f) q) refl in
+    at_ok tells c.kind_of_list.result kind r (c.kind_of_list.ensures.kind w lo hi e q (h.0, i) (not_true c.is_byte.result (c.is_byte.ensures e (h.0, i)) c.if-is_byte.false)) x h full)

@@ -1,0 +1,14 @@
+use Rattle.std.proofs.Common.{◌≡◌, Bool, List, ℕ, subst}
+use Rattle.borsh_json.specs.Forms.{form_of}
+use Rattle.borsh_json.specs.Places.{IsListOf, lengths_of}
+use Rattle.borsh_json.specs.Table.{list}
+use Rattle.borsh_json.proofs.PartsLaws.{unsayable}
+use Rattle.borsh_json.proofs.opening.open_list.Goals as goal
+
+pub returns-then-elements : goal.returns-then-elements
+returns-then-elements c F ns x j h b = unsayable F ns x j (subst (λ (r : Bool). IsListOf F ns x (form_of c.args.definition.now) c.args.elements.at r) c.if-elements.true h)
+
+pub returns : goal.returns
+returns c F ns x j h b =
+    let k = subst (λ (r : Bool). IsListOf F ns x (form_of c.args.definition.now) c.args.elements.at r) c.if-elements.false h in
+    c.open_items.ensures F ns x j (list (lengths_of (form_of c.args.definition.now)) k.0) k.0 k.1 k.2 (λ own ps. ((λ q. q), (λ q. q))) b

@@ -1,0 +1,88 @@
+use Rattle.std.proofs.Common.{◌≡◌, ◌∷◌, [], inl, inr, ℕ, List, Option, Some, None, map, sym, ◌∙◌, ap, subst, refl, string_bytes}
+use Rattle.std.specs.Prelude.{ℤ, String}
+use Rattle.std.specs.Global.{Global}
+use Rattle.std.specs.Str.{bytes_eq}
+use Rattle.std.specs.List.{IsDistinct}
+use Rattle.json.specs.Token.{Token}
+use Rattle.borsh_walks.specs.Container.{tag}
+use Rattle.borsh_json.specs.declared.position.Parts.TheVariants.{Variant}
+use Rattle.borsh_json.specs.Forms.{forms_in, choice}
+use Rattle.borsh_json.specs.Frames.{NamesVariant}
+use Rattle.borsh_json.specs.Table.{variants}
+use Rattle.borsh_json.proofs.OpeningLaws.{opened_leaf, denies_expected, only_found}
+use Rattle.borsh_json.proofs.PartsLaws.{third_names, no_variant_json, unknown_variant, wants_value, wants_none, form_choice, variant_part}
+use Rattle.borsh_json.proofs.opening.open_variant.Goals as goal
+
+distinct : (xs : List (ℤ × String Global × String Global)) → IsDistinct bytes_eq (map (λ v. string_bytes v.1) xs) → IsDistinct bytes_eq (map (λ (v : ℤ × List ℕ × List ℕ). v.1) (map (λ v. (v.0, string_bytes v.1, string_bytes v.2)) xs))
+distinct xs d = subst (λ (l : List (List ℕ)). IsDistinct bytes_eq l) (sym (third_names (λ (v : ℤ × String Global × String Global). v.0) (λ v. string_bytes v.1) (λ v. string_bytes v.2) xs)) d
+
+pub returns-in_default : goal.returns-in_default
+returns-in_default c k x j i d h b =
+    let F = forms_in c.args.definitions.now.layout.now.map.now in
+    let ns = c.args.definitions.now.layout.now.names.items in
+    let vs : List (ℤ × List ℕ × List ℕ) = map (λ v. (v.0, string_bytes v.1, string_bytes v.2)) c.args.variants.now.items in
+    let n = c.in_default.ensures j b in
+    denies_expected c.expected.result c.expected.ensures (no_variant_json F ns x j c.args.width vs h n.0 n.1)
+
+pub returns-in_default-variant_named : goal.returns-in_default-variant_named
+returns-in_default-variant_named c k x j i d h b =
+    let F = forms_in c.args.definitions.now.layout.now.map.now in
+    let ns = c.args.definitions.now.layout.now.names.items in
+    let vs : List (ℤ × List ℕ × List ℕ) = map (λ v. (v.0, string_bytes v.1, string_bytes v.2)) c.args.variants.now.items in
+    unknown_variant F ns x j c.args.width vs h c.in-Some.name.now (distinct c.args.variants.now.items d) c.in-Some.value (c.in-Some.ensures j b) c.in_default-variant_named.ensures
+
+pub returns-then-is_empty : goal.returns-then-is_empty
+returns-then-is_empty c k x j i d h b =
+    let F = forms_in c.args.definitions.now.layout.now.map.now in
+    let ns = c.args.definitions.now.layout.now.names.items in
+    let w = c.args.width in
+    let vs : List (ℤ × List ℕ × List ℕ) = map (λ v. (v.0, string_bytes v.1, string_bytes v.2)) c.args.variants.now.items in
+    let v = c.in-Some.name.now in
+    let u = distinct c.args.variants.now.items d in
+    let f = c.in-Some-variant_named.ensures in
+    let at = c.part-part.ensures k x f.1 (choice w vs) i (form_choice F x w vs h) (variant_part vs c.in-Some-variant_named.index c.in-Some-variant_named.discriminant.now v f.1 f.2) in
+    let zero = c.is_zero_size-is_empty.ensures k f.1 at in
+    let n = subst (λ (o : Option (List Token)). NamesVariant j (Some (v, o))) c.in-None.is (c.in-Some.ensures j b) in
+    opened_leaf F ns x j (variants w vs) c.args.out.now.items c.put_variant.new.out.items (tag w c.in-Some-variant_named.discriminant.now) h c.in_ok-put_variant.ensures (u, c.in-Some-variant_named.discriminant.now, v, f.1, f.3, refl, inl (n, zero.0 c.if-is_empty.true, refl))
+
+pub returns-else-is_empty : goal.returns-else-is_empty
+returns-else-is_empty c k x j i d h b =
+    let F = forms_in c.args.definitions.now.layout.now.map.now in
+    let ns = c.args.definitions.now.layout.now.names.items in
+    let w = c.args.width in
+    let vs : List (ℤ × List ℕ × List ℕ) = map (λ v. (v.0, string_bytes v.1, string_bytes v.2)) c.args.variants.now.items in
+    let v = c.in-Some.name.now in
+    let u = distinct c.args.variants.now.items d in
+    let f = c.in-Some-variant_named.ensures in
+    let at = c.part-part.ensures k x f.1 (choice w vs) i (form_choice F x w vs h) (variant_part vs c.in-Some-variant_named.index c.in-Some-variant_named.discriminant.now v f.1 f.2) in
+    let zero = c.is_zero_size-is_empty.ensures k f.1 at in
+    let n = subst (λ (o : Option (List Token)). NamesVariant j (Some (v, o))) c.in-None.is (c.in-Some.ensures j b) in
+    denies_expected c.expected-else-is_empty.result c.expected-else-is_empty.ensures (wants_value F ns x j w vs h v u n c.in-Some-variant_named.discriminant.now f.1 f.3 (λ z. let e = zero.1 z in let t = c.if-is_empty.false in cc))
+
+pub returns-then-is_empty-2 : goal.returns-then-is_empty-2
+returns-then-is_empty-2 c k x j i d h b =
+    let F = forms_in c.args.definitions.now.layout.now.map.now in
+    let ns = c.args.definitions.now.layout.now.names.items in
+    let w = c.args.width in
+    let vs : List (ℤ × List ℕ × List ℕ) = map (λ v. (v.0, string_bytes v.1, string_bytes v.2)) c.args.variants.now.items in
+    let v = c.in-Some.name.now in
+    let u = distinct c.args.variants.now.items d in
+    let f = c.in-Some-variant_named.ensures in
+    let at = c.part-part.ensures k x f.1 (choice w vs) i (form_choice F x w vs h) (variant_part vs c.in-Some-variant_named.index c.in-Some-variant_named.discriminant.now v f.1 f.2) in
+    let zero = c.is_zero_size-is_empty.ensures k f.1 at in
+    let n = subst (λ (o : Option (List Token)). NamesVariant j (Some (v, o))) c.in-Some-value.is (c.in-Some.ensures j b) in
+    denies_expected c.expected-then-is_empty-2.result c.expected-then-is_empty-2.ensures (wants_none F ns x j w vs h v u n.0 n.1 c.in-Some-variant_named.discriminant.now f.1 f.3 (zero.0 c.if-is_empty-2.true))
+
+pub returns-else-is_empty-2 : goal.returns-else-is_empty-2
+returns-else-is_empty-2 c k x j i d h b =
+    let F = forms_in c.args.definitions.now.layout.now.map.now in
+    let ns = c.args.definitions.now.layout.now.names.items in
+    let w = c.args.width in
+    let vs : List (ℤ × List ℕ × List ℕ) = map (λ v. (v.0, string_bytes v.1, string_bytes v.2)) c.args.variants.now.items in
+    let v = c.in-Some.name.now in
+    let u = distinct c.args.variants.now.items d in
+    let f = c.in-Some-variant_named.ensures in
+    let at = c.part-part.ensures k x f.1 (choice w vs) i (form_choice F x w vs h) (variant_part vs c.in-Some-variant_named.index c.in-Some-variant_named.discriminant.now v f.1 f.2) in
+    let zero = c.is_zero_size-is_empty.ensures k f.1 at in
+    let n = subst (λ (o : Option (List Token)). NamesVariant j (Some (v, o))) c.in-Some-value.is (c.in-Some.ensures j b) in
+    (tag w c.in-Some-variant_named.discriminant.now, c.in_ok-put_variant.ensures, only_found F ns x j (variants w vs) (tag w c.in-Some-variant_named.discriminant.now) (Variant c.in-Some-variant_named.variant c.part-part.result) f.1 n.0 c.in-Some-value.value c.only.result c.only.ensures (λ m. (f.1, refl, λ ws e. (f.1, at, e))) (λ m. m) h n.2 (u, c.in-Some-variant_named.discriminant.now, v, f.1, f.3, refl, inr (n.0, n.1, (λ z. let e = zero.1 z in let t = c.if-is_empty-2.false in cc), refl)))

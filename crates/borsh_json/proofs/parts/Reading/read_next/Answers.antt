@@ -1,0 +1,40 @@
+use Rattle.std.proofs.Common.{◌≡◌, List, ℕ, subst}
+use Rattle.borsh_json.specs.declared.error.Refusal.TheVariants.{MissingField, Descends}
+use Rattle.borsh_json.specs.declared.parts.Next.{Next}
+use Rattle.borsh_json.specs.Forms.{forms_in}
+use Rattle.borsh_json.specs.Frames.{IsNext}
+use Rattle.borsh_json.specs.Reads.{SaysSome}
+use Rattle.borsh_json.proofs.OpeningLaws.{denies_part, denies_of}
+use Rattle.borsh_json.proofs.ReadingLaws.{reading_same}
+use Rattle.borsh_json.proofs.parts.Reading.read_next.Goals as goal
+
+pub returns-in-Part : goal.returns-in-Part
+returns-in-Part c k root j r =
+    let F = forms_in c.args.definitions.now.layout.now.map.now in
+    let ns = c.args.definitions.now.layout.now.names.items in
+    let s = reading_same F ns root j c.ascends.ensures.0 c.ascends.ensures.1 r in
+    let n = subst (λ (n : Next). IsNext F ns root j s.around c.take_next.new.place c.take_next.new.source c.take_next.new.out.items n) c.in-Part.is (c.in-Ok.ensures k.known root j s.inner s.around s.here s.read) in
+    c.open.ensures k root j n.0 n.1 n.2 s.around n.3 n.4 n.5 s.there n.6
+
+pub returns-in-Missing : goal.returns-in-Missing
+returns-in-Missing c k root j r =
+    let F = forms_in c.args.definitions.now.layout.now.map.now in
+    let ns = c.args.definitions.now.layout.now.names.items in
+    let s = reading_same F ns root j c.ascends.ensures.0 c.ascends.ensures.1 r in
+    let n = subst (λ (n : Next). IsNext F ns root j s.around c.take_next.new.place c.take_next.new.source c.take_next.new.out.items n) c.in-Missing.is (c.in-Ok.ensures k.known root j s.inner s.around s.here s.read) in
+    denies_of MissingField c.refused.result (SaysSome F root j) c.refused.ensures.same n
+
+pub returns-in-End : goal.returns-in-End
+returns-in-End c k root j r =
+    let F = forms_in c.args.definitions.now.layout.now.map.now in
+    let ns = c.args.definitions.now.layout.now.names.items in
+    let s = reading_same F ns root j c.ascends.ensures.0 c.ascends.ensures.1 r in
+    let n = subst (λ (n : Next). IsNext F ns root j s.around c.take_next.new.place c.take_next.new.source c.take_next.new.out.items n) c.in-End.is (c.in-Ok.ensures k.known root j s.inner s.around s.here s.read) in
+    c.leave.ensures root j s.around s.there n.0 n.1
+
+pub returns-in-Err : goal.returns-in-Err
+returns-in-Err c k root j r =
+    let F = forms_in c.args.definitions.now.layout.now.map.now in
+    let ns = c.args.definitions.now.layout.now.names.items in
+    let s = reading_same F ns root j c.ascends.ensures.0 c.ascends.ensures.1 r in
+    denies_part c.in-Err.error c.refused_part.result (SaysSome F root j) c.refused_part.ensures.same (c.in-Err.ensures k.known root j s.inner s.around s.here s.read)

@@ -1,0 +1,33 @@
+use Rattle.std.proofs.Common.{◌≡◌, ℕ, List}
+use Rattle.std.specs.Prelude.{IfOk, IfErr}
+use Rattle.borsh_walks.specs.Definitions.{definitions_in}
+use Rattle.borsh_json.specs.Errors.{DeniesValue, IsTextReason}
+use Rattle.borsh_json.specs.Forms.{forms_in}
+use Rattle.borsh_json.specs.Represents.{TextSays}
+use Rattle.borsh_json.proofs.LaidLaws.{by_layout, laid_by}
+use Rattle.borsh_json.proofs.reading.from_json.Goals as goal
+
+pub from_json-requires : goal.from_json-requires
+from_json-requires c =
+    let l = c.in_ok-layout.ensures in
+    c.in_ok-json.ensures.known (laid_by c.in_ok-layout.layout c.args.root c.args.map l.same.0 l.same.1 l.layout) l.sizes
+
+pub returns-clause-says : goal.returns-clause-says
+returns-clause-says c =
+    let l = c.in_ok-layout.ensures in
+    by_layout (λ root map. IfOk c.from_json.result (λ bytes. TextSays (forms_in map.now) root.now c.args.text.now bytes.items)) c.in_ok-json.json c.in_ok-layout.layout c.args.root c.args.map c.in_ok-json.ensures.layout l.same.0 l.same.1 c.from_json.ensures.says
+
+pub returns-clause-determined : goal.returns-clause-determined
+returns-clause-determined c =
+    let l = c.in_ok-layout.ensures in
+    by_layout (λ root map. (bytes : List ℕ) → TextSays (forms_in map.now) root.now c.args.text.now bytes → IfOk c.from_json.result (λ found. found.items ≡ bytes)) c.in_ok-json.json c.in_ok-layout.layout c.args.root c.args.map c.in_ok-json.ensures.layout l.same.0 l.same.1 c.from_json.ensures.determined
+
+pub returns-clause-denies : goal.returns-clause-denies
+returns-clause-denies c =
+    let l = c.in_ok-layout.ensures in
+    by_layout (λ root map. IfErr c.from_json.result (λ e. DeniesValue e ((bytes : List ℕ) × TextSays (forms_in map.now) root.now c.args.text.now bytes))) c.in_ok-json.json c.in_ok-layout.layout c.args.root c.args.map c.in_ok-json.ensures.layout l.same.0 l.same.1 c.from_json.ensures.denies
+
+pub returns-clause-reason : goal.returns-clause-reason
+returns-clause-reason c =
+    let l = c.in_ok-layout.ensures in
+    by_layout (λ root map. IfErr c.from_json.result (λ e. IsTextReason (definitions_in map.now) root.now c.args.text.now e)) c.in_ok-json.json c.in_ok-layout.layout c.args.root c.args.map c.in_ok-json.ensures.layout l.same.0 l.same.1 c.from_json.ensures.reason

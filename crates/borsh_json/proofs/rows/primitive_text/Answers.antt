@@ -1,0 +1,14 @@
+use Rattle.std.proofs.Common.{◌≡◌, List, ℕ, sym, subst, string_bytes}
+use Rattle.std.specs.Prelude.{IfOk}
+use Rattle.borsh_json.specs.declared.kinds.Kind.{Kind as Found}
+use Rattle.borsh_json.specs.Found.{IsPrimitiveKind}
+use Rattle.borsh_json.specs.Rows.{IsPrimitiveText}
+use Rattle.borsh_json.specs.Table.{Kind, primitive_kind}
+use Rattle.borsh_json.proofs.RepresentsLaws.{primitive_small}
+use Rattle.borsh_json.proofs.rows.primitive_text.Goals as goal
+
+pub returns-in-Number : goal.returns-in-Number
+returns-in-Number c x n k =
+    let t = c.in-Number.number in
+    let e = subst (λ (q : Found). IsPrimitiveKind q (primitive_kind x n)) c.in-Number.is k in
+    subst (λ (q : Kind). IfOk c.number_text.result (λ v. IsPrimitiveText q c.args.bytes.now (string_bytes v))) (sym e) (c.number_text.ensures (primitive_small x n t.size t.is_signed t.is_non_zero e))

@@ -1,0 +1,97 @@
+-- What the code finds of the definition of a name, against the format's own types and the table.
+use Rattle.std.specs.Prelude.{◌≡◌, ◌⊎◌, ℕ, List, [], ◌∷◌, ◌++◌, codes, true, MatchOption, Option, Some}
+use Rattle.std.specs.Borrow.{Bor}
+use Rattle.std.specs.List.{IsDistinct}
+use Rattle.std.specs.Str.{bytes_eq}
+use Rattle.borsh_values.specs.declared.layout.Named.{Named}
+use Rattle.borsh_json.specs.declared.definitions.Definitions.{Definitions}
+use Rattle.borsh_json.specs.declared.formats.Collection.{Collection}
+use Rattle.borsh_json.specs.declared.definitions.Definitions.{Definitions}
+use Rattle.borsh_json.specs.declared.formats.Collection.TheVariants.{List as Elements, Set, Map}
+use Rattle.borsh_json.specs.declared.kinds.Kind.{Kind as Found}
+use Rattle.borsh_json.specs.declared.kinds.Kind.TheVariants.{Number, Bool as Truth, Text, Bytes, Float, ByteList, Numbers, List as ElementList, Map as Entries, Row, Newtype, Object, Optional, Choice, Repeated}
+use Rattle.borsh_json.specs.declared.kinds.Elements.{Elements as FoundElements}
+use Rattle.borsh_json.specs.declared.kinds.Entries.{Entries as FoundEntries}
+use Rattle.borsh_json.specs.Forms.{Form, form_of, forms_in, HasNoBytes, IsList, IsMap}
+use Rattle.borsh_json.specs.Table.{Kind, whole, truth, raw, float, Keys, AreKeys}
+use Rattle.borsh_json.specs.Known.{IsKnown}
+use Rattle.borsh_json.specs.Places.{IsAt, IsInfinity, IsKindOf, AreKeysOf}
+
+-- the definitions, with the names of fields and variants
+abbrev pub forms_of : Definitions → List ℕ → Option Form
+forms_of d = forms_in d.layout.now.map.now
+
+-- and the names, by their places
+abbrev pub names_of : Definitions → List Named
+names_of d = d.layout.now.names.items
+
+-- at most the orders that are known differ
+abbrev pub IsAlike : Definitions → Definitions → Type 0
+IsAlike d e = (e.layout ≡ d.layout) × (e.kinds ≡ d.kinds)
+
+-- what is known is right, and the name at the place is x
+abbrev pub IsNamed : Definitions → ℕ → List ℕ → Type 0
+IsNamed d at x = IsKnown d × IsAt d.layout.now.names.items at x
+
+-- and has this definition
+abbrev pub HasForm : Definitions → ℕ → Form → List ℕ → Type 0
+HasForm d at f x = IsKnown d × IsAt d.layout.now.names.items at x × (forms_of d x ≡ Some f)
+
+-- the kind is that of the name at the place, if it has this definition, and its values have bytes
+abbrev pub TellsKind : Definitions → ℕ → Form → Found → Type 0
+TellsKind d at f kind = (x : List ℕ) → HasForm d at f x → (HasNoBytes (forms_of d) x → ⊥) → IsKindOf (forms_of d) d.layout.now.names.items x f kind
+
+-- a list that is refused, whatever its elements
+abbrev pub IsRefusedList : Found → Type 0
+IsRefusedList kind = (es : FoundElements) × (kind ≡ ElementList es) × (es.is_refused ≡ true)
+
+-- pieces of a text, one after another
+abbrev pub joined : List (Bor (List ℕ)) → List ℕ
+joined [] = []
+joined (p ∷ ps) = p.now ++ joined ps
+
+-- what a primitive is written as
+abbrev pub IsPrimitiveKind : Found → Kind → Type 0
+IsPrimitiveKind (Number n) kind = kind ≡ whole n.size n.is_signed n.is_non_zero
+IsPrimitiveKind Truth kind = kind ≡ truth
+IsPrimitiveKind Text kind = ⊥
+IsPrimitiveKind (Bytes n) kind = kind ≡ raw n
+IsPrimitiveKind (Float n) kind = (bits : ℕ) × IsInfinity n bits × (kind ≡ float n bits)
+IsPrimitiveKind (ByteList es) kind = ⊥
+IsPrimitiveKind (Numbers es) kind = ⊥
+IsPrimitiveKind (ElementList es) kind = ⊥
+IsPrimitiveKind (Entries es order) kind = ⊥
+IsPrimitiveKind (Row n) kind = ⊥
+IsPrimitiveKind (Newtype at) kind = ⊥
+IsPrimitiveKind (Object fs) kind = ⊥
+IsPrimitiveKind (Optional at) kind = ⊥
+IsPrimitiveKind (Choice w vs) kind = ⊥
+IsPrimitiveKind (Repeated name) kind = ⊥
+
+-- a name that comes twice, if there is one
+abbrev pub IsRepeated : List (List ℕ) → Option (Bor (List ℕ)) → Type 0
+IsRepeated names found = MatchOption found (IsDistinct bytes_eq names) (λ name. IsDistinct bytes_eq names → ⊥)
+
+-- `BTreeSet<T>` or `HashSet<T>`, where e is T
+abbrev pub IsSetName : List ℕ → List ℕ → Type 0
+IsSetName x e = (x ≡ codes "BTreeSet<" ++ e ++ codes ">") ⊎ (x ≡ codes "HashSet<" ++ e ++ codes ">")
+
+-- `BTreeMap<K, V>` or `HashMap<K, V>`, where k is K and v is V
+abbrev pub IsMapName : List ℕ → List ℕ → List ℕ → Type 0
+IsMapName x k v = (x ≡ codes "BTreeMap<" ++ k ++ codes ", " ++ v ++ codes ">") ⊎ (x ≡ codes "HashMap<" ++ k ++ codes ", " ++ v ++ codes ">")
+
+module _ (F : List ℕ → Option Form) where
+  -- a set, where e is the name of its elements
+  abbrev pub IsSet : List ℕ → List ℕ → Type 0
+  IsSet x e = IsList F x e × IsSetName x e
+
+  module _ (ns : List Named) where
+    -- what the elements of x are
+    abbrev pub IsCollection : List ℕ → Collection → Type 0
+    IsCollection x Elements = ((e : List ℕ) → IsSet x e → ⊥) × ((k v : List ℕ) → IsMap F x k v → ⊥)
+    IsCollection x Set = ((e : List ℕ) × IsSet x e) × ((k v : List ℕ) → IsMap F x k v → ⊥)
+    IsCollection x (Map key value) = (k : List ℕ) × (v : List ℕ) × IsAt ns key k × IsAt ns value v × IsMap F x k v
+
+    -- these are the entries of a map with these places of keys and values
+    abbrev pub AreEntries : FoundEntries → List ℕ → Type 0
+    AreEntries es k = (keys : Keys) × (F k ≡ Some (form_of es.key_definition.now)) × AreKeys F k keys × AreKeysOf F ns k (form_of es.key_definition.now) es.key_kind keys

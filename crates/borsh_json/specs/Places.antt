@@ -1,0 +1,78 @@
+-- Names by their places in a layout, and the kinds that the code finds of them.
+use Rattle.std.specs.Prelude.{◌≡◌, ◌⊎◌, ⊤, ℕ, ℤ, List, map, length, Bool, true, false, Option, Some, None, MatchOption, option_map, slice_get, string_bytes, Vec}
+use Rattle.std.specs.Global.{Global}
+use Rattle.std.specs.Borrow.{Bor}
+use Rattle.std.specs.Str.{bytes_eq}
+use Rattle.std.specs.List.{IsDistinct}
+use Rattle.json.specs.Json.{Json}
+use Rattle.borsh_walks.specs.Container.{references}
+use Rattle.borsh_walks.specs.declared.definition.Definition.{Definition}
+use Rattle.borsh_values.specs.declared.layout.Named.{Named}
+use Rattle.borsh_values.specs.Layouts.{name_of}
+use Rattle.borsh_json.specs.declared.kinds.Kind.{Kind as Found}
+use Rattle.borsh_json.specs.declared.kinds.Kind.TheVariants.{Number, Bool as Truth, Text, Bytes, Float, ByteList, Numbers, List as Elements, Map, Row, Newtype, Object, Optional, Choice, Repeated}
+use Rattle.borsh_json.specs.declared.kinds.Elements.{Elements as FoundElements}
+use Rattle.borsh_json.specs.declared.kinds.Entries.{Entries as FoundEntries}
+use Rattle.borsh_json.specs.declared.kinds.KeyKind.{KeyKind}
+use Rattle.borsh_json.specs.declared.kinds.KeyKind.TheVariants.{Text as TextKeys, Number as NumberKeys}
+use Rattle.borsh_json.specs.Forms.{Form, primitive, sequence, tuple, newtype, unnamed, named, choice, form_of, shape_of_form, HasNoBytes}
+use Rattle.borsh_json.specs.Table.{Lengths, Keys, texts, numbers, Kind, truth, whole, float, raw, utf8, byte_list, list, row, inner, fields, optional, variants, entries, HasKind, Part, Says}
+
+-- the name at the place is x
+abbrev pub IsAt : List Named → ℕ → List ℕ → Type 0
+IsAt ns i x = name_of ns i ≡ Some x
+
+-- the width of the prefix and the range of lengths of a sequence; other definitions have none
+abbrev pub lengths_of : Form → Lengths
+lengths_of (primitive n) = record { width = 0; least = 1; greatest = 0 }
+lengths_of (sequence w lo hi e) = record { width = w; least = lo; greatest = hi }
+lengths_of (tuple ps) = record { width = 0; least = 1; greatest = 0 }
+lengths_of (newtype p) = record { width = 0; least = 1; greatest = 0 }
+lengths_of (unnamed ps) = record { width = 0; least = 1; greatest = 0 }
+lengths_of (named fs) = record { width = 0; least = 1; greatest = 0 }
+lengths_of (choice w vs) = record { width = 0; least = 1; greatest = 0 }
+
+-- the infinity of a float of n bytes, by its bits
+abbrev pub IsInfinity : ℕ → ℕ → Type 0
+IsInfinity n bits = ((n ≡ 4) × (bits ≡ 0x7f800000)) ⊎ ((n ≡ 8) × (bits ≡ 0x7ff0000000000000))
+
+module _ (F : List ℕ → Option Form) (ns : List Named) where
+  -- no JSON says a value of the name
+  abbrev pub IsUnsayable : List ℕ → Type 0
+  IsUnsayable x = (kind : Kind) (j : Json) (own : List ℕ) (ps : List Part) → HasKind F x kind → Says F kind j own ps → ⊥
+
+  -- a list of these elements, unless it is refused
+  abbrev pub IsListOf : List ℕ → Form → ℕ → Bool → Type 0
+  IsListOf x f at true = IsUnsayable x
+  IsListOf x f at false = (e : List ℕ) × IsAt ns at e × HasKind F x (list (lengths_of f) e)
+
+  -- the kind of the keys of an object
+  abbrev pub AreKeysOf : List ℕ → Form → KeyKind → Keys → Type 0
+  AreKeysOf k g TextKeys keys = (keys ≡ texts) × HasKind F k (utf8 (lengths_of g))
+  AreKeysOf k g (NumberKeys n) keys = (keys ≡ numbers n.size) × HasKind F k (whole n.size n.is_signed n.is_non_zero)
+
+  -- what the code found of a name with this definition is its kind
+  abbrev pub IsKindOf : List ℕ → Form → Found → Type 0
+  IsKindOf x f (Number n) = HasKind F x (whole n.size n.is_signed n.is_non_zero)
+  IsKindOf x f Truth = HasKind F x truth
+  IsKindOf x f Text = HasKind F x (utf8 (lengths_of f))
+  IsKindOf x f (Bytes n) = HasKind F x (raw n)
+  IsKindOf x f (Float n) = (bits : ℕ) × IsInfinity n bits × HasKind F x (float n bits)
+  IsKindOf x f (ByteList es) = (e : List ℕ) × IsAt ns es.at e × HasKind F x (byte_list (lengths_of f) e) × (es.is_refused ≡ false)
+  IsKindOf x f (Numbers es) = IsListOf x f es.at es.is_refused
+  IsKindOf x f (Elements es) = IsListOf x f es.at es.is_refused
+  IsKindOf x f (Map es order) = (k : List ℕ) × (v : List ℕ) × (keys : Keys) × IsAt ns es.key k × IsAt ns es.value v × HasKind F x (entries (lengths_of f) keys k v) × AreKeysOf k (form_of es.key_definition.now) es.key_kind keys
+  IsKindOf x f (Row n) = HasKind F x (row (references (shape_of_form f))) × (length (references (shape_of_form f)) ≡ n)
+  IsKindOf x f (Newtype at) = (p : List ℕ) × IsAt ns at p × HasKind F x (inner p)
+  IsKindOf x f (Object fs) = HasKind F x (fields (map (λ f. (string_bytes f.0, string_bytes f.1)) fs.now.items)) × IsDistinct bytes_eq (map (λ f. string_bytes f.0) fs.now.items)
+  IsKindOf x f (Optional at) = (p : List ℕ) × IsAt ns at p × HasKind F x (optional p)
+  IsKindOf x f (Choice w vs) = HasKind F x (variants w (map (λ v. (v.0, string_bytes v.1, string_bytes v.2)) vs.now.items)) × IsDistinct bytes_eq (map (λ v. string_bytes v.1) vs.now.items)
+  IsKindOf x f (Repeated name) = IsUnsayable x
+
+  -- what was found of the name at a place: its definition and its kind, if it has bytes; and nothing only where it has no definition
+  abbrev pub IsKindAt : ℕ → Option (Bor Definition × Found) → Type 0
+  IsKindAt i found = (x : List ℕ) → IsAt ns i x → (HasNoBytes F x → ⊥) → MatchOption found (F x ≡ None) (λ r. (F x ≡ Some (form_of r.0.now)) × IsKindOf x (form_of r.0.now) r.1)
+
+  -- what was found of the first names is right
+  abbrev pub AreKinds : List (Option (Bor Definition × Found)) → Type 0
+  AreKinds known = (i : ℕ) (found : Option (Bor Definition × Found)) → slice_get known i ≡ Some found → IsKindAt i found

@@ -1,0 +1,262 @@
+// The reader's loop over the parts of a value.
+ghost use Rattle.borsh_json.specs.Words.{AreKeysOf, AreRead, BeginsWith, DeniesPart, DeniesRead, Entry, Form, HasEntries, HasKinds, HasLeft, HasRead, HaveBytes, HaveLeft, IsAt, IsEntryKey, IsKnown, IsNext, IsNextEntry, IsOf, Json, JsonPart, Keys, Left, NamedPlace, NextMissing, NextPart, NoneLeft, PartsOfAll, ReadsOn, SaysFirst, SaysSome, TooDeep, entries_left, form_of, forms_in, forms_of, key_json, names_of};
+ghost use Rattle.std.specs.Prelude.{◌≡◌, ◌∷◌, ◌++◌, [], true, IfErr, IfOk, ℕ, List, MatchOption, MatchResult, OnOk, Option};
+
+use crate::definitions::Definitions;
+use crate::error::{PartResult, ReadError, Refusal};
+use crate::kinds::{Entries, KeyKind};
+use crate::opening::{Frame, open_part, put_list, put_number};
+use crate::position::{Key, Place, Position};
+use crate::sources::{EntryKey, Source};
+use json::Element;
+use std::alloc::{AllocError, Global};
+use std::mem;
+
+/// What comes next of the parts of a value.
+#[derive(Drop)]
+enum Next<'t, 's> {
+    /// The part with this JSON, the name of whose type is at a place.
+    Part(usize, Element<'t, 's>),
+    /// A field that the object has not.
+    Missing,
+    /// Nothing.
+    End,
+}
+
+/// The bytes that JSON says as a value of the layout's root, which needn't be a member.
+pub fn read_value<'a>(
+    definitions: &Definitions<'a, '_>,
+    element: Element<'_, '_>,
+) -> PartResult<'a, Vec<u8>>
+    ensures { let F = forms_in definitions.now.layout.now.map.now in
+        let root = definitions.now.layout.now.root.now in
+        HasKinds definitions.now → (j : Json) → BeginsWith element.entry j →
+        MatchResult result (λ v. HaveBytes F ((root, j) ∷ []) v.items)
+        (λ e. DeniesPart e (SaysSome F root j)) }
+{
+    let alloc = definitions.alloc;
+    let position = Position::new(alloc, definitions.layout.root);
+    let out = Vec::new(alloc);
+    let outer = Vec::new(alloc);
+    let mut reading = Reading {
+        out,
+        position,
+        source: Source::One(Some(element)),
+        outer,
+    };
+    for _ in 0..u64::MAX {
+        match reading.read_next(definitions) {
+            Ok(more) => {
+                if !more {
+                    return Ok(reading.out);
+                }
+            }
+            Err(error) => return Err(error),
+        }
+    }
+    Err(reading.position.refused(Refusal::TooDeep))
+}
+
+/// The bytes so far, and where the reader is, with the JSON of the parts around it.
+#[derive(Drop)]
+struct Reading<'a, 't, 's> {
+    out: Vec<u8>,
+    position: Position<'a>,
+    source: Source<'t, 's>,
+    outer: Vec<Source<'t, 's>>,
+}
+
+impl<'a, 't, 's> Reading<'a, 't, 's> {
+    /// Reads the next part, or goes back to the parts around; says no at the end of the value.
+    fn read_next(&mut self, definitions: &Definitions<'a, '_>) -> PartResult<'a, bool>
+        ensures { HasKinds definitions.now → (root : List ℕ) (j : Json) → HasRead definitions.now root j self.old →
+            ReadsOn definitions.now root j self.new result }
+    {
+        if !ascends(definitions, &mut self.position.place, self.out.as_slice())? {
+            return Err(self.position.refused_element(Refusal::Descends));
+        }
+        match take_next(
+            definitions,
+            &mut self.position.place,
+            &mut self.source,
+            &mut self.out,
+        ) {
+            Ok(next) => match next {
+                Next::Part(at, part) => self.open(definitions, at, part),
+                Next::Missing => Err(self.position.refused(Refusal::MissingField)),
+                Next::End => self.leave(definitions),
+            },
+            Err(error) => Err(self.position.refused_part(error)),
+        }
+    }
+
+    /// Reads a part, and goes into its parts if it has some.
+    fn open(
+        &mut self,
+        definitions: &Definitions<'a, '_>,
+        at: usize,
+        part: Element<'t, 's>,
+    ) -> PartResult<'a, bool>
+        ensures { let F = forms_of definitions.now in let ns = names_of definitions.now in
+            HasKinds definitions.now → (root : List ℕ) (j : Json) (x : List ℕ) (i : Json) (l : Left)
+            (ls : List Left) → IsAt ns at x → BeginsWith part.entry i →
+            HasLeft F ns self.old.position.place.parts self.old.position.place.begun self.old.source l →
+            HaveLeft F ns self.old.position.outer.items self.old.outer.items ls →
+            AreRead F root j self.old.out.items
+            (λ ps. (rest : List JsonPart) × PartsOfAll (l ∷ ls) rest × (ps ≡ (x, i) ∷ rest)) →
+            ReadsOn definitions.now root j self.new result }
+    {
+        match open_part(definitions, at, part, &mut self.out) {
+            Ok(opened) => match opened {
+                Some(frame) => self.enter(frame),
+                None => Ok(true),
+            },
+            Err(error) => Err(self.position.refused_part(error)),
+        }
+    }
+
+    fn enter(&mut self, frame: Frame<'a, 't, 's>) -> PartResult<'a, bool>
+        ensures more { IfOk result (λ more. more ≡ true) }
+        ensures frame { OnOk result ((self.new.position.place ≡ frame.entry.place) × (self.new.source ≡ frame.entry.source)) }
+        ensures outer { OnOk result
+            ((self.new.position.outer.items ≡ self.old.position.outer.items ++ self.old.position.place ∷ []) ×
+            (self.new.outer.items ≡ self.old.outer.items ++ self.old.source ∷ [])) }
+        ensures same { OnOk result (self.new.out ≡ self.old.out) }
+        ensures too_deep { IfErr result (IsOf TooDeep) }
+    {
+        self.position.enter(frame.place)?;
+        self.outer
+            .push(mem::replace(&mut self.source, frame.source))?;
+        Ok(true)
+    }
+
+    /// Goes back to the parts around, unless a key of an object is left that is no field.
+    fn leave(&mut self, definitions: &Definitions<'a, '_>) -> PartResult<'a, bool>
+        ensures { let F = forms_of definitions.now in let ns = names_of definitions.now in
+            (root : List ℕ) (j : Json) (ls : List Left) →
+            HaveLeft F ns self.old.position.outer.items self.old.outer.items ls →
+            (NoneLeft self.old.source → AreRead F root j self.old.out.items (PartsOfAll ls)) →
+            ((NoneLeft self.old.source → ⊥) → SaysSome F root j → ⊥) →
+            ReadsOn definitions.now root j self.new result }
+    {
+        let unknown = self.source.unknown_key();
+        let is_part = self.position.leave();
+        if let Some(key) = unknown {
+            let name = String::from_str(definitions.alloc, key)?;
+            return Err(self.position.refused(Refusal::UnknownName(name)));
+        }
+        if !is_part {
+            return Ok(false);
+        }
+        match self.outer.pop() {
+            Some(around) => {
+                self.source = around;
+                Ok(true)
+            }
+            None => Ok(false),
+        }
+    }
+}
+
+/// Whether the element that was read last is above the one before it, where elements have to ascend.
+fn ascends(
+    definitions: &Definitions<'_, '_>,
+    place: &mut Place<'_>,
+    bytes: &[u8],
+) -> Result<bool, AllocError>
+    ensures { (place.new.parts ≡ place.old.parts) × (place.new.begun ≡ place.old.begun) }
+{
+    let Some(ascent) = &mut place.ascent else {
+        return Ok(true);
+    };
+    let ascends = ascent.ascends(definitions, bytes)?;
+    ascent.begin(bytes.len());
+    Ok(ascends)
+}
+
+/// What comes next. The key of an entry is added.
+fn take_next<'a, 't, 's>(
+    definitions: &Definitions<'a, '_>,
+    place: &mut Place<'a>,
+    source: &mut Source<'t, 's>,
+    out: &mut Vec<u8>,
+) -> Result<Next<'t, 's>, ReadError>
+    ensures { let F = forms_of definitions.now in let ns = names_of definitions.now in
+        IsKnown definitions.now → (root : List ℕ) (j : Json) (l : Left) (ls : List Left) →
+        HasLeft F ns place.old.parts place.old.begun source.old l →
+        AreRead F root j out.old.items (PartsOfAll (l ∷ ls)) → MatchResult result
+        (IsNext F ns root j ls place.new source.new out.new.items) (λ e. DeniesRead e (SaysSome F root j)) }
+{
+    let Some(part) = place.next_part(definitions) else {
+        return Ok(Next::End);
+    };
+    match part.key {
+        Key::Entry(entries) => next_entry(definitions.alloc, entries, source, out),
+        Key::Name(name) => Ok(found(part.at, source.take(name))),
+        Key::None => Ok(found(part.at, source.take(""))),
+    }
+}
+
+fn found<'t, 's>(at: usize, element: Option<Element<'t, 's>>) -> Next<'t, 's>
+    ensures { MatchOption element.entry (result ≡ NextMissing) (λ e. result ≡ NextPart at e) }
+{
+    match element {
+        Some(element) => Next::Part(at, element),
+        None => Next::Missing,
+    }
+}
+
+fn next_entry<'t, 's>(
+    alloc: Global,
+    entries: Entries<'_>,
+    source: &mut Source<'t, 's>,
+    out: &mut Vec<u8>,
+) -> Result<Next<'t, 's>, ReadError>
+    ensures { (F : List ℕ → Option Form) (ns : List NamedPlace) (root : List ℕ) (j : Json) (keys : Keys) (k v : List ℕ)
+        (es : List Entry) (ls : List Left) → IsAt ns entries.entry.value v →
+        AreKeysOf F ns k (form_of entries.entry.key_definition.now) entries.entry.key_kind keys →
+        HasEntries entries.entry.key_kind source.old es →
+        AreRead F root j out.old.items (PartsOfAll (entries_left keys k v es ∷ ls)) → MatchResult result
+        (IsNextEntry F ns root j keys k v es ls entries.entry.key_kind source.new out.new.items)
+        (λ e. DeniesRead e (SaysSome F root j)) }
+{
+    match source.take_entry() {
+        Some((key, element)) => {
+            match put_key(alloc, entries, key, out) {
+                Ok(()) => Ok(Next::Part(entries.value, element)),
+                Err(error) => Err(error),
+            }
+        }
+        None => Ok(Next::Missing),
+    }
+}
+
+/// Adds the key of an entry.
+fn put_key(
+    alloc: Global,
+    entries: Entries<'_>,
+    key: EntryKey<'_>,
+    out: &mut Vec<u8>,
+) -> Result<(), ReadError>
+    ensures { (F : List ℕ → Option Form) (ns : List NamedPlace) (k : List ℕ) (keys : Keys) (s : List ℕ) →
+        AreKeysOf F ns k (form_of entries.entry.key_definition.now) entries.entry.key_kind keys →
+        IsEntryKey entries.entry.key_kind key.entry s → MatchResult result
+        (λ _. (own : List ℕ) × (out.new.items ≡ out.old.items ++ own) × SaysFirst F k (key_json keys s) own [])
+        (λ e. DeniesRead e (SaysSome F k (key_json keys s))) }
+{
+    match entries.key_kind {
+        KeyKind::Text => match key {
+            EntryKey::Text(text) => {
+                put_list(alloc, entries.key_definition, text.as_bytes(), out)
+            }
+            EntryKey::Rank(_) => Ok(()),
+        },
+        KeyKind::Number(number) => match key {
+            EntryKey::Text(_) => Ok(()),
+            EntryKey::Rank(rank) => {
+                put_number(number, number.of_rank(rank), out)?;
+                Ok(())
+            }
+        },
+    }
+}
