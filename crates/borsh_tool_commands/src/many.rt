@@ -1,5 +1,6 @@
 // What is asked of values one after another, and of one value a line.
 ghost use Rattle.borsh_json.specs.Errors.{IsNoJsonReason};
+ghost use Rattle.borsh_json.specs.Known.{HasKinds};
 ghost use Rattle.borsh_tool_commands.specs.Answers.{line_of};
 ghost use Rattle.borsh_tool_commands.specs.Failures.{HasReason, IsFailure};
 ghost use Rattle.borsh_tool_commands.specs.Json.{IsJson, IsJsonLine};
@@ -23,8 +24,8 @@ use super::plain_text::{Added, PlainText};
 use super::progress::Progress;
 use super::values::{hex_line, no, no_value};
 use borsh::io::{Read, Write};
-use borsh_json::{Style, from_json_by, in_ascii, to_json_by};
-use borsh_values::{Buffered, Fault, Layout, MOST_BYTES, RecordError, Records};
+use borsh_json::{Json, Style, in_ascii};
+use borsh_values::{Buffered, Fault, MOST_BYTES, RecordError, Records};
 use hex::FromHexError;
 use json::Writer;
 use std::alloc::{AllocError, Global};
@@ -37,7 +38,7 @@ const ROOM: usize = 65536;
 #[derive(Clone, Copy)]
 pub struct Many<'a, 'l, 's> {
     pub alloc: Global,
-    pub layout: &'l Layout<'s>,
+    pub json: &'l Json<'s, 'l>,
     /// Where the values are from.
     pub path: &'a str,
     /// How JSON is written: without white space, in ASCII.
@@ -66,8 +67,8 @@ pub enum Wanted {
 ///
 /// Determined: what was written is an answer to each of the first values or lines, in order and nothing else, and to all of them
 /// after `Ok`; unless the writer fails, none that was made is lost; an error line, only where there is a reason; the number of
-/// values, and that where it is no none begins there. Left open: memory; which JSON and which bytes: as of [`to_json_by`] and
-/// [`from_json_by`]; when a failure is returned, and texts of errors: tested.
+/// values, and that where it is no none begins there. Left open: memory; line feeds within a line of JSON, when a failure is
+/// returned, and texts of errors: tested; as of [`borsh_json`].
 ///
 /// ```
 /// answer_many(Action::Decode, Form::Records, &many, StdReader::new(rt.stdin(), 1000), &mut progress, &mut out)?;
@@ -80,8 +81,8 @@ pub fn answer_many<'a, E: Eprint, R: Read + Drop, W: Write>(
     progress: &mut Progress<'_, E>,
     out: &mut W,
 ) -> Result<bool, Failure<'a>>
-    requires { IsLaidOut many.now.layout.now × KnowsSizes many.now.layout.now }
-    ensures { let l = many.now.layout.now in
+    requires { HasKinds many.now.json.now }
+    ensures { let l = many.now.json.now.layout.now in
         Writes (AnswersMany action form many.now.is_strict l (R.stream input).bytes)
         W.writing out.old out.new [] result }
 {
@@ -100,9 +101,9 @@ fn make_answers<'a, E: Eprint, R: Read + Drop, W: Write>(
     made: &mut Vec<u8>,
     out: &mut W,
 ) -> Result<bool, Failure<'a>>
-    requires known { IsLaidOut many.now.layout.now × KnowsSizes many.now.layout.now }
+    requires known { HasKinds many.now.json.now }
     requires none { made.old.items ≡ [] }
-    ensures { let l = many.now.layout.now in
+    ensures { let l = many.now.json.now.layout.now in
         Writes (AnswersMany action form many.now.is_strict l (R.stream input).bytes)
         W.writing out.old out.new made.new.items result }
 {
@@ -137,9 +138,9 @@ fn decode_records<'a, E: Eprint, R: Read + Drop, W: Write>(
     made: &mut Vec<u8>,
     out: &mut W,
 ) -> Result<bool, Failure<'a>>
-    requires known { IsLaidOut many.now.layout.now × KnowsSizes many.now.layout.now }
+    requires known { HasKinds many.now.json.now }
     requires none { made.old.items ≡ [] }
-    ensures { let l = many.now.layout.now in
+    ensures { let l = many.now.json.now.layout.now in
         Writes (AnswersMany Action.Decode Form.Records many.now.is_strict l (R.stream input).bytes)
         W.writing out.old out.new made.new.items result }
 {
@@ -164,9 +165,9 @@ fn encode_records<'a, E: Eprint, R: Read + Drop, W: Write>(
     made: &mut Vec<u8>,
     out: &mut W,
 ) -> Result<bool, Failure<'a>>
-    requires known { IsLaidOut many.now.layout.now × KnowsSizes many.now.layout.now }
+    requires known { HasKinds many.now.json.now }
     requires none { made.old.items ≡ [] }
-    ensures { let l = many.now.layout.now in
+    ensures { let l = many.now.json.now.layout.now in
         Writes (AnswersMany Action.Encode Form.Records many.now.is_strict l (R.stream input).bytes)
         W.writing out.old out.new made.new.items result }
 {
@@ -176,13 +177,13 @@ fn encode_records<'a, E: Eprint, R: Read + Drop, W: Write>(
 
 /// The JSON of a value, and a line feed.
 fn json_line<'a>(many: &Many<'a, '_, '_>, value: &[u8]) -> Result<Vec<u8>, Failure<'a>>
-    requires { IsLaidOut many.now.layout.now × KnowsSizes many.now.layout.now }
-    ensures ok { let l = many.now.layout.now in
+    requires { HasKinds many.now.json.now }
+    ensures ok { let l = many.now.json.now.layout.now in
         IfOk result (λ line. IsJsonLine l.map.now l.root.now value.now line.items) }
-    ensures err { let l = many.now.layout.now in IfErr result (IsFailure many.now.path.now ⊥
+    ensures err { let l = many.now.json.now.layout.now in IfErr result (IsFailure many.now.path.now ⊥
         (HasReason (IsNoJsonReason (definitions_in l.map.now) l.root.now value.now)) ⊥) }
 {
-    match to_json_by(many.alloc, many.layout, value, many.style) {
+    match many.json.to_json(value, many.style) {
         Ok(text) => {
             let mut line = text.into_bytes();
             line.extend_from_slice(b"\n".as_slice())?;
@@ -199,9 +200,9 @@ fn make_count<'a, E: Eprint, R: Read + Drop>(
     progress: &mut Progress<'_, E>,
     made: &mut Vec<u8>,
 ) -> Result<bool, Failure<'a>>
-    requires known { IsLaidOut many.now.layout.now × KnowsSizes many.now.layout.now }
+    requires known { HasKinds many.now.json.now }
     requires none { made.old.items ≡ [] }
-    ensures { let layout = many.now.layout.now in IfOk result (λ yes.
+    ensures { let layout = many.now.json.now.layout.now in IfOk result (λ yes.
         IsCount (definitions_in layout.map.now) layout.root.now (R.stream input).bytes yes made.new.items) }
 {
     let Answer { is_yes, text } = count_records(many, input, progress)?;
@@ -215,8 +216,8 @@ fn count_records<'a, E: Eprint, R: Read + Drop>(
     input: R,
     progress: &mut Progress<'_, E>,
 ) -> Result<Answer, Failure<'a>>
-    requires { IsLaidOut many.now.layout.now × KnowsSizes many.now.layout.now }
-    ensures { let layout = many.now.layout.now in IfOk result (λ a.
+    requires { HasKinds many.now.json.now }
+    ensures { let layout = many.now.json.now.layout.now in IfOk result (λ a.
         IsCount (definitions_in layout.map.now) layout.root.now (R.stream input).bytes a.is_yes (printed a.text)) }
 {
     let mut records = records_of(many, input)?;
@@ -276,9 +277,9 @@ fn answer_lines<'a, E: Eprint, R: Read + Drop, W: Write>(
     made: &mut Vec<u8>,
     out: &mut W,
 ) -> Result<bool, Failure<'a>>
-    requires known { IsLaidOut many.now.layout.now × KnowsSizes many.now.layout.now }
+    requires known { HasKinds many.now.json.now }
     requires none { made.old.items ≡ [] }
-    ensures { let l = many.now.layout.now in
+    ensures { let l = many.now.json.now.layout.now in
         Writes (AnswersEach IsFirstLine (AnswersLine l wanted is_lenient) (R.stream input).bytes)
         W.writing out.old out.new made.new.items result }
 {
@@ -302,8 +303,8 @@ fn line_answer<'a>(
     number: u64,
     line: &[u8],
 ) -> Result<Vec<u8>, Failure<'a>>
-    requires { IsLaidOut many.now.layout.now × KnowsSizes many.now.layout.now }
-    ensures { IfOk result (λ out. AnswersLine many.now.layout.now wanted is_lenient line.now out.items) }
+    requires { HasKinds many.now.json.now }
+    ensures { IfOk result (λ out. AnswersLine many.now.json.now.layout.now wanted is_lenient line.now out.items) }
 {
     match text_answer(many, wanted, line.trim_ascii()) {
         Ok(text) => Ok(text),
@@ -318,8 +319,8 @@ fn text_answer<'a>(
     wanted: Wanted,
     text: &[u8],
 ) -> Result<Vec<u8>, Failure<'a>>
-    requires { IsLaidOut many.now.layout.now × KnowsSizes many.now.layout.now }
-    ensures { AnswersText many.now.layout.now wanted many.now.path.now text.now result }
+    requires { HasKinds many.now.json.now }
+    ensures { AnswersText many.now.json.now.layout.now wanted many.now.path.now text.now result }
 {
     match wanted {
         Wanted::Json => json_said(many, text),
@@ -330,8 +331,8 @@ fn text_answer<'a>(
 
 /// The JSON of the value whose digits a text is, as a line.
 fn json_said<'a>(many: &Many<'a, '_, '_>, digits: &[u8]) -> Result<Vec<u8>, Failure<'a>>
-    requires { IsLaidOut many.now.layout.now × KnowsSizes many.now.layout.now }
-    ensures { AnswersText many.now.layout.now Wanted.Json many.now.path.now digits.now result }
+    requires { HasKinds many.now.json.now }
+    ensures { AnswersText many.now.json.now.layout.now Wanted.Json many.now.path.now digits.now result }
 {
     match said_by(many.alloc, digits) {
         Ok(bytes) => json_line(many, bytes.as_slice()),
@@ -365,8 +366,8 @@ fn unmarked(text: &[u8]) -> &[u8]
 
 /// The digits of the value whose JSON a text is, as a line; `-` for no bytes.
 fn digits_said<'a>(many: &Many<'a, '_, '_>, json: &[u8]) -> Result<Vec<u8>, Failure<'a>>
-    requires { IsLaidOut many.now.layout.now × KnowsSizes many.now.layout.now }
-    ensures { AnswersText many.now.layout.now Wanted.Digits many.now.path.now json.now result }
+    requires { HasKinds many.now.json.now }
+    ensures { AnswersText many.now.json.now.layout.now Wanted.Digits many.now.path.now json.now result }
 {
     let bytes = bytes_said(many, json)?;
     let line = digits_line(many.alloc, bytes.as_slice())?;
@@ -384,14 +385,14 @@ fn digits_line(alloc: Global, bytes: &[u8]) -> Result<PlainText, AllocError>
 
 /// The bytes of the value whose JSON a text is.
 fn bytes_said<'a>(many: &Many<'a, '_, '_>, json: &[u8]) -> Result<Vec<u8>, Failure<'a>>
-    requires { IsLaidOut many.now.layout.now × KnowsSizes many.now.layout.now }
-    ensures { AnswersText many.now.layout.now Wanted.Bytes many.now.path.now json.now result }
+    requires { HasKinds many.now.json.now }
+    ensures { AnswersText many.now.json.now.layout.now Wanted.Bytes many.now.path.now json.now result }
 {
     let Ok(text) = str::from_utf8(json) else {
         let why = String::from_str(many.alloc, "not UTF-8")?;
         return Err(Failure::NotValue(many.path, why));
     };
-    match from_json_by(many.alloc, many.layout, text) {
+    match many.json.from_json(text) {
         Ok(bytes) => Ok(bytes),
         Err(error) => Err(no_value(many.alloc, many.path, error)),
     }
@@ -423,13 +424,13 @@ fn records_of<'a, 'l, 's, R: Read + Drop>(
     many: &Many<'a, 'l, 's>,
     input: R,
 ) -> Result<Records<'s, 'l, R>, Failure<'a>>
-    requires { IsLaidOut many.now.layout.now × KnowsSizes many.now.layout.now }
+    requires { HasKinds many.now.json.now }
     ensures first { IfOk result (λ r. (source_of r ≡ input) × (ahead r ≡ [])) }
-    ensures same { IfOk result (λ r. layout_of r ≡ many.now.layout) }
-    ensures nonempty { let layout = many.now.layout.now in
+    ensures same { IfOk result (λ r. layout_of r ≡ many.now.json.now.layout) }
+    ensures nonempty { let layout = many.now.json.now.layout.now in
         OnOk result (Member (definitions_in layout.map.now) layout.root.now [] → ⊥) }
 {
-    match Records::new(many.alloc, many.layout, input, MOST_BYTES) {
+    match Records::new(many.alloc, many.json.layout, input, MOST_BYTES) {
         Ok(records) => Ok(records),
         Err(error) => Err(no_record(many, error)),
     }

@@ -14,7 +14,7 @@ use super::progress::Progress;
 use super::replies::{Reply, reply_to, style_of};
 use super::values::{Schema, no_container, own_schema, schema_from, schema_in_front, schema_json};
 use borsh::io::{StdReader, Write};
-use borsh_json::{Characters, Layout, Style};
+use borsh_json::{Characters, Json, Layout, Style};
 use clap::ArgMatches;
 use hex::FromHexError;
 use std::alloc::{AllocError, Global};
@@ -166,9 +166,10 @@ fn perform_on_many<'a, R: Files + Input + Eprint + AllocGlobal + Drop, W: Write>
     let alloc = rt.alloc();
     let schema = schema_at(rt, path, request.is_schema_hex)?;
     let layout = borsh_values::Layout::new(alloc, schema.root.as_str(), &schema.definitions)?;
+    let json = Json::new(alloc, &layout)?;
     let many = Many {
         alloc,
-        layout: &layout,
+        json: &json,
         path: request.value,
         style: Style {
             layout: Layout::Compact,

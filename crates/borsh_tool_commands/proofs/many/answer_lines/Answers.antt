@@ -8,13 +8,13 @@ use Rattle.borsh_tool_commands.proofs.many.answer_lines.Goals as goal
 
 pub loop-number-init : goal.loop-number-init
 loop-number-init g c =
-    let l = c.args.many.now.layout.now in
+    let l = c.args.many.now.json.now.layout.now in
     begins-at g.met.W.Write.lawful IsFirstLine (AnswersLine l c.args.wanted c.args.is_lenient) (g.R.Read.stream c.args.input).bytes c.args.out.now (g.R.Read.stream (reader_of c.new-lines.result)).bytes (held c.new-lines.result) c.args.made.now.items
     (ap (λ s. (g.R.Read.stream s).bytes) c.new-lines.ensures.reader) c.new-lines.ensures.none.0 c.requires.none
 
 pub returns-in_err-next_line : goal.returns-in_err-next_line
 returns-in_err-next_line g c =
-    let l = c.args.many.now.layout.now in
+    let l = c.args.many.now.json.now.layout.now in
     let P : List ℕ → List ℕ → Type 0 = AnswersLine l c.args.wanted c.args.is_lenient in
     let bytes = (g.R.Read.stream c.args.input).bytes in
     let x = c.in_err-next_line.field-0.0 in
@@ -24,7 +24,7 @@ returns-in_err-next_line g c =
 
 pub returns-then-not-branch : goal.returns-then-not-branch
 returns-then-not-branch g c =
-    let l = c.args.many.now.layout.now in
+    let l = c.args.many.now.json.now.layout.now in
     let none : c.in_ok-next_line.field-0 ≡ false = search rules in
     let n = subst (λ b. NextLine g.R.Read.stream c.loop-number.lines c.next_line.new.lines b) none c.in_ok-next_line.ensures.next in
     let f = subst (λ b. Flushes g.W.Write.writing c.loop-number.out c.next_line.new.out c.loop-number.made.items c.next_line.new.made.items (Ok b)) none c.in_ok-next_line.ensures.flushes in
@@ -33,7 +33,7 @@ returns-then-not-branch g c =
 
 pub returns-in_err-text : goal.returns-in_err-text
 returns-in_err-text g c =
-    let l = c.args.many.now.layout.now in
+    let l = c.args.many.now.json.now.layout.now in
     let P : List ℕ → List ℕ → Type 0 = AnswersLine l c.args.wanted c.args.is_lenient in
     let bytes = (g.R.Read.stream c.args.input).bytes in
     let x = c.in_err-text.field-0.0 in
@@ -43,7 +43,7 @@ returns-in_err-text g c =
 
 pub returns-in_err-extend_from_slice : goal.returns-in_err-extend_from_slice
 returns-in_err-extend_from_slice g c =
-    let l = c.args.many.now.layout.now in
+    let l = c.args.many.now.json.now.layout.now in
     let P : List ℕ → List ℕ → Type 0 = AnswersLine l c.args.wanted c.args.is_lenient in
     let bytes = (g.R.Read.stream c.args.input).bytes in
     let e : c.from_residual-in_err-extend_from_slice.result ≡ Err OutOfMemory = search rules in
@@ -54,7 +54,7 @@ returns-in_err-extend_from_slice g c =
 
 pub loop-number-preserved : goal.loop-number-preserved
 loop-number-preserved g c =
-    let l = c.args.many.now.layout.now in
+    let l = c.args.many.now.json.now.layout.now in
     let P : List ℕ → List ℕ → Type 0 = AnswersLine l c.args.wanted c.args.is_lenient in
     let bytes = (g.R.Read.stream c.args.input).bytes in
     let old = c.loop-number.lines in
@@ -68,6 +68,6 @@ loop-number-preserved g c =
 
 pub returns : goal.returns
 returns g c =
-    let l = c.args.many.now.layout.now in
+    let l = c.args.many.now.json.now.layout.now in
     let laws = g.met.W.Write.lawful in
     stops laws IsFirstLine (AnswersLine l c.args.wanted c.args.is_lenient) (g.R.Read.stream c.args.input).bytes {A = Bool} (Err OutOfMemory) OutOfMemory c.loop-number.invariant (not-flushed laws c.loop-number.out (Err OutOfMemory) refl) (λ u. u)

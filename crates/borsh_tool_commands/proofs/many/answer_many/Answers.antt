@@ -6,7 +6,7 @@ use Rattle.borsh_tool_commands.proofs.many.answer_many.Goals as goal
 
 pub returns-in_err-write_made : goal.returns-in_err-write_made
 returns-in_err-write_made g c =
-    let l = c.args.many.now.layout.now in
+    let l = c.args.many.now.json.now.layout.now in
     let bytes = (g.R.Read.stream c.args.input).bytes in
     let M : List ℕ → Result Bool Failure → Type 0 = AnswersMany c.args.action c.args.form c.args.many.now.is_strict l bytes in
     let x = c.in_err-write_made.field-0.0 in
@@ -18,7 +18,7 @@ returns-in_err-write_made g c =
 
 pub returns : goal.returns
 returns g c =
-    let l = c.args.many.now.layout.now in
+    let l = c.args.many.now.json.now.layout.now in
     let M : List ℕ → Result Bool Failure → Type 0 = AnswersMany c.args.action c.args.form c.args.many.now.is_strict l (g.R.Read.stream c.args.input).bytes in
     let outcome = c.make_answers-outcome.result in
     subst (λ m. Writes M g.W.Write.writing c.args.out.now c.write_made.new.out m outcome) c.write_made.ensures.none

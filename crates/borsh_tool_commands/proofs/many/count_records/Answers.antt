@@ -7,7 +7,7 @@ use Rattle.borsh_tool_commands.proofs.many.count_records.Goals as goal
 
 pub loop-count-init : goal.loop-count-init
 loop-count-init g c =
-    let l = c.args.many.now.layout.now in
+    let l = c.args.many.now.json.now.layout.now in
     let r = c.in_ok-records.records in
     record {
       layout = c.in_ok-records.ensures.same;
@@ -16,7 +16,7 @@ loop-count-init g c =
 
 pub loop-count-preserved : goal.loop-count-preserved
 loop-count-preserved g c =
-    let l = c.args.many.now.layout.now in
+    let l = c.args.many.now.json.now.layout.now in
     let old = c.loop-count.records in
     let new = c.advance.new.self in
     let a : Advances (definitions_in old.layout.now.map.now) old.layout.now.root.now g.R.Read.stream old new (Ok true) = search rules in
@@ -28,7 +28,7 @@ loop-count-preserved g c =
 
 pub returns-in-Ok-false : goal.returns-in-Ok-false
 returns-in-Ok-false g c =
-    let l = c.args.many.now.layout.now in
+    let l = c.args.many.now.json.now.layout.now in
     let old = c.loop-count.records in
     let new = c.advance.new.self in
     let a : Advances (definitions_in old.layout.now.map.now) old.layout.now.root.now g.R.Read.stream old new (Ok false) = search rules in
@@ -37,7 +37,7 @@ returns-in-Ok-false g c =
 
 pub returns-in-Err-NoMember : goal.returns-in-Err-NoMember
 returns-in-Err-NoMember g c =
-    let l = c.args.many.now.layout.now in
+    let l = c.args.many.now.json.now.layout.now in
     let old = c.loop-count.records in
     let new = c.advance.new.self in
     let o = c.in-Err-NoMember.offset in
@@ -48,7 +48,7 @@ returns-in-Err-NoMember g c =
 
 pub returns-in-Err-CutShort : goal.returns-in-Err-CutShort
 returns-in-Err-CutShort g c =
-    let l = c.args.many.now.layout.now in
+    let l = c.args.many.now.json.now.layout.now in
     let old = c.loop-count.records in
     let new = c.advance.new.self in
     let o = c.in-Err-CutShort.offset in

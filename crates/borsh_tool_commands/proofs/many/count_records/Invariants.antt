@@ -7,6 +7,6 @@ use Rattle.borsh_tool_commands.proofs.many.count_records.Given as goal
 
 abbrev pub invariant-loop-count : goal.invariant-loop-count
 invariant-loop-count g l = record {
-  layout : layout_of l.records ≡ l.many.layout;
-  so_far : CountedSoFar (definitions_in l.many.layout.now.map.now) l.many.layout.now.root.now (g.R.Read.stream l.fn.input).bytes (g.R.Read.stream (source_of l.records)).bytes (ahead l.records) l.count;
+  layout : layout_of l.records ≡ l.many.json.now.layout;
+  so_far : CountedSoFar (definitions_in l.many.json.now.layout.now.map.now) l.many.json.now.layout.now.root.now (g.R.Read.stream l.fn.input).bytes (g.R.Read.stream (source_of l.records)).bytes (ahead l.records) l.count;
 }

@@ -11,7 +11,7 @@ use Rattle.borsh_tool_commands.proofs.many.decode_records.Goals as goal
 
 pub returns-in_err-records : goal.returns-in_err-records
 returns-in_err-records g c =
-    let l = c.args.many.now.layout.now in
+    let l = c.args.many.now.json.now.layout.now in
     let F : List ℕ → List ℕ → List ℕ → Type 0 = IsFirst (definitions_in l.map.now) l.root.now in
     let P : List ℕ → List ℕ → Type 0 = IsJsonLine l.map.now l.root.now in
     let bytes = (g.R.Read.stream c.args.input).bytes in
@@ -22,7 +22,7 @@ returns-in_err-records g c =
 
 pub loop-records-init : goal.loop-records-init
 loop-records-init g c =
-    let l = c.args.many.now.layout.now in
+    let l = c.args.many.now.json.now.layout.now in
     let bytes = (g.R.Read.stream c.args.input).bytes in
     let r = c.in_ok-records.records in
     record {
@@ -33,7 +33,7 @@ loop-records-init g c =
 
 pub returns-in_err-next_record : goal.returns-in_err-next_record
 returns-in_err-next_record g c =
-    let l = c.args.many.now.layout.now in
+    let l = c.args.many.now.json.now.layout.now in
     let F : List ℕ → List ℕ → List ℕ → Type 0 = IsFirst (definitions_in l.map.now) l.root.now in
     let P : List ℕ → List ℕ → Type 0 = IsJsonLine l.map.now l.root.now in
     let bytes = (g.R.Read.stream c.args.input).bytes in
@@ -44,7 +44,7 @@ returns-in_err-next_record g c =
 
 pub returns-in_err-extend_from_slice-in-Ok : goal.returns-in_err-extend_from_slice-in-Ok
 returns-in_err-extend_from_slice-in-Ok g c =
-    let l = c.args.many.now.layout.now in
+    let l = c.args.many.now.json.now.layout.now in
     let F : List ℕ → List ℕ → List ℕ → Type 0 = IsFirst (definitions_in l.map.now) l.root.now in
     let P : List ℕ → List ℕ → Type 0 = IsJsonLine l.map.now l.root.now in
     let bytes = (g.R.Read.stream c.args.input).bytes in
@@ -61,7 +61,7 @@ loop-records-smaller g c =
 
 pub loop-records-preserved : goal.loop-records-preserved
 loop-records-preserved g c =
-    let l = c.args.many.now.layout.now in
+    let l = c.args.many.now.json.now.layout.now in
     let F : List ℕ → List ℕ → List ℕ → Type 0 = IsFirst (definitions_in l.map.now) l.root.now in
     let P : List ℕ → List ℕ → Type 0 = IsJsonLine l.map.now l.root.now in
     let bytes = (g.R.Read.stream c.args.input).bytes in
@@ -79,12 +79,12 @@ loop-records-preserved g c =
 
 pub returns-in-Err : goal.returns-in-Err
 returns-in-Err g c =
-    let l = c.args.many.now.layout.now in
+    let l = c.args.many.now.json.now.layout.now in
     stops g.met.W.Write.lawful (IsFirst (definitions_in l.map.now) l.root.now) (IsJsonLine l.map.now l.root.now) (g.R.Read.stream c.args.input).bytes (Ok c.in_ok-next_record.field-0) c.placed.result c.loop-records.invariant.so_far c.in_ok-next_record.ensures.flushes (λ u. absurd u)
 
 pub returns : goal.returns
 returns g c =
-    let l = c.args.many.now.layout.now in
+    let l = c.args.many.now.json.now.layout.now in
     let old = c.loop-records.records in
     let new = c.next_record.new.records in
     let a = subst (λ b. Advances (definitions_in old.layout.now.map.now) old.layout.now.root.now g.R.Read.stream old new (Ok b)) c.if-branch.false c.in_ok-next_record.ensures.advances in

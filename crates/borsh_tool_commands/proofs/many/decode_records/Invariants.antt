@@ -9,8 +9,8 @@ use Rattle.borsh_tool_commands.proofs.many.decode_records.Given as goal
 
 abbrev pub invariant-loop-records : goal.invariant-loop-records
 invariant-loop-records g l = record {
-  layout : layout_of l.records ≡ l.many.layout;
-  so_far : (let map = l.many.layout.now.map.now in let root = l.many.layout.now.root.now in
+  layout : layout_of l.records ≡ l.many.json.now.layout;
+  so_far : (let map = l.many.json.now.layout.now.map.now in let root = l.many.json.now.layout.now.root.now in
       SoFar (IsFirst (definitions_in map) root) (IsJsonLine map root) g.W.Write.writing (g.R.Read.stream l.fn.input).bytes (g.R.Read.stream (source_of l.records)).bytes (ahead l.records) l.fn.out l.out l.made.items);
 }
 

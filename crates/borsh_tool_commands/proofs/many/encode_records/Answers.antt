@@ -10,7 +10,7 @@ use Rattle.borsh_tool_commands.proofs.many.encode_records.Goals as goal
 
 pub returns-in_err-_none : goal.returns-in_err-_none
 returns-in_err-_none g c =
-    let l = c.args.many.now.layout.now in
+    let l = c.args.many.now.json.now.layout.now in
     let bytes = (g.R.Read.stream c.args.input).bytes in
     let M : List ℕ → Result Bool Failure → Type 0 = AnswersMany Encode Records c.args.many.now.is_strict l bytes in
     let x = c.in_err-_none.field-0.0 in

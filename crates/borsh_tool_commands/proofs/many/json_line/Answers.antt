@@ -6,4 +6,4 @@ use Rattle.borsh_tool_commands.proofs.many.json_line.Goals as goal
 
 pub returns-in-Err-clause-err : goal.returns-in-Err-clause-err
 returns-in-Err-clause-err c =
-    led _ (λ h. h) (reasoned (λ r. IsNoJsonReason (definitions_in c.args.many.now.layout.now.map.now) r c.args.value.now) c.in-Err.error refl c.in-Err.ensures.reason) (λ h. h) c.no_value.result c.no_value.ensures
+    led _ (λ h. h) (reasoned (λ r. IsNoJsonReason (definitions_in c.args.many.now.json.now.layout.now.map.now) r c.args.value.now) c.in-Err.error refl c.in-Err.ensures.reason) (λ h. h) c.no_value.result c.no_value.ensures
