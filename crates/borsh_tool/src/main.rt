@@ -19,8 +19,9 @@ fn main(rt: HostRuntime) -> ExitCode {
         }
     };
     let is_terminal = rt.stdout().is_terminal();
+    let is_watched = rt.stderr().is_terminal();
     let mut out = StdWriter::new(rt.stdout(), INTERRUPTIONS);
-    ExitCode::from(run(&rt, words.as_slice(), is_terminal, &mut out))
+    ExitCode::from(run(&rt, words.as_slice(), is_terminal, is_watched, &mut out))
 }
 
 /// The words of the command line.

@@ -1,187 +1,261 @@
 -- What is written for many values.
-use Rattle.std.proofs.Common.{◌≡◌, ℕ, inl, inr, true, false, List, [], ◌∷◌, ◌++◌, Option, None, Some, IfSome, Result, Ok, Err, refl, sym, ◌∙◌, ap, subst, append_assoc, append-nil}
-use Rattle.std.specs.Prelude.{Bool, OnOk, option_map}
+use Rattle.std.proofs.Common.{◌≡◌, ℕ, ◌+◌, inl, inr, true, false, List, [], ◌∷◌, ◌++◌, length, Option, None, Some, IfSome, Result, Ok, Err, refl, sym, ◌∙◌, ap, subst, append_assoc, append-nil}
+use Rattle.std.specs.Prelude.{Bool, IfOk, OnOk, codes}
 use Rattle.std.specs.Io.KnownBytes.{Consumes, IsAtEnd}
-use Rattle.std.proofs.KnownBytes.{Consumes-nil, Consumes-trans}
+use Rattle.std.proofs.lemmas.List.{length_push}
 use Rattle.borsh_io.specs.Sink.{WriterModel, WriterLaws, WroteBytes, NotWrittenWhole}
 use Rattle.borsh_io.specs.declared.error.ErrorKind.{ErrorKind}
 use Rattle.borsh_io.specs.Stream.{ReaderState}
 use Rattle.borsh_walks.specs.Container.{Shape, Member}
-use Rattle.borsh_values.specs.Next.{AreValues, IsFirst}
+use Rattle.borsh_values.specs.Faults.{BeginsWith}
+use Rattle.borsh_values.specs.Fronts.{HasNoFront}
+use Rattle.borsh_values.specs.Next.{IsFirst}
 use Rattle.borsh_values.specs.Records.{Advances, ahead, source_of, value_of}
+use Rattle.borsh_values.specs.declared.faults.Fault.{Fault}
+use Rattle.borsh_values.specs.declared.layout.Layout.{Layout}
 use Rattle.borsh_values.specs.declared.records.Records.{Records}
+use Rattle.borsh_values.specs.declared.records.RecordError.TheVariants.{NoMember, CutShort}
+use Rattle.borsh_tool_commands.specs.declared.command.Action.{Action}
+use Rattle.borsh_tool_commands.specs.declared.command.Action.TheVariants.{Decode, Encode, Member as AskMember, Show}
+use Rattle.borsh_tool_commands.specs.declared.command.Form.{Form}
+use Rattle.borsh_tool_commands.specs.declared.command.Form.TheVariants.{Records as AsRecords, Lines as AsLines}
 use Rattle.borsh_tool_commands.specs.declared.failure.Failure.{Failure}
-use Rattle.borsh_tool_commands.specs.Many.{AreAnswers, IsJsonOf, IsUnwritten, IsWriteFailure, Flushes, Writes, Decodes}
+use Rattle.borsh_tool_commands.specs.Answers.{line_of}
+use Rattle.borsh_tool_commands.specs.Many.{AnswersEach, AnswersMany, AreAnswers, BeginWith, BeginsNone, IsCount, IsUnwritten, IsWriteFailure, Flushes, Writes, count_text}
+use Rattle.borsh_tool_commands.specs.Many.IsCount.{counted, stopped}
 
 answers-more : (P : List ℕ → List ℕ → Type 0) (vs : List (List ℕ)) (out v text : List ℕ) → AreAnswers P vs out → P v text → AreAnswers P (vs ++ (v ∷ [])) (out ++ text)
 answers-more P [] out v text a p = (text, [], p, ap (λ l. l ++ text) a ∙ sym (append-nil text), refl)
 answers-more P (u ∷ vs) out v text a p = (a.0, a.1 ++ text, a.2, ap (λ l. l ++ text) a.3 ∙ append_assoc a.0 a.1 text, answers-more P vs a.1 v text a.4 p)
 
-values-more : (C : List ℕ → Option Shape) (root : List ℕ) (vs : List (List ℕ)) (done v : List ℕ) → AreValues C root vs done → Member C root v → AreValues C root (vs ++ (v ∷ [])) (done ++ v)
-values-more C root [] done v a m = ([], m, ap (λ l. l ++ v) a ∙ sym (append-nil v), refl)
-values-more C root (u ∷ vs) done v a m = (a.0 ++ v, a.1, ap (λ l. l ++ v) a.2 ∙ append_assoc u a.0 v, values-more C root vs a.0 v a.3 m)
+begin-more : (F : List ℕ → List ℕ → List ℕ → Type 0) (ps : List (List ℕ)) (xs left p more : List ℕ) → BeginWith F ps xs left → F p left more → BeginWith F (ps ++ (p ∷ [])) xs more
+begin-more F [] xs left p more e h = (more, subst (λ l. F p l more) (sym e) h, refl)
+begin-more F (q ∷ ps) xs left p more b h = (b.0, b.1, begin-more F ps b.0 left p more b.2 h)
 
 -- ---- what a flush did
 
-pub flushed-all : {W A : Type 0} {w : WriterModel W} {a b : W} {made after : List ℕ} (v : A) → WroteBytes w a b made → after ≡ [] → Flushes w a b made after (Ok v)
-flushed-all {made = made} v x e = record { written = made; lost = []; wrote = x.wrote; split = sym (ap (λ l. made ++ l) e ∙ append-nil made); whole = inl refl }
-
-pub flushed-part : {W A : Type 0} {w : WriterModel W} {a b : W} {made after : List ℕ} {kind : ErrorKind} (r : Result A Failure) → NotWrittenWhole w a b made kind → after ≡ [] → IsUnwritten r → Flushes w a b made after r
-flushed-part r x e u = record { written = x.front; lost = x.rest; wrote = x.wrote; split = x.split ∙ ap (λ l. x.front ++ l) (sym (ap (λ l. x.rest ++ l) e ∙ append-nil x.rest)); whole = inr (u, e) }
-
+-- nothing, where nothing more was made
 pub not-flushed : {W A : Type 0} {w : WriterModel W} (laws : WriterLaws W w) (a : W) {made after : List ℕ} (r : Result A Failure) → after ≡ made → Flushes w a a made after r
 not-flushed laws a r e = record { written = []; lost = []; wrote = laws.none a; split = sym e; whole = inl refl }
-
-pub flushed-as : {W A B : Type 0} {w : WriterModel W} {a b : W} {made after : List ℕ} (r : Result A Failure) (q : Result B Failure) → Flushes w a b made after r → (IsUnwritten r → IsUnwritten q) → Flushes w a b made after q
-flushed-as r q f g = record { written = f.written; lost = f.lost; wrote = f.wrote; split = f.split; whole = elim f.whole [ inl e ↦ inl e | inr h ↦ inr (g h.0, h.1) ] }
-
--- what was written and what is kept are the answers
-pub record SoFar {W : Type 0} (P : List ℕ → List ℕ → Type 0) (w : WriterModel W) (old new : W) (made : List ℕ) (values : List (List ℕ)) : Type 0 where
-  pub written : List ℕ
-  pub wrote : w.wrote old new written
-  pub answers : AreAnswers P values (written ++ made)
-
-module _ {W : Type 0} (P : List ℕ → List ℕ → Type 0) {w : WriterModel W} (laws : WriterLaws W w) where
-  pub begins : (a : W) → SoFar P w a a [] []
-  begins a = record { written = []; wrote = laws.none a; answers = refl }
-
-  pub answered : {a b : W} {made after : List ℕ} {vs : List (List ℕ)} (v text : List ℕ) → SoFar P w a b made vs → P v text → after ≡ made ++ text → SoFar P w a b after (vs ++ (v ∷ []))
-  answered {made = made} {vs = vs} v text s p e = record {
-    written = s.written;
-    wrote = s.wrote;
-    answers = subst (AreAnswers P (vs ++ (v ∷ []))) (append_assoc s.written made text ∙ ap (λ l. s.written ++ l) (sym e)) (answers-more P vs (s.written ++ made) v text s.answers p);
-  }
-
-  -- the writer's bytes after a flush, whatever comes of it
-  pub flushed : {A B : Type 0} {a b c : W} {made after : List ℕ} {vs : List (List ℕ)} (r : Result A Failure) (q : Result B Failure) → SoFar P w a b made vs → Flushes w b c made after r → (IsUnwritten r → IsUnwritten q) → Writes P w a c after vs q
-  flushed {a = a} {b = b} {c = c} {made = made} {after = after} {vs = vs} r q s f g = record {
-    written = s.written ++ f.written;
-    lost = f.lost;
-    wrote = laws.more a b c s.written f.written s.wrote f.wrote;
-    answers = subst (AreAnswers P vs) (ap (λ l. s.written ++ l) f.split ∙ sym (append_assoc s.written f.written (f.lost ++ after))) s.answers;
-    whole = elim f.whole [ inl e ↦ inl e | inr h ↦ inr (g h.0, h.1) ];
-  }
-
-  -- nothing is lost after a success
-  pub goes_on : {A : Type 0} {a c : W} {made : List ℕ} {vs : List (List ℕ)} (v : A) → Writes P w a c made vs (Ok v) → SoFar P w a c made vs
-  goes_on {a = a} {c = c} {made = made} {vs = vs} v x = record {
-    written = x.written;
-    wrote = x.wrote;
-    answers = elim x.whole [ inl e ↦ subst (λ l. AreAnswers P vs (x.written ++ (l ++ made))) e x.answers | inr h ↦ absurd h.0 ];
-  }
-
-  pub stops : {A : Type 0} {a b : W} {made : List ℕ} {vs : List (List ℕ)} (r : Result A Failure) → SoFar P w a b made vs → Writes P w a b made vs r
-  stops r s = record { written = s.written; lost = []; wrote = s.wrote; answers = s.answers; whole = inl refl }
-
--- ---- values of a reader
-
--- the first values of the bytes are answered
-pub record DecodedSoFar {W R : Type 0} (C : List ℕ → Option Shape) (root : List ℕ) (state : R → ReaderState) (bytes : Option (List ℕ)) (w : WriterModel W) (old new : W) (made : List ℕ) (records : Records R) : Type 0 where
-  pub values : List (List ℕ)
-  pub so_far : SoFar (IsJsonOf C root) w old new made values
-  pub done : List ℕ
-  pub are : AreValues C root values done
-  pub taken : Consumes bytes (state (source_of records)).bytes (done ++ ahead records)
-
-module _ (C : List ℕ → Option Shape) (root : List ℕ) {W R : Type 0} (state : R → ReaderState) {w : WriterModel W} (laws : WriterLaws W w) where
-  pub decoding-begins : (a : W) (records : Records R) (bytes : Option (List ℕ)) → (state (source_of records)).bytes ≡ bytes → ahead records ≡ [] → DecodedSoFar C root state bytes w a a [] records
-  decoding-begins a records bytes s e = record {
-    values = [];
-    so_far = begins (IsJsonOf C root) laws a;
-    done = [];
-    are = refl;
-    taken = subst (λ l. Consumes bytes (state (source_of records)).bytes l) (sym e) (subst (λ b. Consumes b (state (source_of records)).bytes []) s (Consumes-nil _));
-  }
-
-  -- the bytes that were taken of the reader, after a value or where none is left
-  taken-more : (old new : Records R) (bytes : Option (List ℕ)) (done read : List ℕ) → Consumes bytes (state (source_of old)).bytes (done ++ ahead old) → Consumes (state (source_of old)).bytes (state (source_of new)).bytes read
-      → Consumes bytes (state (source_of new)).bytes (done ++ (ahead old ++ read))
-  taken-more old new bytes done read t c = subst (Consumes bytes (state (source_of new)).bytes) (append_assoc done (ahead old) read) (Consumes-trans bytes _ _ (done ++ ahead old) read t c)
-
-  -- a value was answered
-  pub value-answered : (old new : Records R) (bytes : Option (List ℕ)) {a b c : W} {made kept after line : List ℕ} → DecodedSoFar C root state bytes w a b made old → Advances C root state old new (Ok true)
-      → Flushes {A = Bool} w b c made kept (Ok true) → IsJsonOf C root (value_of new) line → after ≡ kept ++ line → DecodedSoFar C root state bytes w a c after new
-  value-answered old new bytes {kept = kept} {line = line} d a f j e =
-      let first = a.goes.found refl [] in
-      let split : ahead old ++ a.read ≡ value_of new ++ ahead new = sym (append-nil (ahead old ++ a.read)) ∙ first.split ∙ ap (λ l. value_of new ++ l) (append-nil (ahead new)) in
-      let on = goes_on (IsJsonOf C root) laws true (flushed (IsJsonOf C root) laws _ (Ok true) d.so_far f (λ u. u)) in
-      record {
-        values = d.values ++ (value_of new ∷ []);
-        so_far = answered (IsJsonOf C root) laws (value_of new) line on j e;
-        done = d.done ++ value_of new;
-        are = values-more C root d.values d.done (value_of new) d.are first.member;
-        taken = subst (Consumes bytes (state (source_of new)).bytes) (ap (λ l. d.done ++ l) split ∙ sym (append_assoc d.done (value_of new) (ahead new))) (taken-more old new bytes d.done a.read d.taken a.lost.bytes);
-      }
-
-  behind : (bytes now : Option (List ℕ)) (done more : List ℕ) → Consumes bytes now (done ++ more) → (left : List ℕ) × IfSome bytes (λ xs. xs ≡ done ++ left)
-  behind None now done more c = ([], tt)
-  behind (Some xs) None done more c = absurd c
-  behind (Some xs) (Some ys) done more c = (more ++ ys, c ∙ append_assoc done more ys)
-
-  -- all bytes are answered
-  pub decoding-ends : {A : Type 0} (old new : Records R) (bytes : Option (List ℕ)) {a b c : W} {made kept : List ℕ} (v : A) → DecodedSoFar C root state bytes w a b made old → Advances C root state old new (Ok false)
-      → Flushes {A = Bool} w b c made kept (Ok false) → Decodes C root bytes w a c kept (Ok v)
-  decoding-ends old new bytes v d a f =
-      let none = a.goes.none refl in
-      record {
-        values = d.values;
-        writes = flushed (IsJsonOf C root) laws _ (Ok v) d.so_far f (λ u. u);
-        done = d.done;
-        left = [];
-        are = d.are;
-        first = all bytes _ (taken-more old new bytes d.done a.read d.taken a.lost.bytes) none.0 none.1;
-        all = refl;
-      }
-    where
-      all : (bytes now : Option (List ℕ)) → Consumes bytes now (d.done ++ (ahead old ++ a.read)) → ahead old ++ a.read ≡ [] → IsAtEnd now → IfSome bytes (λ xs. xs ≡ d.done ++ [])
-      all None now c e h = tt
-      all (Some xs) None c e h = absurd c
-      all (Some xs) (Some ys) c e h = c ∙ ap (λ l. (d.done ++ l) ++ ys) e ∙ ap (λ l. (d.done ++ []) ++ l) h ∙ append-nil (d.done ++ [])
-
-  -- the run stops by a failure, after a flush or none
-  pub decoding-stops : {A B : Type 0} (old : Records R) (bytes : Option (List ℕ)) {a b c : W} {made kept : List ℕ} (r : Result A Failure) (x : Failure) → DecodedSoFar C root state bytes w a b made old
-      → Flushes w b c made kept r → (IsUnwritten r → IsWriteFailure x) → Decodes {A = B} C root bytes w a c kept (Err x)
-  decoding-stops old bytes r x d f g =
-      let l = behind bytes _ d.done (ahead old) d.taken in
-      record { values = d.values; writes = flushed (IsJsonOf C root) laws r (Err x) d.so_far f g; done = d.done; left = l.0; are = d.are; first = l.1; all = tt }
-
-  -- nothing was read, since no reader of values could be made
-  pub decoding-none : {A : Type 0} (a : W) (bytes : Option (List ℕ)) (made : List ℕ) (x : Failure) → made ≡ [] → Decodes {A = A} C root bytes w a a made (Err x)
-  decoding-none a bytes made x e =
-      let l = behind bytes bytes [] [] (Consumes-nil bytes) in
-      record {
-        values = [];
-        writes = record { written = []; lost = []; wrote = laws.none a; answers = e; whole = inl refl };
-        done = [];
-        left = l.0;
-        are = refl;
-        first = l.1;
-        all = tt;
-      }
 
 nothing-left : (xs ys : List ℕ) → [] ≡ xs ++ ys → xs ≡ []
 nothing-left [] ys e = refl
 nothing-left (x ∷ xs) ys e = absurd (cc)
 
-module _ {W : Type 0} (P : List ℕ → List ℕ → Type 0) {w : WriterModel W} (laws : WriterLaws W w) where
+module _ {W : Type 0} {w : WriterModel W} (laws : WriterLaws W w) (P : List ℕ → Result Bool Failure → Type 0) where
+  -- the writer's bytes after a flush, whatever comes of it
+  pub flushed : {A : Type 0} {a b c : W} {made after : List ℕ} (r : Result A Failure) (q : Result Bool Failure) (written : List ℕ) → w.wrote a b written → Flushes w b c made after r → P (written ++ made) q → (IsUnwritten r → IsUnwritten q) → Writes P w a c after q
+  flushed {a = a} {b = b} {c = c} {made = made} {after = after} r q written wrote f p g = record {
+    written = written ++ f.written;
+    lost = f.lost;
+    wrote = laws.more a b c written f.written wrote f.wrote;
+    output = subst (λ l. P l q) (ap (λ l. written ++ l) f.split ∙ sym (append_assoc written f.written (f.lost ++ after))) p;
+    whole = elim f.whole [ inl e ↦ inl e | inr h ↦ inr (g h.0, h.1) ];
+  }
+
   -- what was kept at the end is written
-  pub finished : {A B : Type 0} {a b c : W} {made after : List ℕ} {vs : List (List ℕ)} (r : Result A Failure) (f : Result B Failure) (q : Result A Failure) → Writes P w a b made vs r → Flushes w b c made after f → after ≡ []
-      → (IsUnwritten f → IsUnwritten q) → (IsUnwritten r → IsUnwritten q) → Writes P w a c after vs q
-  finished {a = a} {b = b} {c = c} {made = made} {after = after} {vs = vs} r f q d x none g h =
+  pub finished : {B : Type 0} {a b c : W} {made after : List ℕ} (r : Result Bool Failure) (f : Result B Failure) (q : Result Bool Failure) → Writes P w a b made r → Flushes w b c made after f → after ≡ []
+      → (IsUnwritten f → IsUnwritten q) → (IsUnwritten r → IsUnwritten q) → ((out : List ℕ) → P out r → P out q) → Writes P w a c after q
+  finished {a = a} {b = b} {c = c} {made = made} {after = after} r f q d x none g h k =
       elim d.whole [
-        | inl e ↦ flushed P laws f q (record { written = d.written; wrote = d.wrote; answers = subst (λ l. AreAnswers P vs (d.written ++ (l ++ made))) e d.answers }) x g
+        | inl e ↦ flushed f q d.written d.wrote x (k (d.written ++ made) (subst (λ l. P (d.written ++ (l ++ made)) r) e d.output)) g
         | inr u ↦ (let front : x.written ≡ [] = nothing-left x.written (x.lost ++ after) (sym u.1 ∙ x.split) in record {
           written = d.written ++ x.written;
           lost = d.lost;
           wrote = laws.more a b c d.written x.written d.wrote x.wrote;
-          answers = subst (AreAnswers P vs) (ap (λ l. d.written ++ (d.lost ++ l)) (u.1 ∙ sym none) ∙ ap (λ l. l ++ (d.lost ++ after)) (sym (append-nil d.written) ∙ ap (λ l. d.written ++ l) (sym front))) d.answers;
+          output = k _ (subst (λ l. P l r) (ap (λ l. d.written ++ (d.lost ++ l)) (u.1 ∙ sym none) ∙ ap (λ l. l ++ (d.lost ++ after)) (sym (append-nil d.written) ∙ ap (λ l. d.written ++ l) (sym front))) d.output);
           whole = inr (h u.0, none);
         })
       ]
 
-module _ (C : List ℕ → Option Shape) (root : List ℕ) {W : Type 0} {w : WriterModel W} (laws : WriterLaws W w) where
-  pub decoded : {A B : Type 0} {a b c : W} {made after : List ℕ} {bytes : Option (List ℕ)} (r : Result A Failure) (v : B) → Decodes C root bytes w a b made r → Flushes w b c made after (Ok v) → after ≡ [] → Decodes C root bytes w a c after r
-  decoded r v d x e = record { values = d.values; writes = finished (IsJsonOf C root) laws r (Ok v) r d.writes x e (λ u. absurd u) (λ u. u); done = d.done; left = d.left; are = d.are; first = d.first; all = d.all }
+  -- nothing was written, and all that was made is kept
+  pub only-made : (a : W) (made : List ℕ) (r : Result Bool Failure) → P made r → Writes P w a a made r
+  only-made a made r p = record { written = []; lost = []; wrote = laws.none a; output = p; whole = inl refl }
 
-  pub not-decoded : {A B : Type 0} {a b c : W} {made after : List ℕ} {bytes : Option (List ℕ)} (r : Result A Failure) (y : Failure) → Decodes C root bytes w a b made r → Flushes {A = B} w b c made after (Err y) → after ≡ [] → IsWriteFailure y → Decodes {A = A} C root bytes w a c after (Err y)
-  not-decoded r y d x e u = record { values = d.values; writes = finished (IsJsonOf C root) laws r (Err y) (Err y) d.writes x e (λ _. u) (λ _. u); done = d.done; left = d.left; are = d.are; first = d.first; all = tt }
+pub writes-as : {W : Type 0} {w : WriterModel W} {P Q : List ℕ → Result Bool Failure → Type 0} {a b : W} {made : List ℕ} {r : Result Bool Failure} → Writes P w a b made r → ((out : List ℕ) → P out r → Q out r) → Writes Q w a b made r
+writes-as d k = record { written = d.written; lost = d.lost; wrote = d.wrote; output = k _ d.output; whole = d.whole }
+
+-- what holds without a result holds with one
+pub held : {A E P : Type 0} (result : Result A E) → P → OnOk result P
+held (Ok a) p = p
+held (Err e) p = tt
+
+-- ---- the first pieces of a reader's bytes
+
+-- where the bytes are known, they begin with the pieces; then come those that are ahead, and those that the reader has left
+abbrev pub IsAhead : (List ℕ → List ℕ → List ℕ → Type 0) → Option (List ℕ) → Option (List ℕ) → List ℕ → List (List ℕ) → Type 0
+IsAhead F None now ahead ps = Unit {0}
+IsAhead F (Some xs) None ahead ps = ⊥
+IsAhead F (Some xs) (Some ys) ahead ps = BeginWith F ps xs (ahead ++ ys)
+
+module _ (F : List ℕ → List ℕ → List ℕ → Type 0) where
+  pub ahead-begins : (bytes : Option (List ℕ)) → IsAhead F bytes bytes [] []
+  ahead-begins None = tt
+  ahead-begins (Some xs) = refl
+
+  -- more was read
+  pub ahead-read : (bytes now new : Option (List ℕ)) (ahead read : List ℕ) (ps : List (List ℕ)) → IsAhead F bytes now ahead ps → Consumes now new read → IsAhead F bytes new (ahead ++ read) ps
+  ahead-read None now new ahead read ps i c = tt
+  ahead-read (Some xs) None new ahead read ps i c = absurd i
+  ahead-read (Some xs) (Some ys) None ahead read ps i c = absurd c
+  ahead-read (Some xs) (Some ys) (Some zs) ahead read ps i c = subst (BeginWith F ps xs) (ap (λ l. ahead ++ l) c ∙ sym (append_assoc ahead read zs)) i
+
+  -- a piece was taken
+  pub ahead-taken : (bytes now : Option (List ℕ)) (ahead left p : List ℕ) (ps : List (List ℕ)) → IsAhead F bytes now ahead ps → ((more : List ℕ) → now ≡ Some more → F p (ahead ++ more) (left ++ more)) → IsAhead F bytes now left (ps ++ (p ∷ []))
+  ahead-taken None now ahead left p ps i f = tt
+  ahead-taken (Some xs) None ahead left p ps i f = absurd i
+  ahead-taken (Some xs) (Some ys) ahead left p ps i f = begin-more F ps xs (ahead ++ ys) p (left ++ ys) i (f ys refl)
+
+  -- nothing is left
+  pub ahead-ends : (bytes now : Option (List ℕ)) (ahead : List ℕ) (ps : List (List ℕ)) → IsAhead F bytes now ahead ps → ahead ≡ [] → IsAtEnd now → IfSome bytes (λ xs. BeginWith F ps xs [])
+  ahead-ends None now ahead ps i e h = tt
+  ahead-ends (Some xs) None ahead ps i e h = absurd i
+  ahead-ends (Some xs) (Some ys) ahead ps i e h = subst (BeginWith F ps xs) (ap (λ l. l ++ ys) e ∙ h) i
+
+  pub ahead-left : (bytes now : Option (List ℕ)) (ahead : List ℕ) (ps : List (List ℕ)) → IsAhead F bytes now ahead ps → (left : List ℕ) × IfSome bytes (λ xs. BeginWith F ps xs left)
+  ahead-left None now ahead ps i = ([], tt)
+  ahead-left (Some xs) None ahead ps i = absurd i
+  ahead-left (Some xs) (Some ys) ahead ps i = (ahead ++ ys, i)
+
+-- ---- one answer after another
+
+-- what was written and what is kept are the answers to the first pieces
+pub record SoFar {W : Type 0} (F : List ℕ → List ℕ → List ℕ → Type 0) (P : List ℕ → List ℕ → Type 0) (w : WriterModel W) (bytes now : Option (List ℕ)) (ahead : List ℕ) (old new : W) (made : List ℕ) : Type 0 where
+  pub pieces : List (List ℕ)
+  pub written : List ℕ
+  pub wrote : w.wrote old new written
+  pub answers : AreAnswers P pieces (written ++ made)
+  pub taken : IsAhead F bytes now ahead pieces
+
+module _ {W : Type 0} {w : WriterModel W} (laws : WriterLaws W w) (F : List ℕ → List ℕ → List ℕ → Type 0) (P : List ℕ → List ℕ → Type 0) (bytes : Option (List ℕ)) where
+  pub begins : (a : W) → SoFar F P w bytes bytes [] a a []
+  begins a = record { pieces = []; written = []; wrote = laws.none a; answers = refl; taken = ahead-begins F bytes }
+
+  pub begins-at : (a : W) (now : Option (List ℕ)) (ahead made : List ℕ) → now ≡ bytes → ahead ≡ [] → made ≡ [] → SoFar F P w bytes now ahead a a made
+  begins-at a now ahead made n e m =
+      subst (λ k. SoFar F P w bytes k ahead a a made) (sym n) (subst (λ k. SoFar F P w bytes bytes k a a made) (sym e) (subst (λ k. SoFar F P w bytes bytes [] a a k) (sym m) (begins a)))
+
+  -- nothing is lost by a flush before a success
+  pub goes_on : {A : Type 0} {now : Option (List ℕ)} {ahead : List ℕ} {a b c : W} {made kept : List ℕ} (v : A) → SoFar F P w bytes now ahead a b made → Flushes w b c made kept (Ok v) → SoFar F P w bytes now ahead a c kept
+  goes_on {a = a} {b = b} {c = c} {made = made} {kept = kept} v s f = record {
+    pieces = s.pieces;
+    written = s.written ++ f.written;
+    wrote = laws.more a b c s.written f.written s.wrote f.wrote;
+    answers = elim f.whole [
+      | inl e ↦ subst (AreAnswers P s.pieces) (ap (λ l. s.written ++ l) (f.split ∙ ap (λ l. f.written ++ (l ++ kept)) e) ∙ sym (append_assoc s.written f.written kept)) s.answers
+      | inr h ↦ absurd h.0
+    ];
+    taken = s.taken;
+  }
+
+  -- a piece was taken of what was ahead or was read, and answered
+  pub answered : {now : Option (List ℕ)} {ahead : List ℕ} {a b : W} {made : List ℕ} (new : Option (List ℕ)) (read left after p text : List ℕ) → SoFar F P w bytes now ahead a b made → Consumes now new read
+      → ((more : List ℕ) → new ≡ Some more → F p ((ahead ++ read) ++ more) (left ++ more)) → P p text → after ≡ made ++ text → SoFar F P w bytes new left a b after
+  answered {now = now} {ahead = ahead} {made = made} new read left after p text s c f q e = record {
+    pieces = s.pieces ++ (p ∷ []);
+    written = s.written;
+    wrote = s.wrote;
+    answers = subst (AreAnswers P (s.pieces ++ (p ∷ []))) (append_assoc s.written made text ∙ ap (λ l. s.written ++ l) (sym e)) (answers-more P s.pieces (s.written ++ made) p text s.answers q);
+    taken = ahead-taken F bytes new (ahead ++ read) left p s.pieces (ahead-read F bytes now new ahead read s.pieces s.taken c) f;
+  }
+
+  -- the run stops by a failure, after a flush or none
+  pub stops : {A : Type 0} {now : Option (List ℕ)} {ahead : List ℕ} {a b c : W} {made kept : List ℕ} (r : Result A Failure) (x : Failure) → SoFar F P w bytes now ahead a b made → Flushes w b c made kept r → (IsUnwritten r → IsWriteFailure x)
+      → Writes (AnswersEach F P bytes) w a c kept (Err x)
+  stops {now = now} {ahead = ahead} r x s f g =
+      let l = ahead-left F bytes now ahead s.pieces s.taken in
+      flushed laws (AnswersEach F P bytes) r (Err x) s.written s.wrote f (record { pieces = s.pieces; left = l.0; answers = s.answers; first = l.1; all = tt }) g
+
+  -- nothing was read or made
+  pub stops-first : (a : W) (made : List ℕ) (x : Failure) → made ≡ [] → Writes (AnswersEach F P bytes) w a a made (Err x)
+  stops-first a made x e = subst (λ m. Writes (AnswersEach F P bytes) w a a m (Err x)) (sym e) (stops {A = Bool} (Err x) x (begins a) (not-flushed laws a {made = []} {after = []} (Err x) refl) (λ u. u))
+
+  -- all is answered
+  pub ends : {A : Type 0} {now : Option (List ℕ)} {ahead : List ℕ} {a b c : W} {made kept : List ℕ} (v : A) (new : Option (List ℕ)) (read : List ℕ) → SoFar F P w bytes now ahead a b made → Consumes now new read → ahead ++ read ≡ [] → IsAtEnd new → Flushes w b c made kept (Ok v)
+      → Writes (AnswersEach F P bytes) w a c kept (Ok true)
+  ends {now = now} {ahead = ahead} v new read s c e h f =
+      let first = ahead-ends F bytes new (ahead ++ read) s.pieces (ahead-read F bytes now new ahead read s.pieces s.taken c) e h in
+      flushed laws (AnswersEach F P bytes) (Ok v) (Ok true) s.written s.wrote f (record { pieces = s.pieces; left = []; answers = s.answers; first = first; all = (refl, refl) }) (λ u. u)
+
+-- ---- values counted
+
+-- the bytes that a reader has left, if it knows them
+abbrev rest_of : Option (List ℕ) → List ℕ
+rest_of None = []
+rest_of (Some ys) = ys
+
+none-left : (now : Option (List ℕ)) → IsAtEnd now → rest_of now ≡ []
+none-left None h = refl
+none-left (Some ys) h = h
+
+left-of : (F : List ℕ → List ℕ → List ℕ → Type 0) (bytes now : Option (List ℕ)) (ahead : List ℕ) (ps : List (List ℕ)) → IsAhead F bytes now ahead ps → IfSome bytes (λ xs. BeginWith F ps xs (ahead ++ rest_of now))
+left-of F None now ahead ps i = tt
+left-of F (Some xs) None ahead ps i = absurd i
+left-of F (Some xs) (Some ys) ahead ps i = i
+
+module _ (C : List ℕ → Option Shape) (root : List ℕ) (bytes : Option (List ℕ)) where
+  -- so many values were taken
+  pub record CountedSoFar (now : Option (List ℕ)) (ahead : List ℕ) (n : ℕ) : Type 0 where
+    pub values : List (List ℕ)
+    pub number : length values ≡ n
+    pub taken : IsAhead (IsFirst C root) bytes now ahead values
+
+  pub count-begins : (now : Option (List ℕ)) (ahead : List ℕ) → now ≡ bytes → ahead ≡ [] → CountedSoFar now ahead 0
+  count-begins now ahead n e = record {
+    values = [];
+    number = refl;
+    taken = subst (λ k. IsAhead (IsFirst C root) bytes k ahead []) (sym n) (subst (λ l. IsAhead (IsFirst C root) bytes bytes l []) (sym e) (ahead-begins (IsFirst C root) bytes));
+  }
+
+  module _ {R : Type 0} (state : R → ReaderState) (old new : Records R) (n : ℕ) (s : CountedSoFar (state (source_of old)).bytes (ahead old) n) where
+    -- the values and what is ahead, after more was read
+    now-ahead : (read : List ℕ) → Consumes (state (source_of old)).bytes (state (source_of new)).bytes read → IsAhead (IsFirst C root) bytes (state (source_of new)).bytes (ahead old ++ read) s.values
+    now-ahead read c = ahead-read (IsFirst C root) bytes (state (source_of old)).bytes (state (source_of new)).bytes (ahead old) read s.values s.taken c
+
+    pub count-more : Advances C root state old new (Ok true) → CountedSoFar (state (source_of new)).bytes (ahead new) (n + 1)
+    count-more a = record {
+      values = s.values ++ (value_of new ∷ []);
+      number = length_push s.values (value_of new) ∙ ap (λ k. k + 1) s.number;
+      taken = ahead-taken (IsFirst C root) bytes (state (source_of new)).bytes (ahead old ++ a.read) (ahead new) (value_of new) s.values (now-ahead a.read a.lost.bytes) (λ more _. a.goes.found refl more);
+    }
+
+    pub count-ends : {yes : Bool} {out : List ℕ} → Advances C root state old new (Ok false) → (yes ≡ true) × (out ≡ line_of (count_text n)) → IsCount C root bytes yes out
+    count-ends a t =
+        let none = a.goes.none refl in
+        counted s.values (ahead-ends (IsFirst C root) bytes (state (source_of new)).bytes (ahead old ++ a.read) s.values (now-ahead a.read a.lost.bytes) none.0 none.1) t.0 (t.1 ∙ ap (λ k. line_of (count_text k)) (sym s.number))
+
+    -- none begins the bytes that are ahead and those that the reader has left
+    stops-there : {yes : Bool} {out : List ℕ} (now : Option (List ℕ)) (ahead : List ℕ) → IsAhead (IsFirst C root) bytes now ahead s.values → BeginsNone C root (ahead ++ rest_of now) → (yes ≡ false) × ((why : List ℕ) × (out ≡ line_of (codes "no member: " ++ why))) → IsCount C root bytes yes out
+    stops-there now ahead i b t = stopped s.values (ahead ++ rest_of now) t.1.0 (left-of (IsFirst C root) bytes now ahead s.values i) b t.0 t.1.1
+
+    pub count-none : {yes : Bool} {out : List ℕ} (o : ℕ) (f : Fault) → Advances C root state old new (Err (NoMember o f)) → (yes ≡ false) × ((why : List ℕ) × (out ≡ line_of (codes "no member: " ++ why))) → IsCount C root bytes yes out
+    count-none o f a t =
+        let X = ahead old ++ a.read in
+        let now = (state (source_of new)).bytes in
+        let none : (more : List ℕ) → HasNoFront C root (X ++ more) f = a.goes.error.1 in
+        stops-there now X (now-ahead a.read a.lost.bytes) (
+          (none (rest_of now)).none,
+          λ e v m. (none v).none (v, [], m, ap (λ l. l ++ v) (nothing-left X (rest_of now) (sym e)) ∙ sym (append-nil v)),
+        ) t
+
+    pub count-short : {yes : Bool} {out : List ℕ} (o : ℕ) (f : Fault) → Advances C root state old new (Err (CutShort o f)) → (yes ≡ false) × ((why : List ℕ) × (out ≡ line_of (codes "no member: " ++ why))) → IsCount C root bytes yes out
+    count-short o f a t =
+        let X = ahead old ++ a.read in
+        let now = (state (source_of new)).bytes in
+        let h = a.goes.error in
+        stops-there now X (now-ahead a.read a.lost.bytes)
+        (subst (BeginsNone C root) (sym (ap (λ l. X ++ l) (none-left now h.3) ∙ append-nil X)) (h.1.none, λ e. absurd (h.2 e))) t
+
+-- ---- each command
+
+each-fails : {F : List ℕ → List ℕ → List ℕ → Type 0} {P : List ℕ → List ℕ → Type 0} {bytes : Option (List ℕ)} {out : List ℕ} {r : Result Bool Failure} (x : Failure) → AnswersEach F P bytes out r → AnswersEach F P bytes out (Err x)
+each-fails x h = record { pieces = h.pieces; left = h.left; answers = h.answers; first = h.first; all = tt }
+
+-- an output that goes with a result goes with a failure
+pub many-fails : (a : Action) (f : Form) (strict : Bool) (l : Layout) (bytes : Option (List ℕ)) (out : List ℕ) (r : Result Bool Failure) (x : Failure) → AnswersMany a f strict l bytes out r → AnswersMany a f strict l bytes out (Err x)
+many-fails Decode AsRecords strict l bytes out r x h = each-fails x h
+many-fails Decode AsLines strict l bytes out r x h = each-fails x h
+many-fails Encode AsRecords strict l bytes out r x h = (each-fails x h.0, tt)
+many-fails Encode AsLines strict l bytes out r x h = each-fails x h
+many-fails AskMember f strict l bytes out r x h = tt
+many-fails Show f strict l bytes out r x h = tt

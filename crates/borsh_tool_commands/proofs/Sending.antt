@@ -1,5 +1,5 @@
 -- What was read from the front of bytes.
-use Rattle.std.proofs.Common.{◌≡◌, ◌∙◌, ℕ, List, Some, refl, sym, ap, String, Result, Ok, Err, IfOk, OnOk}
+use Rattle.std.proofs.Common.{◌≡◌, ◌∙◌, ℕ, List, Some, refl, sym, ap, String, Result, Ok, Err, IfOk}
 use Rattle.std.specs.Prelude.{codes}
 use Rattle.std.specs.Global.{Global}
 use Rattle.std.specs.BTreeMap.{BTreeMap}
@@ -19,11 +19,6 @@ pub sent : (s : Schema) (value bytes : List ℕ) → Decoded (String Global × B
 sent s value bytes d =
     let t = d.took in
     record { front = t.front; is = root_and_map-lawful.canonical t.front (s.root, s.definitions) refl t.holds; whole = t.takes.bytes }
-
--- what holds without an answer holds with one
-pub held : {A E P : Type 0} (result : Result A E) → P → OnOk result P
-held (Ok a) p = p
-held (Err e) p = tt
 
 -- what is read from the bytes of the container of containers is it
 pub own_is : {E : Type 0} (c : BorshSchemaContainer) (bytes given : List ℕ) → IsContainerOf (codes "BorshSchemaContainer") container_definitions c → container.encoding c ≡ Some bytes → given ≡ bytes → (r : Result Schema E) → IfOk r (λ s. schema_encoding s ≡ Some given) → IfOk r IsOwnSchema

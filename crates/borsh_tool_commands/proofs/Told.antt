@@ -1,8 +1,9 @@
 -- What is printed of an error, and of a number.
-use Rattle.std.proofs.Common.{◌≡◌, ℕ, ◌+◌, ◌%◌, ◌^◌, ◌<◌, false, List, [], ◌∷◌, Option, Some, MatchOption, refl, subst, rules, arith, string_bytes, decimal, flat_map}
+use Rattle.std.proofs.Common.{◌≡◌, ℕ, ◌+◌, ◌%◌, ◌^◌, ◌<◌, Bool, true, false, List, [], ◌∷◌, ◌++◌, Option, Some, MatchOption, refl, sym, subst, rules, arith, string_bytes, decimal, flat_map}
+use Rattle.std.specs.Prelude.{codes}
 use Rattle.std.proofs.lemmas.Fmt.{decimal_by_steps}
 use Rattle.std.proofs.lemmas.Grind.{flat_map-append}
-use Rattle.borsh_walks.specs.Container.{Shape, zst_sequence, tag_too_wide, tag_too_narrow, tag_not_power_of_two, missing_definition, empty_length_range}
+use Rattle.borsh_walks.specs.Container.{Shape, Member, zst_sequence, tag_too_wide, tag_too_narrow, tag_not_power_of_two, missing_definition, empty_length_range}
 use Rattle.borsh_walks.specs.Errors.{broken_rule}
 use Rattle.borsh_walks.specs.RulesAnswer.{RulesFault}
 use Rattle.borsh_walks.specs.SizeAnswer.{SizeFault}
@@ -10,7 +11,8 @@ use Rattle.borsh_walks.specs.declared.error.SchemaContainerValidateError.{Schema
 use Rattle.borsh_walks.specs.declared.error.SchemaContainerValidateError.TheVariants.{ZSTSequence, TagTooWide, TagTooNarrow, TagNotPowerOfTwo, MissingDefinition, EmptyLengthRange, OutOfMemory}
 use Rattle.borsh_walks.specs.declared.error.SchemaMaxSerializedSizeError.{SchemaMaxSerializedSizeError}
 use Rattle.borsh_walks.specs.declared.error.SchemaMaxSerializedSizeError.TheVariants.{Overflow, Recursive, MissingDefinition as Missing, OutOfMemory as NoMemory, Redefinition}
-use Rattle.borsh_tool_commands.specs.Answers.{AnswersCheck, AnswersSize, TellsRule, TellsSize, broken_text}
+use Rattle.borsh_tool_commands.specs.Answers.{AnswersCheck, AnswersMember, AnswersSize, TellsRule, TellsSize, broken_text, line_of}
+use Rattle.borsh_tool_commands.specs.Answers.AnswersMember.{no_member, not_canonical}
 use Rattle.borsh_tool_commands.specs.Answers.AnswersCheck.{invalid}
 use Rattle.borsh_tool_commands.specs.Answers.AnswersSize.{overflows, recurs, misses}
 use Rattle.borsh_tool_commands.specs.Plain.{escaped}
@@ -44,3 +46,11 @@ pub decimal_escaped : (n : ℕ) → n < 2 ^ 64 → flat_map escaped (decimal n) 
 decimal_escaped n h =
     decimal_by_steps (λ m ds. flat_map escaped ds ≡ ds) (λ m l. digit_escaped m l)
     (λ m ds l p. let step = digit_escaped (m % 10) (omega arith) in rw (flat_map-append escaped ds ((48 + m % 10) ∷ []), p, step) refl) n h
+
+-- a line that says no, by the name of the root
+module _ (C : List ℕ → Option Shape) {root name bytes out : List ℕ} {is_yes : Bool} where
+  pub no_told : (why : List ℕ) (strict : Bool) → root ≡ name → (Member C root bytes → ⊥) → (is_yes ≡ false) × (out ≡ line_of (codes "no member: " ++ why)) → AnswersMember C name bytes strict is_yes out
+  no_told why strict same none h = no_member why (λ m. none (subst (λ (r : List ℕ). Member C r bytes) (sym same) m)) h.0 h.1
+
+  pub refusal_told : (why : List ℕ) → root ≡ name → Member C root bytes → (is_yes ≡ false) × (out ≡ line_of (codes "not canonical: " ++ why)) → AnswersMember C name bytes true is_yes out
+  refusal_told why same m h = not_canonical why (subst (λ (r : List ℕ). Member C r bytes) same m) refl h.0 h.1

@@ -1,6 +1,6 @@
 -- What the commands answer.
 use Rattle.std.specs.Prelude.{◌≡◌, ℕ, ◌^◌, ◌<◌, ◌≤◌, Bool, true, false, List, [], ◌∷◌, ◌++◌, Option, None, MatchOption, codes, decimal, flat_map, string_bytes}
-use Rattle.borsh_walks.specs.Container.{Shape, Rule, Breaks, IsValid, Reached, SizeReaches, IsRecursive, MaxSize, PartialSize}
+use Rattle.borsh_walks.specs.Container.{Shape, Member, Rule, Breaks, IsValid, Reached, SizeReaches, IsRecursive, MaxSize, PartialSize}
 use Rattle.borsh_walks.specs.Errors.{broken_rule, rule_name}
 use Rattle.borsh_walks.specs.declared.error.SchemaContainerValidateError.{SchemaContainerValidateError}
 use Rattle.borsh_walks.specs.declared.error.SchemaMaxSerializedSizeError.{SchemaMaxSerializedSizeError}
@@ -46,3 +46,11 @@ TellsSize Recursive out = out ≡ line_of (codes "recursive")
 TellsSize (Missing m) out = out ≡ missing_text (string_bytes m)
 TellsSize NoMemory out = ⊥
 TellsSize (Redefinition m) out = ⊥
+
+-- ---- `member`
+
+-- `member`; or `no member`, where, and why, exactly if the bytes are none; or, only where the type is asked too, `not canonical` of a member
+pub data AnswersMember (C : List ℕ → Option Shape) (root bytes : List ℕ) (strict yes : Bool) (out : List ℕ) : Type 0 where
+  member : Member C root bytes → yes ≡ true → out ≡ line_of (codes "member") → AnswersMember C root bytes strict yes out
+  no_member : (why : List ℕ) → (Member C root bytes → ⊥) → yes ≡ false → out ≡ line_of (codes "no member: " ++ why) → AnswersMember C root bytes strict yes out
+  not_canonical : (why : List ℕ) → Member C root bytes → strict ≡ true → yes ≡ false → out ≡ line_of (codes "not canonical: " ++ why) → AnswersMember C root bytes strict yes out

@@ -5,6 +5,9 @@ pub mod Colored
 pub mod Questions
 pub mod Answers
 pub mod Definitions
+pub mod Json
 pub mod Sent
 pub mod Failures
+pub mod Replies
+pub mod Lines
 pub mod Many

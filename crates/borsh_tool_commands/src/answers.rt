@@ -1,5 +1,4 @@
-// What is asked of a container, and the answer. Left open of each call: memory; which of several broken rules or causes is
-// reported.
+// What is asked of a container, and the answer.
 ghost use Rattle.std.specs.Prelude.{◌≡◌, IfOk, IfErr, Some, true, decimal, flat_map};
 ghost use Rattle.borsh.specs.Errors.{error_kind};
 ghost use Rattle.borsh.specs.Reading.{WhyNotDecoded};
@@ -37,7 +36,7 @@ pub struct Answer {
     pub text: PlainText,
 }
 
-/// The container whose encoding the bytes are. Left open: memory.
+/// The container whose encoding the bytes are.
 pub fn container_from(alloc: Global, bytes: &[u8]) -> Result<BorshSchemaContainer, Error>
     ensures ok { IfOk result (λ c. container_codec.encoding c ≡ Some bytes.now) }
     ensures err { IfErr result (λ e. WhyNotDecoded container_codec true bytes.now (error_kind e)) }

@@ -18,7 +18,7 @@ pub enum Color {
 }
 
 /// Text of printable ASCII and line feeds, in colours or without any. So whatever names a container has, nothing but the
-/// colours of this module changes how a terminal shows it. Left open of each call: memory; the text after an error.
+/// colours of this module changes how a terminal shows it.
 #[derive(Debug, Drop)]
 pub struct ColoredText {
     is_colored: bool,
@@ -38,11 +38,11 @@ impl ColoredText {
     }
 
     /// The text, with the codes of its colours.
-    pub fn as_bytes(&self) -> &[u8]
-        ensures is { result.now ≡ self.now.text.items }
-        ensures painted { IsPainted self.now.is_colored result.now }
+    pub fn into_bytes(self) -> Vec<u8>
+        ensures is { result.items ≡ self.text.items }
+        ensures painted { IsPainted self.is_colored result.items }
     {
-        self.text.as_slice()
+        self.text
     }
 
     /// Adds a text in the terminal's own colour. If an allocation fails, nothing is added.
@@ -55,14 +55,6 @@ impl ColoredText {
 
     /// Adds a text in a colour, or as [`push`](ColoredText::push) does if there are no colours. If an
     /// allocation fails, a beginning of it may be added.
-    ///
-    /// ```
-    /// let mut name = PlainText::new(alloc);
-    /// name.push("u8")?;
-    /// let mut text = ColoredText::new(alloc, true);
-    /// text.push_in(Color::Cyan, &name)?;
-    /// assert_eq!(rt; text.as_bytes(), b"\x1b[36mu8\x1b[39m".as_slice());
-    /// ```
     pub fn push_in(&mut self, color: Color, text: &PlainText) -> Result<(), AllocError>
         ensures colored { self.new.is_colored ≡ self.old.is_colored }
         ensures ok { OnOk result (self.new.text.items

@@ -1,4 +1,4 @@
-// What each byte of a value is, as lines whose columns are aligned. Left open of each call: memory; any text: tested.
+// What each byte of a value is, as lines whose columns are aligned.
 ghost use Rattle.std.specs.Prelude.{◌≡◌, IfOk};
 ghost use Rattle.borsh_tool_commands.specs.Colored.{has_colors};
 

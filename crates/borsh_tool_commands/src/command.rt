@@ -1,4 +1,4 @@
-// The command line. Left open of each call: everything, which is tested.
+// The command line.
 use super::answers::Question;
 use clap::{Arg, ArgAction, ArgMatches, Command};
 use std::alloc::{AllocError, Global};
@@ -29,6 +29,46 @@ const AFTER_MEMBER: &str =
 
 const AFTER_SHOW: &str =
     "A line for each number, text, count and tag: its offset, its bytes (the first 16), the path to it, its type, and what\nit says; on a terminal in colours, unless NO_COLOR is set.";
+
+// The help of arguments.
+const QUOTED: &str = "Prints numbers of 64 bits as strings, since JavaScript rounds them";
+
+const DECODE_RECORDS: &str = "The bytes are values one after another; prints a line for each";
+
+const DECODE_LINES: &str = "Each line is the digits of a value, or `-`; answers each by a line";
+
+const MEMBER_STRICT: &str = "Says no to bytes that the type refuses, as far as names tell";
+
+const MEMBER_RECORDS: &str = "The bytes are values one after another; prints how many";
+
+const CONTAINER_FILE: &str =
+    "The encoded container: a file, its digits as `0x..`, or `-` for standard input";
+
+const FILE_HEX: &str = "The input is hexadecimal digits; white space in it counts for nothing";
+
+const VALUE_FILE: &str =
+    "The bytes of the value: a file, their digits as `0x..`, or `-` for standard input";
+
+const VALUE_HEX: &str = "The bytes of the value are hexadecimal digits";
+
+const IN_FRONT: &str = "The bytes have their container in front, and SCHEMA is left out";
+
+const RAW_ON_TERMINAL: &str = "Prints raw bytes where standard output is a terminal, too";
+
+const WITH_SCHEMA: &str = "Prints the bytes of the container in front";
+
+const ENCODE_RECORDS: &str =
+    "Each line is the JSON of a value; prints their bytes one after another";
+
+const ENCODE_LINES: &str =
+    "Each line is the JSON of a value; answers each by a line of digits, or `-`";
+
+const SCHEMA_FILE: &str =
+    "The encoded container: a file, its digits as `0x..`, `-` for standard input, or `self` for that of containers";
+
+const QUIET: &str = "With --records, prints no progress where standard error is a terminal";
+
+const STRICT_LINES: &str = "With --lines, ends the run at the first line that is no value";
 
 /// What is asked of a container, and where the container is.
 #[derive(Clone, Copy, Debug)]
@@ -91,14 +131,11 @@ pub struct ValueRequest<'a> {
     pub is_plain: bool,
     /// Whether raw bytes may go to a terminal.
     pub is_raw: bool,
+    /// Whether no progress is wanted.
+    pub is_quiet: bool,
 }
 
 /// The commands of the tool.
-///
-/// ```
-/// let matches = command(alloc)?.try_get_matches_from(words)?;
-/// let request = request_from(&matches);
-/// ```
 pub fn command<'a>(alloc: Global) -> Result<Command<'a>, AllocError> {
     Command::new(alloc, "borsh")
         .bin_name("borsh")?
@@ -135,35 +172,19 @@ fn decode_command<'a>(alloc: Global) -> Result<Command<'a>, AllocError> {
     on_bytes(alloc, "decode", "Prints a value as JSON")?
         .after_help(AFTER_DECODE)
         .arg(flag(alloc, "compact", "Prints one line, without white space"))?
-        .arg(flag(
-            alloc,
-            "quoted",
-            "Prints numbers of 64 bits as strings, since JavaScript rounds them",
-        ))?
-        .arg(records(
-            alloc,
-            "The bytes are values one after another; prints a line for each",
-        )?)?
-        .arg(lines(
-            alloc,
-            "Each line is the digits of a value, or `-`; answers each by a line",
-        )?)?
+        .arg(flag(alloc, "quoted", QUOTED))?
+        .arg(records(alloc, DECODE_RECORDS)?)?
+        .arg(quiet(alloc)?)?
+        .arg(lines(alloc, DECODE_LINES)?)?
         .arg(strict_lines(alloc)?)
 }
 
 fn member_command<'a>(alloc: Global) -> Result<Command<'a>, AllocError> {
     on_bytes(alloc, "member", "Checks that bytes are a value")?
         .after_help(AFTER_MEMBER)
-        .arg(flag(
-            alloc,
-            "strict",
-            "Says no to bytes that the type refuses, as far as names tell",
-        ))?
-        .arg(records(
-            alloc,
-            "The bytes are values one after another; prints how many",
-        )?
-        .conflicts_with("strict")?)
+        .arg(flag(alloc, "strict", MEMBER_STRICT))?
+        .arg(records(alloc, MEMBER_RECORDS)?.conflicts_with("strict")?)?
+        .arg(quiet(alloc)?)
 }
 
 fn show_command<'a>(alloc: Global) -> Result<Command<'a>, AllocError> {
@@ -180,16 +201,8 @@ fn on_container<'a>(
 ) -> Result<Command<'a>, AllocError> {
     Command::new(alloc, name)
         .about(about)
-        .arg(value(
-            alloc,
-            "FILE",
-            "The encoded container: a file, its digits as `0x..`, or `-` for standard input",
-        ))?
-        .arg(flag(
-            alloc,
-            "hex",
-            "The input is hexadecimal digits; white space in it counts for nothing",
-        ))
+        .arg(value(alloc, "FILE", CONTAINER_FILE))?
+        .arg(flag(alloc, "hex", FILE_HEX))
 }
 
 /// A command that reads the bytes of a value, and its container in front of these or from a file of its own.
@@ -198,22 +211,10 @@ fn on_bytes<'a>(alloc: Global, name: &'a str, about: &'a str) -> Result<Command<
         .about(about)
         .allow_missing_positional(true)
         .arg(schema_unless_sent(alloc)?)?
-        .arg(value(
-            alloc,
-            "VALUE",
-            "The bytes of the value: a file, their digits as `0x..`, or `-` for standard input",
-        ))?
-        .arg(flag(
-            alloc,
-            "hex",
-            "The bytes of the value are hexadecimal digits",
-        ))?
+        .arg(value(alloc, "VALUE", VALUE_FILE))?
+        .arg(flag(alloc, "hex", VALUE_HEX))?
         .arg(schema_hex(alloc).conflicts_with("with-schema")?)?
-        .arg(flag(
-            alloc,
-            "with-schema",
-            "The bytes have their container in front, and SCHEMA is left out",
-        ))
+        .arg(flag(alloc, "with-schema", IN_FRONT))
 }
 
 /// The command that reads JSON.
@@ -229,26 +230,12 @@ fn encode_command<'a>(alloc: Global) -> Result<Command<'a>, AllocError> {
                 .required_unless_present("lines")?,
         )?
         .arg(flag(alloc, "hex", "Prints hexadecimal digits"))?
-        .arg(flag(
-            alloc,
-            "raw",
-            "Prints raw bytes where standard output is a terminal, too",
-        ))?
+        .arg(flag(alloc, "raw", RAW_ON_TERMINAL))?
         .arg(schema_hex(alloc))?
-        .arg(flag(
-            alloc,
-            "with-schema",
-            "Prints the bytes of the container in front",
-        ))?
-        .arg(records(
-            alloc,
-            "Each line is the JSON of a value; prints their bytes one after another",
-        )?
-        .conflicts_with("hex")?)?
-        .arg(lines(
-            alloc,
-            "Each line is the JSON of a value; answers each by a line of digits, or `-`",
-        )?)?
+        .arg(flag(alloc, "with-schema", WITH_SCHEMA))?
+        .arg(records(alloc, ENCODE_RECORDS)?.conflicts_with("hex")?)?
+        .arg(quiet(alloc)?)?
+        .arg(lines(alloc, ENCODE_LINES)?)?
         .arg(strict_lines(alloc)?)
 }
 
@@ -267,9 +254,7 @@ fn schema_unless_sent<'a>(alloc: Global) -> Result<Arg<'a>, AllocError> {
 }
 
 fn schema<'a>(alloc: Global) -> Arg<'a> {
-    Arg::new(alloc, "SCHEMA").help(
-        "The encoded container: a file, its digits as `0x..`, `-` for standard input, or `self` for that of containers",
-    )
+    Arg::new(alloc, "SCHEMA").help(SCHEMA_FILE)
 }
 
 fn schema_hex<'a>(alloc: Global) -> Arg<'a> {
@@ -281,6 +266,11 @@ fn records<'a>(alloc: Global, help: &'a str) -> Result<Arg<'a>, AllocError> {
     flag(alloc, "records", help).conflicts_with("with-schema")
 }
 
+/// That no progress is printed.
+fn quiet<'a>(alloc: Global) -> Result<Arg<'a>, AllocError> {
+    flag(alloc, "quiet", QUIET).requires_arg("records")
+}
+
 /// That there is a value a line.
 fn lines<'a>(alloc: Global, help: &'a str) -> Result<Arg<'a>, AllocError> {
     flag(alloc, "lines", help).conflicts_with_all(&["records", "with-schema", "hex"])
@@ -288,12 +278,7 @@ fn lines<'a>(alloc: Global, help: &'a str) -> Result<Arg<'a>, AllocError> {
 
 /// That a line that is no value ends the run.
 fn strict_lines<'a>(alloc: Global) -> Result<Arg<'a>, AllocError> {
-    flag(
-        alloc,
-        "strict",
-        "With --lines, ends the run at the first line that is no value",
-    )
-    .requires_arg("lines")
+    flag(alloc, "strict", STRICT_LINES).requires_arg("lines")
 }
 
 /// An option without a value.
@@ -337,6 +322,7 @@ pub fn value_request_from<'a>(matches: &ArgMatches<'a>) -> Option<ValueRequest<'
         is_strict: inner.get_flag("strict"),
         is_plain: inner.get_flag("plain"),
         is_raw: inner.get_flag("raw"),
+        is_quiet: inner.get_flag("quiet"),
     })
 }
 

@@ -11,7 +11,7 @@ use borsh::schema::{BorshSchemaContainer, Declaration, Definition, Fields, Lengt
 use std::alloc::{AllocError, Global};
 
 /// The definitions of a container, one a line: the root's, and then the others by name. A root without a
-/// definition is `missing` and its name. Left open: memory.
+/// definition is `missing` and its name.
 pub fn schema_text(alloc: Global, container: &BorshSchemaContainer) -> Result<PlainText, AllocError>
     ensures { IfOk result (λ t. printed t ≡ schema_lines container.now) }
 {

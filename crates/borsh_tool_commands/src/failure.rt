@@ -1,4 +1,4 @@
-// Why a command has no answer. Left open of each call: everything, which is tested.
+// Why a command has no answer.
 ghost use Rattle.borsh_tool_commands.specs.declared.failure.Failure.TheVariants.{OutOfMemory};
 ghost use Rattle.std.specs.Prelude.{◌≡◌};
 

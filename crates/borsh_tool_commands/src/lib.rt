@@ -2,7 +2,7 @@
 //!
 //! [`run`] is a run of the tool over the words of its command line. The modules have what it is made of: the command line
 //! ([`command`]), the answers about a container ([`answers`], [`definitions`]), about a value ([`values`]) and about many
-//! ([`many`]), what is printed ([`plain_text`], [`colors`]), and why there is no answer ([`failure`]).
+//! ([`many`]), what is printed ([`replies`], [`plain_text`], [`colors`]), and why there is no answer ([`failure`]).
 #![tactic(auto)]
 
 pub mod answers;
@@ -14,6 +14,8 @@ pub mod failure;
 mod lines;
 pub mod many;
 pub mod plain_text;
+pub mod progress;
+pub mod replies;
 pub mod runner;
 pub mod values;
 

@@ -1,70 +1,71 @@
-// Lines of a reader.
+// Lines of a reader. A line ends by a line feed; a last line without one counts if it isn't empty.
+ghost use Rattle.borsh_tool_commands.specs.Lines.{HasNoFeed, IsFirstLine, NextLine};
+ghost use Rattle.borsh_values.specs.Records.{held, piece, reader_of};
+ghost use Rattle.std.specs.Prelude.{IfOk, List, ℕ, ◌++◌, ◌<◌, ◌≡◌, ◌≢◌, ◌≤◌, false, length, slice_index, take, true};
+
 use super::failure::Failure;
 use borsh::io::Read;
 use borsh_values::Buffered;
-use std::alloc::Global;
 
 /// How many bytes a line has at most.
 pub const MOST_LINE: usize = 268435456;
 
-/// The lines of a reader. A line ends by a line feed; a last line without one counts if it isn't empty.
-#[derive(Drop)]
-pub struct Lines<R> {
-    input: Buffered<R>,
-    // How many of the bytes that are held are no line feed.
-    searched: usize,
+/// Takes the next line, with its line feed, and returns whether there is one.
+pub fn take_line<'a, R: Read + Drop>(
+    input: &mut Buffered<R>,
+    path: &'a str,
+) -> Result<bool, Failure<'a>>
+    ensures { IfOk result (λ found. NextLine R.stream input.old input.new found) }
+{
+    let mut searched = 0;
+    'reads: for _ in 0..u64::MAX {
+        if take_held_line(input, searched) {
+            return Ok(true);
+        }
+        searched = input.held().len();
+        if MOST_LINE < searched {
+            return Err(Failure::LongLine(path));
+        }
+        match input.read_more() {
+            Ok(0) => {
+                input.take(searched);
+                return Ok(0 < searched);
+            }
+            Ok(_) => (),
+            Err(error) => return Err(Failure::Unread(path, error)),
+        }
+    }
+    Err(Failure::LongLine(path))
 }
 
-impl<R: Read + Drop> Lines<R> {
-    pub fn new(alloc: Global, input: R) -> Lines<R> {
-        Lines {
-            input: Buffered::new(alloc, input),
-            searched: 0,
+/// The same of the bytes that are held, of which the first have no line feed.
+pub fn take_held_line<R: Read + Drop>(input: &mut Buffered<R>, searched: usize) -> bool
+    requires within { searched ≤ length (held input.old) }
+    requires none { HasNoFeed (take searched (held input.old)) }
+    ensures reader { reader_of input.new ≡ reader_of input.old }
+    ensures found { result ≡ true → (more : List ℕ) →
+        IsFirstLine (piece input.new) (held input.old ++ more) (held input.new ++ more) }
+    ensures none { result ≡ false → HasNoFeed (held input.old) × (input.new ≡ input.old) }
+{
+    let rest = &input.held()[searched..];
+    let length = line_length(rest);
+    if length == rest.len() {
+        return false;
+    }
+    input.take(searched + length + 1);
+    true
+}
+
+/// How many bytes stand in front of the first line feed.
+fn line_length(bytes: &[u8]) -> usize
+    ensures within { result ≤ length bytes.now }
+    ensures before { (k : ℕ) → k < result → slice_index bytes.now k ≢ 10 }
+    ensures found { result < length bytes.now → slice_index bytes.now result ≡ 10 }
+{
+    for (i, byte) in bytes.iter().enumerate() {
+        if *byte == b'\n' {
+            return i;
         }
     }
-
-    /// The last line, without white space around it.
-    pub fn line(&self) -> &[u8] {
-        self.input.piece().trim_ascii()
-    }
-
-    /// Goes on to the next line, if it was read whole.
-    pub fn advance_held(&mut self) -> bool {
-        let held = self.input.held();
-        let new = &held[self.searched.min(held.len())..];
-        match new.iter().position(|byte| *byte == b'\n') {
-            Some(length) => {
-                self.input.take(self.searched + length + 1);
-                self.searched = 0;
-                true
-            }
-            None => {
-                self.searched = held.len();
-                false
-            }
-        }
-    }
-
-    /// Goes on to the next line, and returns whether there is one.
-    pub fn advance<'a>(&mut self, path: &'a str) -> Result<bool, Failure<'a>> {
-        for _ in 0..u64::MAX {
-            if self.advance_held() {
-                return Ok(true);
-            }
-            let held = self.input.held().len();
-            if MOST_LINE < held {
-                return Err(Failure::LongLine(path));
-            }
-            match self.input.read_more() {
-                Ok(0) => {
-                    self.input.take(held);
-                    self.searched = 0;
-                    return Ok(0 < held);
-                }
-                Ok(_) => (),
-                Err(error) => return Err(Failure::Unread(path, error)),
-            }
-        }
-        Ok(false)
-    }
+    bytes.len()
 }

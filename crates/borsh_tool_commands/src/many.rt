@@ -1,18 +1,31 @@
 // What is asked of values one after another, and of one value a line.
+ghost use Rattle.borsh_json.specs.Errors.{IsNoJsonReason};
+ghost use Rattle.borsh_json.specs.Known.{HasKinds};
+ghost use Rattle.borsh_tool_commands.specs.Answers.{line_of};
+ghost use Rattle.borsh_tool_commands.specs.Failures.{HasReason, IsFailure};
+ghost use Rattle.borsh_tool_commands.specs.Json.{IsJson, IsJsonLine};
+ghost use Rattle.borsh_tool_commands.specs.Lines.{IsFirstLine, NextLine};
+ghost use Rattle.borsh_tool_commands.specs.Many.{AnswersEach, AnswersLine, AnswersMany, AnswersText, Flushes, IsCount, IsErrorLine, IsUnwritten, Writes, count_text, digits_line as line_of_digits, said_by as said_by_digits, unmarked as unmarked_digits};
+ghost use Rattle.borsh_tool_commands.specs.Printed.{Adds, printed};
 ghost use Rattle.borsh_values.specs.Free.{KnowsSizes};
 ghost use Rattle.borsh_values.specs.Layouts.{IsLaidOut};
+ghost use Rattle.borsh_values.specs.Next.{IsFirst};
 ghost use Rattle.borsh_values.specs.Records.{Advances, SameRoot, ahead, layout_of, source_of};
+ghost use Rattle.borsh_walks.specs.Container.{Member};
 ghost use Rattle.borsh_walks.specs.Definitions.{definitions_in};
-ghost use Rattle.borsh_tool_commands.specs.Many.{Decodes, Flushes, IsJsonOf, IsUnwritten, IsWriteFailure};
-ghost use Rattle.std.specs.Prelude.{[], IfOk, Ok, OnErr, ◌≡◌};
+ghost use Rattle.hex.specs.declared.error.FromHexError.TheVariants.{OutOfMemory as NoDigitsMemory};
+ghost use Rattle.std.specs.Prelude.{[], IfErr, IfOk, List, Ok, Err, OnErr, OnOk, codes, false, true, ℕ, ◌≡◌, ◌++◌, ◌⊎◌};
 
 use super::answers::{Answer, line};
+use super::command::{Action, Form};
 use super::failure::Failure;
-use super::lines::Lines;
-use super::values::hex_line;
+use super::lines::{take_held_line, take_line};
+use super::plain_text::{Added, PlainText};
+use super::progress::Progress;
+use super::values::{hex_line, no, no_value};
 use borsh::io::{Read, Write};
-use borsh_json::{JsonError, Style, from_json_by, in_ascii, to_json_by};
-use borsh_values::{Layout, MOST_BYTES, RecordError, Records};
+use borsh_json::{Json, Style, in_ascii};
+use borsh_values::{Buffered, Fault, MOST_BYTES, RecordError, Records};
 use hex::FromHexError;
 use json::Writer;
 use std::alloc::{AllocError, Global};
@@ -25,274 +38,385 @@ const ROOM: usize = 65536;
 #[derive(Clone, Copy)]
 pub struct Many<'a, 'l, 's> {
     pub alloc: Global,
-    pub layout: &'l Layout<'s>,
+    pub json: &'l Json<'s, 'l>,
     /// Where the values are from.
     pub path: &'a str,
     /// How JSON is written: without white space, in ASCII.
     pub style: Style,
-    /// Whether the first line that is no value ends the run.
+    /// Whether the first line that has no answer ends the run.
     pub is_strict: bool,
 }
 
-/// Writes a line of JSON for each of the values that the reader's bytes are, one after another, as they are read.
+/// What answers a line.
+#[derive(Clone, Copy, Debug, PartialEq, Eq)]
+pub enum Wanted {
+    /// The JSON of the value whose digits it is, as a line.
+    Json,
+    /// The digits of the value whose JSON it is, as a line.
+    Digits,
+    /// The bytes of the value whose JSON it is.
+    Bytes,
+}
+
+/// Writes what a command answers of many values, as they are read, and returns whether the answer is yes.
 ///
-/// Where the bytes stop being values, or a value has no JSON, `NotValue` says where and why, and the lines of the values before
-/// it were written. Determined: what was written are lines of JSON, one for each of the first values and nothing else, and for
-/// all of them after `Ok`; unless the writer fails, none that was made is lost. Left open: memory; which JSON: as of
-/// [`to_json_by`]; when a failure is returned: tested.
+/// `Decode` writes a line of JSON for each value that the reader's bytes are, one after another, and `Encode` the bytes of the
+/// value that each line of JSON says. With `Lines` each line is the digits of a value, which is answered by its JSON, or the JSON
+/// of one, which is answered by its digits; unless lines are strict, one that is neither is answered by `{"error": ..}`. The others
+/// count the values. An error comes after the answers before it: `NotValue` where bytes or a line are no value.
+///
+/// Determined: what was written is an answer to each of the first values or lines, in order and nothing else, and to all of them
+/// after `Ok`; unless the writer fails, none that was made is lost; an error line, only where there is a reason; the number of
+/// values, and that where it is no none begins there. Left open: memory; line feeds within a line of JSON, when a failure is
+/// returned, and texts of errors: tested; as of [`borsh_json`].
 ///
 /// ```
-/// decode_records(&many, StdReader::new(rt.stdin(), 1000), &mut out)?;
+/// answer_many(Action::Decode, Form::Records, &many, StdReader::new(rt.stdin(), 1000), &mut progress, &mut out)?;
 /// ```
-pub fn decode_records<'a, R: Read + Drop, W: Write>(
+pub fn answer_many<'a, E: Eprint, R: Read + Drop, W: Write>(
+    action: Action,
+    form: Form,
     many: &Many<'a, '_, '_>,
     input: R,
+    progress: &mut Progress<'_, E>,
     out: &mut W,
-) -> Result<(), Failure<'a>>
-    requires laid_out { IsLaidOut many.now.layout.now }
-    requires sizes { KnowsSizes many.now.layout.now }
-    ensures { let layout = many.now.layout.now in
-        Decodes (definitions_in layout.map.now) layout.root.now (R.stream input).bytes
+) -> Result<bool, Failure<'a>>
+    requires { HasKinds many.now.json.now }
+    ensures { let l = many.now.json.now.layout.now in
+        Writes (AnswersMany action form many.now.is_strict l (R.stream input).bytes)
         W.writing out.old out.new [] result }
 {
     let mut made = Vec::new(many.alloc);
-    let outcome = decode_each(many, input, &mut made, out);
+    let outcome = make_answers(action, form, many, input, progress, &mut made, out);
     write_made(&mut made, out)?;
     outcome
 }
 
-fn decode_each<'a, R: Read + Drop, W: Write>(
+fn make_answers<'a, E: Eprint, R: Read + Drop, W: Write>(
+    action: Action,
+    form: Form,
     many: &Many<'a, '_, '_>,
     input: R,
+    progress: &mut Progress<'_, E>,
     made: &mut Vec<u8>,
     out: &mut W,
-) -> Result<(), Failure<'a>>
-    requires laid_out { IsLaidOut many.now.layout.now }
-    requires sizes { KnowsSizes many.now.layout.now }
+) -> Result<bool, Failure<'a>>
+    requires known { HasKinds many.now.json.now }
     requires none { made.old.items ≡ [] }
-    ensures { let layout = many.now.layout.now in
-        Decodes (definitions_in layout.map.now) layout.root.now (R.stream input).bytes
+    ensures { let l = many.now.json.now.layout.now in
+        Writes (AnswersMany action form many.now.is_strict l (R.stream input).bytes)
+        W.writing out.old out.new made.new.items result }
+{
+    let is_lenient = !many.is_strict;
+    match action {
+        Action::Decode => match form {
+            Form::Records => decode_records(many, input, progress, made, out),
+            Form::Lines => answer_lines(many, Wanted::Json, is_lenient, input, progress, made, out),
+        },
+        Action::Encode => match form {
+            Form::Records => encode_records(many, input, progress, made, out),
+            Form::Lines => answer_lines(
+                many,
+                Wanted::Digits,
+                is_lenient,
+                input,
+                progress,
+                made,
+                out,
+            ),
+        },
+        Action::Member => make_count(many, input, progress, made),
+        Action::Show => Err(Failure::NoCommand),
+    }
+}
+
+/// Makes a line of JSON for each value, and writes them.
+fn decode_records<'a, E: Eprint, R: Read + Drop, W: Write>(
+    many: &Many<'a, '_, '_>,
+    input: R,
+    progress: &mut Progress<'_, E>,
+    made: &mut Vec<u8>,
+    out: &mut W,
+) -> Result<bool, Failure<'a>>
+    requires known { HasKinds many.now.json.now }
+    requires none { made.old.items ≡ [] }
+    ensures { let l = many.now.json.now.layout.now in
+        Writes (AnswersMany Action.Decode Form.Records many.now.is_strict l (R.stream input).bytes)
         W.writing out.old out.new made.new.items result }
 {
     let mut records = records_of(many, input)?;
     while next_record(many, &mut records, made, out)? {
         match json_line(many, records.value()) {
             Ok(line) => made.extend_from_slice(line.as_slice())?,
-            Err(error) => return Err(no_json(many, records.offset(), error)),
+            Err(failure) => {
+                return Err(placed(many.alloc, failure, "value at byte", records.offset()));
+            }
         }
+        progress.step(records.value().len());
     }
-    Ok(())
+    Ok(true)
+}
+
+/// Makes the bytes of the value that each line of JSON says, and writes them, if no value is without bytes.
+fn encode_records<'a, E: Eprint, R: Read + Drop, W: Write>(
+    many: &Many<'a, '_, '_>,
+    input: R,
+    progress: &mut Progress<'_, E>,
+    made: &mut Vec<u8>,
+    out: &mut W,
+) -> Result<bool, Failure<'a>>
+    requires known { HasKinds many.now.json.now }
+    requires none { made.old.items ≡ [] }
+    ensures { let l = many.now.json.now.layout.now in
+        Writes (AnswersMany Action.Encode Form.Records many.now.is_strict l (R.stream input).bytes)
+        W.writing out.old out.new made.new.items result }
+{
+    let _none = records_of(many, b"".as_slice())?;
+    answer_lines(many, Wanted::Bytes, false, input, progress, made, out)
 }
 
 /// The JSON of a value, and a line feed.
-fn json_line<'s>(many: &Many<'_, '_, 's>, value: &[u8]) -> Result<Vec<u8>, JsonError<'s>>
-    requires laid_out { IsLaidOut many.now.layout.now }
-    requires sizes { KnowsSizes many.now.layout.now }
-    ensures { let layout = many.now.layout.now in
-        IfOk result (λ line. IsJsonOf (definitions_in layout.map.now) layout.root.now value.now line.items) }
+fn json_line<'a>(many: &Many<'a, '_, '_>, value: &[u8]) -> Result<Vec<u8>, Failure<'a>>
+    requires { HasKinds many.now.json.now }
+    ensures ok { let l = many.now.json.now.layout.now in
+        IfOk result (λ line. IsJsonLine l.map.now l.root.now value.now line.items) }
+    ensures err { let l = many.now.json.now.layout.now in IfErr result (IsFailure many.now.path.now ⊥
+        (HasReason (IsNoJsonReason (definitions_in l.map.now) l.root.now value.now)) ⊥) }
 {
-    let mut line = to_json_by(many.alloc, many.layout, value, many.style)?.into_bytes();
-    line.push(b'\n')?;
-    Ok(line)
+    match many.json.to_json(value, many.style) {
+        Ok(text) => {
+            let mut line = text.into_bytes();
+            line.extend_from_slice(b"\n".as_slice())?;
+            Ok(line)
+        }
+        Err(error) => Err(no_value(many.alloc, many.path, error)),
+    }
+}
+
+/// Makes the line that says how many values there are, and returns whether the bytes are that.
+fn make_count<'a, E: Eprint, R: Read + Drop>(
+    many: &Many<'a, '_, '_>,
+    input: R,
+    progress: &mut Progress<'_, E>,
+    made: &mut Vec<u8>,
+) -> Result<bool, Failure<'a>>
+    requires known { HasKinds many.now.json.now }
+    requires none { made.old.items ≡ [] }
+    ensures { let layout = many.now.json.now.layout.now in IfOk result (λ yes.
+        IsCount (definitions_in layout.map.now) layout.root.now (R.stream input).bytes yes made.new.items) }
+{
+    let Answer { is_yes, text } = count_records(many, input, progress)?;
+    made.extend_from_slice(text.as_bytes())?;
+    Ok(is_yes)
 }
 
 /// How many values the bytes are, one after another; or where they stop being values.
-pub fn count_records<'a, R: Read + Drop>(
+fn count_records<'a, E: Eprint, R: Read + Drop>(
     many: &Many<'a, '_, '_>,
     input: R,
+    progress: &mut Progress<'_, E>,
 ) -> Result<Answer, Failure<'a>>
-    requires laid_out { IsLaidOut many.now.layout.now }
-    requires sizes { KnowsSizes many.now.layout.now }
+    requires { HasKinds many.now.json.now }
+    ensures { let layout = many.now.json.now.layout.now in IfOk result (λ a.
+        IsCount (definitions_in layout.map.now) layout.root.now (R.stream input).bytes a.is_yes (printed a.text)) }
 {
-    let alloc = many.alloc;
     let mut records = records_of(many, input)?;
     for count in 0..u64::MAX {
-        match records.advance(alloc) {
-            Ok(true) => (),
-            Ok(false) => {
-                let values = if count == 1 { "value" } else { "values" };
-                let text = format!(in alloc; "{count} {values}")?;
-                let text = line(alloc, text.as_str())?;
-                return Ok(Answer { is_yes: true, text });
+        match records.advance(many.alloc) {
+            Ok(true) => progress.step(records.value().len()),
+            Ok(false) => return Ok(counted(many.alloc, count)?),
+            Err(RecordError::NoMember(offset, fault)) => {
+                return Ok(stopped(many.alloc, count, offset, fault)?);
             }
-            Err(RecordError::NoMember(offset, fault)) | Err(RecordError::CutShort(offset, fault)) =>
-                {
-                    let text = format!(in alloc;
-                        "no member: value {count} at byte {offset}: {fault}"
-                    )?;
-                    let text = line(alloc, text.as_str())?;
-                    return Ok(Answer {
-                        is_yes: false,
-                        text,
-                    });
-                }
+            Err(RecordError::CutShort(offset, fault)) => {
+                return Ok(stopped(many.alloc, count, offset, fault)?);
+            }
             Err(error) => return Err(no_record(many, error)),
         }
     }
     Err(Failure::OutOfMemory)
 }
 
-/// Writes the bytes of the values that lines of JSON say, one after another.
-pub fn encode_records<'a, R: Read + Drop, W: Write>(
-    many: &Many<'a, '_, '_>,
-    input: R,
-    out: &mut W,
-) -> Result<(), Failure<'a>>
-    requires laid_out { IsLaidOut many.now.layout.now }
-    requires sizes { KnowsSizes many.now.layout.now }
+/// The answer that the bytes are so many values.
+fn counted(alloc: Global, count: u64) -> Result<Answer, AllocError>
+    ensures { IfOk result (λ a. (a.is_yes ≡ true) × (printed a.text ≡ line_of (count_text count))) }
 {
-    let mut made = Vec::new(many.alloc);
-    let outcome = encode_each(many, input, &mut made, out);
-    write_made(&mut made, out)?;
-    outcome
+    let mut text = PlainText::new(alloc);
+    push_count(count, &mut text)?;
+    text.end_line()?;
+    Ok(Answer { is_yes: true, text })
 }
 
-fn encode_each<'a, R: Read + Drop, W: Write>(
-    many: &Many<'a, '_, '_>,
-    input: R,
-    made: &mut Vec<u8>,
-    out: &mut W,
-) -> Result<(), Failure<'a>>
-    requires laid_out { IsLaidOut many.now.layout.now }
-    requires sizes { KnowsSizes many.now.layout.now }
+fn push_count(count: u64, out: &mut PlainText) -> Added
+    ensures { Adds out.old out.new result (count_text count) }
 {
-    let mut lines = Lines::new(many.alloc, input);
-    for number in 1..u64::MAX {
-        if !next_line(many, &mut lines, made, out)? {
-            return Ok(());
-        }
-        match encoded(many, lines.line())? {
-            Ok(bytes) if bytes.is_empty() => return Err(no_record(many, RecordError::EmptyValue)),
-            Ok(bytes) => made.extend_from_slice(bytes.as_slice())?,
-            Err(why) => return Err(no_line(many, number, why)),
-        }
-    }
-    Ok(())
-}
-
-/// Answers each line, the digits of a value, by its JSON as a line, or the JSON of a value by its digits; or by `{"error": ..}`.
-pub fn answer_lines<'a, R: Read + Drop, W: Write>(
-    many: &Many<'a, '_, '_>,
-    is_encoding: bool,
-    input: R,
-    out: &mut W,
-) -> Result<(), Failure<'a>>
-    requires laid_out { IsLaidOut many.now.layout.now }
-    requires sizes { KnowsSizes many.now.layout.now }
-{
-    let mut made = Vec::new(many.alloc);
-    let outcome = answer_each(many, is_encoding, input, &mut made, out);
-    write_made(&mut made, out)?;
-    outcome
-}
-
-fn answer_each<'a, R: Read + Drop, W: Write>(
-    many: &Many<'a, '_, '_>,
-    is_encoding: bool,
-    input: R,
-    made: &mut Vec<u8>,
-    out: &mut W,
-) -> Result<(), Failure<'a>>
-    requires laid_out { IsLaidOut many.now.layout.now }
-    requires sizes { KnowsSizes many.now.layout.now }
-{
-    let mut lines = Lines::new(many.alloc, input);
-    for number in 1..u64::MAX {
-        if !next_line(many, &mut lines, made, out)? {
-            return Ok(());
-        }
-        let answer = if is_encoding {
-            digits_line(many, lines.line())?
-        } else {
-            json_line_said(many, lines.line())?
-        };
-        let line = match answer {
-            Ok(line) => line,
-            Err(why) if many.is_strict => return Err(no_line(many, number, why)),
-            Err(why) => error_line(many.alloc, why.as_str())?,
-        };
-        made.extend_from_slice(line.as_slice())?;
-    }
-    Ok(())
-}
-
-/// The line of JSON for the value whose digits a line is, or why it is none.
-fn json_line_said(
-    many: &Many<'_, '_, '_>,
-    digits: &[u8],
-) -> Result<Result<Vec<u8>, String>, AllocError>
-    requires laid_out { IsLaidOut many.now.layout.now }
-    requires sizes { KnowsSizes many.now.layout.now }
-{
-    let digits = match digits {
-        b"-" => b"".as_slice(),
-        [b'0', b'x', rest @ ..] => rest,
-        _ => digits,
-    };
-    let bytes = match hex::decode(many.alloc, digits) {
-        Ok(bytes) => bytes,
-        Err(FromHexError::OutOfMemory) => return Err(AllocError),
-        Err(error) => return Ok(Err(format!(in many.alloc; "{error}")?)),
-    };
-    match json_line(many, bytes.as_slice()) {
-        Ok(line) => Ok(Ok(line)),
-        Err(error) => Ok(Err(reason(many.alloc, error)?)),
-    }
-}
-
-/// The digits of the value whose JSON a line is, and a line feed; or why it is none.
-fn digits_line(many: &Many<'_, '_, '_>, json: &[u8]) -> Result<Result<Vec<u8>, String>, AllocError>
-    requires laid_out { IsLaidOut many.now.layout.now }
-    requires sizes { KnowsSizes many.now.layout.now }
-{
-    let bytes = match encoded(many, json)? {
-        Ok(bytes) => bytes,
-        Err(why) => return Ok(Err(why)),
-    };
-    let text = if bytes.is_empty() {
-        line(many.alloc, "-")?
+    out.push_number(count)?;
+    if count == 1 {
+        out.push(" value")
     } else {
-        hex_line(many.alloc, bytes.as_slice())?
-    };
-    Ok(Ok(Vec::from_slice(many.alloc, text.as_bytes())?))
+        out.push(" values")
+    }
 }
 
-/// The bytes of the value that JSON says, or why it says none.
-fn encoded(many: &Many<'_, '_, '_>, json: &[u8]) -> Result<Result<Vec<u8>, String>, AllocError>
-    requires laid_out { IsLaidOut many.now.layout.now }
-    requires sizes { KnowsSizes many.now.layout.now }
+/// The answer that the bytes stop being values behind so many.
+fn stopped(alloc: Global, count: u64, offset: u64, fault: Fault<'_>) -> Result<Answer, AllocError>
+    ensures { IfOk result (λ a. (a.is_yes ≡ false) × ((why : List ℕ) ×
+        (printed a.text ≡ line_of (codes "no member: " ++ why)))) }
 {
-    let alloc = many.alloc;
-    let Ok(text) = str::from_utf8(json) else {
-        return Ok(Err(String::from_str(alloc, "not UTF-8")?));
-    };
-    match from_json_by(alloc, many.layout, text) {
-        Ok(bytes) => Ok(Ok(bytes)),
-        Err(error) => Ok(Err(reason(alloc, error)?)),
+    let why = format!(in alloc; "value {count} at byte {offset}: {fault}")?;
+    no(alloc, "no member: ", why.as_str())
+}
+
+/// Makes an answer to each line, and writes them.
+fn answer_lines<'a, E: Eprint, R: Read + Drop, W: Write>(
+    many: &Many<'a, '_, '_>,
+    wanted: Wanted,
+    is_lenient: bool,
+    input: R,
+    progress: &mut Progress<'_, E>,
+    made: &mut Vec<u8>,
+    out: &mut W,
+) -> Result<bool, Failure<'a>>
+    requires known { HasKinds many.now.json.now }
+    requires none { made.old.items ≡ [] }
+    ensures { let l = many.now.json.now.layout.now in
+        Writes (AnswersEach IsFirstLine (AnswersLine l wanted is_lenient) (R.stream input).bytes)
+        W.writing out.old out.new made.new.items result }
+{
+    let mut lines = Buffered::new(many.alloc, input);
+    for number in 1..u64::MAX {
+        if !next_line(many, &mut lines, made, out)? {
+            return Ok(true);
+        }
+        let text = line_answer(many, wanted, is_lenient, number, lines.piece())?;
+        made.extend_from_slice(text.as_slice())?;
+        progress.step(lines.piece().len());
+    }
+    Err(Failure::OutOfMemory)
+}
+
+/// The answer to the line of this number.
+fn line_answer<'a>(
+    many: &Many<'a, '_, '_>,
+    wanted: Wanted,
+    is_lenient: bool,
+    number: u64,
+    line: &[u8],
+) -> Result<Vec<u8>, Failure<'a>>
+    requires { HasKinds many.now.json.now }
+    ensures { IfOk result (λ out. AnswersLine many.now.json.now.layout.now wanted is_lenient line.now out.items) }
+{
+    match text_answer(many, wanted, line.trim_ascii()) {
+        Ok(text) => Ok(text),
+        Err(Failure::NotValue(_, why)) if is_lenient => Ok(error_line(many.alloc, why.as_str())?),
+        Err(failure) => Err(placed(many.alloc, failure, "line", number)),
     }
 }
 
-/// The text of an error, unless an allocation failed.
-fn reason(alloc: Global, error: JsonError<'_>) -> Result<String, AllocError> {
-    if matches!(error, JsonError::OutOfMemory) {
-        return Err(AllocError);
+/// The answer to a text, or why it is no value.
+fn text_answer<'a>(
+    many: &Many<'a, '_, '_>,
+    wanted: Wanted,
+    text: &[u8],
+) -> Result<Vec<u8>, Failure<'a>>
+    requires { HasKinds many.now.json.now }
+    ensures { AnswersText many.now.json.now.layout.now wanted many.now.path.now text.now result }
+{
+    match wanted {
+        Wanted::Json => json_said(many, text),
+        Wanted::Digits => digits_said(many, text),
+        Wanted::Bytes => bytes_said(many, text),
     }
-    format!(in alloc; "{error}")
+}
+
+/// The JSON of the value whose digits a text is, as a line.
+fn json_said<'a>(many: &Many<'a, '_, '_>, digits: &[u8]) -> Result<Vec<u8>, Failure<'a>>
+    requires { HasKinds many.now.json.now }
+    ensures { AnswersText many.now.json.now.layout.now Wanted.Json many.now.path.now digits.now result }
+{
+    match said_by(many.alloc, digits) {
+        Ok(bytes) => json_line(many, bytes.as_slice()),
+        Err(FromHexError::OutOfMemory) => Err(Failure::OutOfMemory),
+        Err(error) => {
+            let why = format!(in many.alloc; "{error}")?;
+            Err(Failure::NotValue(many.path, why))
+        }
+    }
+}
+
+/// The bytes that digits say, with or without `0x` in front; none for `-`.
+fn said_by(alloc: Global, text: &[u8]) -> Result<Vec<u8>, FromHexError>
+    ensures ok { IfOk result (λ bytes. said_by_digits text.now ≡ Ok bytes.items) }
+    ensures err { IfErr result (λ e. (e ≡ NoDigitsMemory) ⊎ (said_by_digits text.now ≡ Err e)) }
+{
+    if text == b"-".as_slice() {
+        return Ok(Vec::new(alloc));
+    }
+    hex::decode(alloc, unmarked(text))
+}
+
+fn unmarked(text: &[u8]) -> &[u8]
+    ensures { result.now ≡ unmarked_digits text.now }
+{
+    match text.strip_prefix(b"0x".as_slice()) {
+        Some(digits) => digits,
+        None => text,
+    }
+}
+
+/// The digits of the value whose JSON a text is, as a line; `-` for no bytes.
+fn digits_said<'a>(many: &Many<'a, '_, '_>, json: &[u8]) -> Result<Vec<u8>, Failure<'a>>
+    requires { HasKinds many.now.json.now }
+    ensures { AnswersText many.now.json.now.layout.now Wanted.Digits many.now.path.now json.now result }
+{
+    let bytes = bytes_said(many, json)?;
+    let line = digits_line(many.alloc, bytes.as_slice())?;
+    Ok(line.into_bytes())
+}
+
+fn digits_line(alloc: Global, bytes: &[u8]) -> Result<PlainText, AllocError>
+    ensures { IfOk result (λ t. printed t ≡ line_of_digits bytes.now) }
+{
+    match bytes {
+        [] => line(alloc, "-"),
+        [_, ..] => hex_line(alloc, bytes),
+    }
+}
+
+/// The bytes of the value whose JSON a text is.
+fn bytes_said<'a>(many: &Many<'a, '_, '_>, json: &[u8]) -> Result<Vec<u8>, Failure<'a>>
+    requires { HasKinds many.now.json.now }
+    ensures { AnswersText many.now.json.now.layout.now Wanted.Bytes many.now.path.now json.now result }
+{
+    let Ok(text) = str::from_utf8(json) else {
+        let why = String::from_str(many.alloc, "not UTF-8")?;
+        return Err(Failure::NotValue(many.path, why));
+    };
+    match many.json.from_json(text) {
+        Ok(bytes) => Ok(bytes),
+        Err(error) => Err(no_value(many.alloc, many.path, error)),
+    }
 }
 
 /// `{"error": ..}`, and a line feed.
-fn error_line(alloc: Global, why: &str) -> Result<Vec<u8>, AllocError> {
-    let mut writer = Writer::new(Vec::new(alloc));
-    writer.begin_object()?;
-    writer.key("error")?;
-    writer.string(why)?;
-    writer.end_object()?;
-    let mut line = match String::from_utf8(writer.into_inner()) {
-        Ok(json) => in_ascii(alloc, json.as_str())?,
-        Err(_) => Vec::new(alloc),
-    };
-    line.push(b'\n')?;
+fn error_line(alloc: Global, why: &str) -> Result<Vec<u8>, AllocError>
+    ensures { IfOk result (λ line. IsErrorLine line.items) }
+{
+    let text = quoted(alloc, why)?;
+    let mut line = Vec::from_slice(alloc, b"{\"error\":".as_slice())?;
+    line.extend_from_slice(text.as_slice())?;
+    line.extend_from_slice(b"}\n".as_slice())?;
     Ok(line)
+}
+
+/// A text as JSON in ASCII.
+fn quoted(alloc: Global, text: &str) -> Result<Vec<u8>, AllocError> {
+    let mut writer = Writer::new(Vec::new(alloc));
+    writer.string(text)?;
+    match String::from_utf8(writer.into_inner()) {
+        Ok(json) => in_ascii(alloc, json.as_str()),
+        Err(_) => Err(AllocError),
+    }
 }
 
 /// The values from the reader's first byte on.
@@ -300,13 +424,13 @@ fn records_of<'a, 'l, 's, R: Read + Drop>(
     many: &Many<'a, 'l, 's>,
     input: R,
 ) -> Result<Records<'s, 'l, R>, Failure<'a>>
-    requires laid_out { IsLaidOut many.now.layout.now }
-    requires sizes { KnowsSizes many.now.layout.now }
+    requires { HasKinds many.now.json.now }
     ensures first { IfOk result (λ r. (source_of r ≡ input) × (ahead r ≡ [])) }
-    ensures same { IfOk result (λ r. layout_of r ≡ many.now.layout) }
-    ensures read { IsUnwritten result → ⊥ }
+    ensures same { IfOk result (λ r. layout_of r ≡ many.now.json.now.layout) }
+    ensures nonempty { let layout = many.now.json.now.layout.now in
+        OnOk result (Member (definitions_in layout.map.now) layout.root.now [] → ⊥) }
 {
-    match Records::new(many.alloc, many.layout, input, MOST_BYTES) {
+    match Records::new(many.alloc, many.json.layout, input, MOST_BYTES) {
         Ok(records) => Ok(records),
         Err(error) => Err(no_record(many, error)),
     }
@@ -346,17 +470,22 @@ fn next_record<'a, 's, R: Read + Drop, W: Write>(
 /// The same of lines.
 fn next_line<'a, R: Read + Drop, W: Write>(
     many: &Many<'a, '_, '_>,
-    lines: &mut Lines<R>,
+    lines: &mut Buffered<R>,
     made: &mut Vec<u8>,
     out: &mut W,
 ) -> Result<bool, Failure<'a>>
+    ensures next { IfOk result (λ found. NextLine R.stream lines.old lines.new found) }
     ensures flushes { Flushes W.writing out.old out.new made.old.items made.new.items result }
 {
-    if made.len() < ROOM && lines.advance_held() {
+    let is_held = take_held_line(lines, 0);
+    if is_held && made.len() < ROOM {
         return Ok(true);
     }
     write_made(made, out)?;
-    lines.advance(many.path)
+    if is_held {
+        return Ok(true);
+    }
+    take_line(lines, many.path)
 }
 
 /// Writes what was made.
@@ -374,9 +503,7 @@ fn write_made<'a, W: Write>(made: &mut Vec<u8>, out: &mut W) -> Result<(), Failu
 }
 
 /// The failure where there is no next value.
-fn no_record<'a>(many: &Many<'a, '_, '_>, error: RecordError<'_>) -> Failure<'a>
-    ensures { IsWriteFailure result → ⊥ }
-{
+fn no_record<'a>(many: &Many<'a, '_, '_>, error: RecordError<'_>) -> Failure<'a> {
     match error {
         RecordError::Reader(error) => Failure::Unread(many.path, error),
         RecordError::OutOfMemory => Failure::OutOfMemory,
@@ -387,23 +514,13 @@ fn no_record<'a>(many: &Many<'a, '_, '_>, error: RecordError<'_>) -> Failure<'a>
     }
 }
 
-/// The failure of a value that has no JSON.
-fn no_json<'a>(many: &Many<'a, '_, '_>, offset: u64, error: JsonError<'_>) -> Failure<'a>
-    ensures { IsWriteFailure result → ⊥ }
-{
-    if matches!(error, JsonError::OutOfMemory) {
-        return Failure::OutOfMemory;
-    }
-    match format!(in many.alloc; "value at byte {offset}: {error}") {
-        Ok(text) => Failure::NotValue(many.path, text),
-        Err(_) => Failure::OutOfMemory,
-    }
-}
-
-/// The failure of a line that is no value.
-fn no_line<'a>(many: &Many<'a, '_, '_>, number: u64, why: String) -> Failure<'a> {
-    match format!(in many.alloc; "line {number}: {why}") {
-        Ok(text) => Failure::NotValue(many.path, text),
-        Err(_) => Failure::OutOfMemory,
+/// The failure, with its place in front of why there is no value.
+fn placed<'a>(alloc: Global, failure: Failure<'a>, place: &str, number: u64) -> Failure<'a> {
+    match failure {
+        Failure::NotValue(path, why) => match format!(in alloc; "{place} {number}: {why}") {
+            Ok(text) => Failure::NotValue(path, text),
+            Err(_) => Failure::OutOfMemory,
+        },
+        failure => failure,
     }
 }

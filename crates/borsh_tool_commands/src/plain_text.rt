@@ -12,7 +12,7 @@ use std::{fmt, str};
 pub type Added = Result<(), AllocError>;
 
 /// Text of printable ASCII and line feeds. So nothing in it can move a terminal's cursor, change its
-/// colours or hide what follows, whatever names a container has. Left open of each call: memory; the text after an error.
+/// colours or hide what follows, whatever names a container has.
 #[derive(Debug, Drop)]
 pub struct PlainText {
     text: Vec<u8>,
@@ -43,6 +43,13 @@ impl PlainText {
         ensures plain { All IsPlain result.now }
     {
         self.text.as_slice()
+    }
+
+    /// The same as bytes of its own.
+    pub fn into_bytes(self) -> Vec<u8>
+        ensures { result.items ≡ self.text.items }
+    {
+        self.text
     }
 
     /// Takes all of the text away, and keeps its room.

@@ -1,7 +1,5 @@
 // A run of the tool.
 ghost use Rattle.std.specs.Prelude.{IfErr, IfOk};
-ghost use Rattle.borsh_values.specs.Free.{KnowsSizes};
-ghost use Rattle.borsh_values.specs.Layouts.{IsLaidOut};
 ghost use Rattle.borsh_tool_commands.specs.Failures.{IsNoContainer};
 ghost use Rattle.borsh_tool_commands.specs.Printed.{printed};
 ghost use Rattle.borsh_tool_commands.specs.Questions.{AnswersRequest};
@@ -11,17 +9,17 @@ use super::command::{
     Action, Form, Request, ValueRequest, command, request_from, value_request_from,
 };
 use super::failure::{Failure, failure_line, usage_line};
-use super::many::{Many, answer_lines, count_records, decode_records, encode_records};
-use super::values::{
-    Schema, encoded, hex_line, json_text, member, no_container, own_schema, schema_from,
-    schema_in_front, schema_json, shown, strict_member,
-};
-use borsh::io::{Read, StdReader, Write};
-use borsh_json::{Characters, Layout, LongNumbers, Style};
+use super::many::{Many, answer_many};
+use super::progress::Progress;
+use super::replies::{Reply, reply_to, style_of};
+use super::values::{Schema, no_container, own_schema, schema_from, schema_in_front, schema_json};
+use borsh::io::{StdReader, Write};
+use borsh_json::{Characters, Json, Layout, Style};
 use clap::ArgMatches;
 use hex::FromHexError;
 use std::alloc::{AllocError, Global};
 use std::env::VarError;
+use std::fs::OpenFile;
 use std::rt::{Env, Files};
 use std::{env, fs, io};
 
@@ -30,28 +28,30 @@ const INTERRUPTIONS: u32 = 1000;
 
 /// Runs the command that the words name, the first of which is the program's own name, and returns the
 /// exit status: 0 for yes, 1 for no or for bytes that are no container, 2 for anything else that failed.
-/// The answer goes to standard output, and what is wrong to standard error, as one line.
+/// The answer goes to standard output, and what is wrong to standard error, as one line; that this can't be printed is passed over.
 ///
 /// `is_terminal` is whether standard output is a terminal: then `show` has colours, unless `--plain` is
 /// among the words or the variable `NO_COLOR` is set and isn't empty; and `encode` prints raw bytes only
-/// with `--raw`. Left open: everything, which is tested.
+/// with `--raw`. `is_watched` is whether standard error is: then `--records` prints its progress there, unless
+/// `--quiet` is among the words. Left open: everything, which is tested.
 ///
 /// ```
 /// let words: Vec<String> = env::args(&rt)?.collect(rt.alloc())?;
-/// let status = run(&rt, words.as_slice(), rt.stdout().is_terminal());
+/// let status = run(&rt, words.as_slice(), rt.stdout().is_terminal(), rt.stderr().is_terminal(), &mut out);
 /// ```
-pub fn run<R: Files + Env + Input + Print + Eprint + AllocGlobal, W: Write>(
+pub fn run<R: Files + Env + Input + Print + Eprint + AllocGlobal + Drop, W: Write>(
     rt: &R,
     words: &[String],
     is_terminal: bool,
+    is_watched: bool,
     out: &mut W,
 ) -> u8 {
     match matches_of(rt.alloc(), words) {
-        Ok(matches) => match perform(rt, &matches, is_terminal, out) {
+        Ok(matches) => match perform(rt, &matches, is_terminal, is_watched, out) {
             Ok(true) => 0,
             Ok(false) => 1,
             Err(failure) => {
-                tell(rt, &failure);
+                let _told = tell_failure(rt, &failure);
                 failure.status()
             }
         },
@@ -63,8 +63,7 @@ fn matches_of<'a>(alloc: Global, words: &'a [String]) -> Result<ArgMatches<'a>, 
     command(alloc)?.try_get_matches_from(words)
 }
 
-/// Prints the help that was asked for, or what is wrong with the words. That it can't be printed is
-/// passed over.
+/// Prints the help that was asked for, or what is wrong with the words.
 fn refuse<R: Print + Eprint + AllocGlobal>(rt: &R, error: &clap::Error) -> u8 {
     if !error.use_stderr() {
         return match rt.print(error) {
@@ -82,11 +81,7 @@ fn tell_usage<R: Eprint + AllocGlobal>(rt: &R, error: &clap::Error) -> io::Resul
     rt.eprint(&line)
 }
 
-/// Prints why there is no answer. That it can't be printed is passed over.
-fn tell<R: Eprint + AllocGlobal>(rt: &R, failure: &Failure<'_>) {
-    let _told = tell_failure(rt, failure);
-}
-
+/// Prints why there is no answer.
 fn tell_failure<R: Eprint + AllocGlobal>(rt: &R, failure: &Failure<'_>) -> io::Result<()> {
     let text = format!(in rt.alloc(); "{failure}")?;
     let line = failure_line(rt.alloc(), text.as_str())?;
@@ -94,15 +89,17 @@ fn tell_failure<R: Eprint + AllocGlobal>(rt: &R, failure: &Failure<'_>) -> io::R
 }
 
 /// Prints the answer, and returns whether it is yes.
-fn perform<'a, R: Files + Env + Input + Print + AllocGlobal, W: Write>(
+fn perform<'a, R: Files + Env + Input + Print + Eprint + AllocGlobal + Drop, W: Write>(
     rt: &R,
     matches: &ArgMatches<'a>,
     is_terminal: bool,
+    is_watched: bool,
     out: &mut W,
 ) -> Result<bool, Failure<'a>> {
     if let Some(request) = value_request_from(matches) {
+        refuse_raw(&request, is_terminal)?;
         if let Some(form) = request.form {
-            return perform_on_many(rt, &request, form, is_terminal, out);
+            return perform_on_many(rt, &request, form, is_watched, out);
         }
         return perform_on_value(rt, &request, is_terminal);
     }
@@ -126,8 +123,6 @@ fn perform_on_value<'a, R: Files + Env + Input + Print + AllocGlobal>(
     request: &ValueRequest<'a>,
     is_terminal: bool,
 ) -> Result<bool, Failure<'a>> {
-    let is_encoding = request.action == Action::Encode;
-    refuse_raw(request, is_terminal)?;
     let Some(path) = request.schema else {
         let bytes = input(rt, request.value, request.is_hex)?;
         let (schema, value) = schema_in_front(rt.alloc(), request.value, bytes.as_slice())?;
@@ -137,7 +132,7 @@ fn perform_on_value<'a, R: Files + Env + Input + Print + AllocGlobal>(
         return Err(Failure::TwoInputs);
     }
     let schema = schema_at(rt, path, request.is_schema_hex)?;
-    let value = if is_encoding {
+    let value = if request.action == Action::Encode {
         file(rt, request.value)?
     } else {
         input(rt, request.value, request.is_hex)?
@@ -155,14 +150,13 @@ fn refuse_raw<'a>(request: &ValueRequest<'a>, is_terminal: bool) -> Result<(), F
 }
 
 /// Does a request about many values, which are read as they come.
-fn perform_on_many<'a, R: Files + Input + AllocGlobal, W: Write>(
+fn perform_on_many<'a, R: Files + Input + Eprint + AllocGlobal + Drop, W: Write>(
     rt: &R,
     request: &ValueRequest<'a>,
     form: Form,
-    is_terminal: bool,
+    is_watched: bool,
     out: &mut W,
 ) -> Result<bool, Failure<'a>> {
-    refuse_raw(request, is_terminal)?;
     let Some(path) = request.schema else {
         return Err(Failure::NoCommand);
     };
@@ -172,9 +166,10 @@ fn perform_on_many<'a, R: Files + Input + AllocGlobal, W: Write>(
     let alloc = rt.alloc();
     let schema = schema_at(rt, path, request.is_schema_hex)?;
     let layout = borsh_values::Layout::new(alloc, schema.root.as_str(), &schema.definitions)?;
+    let json = Json::new(alloc, &layout)?;
     let many = Many {
         alloc,
-        layout: &layout,
+        json: &json,
         path: request.value,
         style: Style {
             layout: Layout::Compact,
@@ -183,48 +178,34 @@ fn perform_on_many<'a, R: Files + Input + AllocGlobal, W: Write>(
         },
         is_strict: request.is_strict,
     };
+    let is_shown = is_watched && form == Form::Records && !request.is_quiet;
+    let mut progress = Progress::new(rt, is_shown);
     if request.is_hex || request.action != Action::Encode && request.value.starts_with("0x") {
         let bytes = input(rt, request.value, request.is_hex)?;
-        return answer_many(request.action, form, &many, bytes.as_slice(), out);
+        progress.all = Some(bytes.len() as u64);
+        return answer_many(
+            request.action,
+            form,
+            &many,
+            bytes.as_slice(),
+            &mut progress,
+            out,
+        );
     }
     if request.value == "-" {
         let input = StdReader::new(rt.reader(), INTERRUPTIONS);
-        return answer_many(request.action, form, &many, input, out);
+        return answer_many(request.action, form, &many, input, &mut progress, out);
     }
     match fs::File::open(rt, request.value) {
         Ok(file) => {
+            if let Ok(metadata) = file.metadata() {
+                progress.all = Some(metadata.len());
+            }
             let input = StdReader::new(file, INTERRUPTIONS);
-            answer_many(request.action, form, &many, input, out)
+            answer_many(request.action, form, &many, input, &mut progress, out)
         }
         Err(error) => Err(Failure::Unreadable(request.value, error)),
     }
-}
-
-/// Writes what is asked of many values, and returns whether the answer is yes.
-fn answer_many<'a, R: Read + Drop, W: Write>(
-    action: Action,
-    form: Form,
-    many: &Many<'a, '_, '_>,
-    input: R,
-    out: &mut W,
-) -> Result<bool, Failure<'a>>
-    requires laid_out { IsLaidOut many.now.layout.now }
-    requires sizes { KnowsSizes many.now.layout.now }
-{
-    match (action, form) {
-        (Action::Decode, Form::Records) => decode_records(many, input, out)?,
-        (Action::Decode, Form::Lines) => answer_lines(many, false, input, out)?,
-        (Action::Encode, Form::Records) => encode_records(many, input, out)?,
-        (Action::Encode, Form::Lines) => answer_lines(many, true, input, out)?,
-        (_, _) => {
-            let Answer { is_yes, text } = count_records(many, input)?;
-            return match out.write_all(text.as_bytes()) {
-                Ok(()) => Ok(is_yes),
-                Err(error) => Err(Failure::Unwritten(error)),
-            };
-        }
-    }
-    Ok(true)
 }
 
 /// The container in a file, or that of containers for `self`.
@@ -248,56 +229,10 @@ fn answer_value<'a, R: Env + Print + AllocGlobal>(
     value: &[u8],
     is_terminal: bool,
 ) -> Result<bool, Failure<'a>> {
-    let alloc = rt.alloc();
-    match request.action {
-        Action::Decode => {
-            let text = json_text(alloc, schema, request.value, value, style_of(request))?;
-            print_bytes(rt, text.as_bytes())?;
-            Ok(true)
-        }
-        Action::Encode => {
-            let bytes = encoded(alloc, schema, request.value, request.with_schema, value)?;
-            if request.is_hex {
-                let text = hex_line(alloc, bytes.as_slice())?;
-                print_bytes(rt, text.as_bytes())?;
-            } else {
-                print_bytes(rt, bytes.as_slice())?;
-            }
-            Ok(true)
-        }
-        Action::Member => {
-            let Answer { is_yes, text } = if request.is_strict {
-                strict_member(alloc, schema, request.value, value)?
-            } else {
-                member(alloc, schema, request.value, value)?
-            };
-            print_bytes(rt, text.as_bytes())?;
-            Ok(is_yes)
-        }
-        Action::Show => {
-            let is_colored = is_terminal && !request.is_plain && !refuses_color(rt);
-            let text = shown(alloc, schema, request.value, value, is_colored)?;
-            print_bytes(rt, text.as_bytes())?;
-            Ok(true)
-        }
-    }
-}
-
-/// How JSON is written.
-fn style_of(request: &ValueRequest<'_>) -> Style {
-    Style {
-        layout: if request.is_compact {
-            Layout::Compact
-        } else {
-            Layout::Pretty
-        },
-        long_numbers: if request.has_quoted_numbers {
-            LongNumbers::Quoted
-        } else {
-            LongNumbers::Plain
-        },
-        ..Style::COMPACT
-    }
+    let is_colored = is_terminal && !request.is_plain && !refuses_color(rt);
+    let Reply { is_yes, output } = reply_to(rt.alloc(), request, schema, value, is_colored)?;
+    print_bytes(rt, output.as_slice())?;
+    Ok(is_yes)
 }
 
 /// Whether the variable `NO_COLOR` is set and isn't empty.

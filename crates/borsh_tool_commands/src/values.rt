@@ -1,13 +1,14 @@
 // What is asked of a value by its container.
-ghost use Rattle.std.specs.Prelude.{◌≡◌, IfErr, IfOk, OnOk, Decides, Some, false, flat_map, string_bytes, true};
+ghost use Rattle.std.specs.Prelude.{◌≡◌, ◌++◌, IfErr, IfOk, OnOk, Some, codes, false, flat_map, string_bytes, true};
 ghost use Rattle.borsh.specs.Errors.{error_kind};
-ghost use Rattle.borsh_tool_commands.specs.Answers.{line_of};
+ghost use Rattle.borsh_tool_commands.specs.Answers.{AnswersMember, line_of};
 ghost use Rattle.borsh_tool_commands.specs.Colors.{IsPainted};
 ghost use Rattle.borsh_tool_commands.specs.Colored.{printed_colors};
 ghost use Rattle.borsh_tool_commands.specs.Failures.{IsFailure, IsNoAnswer, IsNoContainer, IsNoContainerInFront, IsNoContainerJson, IsNoJson, IsNoMemory, IsNotShown, IsNoValue};
-ghost use Rattle.borsh_tool_commands.specs.Plain.{digits};
+ghost use Rattle.borsh_tool_commands.specs.Plain.{digits, escaped};
 ghost use Rattle.borsh_tool_commands.specs.Printed.{printed};
-ghost use Rattle.borsh_tool_commands.specs.Sent.{EncodesMember, IsContainer, IsJsonLine, IsOwnSchema, IsSent, schema_encoding};
+ghost use Rattle.borsh_tool_commands.specs.Json.{IsJson, IsJsonLine};
+ghost use Rattle.borsh_tool_commands.specs.Sent.{EncodesJson, IsContainer, IsOwnSchema, IsSchemaJson, IsSent, schema_encoding};
 ghost use Rattle.borsh_io.specs.declared.error.ErrorKind.TheVariants.{OutOfMemory as NoRoom};
 ghost use Rattle.borsh_json.specs.declared.error.JsonError.TheVariants.{OutOfMemory as NoMemory};
 ghost use Rattle.borsh_walks.specs.Container.{Member};
@@ -35,14 +36,7 @@ pub struct Schema {
     pub definitions: BTreeMap<String, Definition>,
 }
 
-/// The container whose encoding the bytes are.
-///
-/// Returns `NotContainer` with the path if they are none, and `OutOfMemory` if an allocation fails. Left open: memory.
-///
-/// ```
-/// let schema = schema_from(alloc, "readme.borsh", bytes.as_slice())?;
-/// println!(rt; "{}", schema.root)?;
-/// ```
+/// The container whose encoding the bytes are. `NotContainer` has the path.
 pub fn schema_from<'a>(alloc: Global, path: &'a str, bytes: &[u8]) -> Result<Schema, Failure<'a>>
     ensures ok { IfOk result (λ s. schema_encoding s ≡ Some bytes.now) }
     ensures err { IfErr result (IsNoContainer path.now bytes.now) }
@@ -54,13 +48,7 @@ pub fn schema_from<'a>(alloc: Global, path: &'a str, bytes: &[u8]) -> Result<Sch
     }
 }
 
-/// The container whose encoding is in front of other bytes, and these.
-///
-/// The errors are those of [`schema_from`]. Left open: as there.
-///
-/// ```
-/// let (schema, value) = schema_in_front(alloc, "sent.borsh", bytes.as_slice())?;
-/// ```
+/// The container whose encoding is in front of other bytes, and these. The errors are those of [`schema_from`].
 pub fn schema_in_front<'a, 'b>(
     alloc: Global,
     path: &'a str,
@@ -78,14 +66,7 @@ pub fn schema_in_front<'a, 'b>(
     }
 }
 
-/// The encoding of a container, and behind it the bytes of a value. Returns `OutOfMemory` if an allocation fails. Left open:
-/// memory.
-///
-/// ```
-/// let sent = with_schema(alloc, &schema, value)?;
-/// let (again, rest) = schema_in_front(alloc, "sent.borsh", sent.as_slice())?;
-/// assert_eq!(rt; rest, value);
-/// ```
+/// The encoding of a container, and behind it the bytes of a value.
 pub fn with_schema(alloc: Global, schema: &Schema, value: &[u8]) -> Result<Vec<u8>, AllocError>
     ensures { IfOk result (λ sent. IsSent schema.now value.now sent.items) }
 {
@@ -97,7 +78,7 @@ pub fn with_schema(alloc: Global, schema: &Schema, value: &[u8]) -> Result<Vec<u
     Ok(sent)
 }
 
-/// The container of containers. Returns `OutOfMemory` if an allocation fails. Left open: memory.
+/// The container of containers.
 pub fn own_schema<'a>(alloc: Global) -> Result<Schema, Failure<'a>>
     ensures ok { IfOk result IsOwnSchema }
     ensures err { IfErr result IsNoMemory }
@@ -111,11 +92,8 @@ pub fn own_schema<'a>(alloc: Global) -> Result<Schema, Failure<'a>>
     }
 }
 
-/// The container whose encoding the bytes are as JSON, and a line feed: what [`json_text`] says of them by the
-/// container of containers, and what [`bytes_said`] makes a container of.
-///
-/// The errors are those of [`schema_from`]. Determined: after `Ok` the bytes are the encoding of a container; `NotContainer`
-/// exactly if they are that of none. Left open: memory; `NotValue` for any container; any text: tested.
+/// The container whose encoding the bytes are as JSON by the container of containers, and a line feed. The errors are those of
+/// [`schema_from`]. Left open: memory; `NotValue` for any container; as of [`to_json`].
 ///
 /// ```
 /// let text = schema_json(alloc, "readme.borsh", bytes.as_slice())?;
@@ -123,7 +101,7 @@ pub fn own_schema<'a>(alloc: Global) -> Result<Schema, Failure<'a>>
 /// assert_eq!(rt; again.as_slice(), bytes.as_slice());
 /// ```
 pub fn schema_json<'a>(alloc: Global, path: &'a str, bytes: &[u8]) -> Result<PlainText, Failure<'a>>
-    ensures ok { OnOk result (IsContainer bytes.now) }
+    ensures ok { IfOk result (λ t. IsContainer bytes.now × IsSchemaJson bytes.now (printed t)) }
     ensures err { IfErr result (IsNoContainerJson path.now bytes.now) }
 {
     let _schema = schema_from(alloc, path, bytes)?;
@@ -141,15 +119,7 @@ pub(crate) fn no_container<'a>(path: &'a str, error: Error) -> Failure<'a>
     Failure::NotContainer(path, error)
 }
 
-/// The value that the bytes are as JSON, and a line feed.
-///
-/// Returns `NotValue` with the path and the reason if the bytes are no value of the root or one without JSON, and
-/// `OutOfMemory` if an allocation fails. Determined: what [`to_json`] determines of the text in front of the line feed;
-/// `NotValue` only where [`to_json`] may return an error. Left open: as of [`to_json`].
-///
-/// ```
-/// let text = json_text(alloc, &schema, "value.borsh", bytes.as_slice(), Style::COMPACT)?;
-/// ```
+/// The value that the bytes are as JSON, and a line feed. `NotValue` has the path and the reason.
 pub fn json_text<'a>(
     alloc: Global,
     schema: &Schema,
@@ -157,7 +127,8 @@ pub fn json_text<'a>(
     bytes: &[u8],
     style: Style,
 ) -> Result<PlainText, Failure<'a>>
-    ensures ok { IfOk result (λ t. IsJsonLine schema.now bytes.now (printed t)) }
+    ensures ok { IfOk result (λ t. IsJsonLine schema.now.definitions (string_bytes schema.now.root)
+        bytes.now (printed t)) }
     ensures err { IfErr result (IsNoJson (definitions_in schema.now.definitions)
         (string_bytes schema.now.root) path.now bytes.now) }
 {
@@ -181,23 +152,15 @@ pub fn json_text<'a>(
     }
 }
 
-/// The bytes of the value that JSON says.
-///
-/// Returns `NotText` if the JSON isn't UTF-8, `NotValue` with the path and the reason if it says no value of the root,
-/// and `OutOfMemory` if an allocation fails. Determined: after `Ok` the bytes are a member of the root; `NotText` exactly
-/// if the JSON isn't UTF-8; `NotValue` only where [`from_json`] may return an error. Left open: as of [`from_json`].
-///
-/// ```
-/// let bytes = bytes_said(alloc, &schema, "value.json", b"{\"x\": 12}".as_slice())?;
-/// ```
+/// The bytes of the value that JSON says. `NotValue` has the path and the reason; `NotText` is of JSON that isn't UTF-8.
 pub fn bytes_said<'a>(
     alloc: Global,
     schema: &Schema,
     path: &'a str,
     json: &[u8],
 ) -> Result<Vec<u8>, Failure<'a>>
-    ensures ok { IfOk result (λ bytes. Member (definitions_in schema.now.definitions)
-        (string_bytes schema.now.root) bytes.items) }
+    ensures ok { IfOk result (λ bytes. IsJson schema.now.definitions (string_bytes schema.now.root)
+        json.now bytes.items) }
     ensures err { IfErr result (IsNoValue (definitions_in schema.now.definitions)
         (string_bytes schema.now.root) path.now json.now) }
 {
@@ -210,13 +173,7 @@ pub fn bytes_said<'a>(
     }
 }
 
-/// The bytes of the value that JSON says, behind those of its container if `is_sent` is true. The errors are those of
-/// [`bytes_said`]. Left open: as there.
-///
-/// ```
-/// let sent = encoded(alloc, &schema, "value.json", true, b"{\"x\": 12}".as_slice())?;
-/// let (again, value) = schema_in_front(alloc, "sent.borsh", sent.as_slice())?;
-/// ```
+/// The bytes of the value that JSON says, behind those of its container if `is_sent` is true.
 pub fn encoded<'a>(
     alloc: Global,
     schema: &Schema,
@@ -224,7 +181,7 @@ pub fn encoded<'a>(
     is_sent: bool,
     json: &[u8],
 ) -> Result<Vec<u8>, Failure<'a>>
-    ensures ok { IfOk result (λ out. EncodesMember is_sent schema.now out.items) }
+    ensures ok { IfOk result (λ out. EncodesJson is_sent schema.now json.now out.items) }
     ensures err { IfErr result (IsNoValue (definitions_in schema.now.definitions)
         (string_bytes schema.now.root) path.now json.now) }
 {
@@ -236,80 +193,70 @@ pub fn encoded<'a>(
     }
 }
 
-/// `member`, or `no member`, where the bytes stop being one, and why.
-///
-/// Returns `NotValue` if the container is ambiguous, and `OutOfMemory` if an allocation fails. Determined: after `Ok`
-/// whether the answer is yes, exactly; `NotValue` only if a definition is ambiguous or breaks a rule of widths. Left open:
-/// memory; the text; `NotValue` in place of yes or no for such definitions.
-///
-/// ```
-/// assert!(rt; member(alloc, &schema, "value.borsh", bytes.as_slice())?.is_yes);
-/// ```
+/// `member`, or `no member`, where the bytes stop being one, and why. `NotValue` is of an ambiguous container.
 pub fn member<'a>(
     alloc: Global,
     schema: &Schema,
     path: &'a str,
     bytes: &[u8],
 ) -> Result<Answer, Failure<'a>>
-    ensures ok { IfOk result (λ a. Decides a.is_yes (Member (definitions_in schema.now.definitions)
-        (string_bytes schema.now.root) bytes.now)) }
+    ensures ok { IfOk result (λ a. AnswersMember (definitions_in schema.now.definitions)
+        (string_bytes schema.now.root) bytes.now false a.is_yes (printed a.text)) }
     ensures err { IfErr result (IsNoAnswer (definitions_in schema.now.definitions)
         (string_bytes schema.now.root) path.now) }
 {
     match is_member(alloc, schema.root.as_str(), &schema.definitions, bytes)? {
         Membership::Member => Ok(yes(alloc)?),
         Membership::NoMember(fault) => {
-            let why = format!(in alloc; "no member: {fault}")?;
-            Ok(no(alloc, why.as_str())?)
+            let why = format!(in alloc; "{fault}")?;
+            Ok(no(alloc, "no member: ", why.as_str())?)
         }
         Membership::Ambiguous(name) => Err(no_value(alloc, path, JsonError::Ambiguous(name))),
     }
 }
 
 /// `member`, or `no member`, or `not canonical` if the type refuses the bytes as far as names tell, and why.
-///
-/// Returns `NotValue` if the container is ambiguous, and `OutOfMemory` if an allocation fails. Determined: after yes the
-/// bytes are a member of the root; `NotValue` as of [`member`]. Left open: memory; no for any member; the text: tested.
-///
-/// ```
-/// assert!(rt; !strict_member(alloc, &schema, "value.borsh", b"\x02")?.is_yes);
-/// ```
 pub fn strict_member<'a>(
     alloc: Global,
     schema: &Schema,
     path: &'a str,
     bytes: &[u8],
 ) -> Result<Answer, Failure<'a>>
-    ensures ok { IfOk result (λ a. a.is_yes ≡ true → Member (definitions_in schema.now.definitions)
-        (string_bytes schema.now.root) bytes.now) }
+    ensures ok { IfOk result (λ a. AnswersMember (definitions_in schema.now.definitions)
+        (string_bytes schema.now.root) bytes.now true a.is_yes (printed a.text)) }
     ensures err { IfErr result (IsNoAnswer (definitions_in schema.now.definitions)
         (string_bytes schema.now.root) path.now) }
 {
     match check_strict(alloc, schema.root.as_str(), &schema.definitions, bytes) {
         Ok(()) => Ok(yes(alloc)?),
         Err(JsonError::NoMember(fault)) => {
-            let why = format!(in alloc; "no member: {fault}")?;
-            Ok(no(alloc, why.as_str())?)
+            let why = format!(in alloc; "{fault}")?;
+            Ok(no(alloc, "no member: ", why.as_str())?)
         }
         Err(JsonError::Refused(part, refusal)) => {
-            let why = format!(in alloc; "not canonical: {part}: {refusal}")?;
-            Ok(no(alloc, why.as_str())?)
+            let why = format!(in alloc; "{part}: {refusal}")?;
+            Ok(no(alloc, "not canonical: ", why.as_str())?)
         }
         Err(error) => Err(no_value(alloc, path, error)),
     }
 }
 
 fn yes(alloc: Global) -> Result<Answer, AllocError>
-    ensures { IfOk result (λ a. a.is_yes ≡ true) }
+    ensures { IfOk result (λ a. (a.is_yes ≡ true) × (printed a.text ≡ line_of (codes "member"))) }
 {
     let text = line(alloc, "member")?;
     Ok(Answer { is_yes: true, text })
 }
 
-fn no(alloc: Global, why: &str) -> Result<Answer, AllocError>
-    ensures { IfOk result (λ a. a.is_yes ≡ false) }
+/// What is answered, and why, as a line.
+pub(crate) fn no(alloc: Global, answer: &str, why: &str) -> Result<Answer, AllocError>
+    ensures { let text = flat_map escaped answer.now ++ flat_map escaped why.now in
+        IfOk result (λ a. (a.is_yes ≡ false) × (printed a.text ≡ line_of text)) }
 {
-    let text = line(alloc, why)?;
+    let mut text = PlainText::new(alloc);
+    text.push(answer)?;
+    text.push(why)?;
+    text.end_line()?;
     Ok(Answer {
         is_yes: false,
         text,
@@ -317,14 +264,6 @@ fn no(alloc: Global, why: &str) -> Result<Answer, AllocError>
 }
 
 /// What each byte of the value is, one line for each number, text, count and tag; in colours if `is_colored` is true.
-///
-/// Returns `NotValue` with the path and the reason if the bytes are no value of the root, and `OutOfMemory` if an
-/// allocation fails. Determined: after `Ok` the bytes are a member of the root, and the text has no colours unless they are
-/// asked for; `NotValue` only where [`rows_of`] may return an error. Left open: as of [`rows_of`]; any text: tested.
-///
-/// ```
-/// let text = shown(alloc, &schema, "value.borsh", bytes.as_slice(), false)?;
-/// ```
 pub fn shown<'a>(
     alloc: Global,
     schema: &Schema,
@@ -344,7 +283,7 @@ pub fn shown<'a>(
     }
 }
 
-/// Bytes as hexadecimal digits, and a line feed. Left open: memory.
+/// Bytes as hexadecimal digits, and a line feed.
 pub fn hex_line(alloc: Global, bytes: &[u8]) -> Result<PlainText, AllocError>
     ensures { IfOk result (λ t. printed t ≡ line_of (flat_map digits bytes.now)) }
 {
@@ -376,7 +315,8 @@ fn line_and_column(text: &str, offset: usize) -> (usize, usize) {
     (line, last.chars().count().saturating_add(1))
 }
 
-fn no_value<'a>(alloc: Global, path: &'a str, error: JsonError<'_>) -> Failure<'a>
+/// The failure of a value that has no JSON, or of JSON that says no value.
+pub(crate) fn no_value<'a>(alloc: Global, path: &'a str, error: JsonError<'_>) -> Failure<'a>
     ensures { IsFailure path.now ⊥ (error.entry ≡ NoMemory → ⊥) ⊥ result }
 {
     if matches!(error, JsonError::OutOfMemory) {
