@@ -1,6 +1,6 @@
 -- Names that are composed, and definitions that were found.
 use Rattle.std.proofs.Common.{◌≡◌, ◌⊎◌, inl, inr, ℕ, suc, zero, ◌+◌, ◌<◌, ◌≤◌, List, [], ◌∷◌, ◌++◌, length, map, take, Bool, true, false, get_or, Decides, MatchBool, Option, Some, None, refl, sym, ◌∙◌, ap, subst, arith, append_assoc, append-nil, eqb, string_bytes}
-use Rattle.std.specs.Prelude.{ℤ, pos, codes, option_map, slice_get, String, Vec, MatchOption, Result, Ok, Err, IfOk}
+use Rattle.std.specs.Prelude.{ℤ, pos, codes, option_map, slice_get, String, MatchOption, Result, Ok, Err, IfOk}
 use Rattle.std.specs.Option.{option_copied}
 use Rattle.std.specs.List.{HoldsAt}
 use Rattle.std.specs.Str.Pattern.{FindsTextPrefix, StripsPrefix}
@@ -8,10 +8,9 @@ use Rattle.std.proofs.lemmas.Option.{slice_get-get_or}
 use Rattle.std.proofs.lemmas.Bool.Decides.{nat_tests}
 use Rattle.std.specs.Borrow.{Bor}
 use Rattle.std.specs.Global.{Global}
-use Rattle.std.specs.Str.{bytes_eq}
 use Rattle.borsh_walks.specs.Container.{Shape, IsIn, first, references, IsZeroSize, zeroed, zero_size_references}
 use Rattle.borsh_walks.specs.Container as shape
-use Rattle.borsh_json.specs.Forms.{Form, primitive, sequence, tuple, newtype, unnamed, named, choice, form_of_parts, shape_of_form, shapes, HasNoBytes, IsList, IsByte, IsOption, IsMap}
+use Rattle.borsh_json.specs.Forms.{Form, primitive, sequence, tuple, newtype, unnamed, choice, form_of_parts, shape_of_form, HasNoBytes, IsList, IsByte, IsOption, IsMap}
 use Rattle.borsh_json.specs.Found.{joined, IsMapName, IsSetName}
 
 pub newtype_is : (ps : List (List ℕ)) → MatchBool (eqb (length ps) 1) ((p : List ℕ) × (form_of_parts ps ≡ newtype p)) ((p : List ℕ) → form_of_parts ps ≡ newtype p → ⊥)

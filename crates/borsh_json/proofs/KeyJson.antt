@@ -1,8 +1,8 @@
 -- The JSON of a map's keys.
-use Rattle.std.proofs.Common.{◌≡◌, ◌⊎◌, inl, inr, ℕ, ◌≤◌, List, [], ◌∷◌, ◌++◌, length, Bool, true, false, refl, sym, ◌∙◌, ap, subst, arith, take}
+use Rattle.std.proofs.Common.{◌≡◌, ◌⊎◌, inl, inr, ℕ, ◌≤◌, List, [], ◌++◌, length, Bool, true, false, refl, sym, ◌∙◌, ap, subst, arith}
 use Rattle.std.specs.Prelude.{Option, Result, Ok, Err, MatchResult, nat_le, if◌then◌else◌, IsUtf8}
 use Rattle.std.proofs.lemmas.Bool.Decides.{leb_tells}
-use Rattle.json.specs.Json.{Json, number, string}
+use Rattle.json.specs.Json.{number, string}
 use Rattle.borsh_values.specs.declared.layout.Named.{Named}
 use Rattle.borsh_json.specs.declared.error.ReadError.{ReadError}
 use Rattle.borsh_json.specs.declared.numbers.Number.{Number}

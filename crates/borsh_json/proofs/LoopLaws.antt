@@ -1,5 +1,5 @@
 -- The reader's next part.
-use Rattle.std.proofs.Common.{◌≡◌, ◌⊎◌, inl, inr, ℕ, suc, List, [], ◌∷◌, ◌++◌, length, map, Option, Some, None, refl, sym, ◌∙◌, ap, subst, arith}
+use Rattle.std.proofs.Common.{◌≡◌, ℕ, suc, List, [], ◌∷◌, ◌++◌, length, map, Option, Some, None, refl, sym, ◌∙◌, ap, subst, arith}
 use Rattle.std.specs.Prelude.{MatchOption, Result, Ok, Err, MatchResult}
 use Rattle.std.specs.Borrow.{Bor}
 use Rattle.json.specs.Token.{Token}
@@ -8,7 +8,6 @@ use Rattle.json.specs.Find.{BeginsWith, get_member}
 use Rattle.borsh_values.specs.declared.layout.Named.{Named}
 use Rattle.borsh_json.specs.declared.error.ReadError.{ReadError}
 use Rattle.borsh_json.specs.declared.kinds.Entries.{Entries as FoundEntries}
-use Rattle.borsh_json.specs.declared.kinds.KeyKind.{KeyKind}
 use Rattle.borsh_json.specs.declared.parts.Next.{Next}
 use Rattle.borsh_json.specs.declared.parts.Next.TheVariants.{Part, Missing, End}
 use Rattle.borsh_json.specs.declared.position.Key.{Key}
@@ -21,7 +20,7 @@ use Rattle.borsh_json.specs.declared.sources.Source.{Source}
 use Rattle.borsh_json.specs.Forms.{Form, form_of}
 use Rattle.borsh_json.specs.Frames.{DeniesRead, Wanted, IsWanted, IsObject, IsMapPlace, IsKey, HasItems, HasFields, HasEntries, AreEntriesOf, HasLeft, IsNext, IsNextEntry}
 use Rattle.borsh_json.specs.Places.{IsAt, AreKeysOf}
-use Rattle.borsh_json.specs.Reads.{Left, items_left, fields_left, entries_left, PartsOf, PartsOfAll, SaysFirst, SaysSome, IsOnly, AreRead}
+use Rattle.borsh_json.specs.Reads.{Left, items_left, fields_left, entries_left, PartsOfAll, SaysFirst, SaysSome, AreRead}
 use Rattle.borsh_json.specs.Table.{Keys, Part as JsonPart, row_parts, Entry, key_json}
 use Rattle.borsh_json.proofs.ReaderLaws.{front_says}
 use Rattle.borsh_json.proofs.StepLaws.{taken, item_front, item_back, field_taken, field_missing, entry_read, read_leaf}

@@ -13,10 +13,10 @@ use Rattle.std.specs.Fmt.{decimal, signed_decimal}
 use Rattle.std.specs.Str.Parse.{signed_digits_value}
 use Rattle.std.proofs.lemmas.Fmt.{decimal_digit, decimal_is_IsNumeral_wide}
 use Rattle.std.proofs.lemmas.Nat.{pow-add, pow_pos, div-add-mod', mod_below, mod-mul-add}
-use Rattle.std.proofs.Math.Nat.{pow-suc, pow-succ', pow-zero, pow-le-pow_right, div-lt_iff_lt-mul, div-div-eq-div-mul}
+use Rattle.std.proofs.Math.Nat.{pow-suc, pow-succ', pow-le-pow_right, div-lt_iff_lt-mul, div-div-eq-div-mul}
 use Rattle.borsh_walks.specs.Container.{tag, low_bytes}
 use Rattle.borsh_json.specs.Table.{InRange, IsWhole, IsNoNan}
-use Rattle.borsh_json.specs.Ranks.{magnitude, rank_of, HasRank}
+use Rattle.borsh_json.specs.Ranks.{rank_of, HasRank}
 use Rattle.std.proofs.lemmas.Int.{ints, to_z-of_z}
 use Rattle.std.proofs.lemmas.Bool.{cases_lt}
 use Rattle.std.proofs.lemmas.Bool.Decides.{nat_tests}

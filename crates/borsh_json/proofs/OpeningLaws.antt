@@ -1,11 +1,9 @@
 -- What JSON of a kind opens.
-use Rattle.std.proofs.Common.{◌≡◌, ◌⊎◌, inl, inr, ℕ, suc, zero, ◌+◌, ◌<◌, ◌≤◌, List, [], ◌∷◌, ◌++◌, length, map, replicate, drop, Bool, true, false, Option, Some, None, refl, sym, ◌∙◌, ap, subst, arith, append-nil, string_bytes}
-use Rattle.std.specs.Prelude.{Result, Ok, Err, String, ℤ, slice_get, MatchOption}
-use Rattle.std.specs.Global.{Global}
+use Rattle.std.proofs.Common.{◌≡◌, inl, inr, ℕ, suc, zero, List, [], ◌∷◌, ◌++◌, length, map, replicate, drop, Bool, true, Option, Some, None, refl, sym, ◌∙◌, ap, subst, arith, append-nil}
+use Rattle.std.specs.Prelude.{Result, Ok, Err, ℤ, slice_get, MatchOption}
 use Rattle.json.specs.Token.{Token}
-use Rattle.json.specs.Json.{Json, null, boolean, number, string, array, object, Items, no_items, item, Members}
-use Rattle.json.specs.Find.{BeginsWith, is_null, as_bool, as_str, as_number, as_array, as_object, get_member}
-use Rattle.borsh_walks.specs.Container.{tag}
+use Rattle.json.specs.Json.{Json, null, boolean, number, string, array, object, Items, no_items, item}
+use Rattle.json.specs.Find.{BeginsWith, is_null, as_bool, as_str, as_number}
 use Rattle.borsh_values.specs.declared.layout.Named.{Named}
 use Rattle.borsh_json.specs.declared.error.PartError.{PartError}
 use Rattle.borsh_json.specs.declared.error.PartError.TheVariants.{OutOfMemory as NoMemory, Refused as RefusedPart}
@@ -18,11 +16,10 @@ use Rattle.borsh_json.specs.declared.position.Parts.{Parts}
 use Rattle.borsh_json.specs.declared.sources.Source.{Source}
 use Rattle.borsh_json.specs.declared.sources.Source.TheVariants.{One}
 use Rattle.borsh_json.specs.Errors.{Denies, IsUnreadable, IsPartError}
-use Rattle.borsh_json.specs.Forms.{Form, HasNoBytes}
-use Rattle.borsh_json.specs.Frames.{DeniesRead, DeniesPart, IsOf, IsOfRead, IsExpected, IsFound, IsOpened, HasLeft, HasItems, IsWanted, IsMapPlace, Wanted}
+use Rattle.borsh_json.specs.Forms.{Form}
+use Rattle.borsh_json.specs.Frames.{DeniesRead, DeniesPart, IsOf, IsOfRead, IsExpected, IsFound, IsOpened, HasLeft, IsWanted, IsMapPlace, Wanted}
 use Rattle.borsh_json.specs.Reads.{Left, items_left, PartsOf, SaysFirst, SaysSome, IsOnly}
-use Rattle.borsh_json.specs.Represents.{HaveBytes}
-use Rattle.borsh_json.specs.Table.{Lengths, Kind, HasKind, Part, row_parts, list_parts, IsPrefixed, IsVariant, this, that, Says, truth, no_bytes}
+use Rattle.borsh_json.specs.Table.{Kind, HasKind, Part, row_parts, list_parts, IsVariant, this, that, Says}
 use Rattle.borsh_json.proofs.FrameLaws.{drop_at}
 use Rattle.borsh_json.proofs.ReaderLaws.{uncons}
 use Rattle.borsh_json.proofs.RepresentsLaws.{kind_one, says_one, kind_small}

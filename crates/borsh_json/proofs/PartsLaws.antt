@@ -1,29 +1,28 @@
 -- Rows, lists, objects and variants that are opened.
-use Rattle.std.proofs.Common.{◌≡◌, ◌⊎◌, inl, inr, ℕ, suc, zero, ◌+◌, ◌<◌, ◌≤◌, List, [], ◌∷◌, ◌++◌, length, map, replicate, drop, Bool, true, false, Option, Some, None, refl, sym, ◌∙◌, ap, subst, arith, append-nil, string_bytes}
-use Rattle.std.specs.Prelude.{Result, Ok, Err, String, Vec, ℤ, pos, slice_get, ◌-◌, ◌&&◌, ◌==◌, if◌then◌else◌, codes}
+use Rattle.std.proofs.Common.{◌≡◌, inl, inr, ℕ, suc, zero, ◌≤◌, List, [], ◌∷◌, ◌++◌, length, map, replicate, Bool, true, false, Option, Some, None, refl, sym, ◌∙◌, ap, subst, arith, append-nil, string_bytes}
+use Rattle.std.specs.Prelude.{Ok, String, Vec, ℤ, pos, slice_get, ◌-◌, ◌&&◌, ◌==◌, if◌then◌else◌, codes}
 use Rattle.std.specs.Borrow.{Bor}
 use Rattle.std.specs.Global.{Global}
-use Rattle.std.specs.BTreeMap.{BTreeMap, btree_map_len}
+use Rattle.std.specs.BTreeMap.{BTreeMap}
 use Rattle.std.specs.Str.{bytes_eq}
 use Rattle.std.specs.List.{IsDistinct}
 use Rattle.json.specs.Token.{Token}
-use Rattle.json.specs.Json.{Json, null, boolean, number, string, array, object, Items, no_items, item, Members, no_members, member}
-use Rattle.json.specs.Find.{BeginsWith, InItems, Finds, as_str, as_array, get_member}
+use Rattle.json.specs.Json.{Json, string, array, object, Items, Members, no_members, member}
+use Rattle.json.specs.Find.{InItems, Finds, as_str, as_array, get_member}
 use Rattle.borsh_walks.specs.Container.{tag, references, variant_names}
 use Rattle.borsh_walks.specs.Tables.{mark_of}
 use Rattle.borsh_values.specs.declared.layout.Named.{Named}
 use Rattle.borsh_json.specs.declared.error.ReadError.{ReadError}
-use Rattle.borsh_json.specs.declared.opening.Frame.{Frame}
 use Rattle.borsh_json.specs.declared.position.Parts.{Parts}
 use Rattle.borsh_json.specs.declared.position.Parts.TheVariants.{List as Elements, Row, Object}
 use Rattle.borsh_json.specs.declared.position.Place.{Place}
 use Rattle.borsh_json.specs.declared.sources.Source.{Source}
 use Rattle.borsh_json.specs.declared.sources.Source.TheVariants.{Items as TheItems}
 use Rattle.borsh_json.specs.Forms.{Form, primitive, sequence, tuple, newtype, unnamed, named, choice, shape_of_form, HasNoBytes}
-use Rattle.borsh_json.specs.Frames.{DeniesRead, Wanted, AreFound, HasFields, HasLeft, IsFound, IsOpened, NamesVariant}
+use Rattle.borsh_json.specs.Frames.{DeniesRead, Wanted, AreFound, HasFields, HasLeft, IsOpened, NamesVariant}
 use Rattle.borsh_json.specs.Places.{IsAt, IsUnsayable}
-use Rattle.borsh_json.specs.Reads.{Left, items_left, fields_left, PartsOf, SaysFirst, SaysSome, IsOnly}
-use Rattle.borsh_json.specs.Table.{Lengths, Kind, no_bytes, truth, whole, float, raw, utf8, byte_list, list, row, inner, fields, optional, variants, entries, number_types, number_kind, primitive_kind, SequenceKind, a_text, some_bytes, an_object, some_elements, ChoiceKind, nullable, by_name, DefinedKind, HasKind, Part, row_parts, list_parts, field_parts, entries_of, IsVariant, IsHex, IsPrefixed, IsArray, Says}
+use Rattle.borsh_json.specs.Reads.{items_left, fields_left, SaysSome}
+use Rattle.borsh_json.specs.Table.{Lengths, Kind, truth, whole, float, byte_list, row, inner, fields, variants, number_types, number_kind, primitive_kind, a_text, some_bytes, an_object, some_elements, nullable, by_name, DefinedKind, HasKind, Part, row_parts, list_parts, field_parts, entries_of, IsVariant, IsHex, IsPrefixed, IsArray, Says}
 use Rattle.borsh_json.proofs.ReaderLaws.{uncons}
 use Rattle.borsh_json.proofs.RepresentsLaws.{kind_one, variant_one}
 use Rattle.borsh_json.proofs.OpeningLaws.{denied, said, framed, denies_read, row_fits, rows_there, list_row, list_length, second_map, second_copies, some_one}

@@ -1,22 +1,21 @@
 -- The names and definitions at places.
-use Rattle.std.proofs.Common.{◌≡◌, ◌⊎◌, inl, inr, ℕ, suc, zero, ◌<◌, List, [], ◌∷◌, ◌++◌, length, map, Some, None, refl, sym, ◌∙◌, ap, subst, arith, Bool, false, get_or, Decides}
-use Rattle.std.specs.Prelude.{Option, option_map, option_and_then, slice_get, unwrap_or, Vec}
+use Rattle.std.proofs.Common.{◌≡◌, ◌⊎◌, inl, inr, ℕ, suc, zero, List, [], ◌∷◌, ◌++◌, length, Some, None, refl, sym, ◌∙◌, ap, subst, arith, Bool, false, get_or, Decides}
+use Rattle.std.specs.Prelude.{Option, option_map, slice_get}
 use Rattle.std.specs.Borrow.{Bor}
-use Rattle.std.specs.BTreeMap.{get_by_text}
 use Rattle.std.proofs.lemmas.Option.{slice_get-get_or}
 use Rattle.borsh_walks.specs.declared.definition.Definition.{Definition}
 use Rattle.borsh_walks.specs.Container.{Shape, references, IsZeroSize}
-use Rattle.borsh_walks.specs.Definitions.{definitions_in, shape_of}
+use Rattle.borsh_walks.specs.Definitions.{definitions_in}
 use Rattle.borsh_values.specs.declared.layout.Layout.{Layout}
 use Rattle.borsh_values.specs.declared.layout.Named.{Named}
 use Rattle.borsh_values.specs.Free.{KnowsSizes}
-use Rattle.borsh_values.specs.Layouts.{IsLaidOut, IsPlaceOf, name_of, name_at, named_definition, shape_at, parts_in, places_in}
+use Rattle.borsh_values.specs.Layouts.{IsLaidOut, IsPlaceOf, name_of, named_definition, shape_at, parts_in, places_in}
 use Rattle.borsh_values.proofs.Places.{name_is, name_there, place_is}
 use Rattle.borsh_json.specs.declared.definitions.Definitions.{Definitions}
 use Rattle.borsh_json.specs.declared.kinds.Kind.{Kind as Found}
 use Rattle.borsh_json.specs.Known.{IsKnown}
 use Rattle.borsh_json.specs.Places.{AreKinds, IsAt, IsKindAt}
-use Rattle.borsh_json.specs.Forms.{Form, form_of, forms_in, shape_of_form, shapes, HasNoBytes}
+use Rattle.borsh_json.specs.Forms.{Form, form_of, forms_in, shape_of_form, HasNoBytes}
 use Rattle.borsh_json.proofs.FormsLaws.{shapes_are}
 
 pub not_named : (ns : List Named) (at : ℕ) (x : List ℕ) → slice_get ns at ≡ None → name_of ns at ≡ Some x → ⊥

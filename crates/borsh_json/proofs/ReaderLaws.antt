@@ -1,10 +1,10 @@
 -- Steps of the reader.
-use Rattle.std.proofs.Common.{◌≡◌, ℕ, List, [], ◌∷◌, ◌++◌, length, Option, Some, None, refl, sym, ◌∙◌, ap, subst, append_assoc, append-nil}
-use Rattle.json.specs.Json.{Json, Items, Members, no_items, item}
+use Rattle.std.proofs.Common.{◌≡◌, ℕ, List, [], ◌∷◌, ◌++◌, Option, refl, sym, ◌∙◌, ap, subst, append_assoc, append-nil}
+use Rattle.json.specs.Json.{Json}
 use Rattle.borsh_json.specs.Forms.{Form}
-use Rattle.borsh_json.specs.Table.{Keys, Kind, HasKind, Part, row_parts, field_parts, Entry, entry_parts, Says}
+use Rattle.borsh_json.specs.Table.{Part}
 use Rattle.borsh_json.specs.Represents.{HaveBytes, none_left, next_part}
-use Rattle.borsh_json.specs.Reads.{Left, items_left, fields_left, entries_left, PartsOf, PartsOfAll, SaysFirst, SaysSome, IsOnly, AreRead}
+use Rattle.borsh_json.specs.Reads.{SaysFirst, SaysSome, IsOnly, AreRead}
 
 module _ (F : List ℕ → Option Form) where
   -- the first part says its own bytes, and the others follow

@@ -1,29 +1,23 @@
 -- The reader's loop.
 use Rattle.std.proofs.Common.{◌≡◌, ℕ, List, [], ◌∷◌, ◌++◌, Option, Some, None, refl, sym, ◌∙◌, ap, subst}
-use Rattle.std.specs.Prelude.{Bool, true, false, Result, Ok, Err, MatchResult, MatchOption, IfOk, OnOk, IfErr}
+use Rattle.std.specs.Prelude.{Bool, true, Result, Ok, Err, MatchResult, IfOk, OnOk, IfErr}
 use Rattle.json.specs.Token.{Token}
 use Rattle.json.specs.Json.{Json, no_items, item}
 use Rattle.json.specs.Find.{BeginsWith}
-use Rattle.borsh_values.specs.declared.layout.Layout.{Layout}
 use Rattle.borsh_values.specs.declared.layout.Named.{Named}
-use Rattle.borsh_values.specs.Layouts.{IsLaidOut}
-use Rattle.borsh_json.specs.declared.definitions.Definitions.{Definitions}
 use Rattle.borsh_json.specs.declared.error.PartError.{PartError}
 use Rattle.borsh_json.specs.declared.error.ReadError.{ReadError}
 use Rattle.borsh_json.specs.declared.error.Refusal.TheVariants.{TooDeep}
 use Rattle.borsh_json.specs.declared.opening.Frame.{Frame}
-use Rattle.borsh_json.specs.declared.parts.Next.{Next}
-use Rattle.borsh_json.specs.declared.parts.Next.TheVariants.{Part, Missing, End}
 use Rattle.borsh_json.specs.declared.position.Parts.{Parts}
 use Rattle.borsh_json.specs.declared.position.Parts.TheVariants.{Root}
 use Rattle.borsh_json.specs.declared.position.Place.{Place}
 use Rattle.borsh_json.specs.declared.sources.Source.{Source}
 use Rattle.borsh_json.specs.declared.sources.Source.TheVariants.{One}
-use Rattle.borsh_json.specs.Forms.{Form, forms_in}
-use Rattle.borsh_json.specs.Frames.{DeniesPart, DeniesRead, IsOf, IsReading, IsReadOn, HasLeft, HaveLeft, IsNext, IsFound, IsOpened, NoneLeft}
-use Rattle.borsh_json.specs.Known.{IsKnown}
+use Rattle.borsh_json.specs.Forms.{Form}
+use Rattle.borsh_json.specs.Frames.{DeniesPart, DeniesRead, IsOf, IsReading, IsReadOn, HasLeft, HaveLeft, IsFound}
 use Rattle.borsh_json.specs.Places.{IsAt}
-use Rattle.borsh_json.specs.Reads.{Left, items_left, PartsOf, PartsOfAll, SaysFirst, SaysSome, AreRead}
+use Rattle.borsh_json.specs.Reads.{Left, items_left, PartsOfAll, SaysFirst, SaysSome, AreRead}
 use Rattle.borsh_json.specs.Represents.{HaveBytes}
 use Rattle.borsh_json.specs.Table.{Part as JsonPart}
 use Rattle.borsh_json.proofs.ReaderLaws.{read_start, read_same, read_end, front_says}

@@ -1,8 +1,8 @@
 -- What errors say of a text.
-use Rattle.std.proofs.Common.{◌≡◌, ℕ, List, [], ◌∷◌, Option, Some, None, refl, sym, ◌∙◌, ap, subst}
+use Rattle.std.proofs.Common.{◌≡◌, ℕ, List, Option, Some, None, refl, sym, ◌∙◌, subst}
 use Rattle.std.specs.Prelude.{IsSome}
 use Rattle.json.specs.Json.{Json, document}
-use Rattle.borsh_walks.specs.Container.{Shape, Member}
+use Rattle.borsh_walks.specs.Container.{Shape}
 use Rattle.borsh_json.specs.declared.error.JsonError.{JsonError}
 use Rattle.borsh_json.specs.declared.error.JsonError.TheVariants.{OutOfMemory, NoMember, NoValue, Ambiguous, NotJson, Refused}
 use Rattle.borsh_json.specs.declared.error.PartError.{PartError}
@@ -13,7 +13,6 @@ use Rattle.borsh_json.specs.Errors.{DeniesValue, TellsNoJson, IsTooDeep, Denies,
 use Rattle.borsh_json.specs.Forms.{Form}
 use Rattle.borsh_json.specs.Frames.{DeniesPart}
 use Rattle.borsh_json.specs.Reads.{SaysSome}
-use Rattle.borsh_json.specs.Represents.{HaveBytes, TextSays}
 use Rattle.borsh_json.proofs.OpeningLaws.{denies_from, part_unreadable}
 
 pub there : {A : Type 0} (o : Option A) → IsSome o → (a : A) × (o ≡ Some a)

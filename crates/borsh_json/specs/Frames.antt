@@ -1,5 +1,5 @@
 -- What the frames of the reader stand for, and what its steps return.
-use Rattle.std.specs.Prelude.{◌≡◌, ◌⊎◌, ⊤, ℕ, suc, ℤ, String, slice_get, List, [], ◌∷◌, ◌++◌, ◌-◌, length, map, drop, replicate, Bool, true, false, Option, Some, None, Result, MatchOption, MatchResult, string_bytes}
+use Rattle.std.specs.Prelude.{◌≡◌, ◌⊎◌, ⊤, ℕ, ℤ, String, slice_get, List, [], ◌∷◌, ◌++◌, ◌-◌, length, map, drop, replicate, Bool, true, false, Option, Some, None, Result, MatchOption, MatchResult, string_bytes}
 use Rattle.std.specs.Borrow.{Bor}
 use Rattle.std.specs.Global.{Global}
 use Rattle.std.specs.Str.{bytes_eq}

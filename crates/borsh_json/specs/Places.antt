@@ -1,6 +1,5 @@
 -- Names by their places in a layout, and the kinds that the code finds of them.
-use Rattle.std.specs.Prelude.{◌≡◌, ◌⊎◌, ⊤, ℕ, ℤ, List, map, length, Bool, true, false, Option, Some, None, MatchOption, option_map, slice_get, string_bytes, Vec}
-use Rattle.std.specs.Global.{Global}
+use Rattle.std.specs.Prelude.{◌≡◌, ◌⊎◌, ℕ, List, map, length, Bool, true, false, Option, Some, None, MatchOption, slice_get, string_bytes}
 use Rattle.std.specs.Borrow.{Bor}
 use Rattle.std.specs.Str.{bytes_eq}
 use Rattle.std.specs.List.{IsDistinct}
@@ -11,8 +10,6 @@ use Rattle.borsh_values.specs.declared.layout.Named.{Named}
 use Rattle.borsh_values.specs.Layouts.{name_of}
 use Rattle.borsh_json.specs.declared.kinds.Kind.{Kind as Found}
 use Rattle.borsh_json.specs.declared.kinds.Kind.TheVariants.{Number, Bool as Truth, Text, Bytes, Float, ByteList, Numbers, List as Elements, Map, Row, Newtype, Object, Optional, Choice, Repeated}
-use Rattle.borsh_json.specs.declared.kinds.Elements.{Elements as FoundElements}
-use Rattle.borsh_json.specs.declared.kinds.Entries.{Entries as FoundEntries}
 use Rattle.borsh_json.specs.declared.kinds.KeyKind.{KeyKind}
 use Rattle.borsh_json.specs.declared.kinds.KeyKind.TheVariants.{Text as TextKeys, Number as NumberKeys}
 use Rattle.borsh_json.specs.Forms.{Form, primitive, sequence, tuple, newtype, unnamed, named, choice, form_of, shape_of_form, HasNoBytes}

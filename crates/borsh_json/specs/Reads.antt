@@ -1,5 +1,5 @@
 -- What is left to be read of a text: the invariant of the reader's loop.
-use Rattle.std.specs.Prelude.{◌≡◌, ℕ, suc, List, [], ◌∷◌, ◌++◌, length, Option, Some}
+use Rattle.std.specs.Prelude.{◌≡◌, ℕ, List, [], ◌∷◌, ◌++◌, length, Option, Some}
 use Rattle.json.specs.Json.{Json, Items, Members}
 use Rattle.borsh_json.specs.Forms.{Form}
 use Rattle.borsh_json.specs.Table.{Keys, Kind, HasKind, Part, row_parts, field_parts, Entry, entry_parts, Says}

@@ -1,4 +1,4 @@
-use Rattle.std.proofs.Common.{◌≡◌, ◌≤◌, ◌∙◌, ◌++◌, ◌∷◌, [], List, ℕ, length, map, take, string_bytes, sym, ap, subst, arith}
+use Rattle.std.proofs.Common.{◌≤◌, ◌∙◌, ◌++◌, ◌∷◌, [], List, ℕ, length, map, take, string_bytes, sym, ap, subst, arith}
 use Rattle.std.proofs.lemmas.List.{map-append, take_all}
 use Rattle.borsh_json.specs.Found.{IsRepeated}
 use Rattle.borsh_json.proofs.FrameLaws.{length_map}

@@ -1,6 +1,6 @@
 use Rattle.std.proofs.Common.{ℕ, subst, refl, sym}
 use Rattle.borsh_json.specs.declared.kinds.KeyKind.{KeyKind}
-use Rattle.borsh_json.specs.declared.kinds.KeyKind.TheVariants.{Text as TextKeys, Number as NumberKeys}
+use Rattle.borsh_json.specs.declared.kinds.KeyKind.TheVariants.{Text as TextKeys}
 use Rattle.borsh_json.specs.declared.sources.Source.{Source}
 use Rattle.borsh_json.specs.declared.sources.Source.TheVariants.{Texts, Ranks}
 use Rattle.borsh_json.specs.Frames.{AreSorted}

@@ -1,5 +1,5 @@
 use Rattle.std.proofs.Common.{◌≡◌, [], length, ap, sym, ◌∙◌}
-use Rattle.json.specs.Json.{Items, array}
+use Rattle.json.specs.Json.{array}
 use Rattle.borsh_json.specs.Table.{list_parts}
 use Rattle.borsh_json.proofs.opening.array_of.Goals as goal
 

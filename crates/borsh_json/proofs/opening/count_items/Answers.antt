@@ -1,5 +1,5 @@
 use Rattle.std.proofs.Common.{◌≡◌, ◌+◌, ℕ, suc, [], length, ap, sym, ◌∙◌, arith}
-use Rattle.json.specs.Json.{Items, no_items, item}
+use Rattle.json.specs.Json.{Items}
 use Rattle.borsh_json.specs.Table.{list_parts}
 use Rattle.borsh_json.proofs.opening.count_items.Goals as goal
 

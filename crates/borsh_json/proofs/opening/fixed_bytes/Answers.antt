@@ -1,5 +1,5 @@
-use Rattle.std.proofs.Common.{◌≡◌, ℕ, List, length, sym, ◌∙◌, ap, subst, arith}
-use Rattle.json.specs.Json.{Json, string}
+use Rattle.std.proofs.Common.{length, sym, ap, subst, arith}
+use Rattle.json.specs.Json.{Json}
 use Rattle.json.specs.Find.{as_str}
 use Rattle.borsh_json.specs.Table.{IsHex}
 use Rattle.borsh_json.proofs.OpeningLaws.{denies_expected, denies_read, string_is}

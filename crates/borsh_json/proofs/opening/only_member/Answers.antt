@@ -1,5 +1,5 @@
-use Rattle.std.proofs.Common.{◌≡◌, ap, sym, ◌∙◌}
-use Rattle.json.specs.Json.{Json, Members, no_members, member, object, string}
+use Rattle.std.proofs.Common.{◌≡◌, ap, ◌∙◌}
+use Rattle.json.specs.Json.{Members, no_members, member, object}
 use Rattle.borsh_json.proofs.opening.only_member.Goals as goal
 
 pub returns-in_default : goal.returns-in_default

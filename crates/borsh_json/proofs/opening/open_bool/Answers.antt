@@ -1,4 +1,4 @@
-use Rattle.std.proofs.Common.{◌≡◌, ◌∷◌, [], sym, ◌∙◌, ap, refl, true, false, Some}
+use Rattle.std.proofs.Common.{◌∷◌, [], sym, ◌∙◌, ap, refl, true, false, Some}
 use Rattle.json.specs.Find.{as_bool}
 use Rattle.borsh_json.specs.Table.{truth}
 use Rattle.borsh_json.proofs.OpeningLaws.{opened_leaf, denied, denies_expected, bool_is}

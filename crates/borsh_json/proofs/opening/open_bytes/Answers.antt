@@ -1,4 +1,4 @@
-use Rattle.std.proofs.Common.{◌≡◌, ◌++◌, List, ℕ, [], sym, ◌∙◌, ap, refl}
+use Rattle.std.proofs.Common.{◌++◌, ◌∙◌, ap, refl}
 use Rattle.borsh_json.specs.Table.{raw}
 use Rattle.borsh_json.proofs.OpeningLaws.{opened_leaf, said, denies_read}
 use Rattle.borsh_json.proofs.opening.open_bytes.Goals as goal

@@ -1,4 +1,4 @@
-use Rattle.std.proofs.Common.{◌≡◌, ◌++◌, List, ℕ, Bool, true, false, [], sym, ◌∙◌, ap, subst, refl, length}
+use Rattle.std.proofs.Common.{◌++◌, List, ℕ, Bool, sym, ◌∙◌, ap, subst, refl, length}
 use Rattle.std.specs.Prelude.{MatchBool}
 use Rattle.borsh_json.specs.Table.{float, IsNoNan}
 use Rattle.borsh_json.proofs.OpeningLaws.{opened_leaf, said, denied, denies_read}

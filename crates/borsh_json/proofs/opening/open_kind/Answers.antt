@@ -1,4 +1,4 @@
-use Rattle.std.proofs.Common.{◌≡◌, List, ℕ, subst}
+use Rattle.std.proofs.Common.{subst}
 use Rattle.borsh_json.specs.declared.kinds.Kind.{Kind}
 use Rattle.borsh_json.specs.Forms.{Form, form_of}
 use Rattle.borsh_json.specs.Places.{IsKindOf}

@@ -1,4 +1,4 @@
-use Rattle.std.proofs.Common.{◌≡◌, Bool, List, ℕ, subst}
+use Rattle.std.proofs.Common.{Bool, subst}
 use Rattle.borsh_json.specs.Forms.{form_of}
 use Rattle.borsh_json.specs.Places.{IsListOf, lengths_of}
 use Rattle.borsh_json.specs.Table.{list}

@@ -1,4 +1,4 @@
-use Rattle.std.proofs.Common.{◌≡◌, [], sym, ◌∙◌, ap, refl}
+use Rattle.std.proofs.Common.{[], sym, ◌∙◌, ap, refl}
 use Rattle.json.specs.Find.{is_null}
 use Rattle.borsh_json.specs.Table.{no_bytes}
 use Rattle.borsh_json.proofs.OpeningLaws.{opened_leaf, denied, denies_expected, null_is}

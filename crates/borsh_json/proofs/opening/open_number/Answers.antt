@@ -1,4 +1,4 @@
-use Rattle.std.proofs.Common.{◌≡◌, List, ℕ, [], sym, ◌∙◌, ap, refl, subst, take}
+use Rattle.std.proofs.Common.{List, ℕ, refl, subst, take}
 use Rattle.borsh_json.specs.Table.{whole, IsWhole}
 use Rattle.borsh_json.proofs.OpeningLaws.{opened_leaf, denied, denies_expected}
 use Rattle.borsh_json.proofs.RepresentsLaws.{kind_small, number_one}

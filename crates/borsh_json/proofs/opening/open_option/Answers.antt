@@ -1,4 +1,4 @@
-use Rattle.std.proofs.Common.{◌≡◌, ◌∷◌, [], inl, inr, sym, ◌∙◌, ap, refl}
+use Rattle.std.proofs.Common.{◌∷◌, [], inl, inr, sym, ◌∙◌, ap, refl}
 use Rattle.json.specs.Find.{is_null}
 use Rattle.borsh_json.specs.declared.position.Parts.TheVariants.{Some as Present}
 use Rattle.borsh_json.specs.Table.{optional}

@@ -1,4 +1,4 @@
-use Rattle.std.proofs.Common.{◌≡◌, ◌⊎◌, inl, inr, ℕ, List, [], Option, Some, None, sym, subst, refl, append-nil}
+use Rattle.std.proofs.Common.{◌≡◌, inl, inr, ℕ, List, [], Option, None, sym, subst, refl, append-nil}
 use Rattle.json.specs.Json.{Json}
 use Rattle.borsh_json.specs.declared.kinds.Kind.{Kind}
 use Rattle.borsh_json.specs.declared.position.Parts.TheVariants.{Newtype}

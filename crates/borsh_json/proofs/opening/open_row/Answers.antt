@@ -1,4 +1,3 @@
-use Rattle.std.proofs.Common.{refl}
 use Rattle.borsh_json.proofs.OpeningLaws.{denies_expected}
 use Rattle.borsh_json.proofs.PartsLaws.{row_opened, row_count, no_row}
 use Rattle.borsh_json.proofs.opening.open_row.Goals as goal

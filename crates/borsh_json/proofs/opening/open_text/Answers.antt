@@ -1,4 +1,4 @@
-use Rattle.std.proofs.Common.{◌≡◌, ◌∷◌, ℕ, List, [], sym, ◌∙◌, ap, subst, refl, length}
+use Rattle.std.proofs.Common.{ℕ, List, sym, ◌∙◌, ap, subst, refl, length}
 use Rattle.json.specs.Json.{string}
 use Rattle.json.specs.Find.{as_str}
 use Rattle.borsh_json.specs.Forms.{form_of}

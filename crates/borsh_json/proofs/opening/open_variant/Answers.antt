@@ -1,4 +1,4 @@
-use Rattle.std.proofs.Common.{◌≡◌, ◌∷◌, [], inl, inr, ℕ, List, Option, Some, None, map, sym, ◌∙◌, ap, subst, refl, string_bytes}
+use Rattle.std.proofs.Common.{inl, inr, ℕ, List, Option, Some, map, sym, subst, refl, string_bytes}
 use Rattle.std.specs.Prelude.{ℤ, String}
 use Rattle.std.specs.Global.{Global}
 use Rattle.std.specs.Str.{bytes_eq}

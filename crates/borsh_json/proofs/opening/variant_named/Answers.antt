@@ -1,9 +1,9 @@
-use Rattle.std.proofs.Common.{◌≡◌, ◌+◌, ◌≤◌, ◌<◌, ◌∷◌, ap, sym, ◌∙◌, List, ℕ, suc, [], subst, length, arith, map, drop, string_bytes, get_or, refl}
+use Rattle.std.proofs.Common.{◌≡◌, ◌+◌, ◌≤◌, ◌<◌, ap, sym, ◌∙◌, List, ℕ, suc, subst, length, arith, map, drop, string_bytes, get_or}
 use Rattle.std.specs.Prelude.{ℤ, slice_get, Some, String}
 use Rattle.std.specs.Global.{Global}
 use Rattle.std.proofs.lemmas.Slice.Eq.{bytes_eq-Decides}
 use Rattle.borsh_json.specs.Table.{IsVariant}
-use Rattle.borsh_json.proofs.FrameLaws.{get_from, get_map, drop_at, drop_all, length_map}
+use Rattle.borsh_json.proofs.FrameLaws.{get_from, get_map, drop_all, length_map}
 use Rattle.borsh_json.proofs.OpeningLaws.{variant_here, variant_later, no_variant}
 use Rattle.borsh_json.proofs.opening.variant_named.Goals as goal
 

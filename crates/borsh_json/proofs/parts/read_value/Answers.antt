@@ -1,4 +1,4 @@
-use Rattle.std.proofs.Common.{◌≡◌, List, ℕ, [], sym, subst, true, false, Some}
+use Rattle.std.proofs.Common.{◌≡◌, List, ℕ, sym, subst, true, false, Some}
 use Rattle.std.specs.Prelude.{Bool}
 use Rattle.borsh_json.specs.declared.error.Refusal.TheVariants.{TooDeep}
 use Rattle.borsh_json.specs.declared.sources.Source.TheVariants.{One}

@@ -1,4 +1,3 @@
-use Rattle.std.proofs.Common.{◌≡◌}
 use Rattle.json.specs.Json.{Json}
 use Rattle.json.specs.Find.{BeginsWith}
 use Rattle.borsh_json.specs.Forms.{forms_in}

@@ -1,4 +1,4 @@
-use Rattle.std.proofs.Common.{◌≡◌, ◌++◌, List, ℕ, take, false, sym, ◌∙◌, ap, subst}
+use Rattle.std.proofs.Common.{◌++◌, List, ℕ, take, false, sym, ◌∙◌, ap, subst}
 use Rattle.std.proofs.lemmas.Bool.Decides.{Decides-eqb}
 use Rattle.std.proofs.lemmas.Slice.Eq.{slice_eq-Decides}
 use Rattle.borsh_json.specs.Table.{IsWhole}

@@ -1,4 +1,4 @@
-use Rattle.std.proofs.Common.{◌≡◌, ◌∙◌, sym, ap, subst, Some, None, string_bytes}
+use Rattle.std.proofs.Common.{◌∙◌, sym, ap, subst, Some, None, string_bytes}
 use Rattle.borsh_json.specs.Forms.{form_of, forms_in}
 use Rattle.borsh_json.specs.Rows.{IsText, IsValueText}
 use Rattle.borsh_json.proofs.FoundLaws.{got, got_at}

@@ -1,4 +1,4 @@
-use Rattle.std.proofs.Common.{◌≡◌, List, ℕ, sym, subst, string_bytes}
+use Rattle.std.proofs.Common.{sym, subst, string_bytes}
 use Rattle.std.specs.Prelude.{IfOk}
 use Rattle.borsh_json.specs.declared.kinds.Kind.{Kind as Found}
 use Rattle.borsh_json.specs.Found.{IsPrimitiveKind}

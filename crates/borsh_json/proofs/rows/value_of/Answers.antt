@@ -1,4 +1,4 @@
-use Rattle.std.proofs.Common.{◌≡◌, ap, sym}
+use Rattle.std.proofs.Common.{ap, sym}
 use Rattle.std.specs.Prelude.{option_map}
 use Rattle.borsh_json.specs.Forms.{form_of, forms_in}
 use Rattle.borsh_json.proofs.RowsLaws.{told_by}

@@ -1,4 +1,4 @@
-use Rattle.std.proofs.Common.{◌≡◌, string_bytes}
+use Rattle.std.proofs.Common.{string_bytes}
 use Rattle.std.specs.Prelude.{IfOk, IfErr}
 use Rattle.borsh_walks.specs.Definitions.{definitions_in}
 use Rattle.borsh_json.specs.Errors.{IsNoJsonReason}

@@ -1,4 +1,4 @@
-use Rattle.std.proofs.Common.{◌≡◌, sym}
+use Rattle.std.proofs.Common.{sym}
 use Rattle.borsh_json.proofs.definitions.Definitions.find_kind.Goals as goal
 
 pub returns-in_ok-kind-in-Some-clause-kind : goal.returns-in_ok-kind-in-Some-clause-kind

@@ -1,4 +1,4 @@
-use Rattle.std.proofs.Common.{◌≡◌, ◌∙◌, sym}
+use Rattle.std.proofs.Common.{◌∙◌, sym}
 use Rattle.borsh_json.proofs.FoundLaws.{got}
 use Rattle.borsh_json.proofs.PlaceLaws.{kind_there}
 use Rattle.borsh_json.proofs.definitions.Definitions.kind.Goals as goal

@@ -1,9 +1,6 @@
-use Rattle.std.proofs.Common.{refl, ◌≡◌, ◌++◌, ◌∷◌, [], List, ℕ, length, sym, ap, subst, arith, true, false}
-use Rattle.borsh_json.specs.declared.error.Refusal.TheVariants.{UnknownName}
+use Rattle.std.proofs.Common.{refl, ◌≡◌, ◌∷◌, [], List, length, arith, true, false}
 use Rattle.borsh_json.specs.declared.sources.Source.{Source}
 use Rattle.borsh_json.specs.Forms.{forms_in}
-use Rattle.borsh_json.specs.Reads.{SaysSome}
-use Rattle.borsh_json.proofs.OpeningLaws.{denies_of}
 use Rattle.borsh_json.proofs.ReadingLaws.{reading_up, reading_end, no_around}
 use Rattle.borsh_json.proofs.parts.Reading.leave.Goals as goal
 

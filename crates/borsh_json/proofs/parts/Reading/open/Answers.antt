@@ -1,4 +1,4 @@
-use Rattle.std.proofs.Common.{◌≡◌, Option, Some, None, List, ℕ, subst, ap, true}
+use Rattle.std.proofs.Common.{◌≡◌, Option, ℕ, subst, ap}
 use Rattle.std.specs.Prelude.{Result, Ok, Err, OnOk, Bool, Vec}
 use Rattle.std.specs.Global.{Global}
 use Rattle.borsh_json.specs.declared.error.PartError.{PartError}

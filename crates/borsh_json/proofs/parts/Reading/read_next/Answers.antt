@@ -1,5 +1,5 @@
-use Rattle.std.proofs.Common.{◌≡◌, List, ℕ, subst}
-use Rattle.borsh_json.specs.declared.error.Refusal.TheVariants.{MissingField, Descends}
+use Rattle.std.proofs.Common.{subst}
+use Rattle.borsh_json.specs.declared.error.Refusal.TheVariants.{MissingField}
 use Rattle.borsh_json.specs.declared.parts.Next.{Next}
 use Rattle.borsh_json.specs.Forms.{forms_in}
 use Rattle.borsh_json.specs.Frames.{IsNext}

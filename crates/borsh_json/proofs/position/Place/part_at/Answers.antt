@@ -1,4 +1,4 @@
-use Rattle.std.proofs.Common.{◌≡◌, ◌+◌, ◌<◌, ◌∷◌, List, [], Option, sym, ap, subst, ◌∙◌, string_bytes, get_or, length}
+use Rattle.std.proofs.Common.{◌≡◌, ◌+◌, ◌<◌, ◌∷◌, List, [], sym, ap, subst, ◌∙◌, get_or, length}
 use Rattle.std.specs.Prelude.{MatchOption}
 use Rattle.borsh_json.specs.declared.position.Key.TheVariants.{Name}
 use Rattle.borsh_json.specs.declared.position.Parts.{Parts}
