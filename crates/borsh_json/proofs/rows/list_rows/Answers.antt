@@ -14,7 +14,7 @@ nodes-preserved c =
     let v = c.next.new.self in
     let n = c.in-Some.node in
     let i = c.nodes.invariant in
-    let g : GivesNext u v n = subst (λ o. Gives u v o) c.in-Some.is c.in_ok-node.ensures in
+    let g : GivesNext u v n = subst (λ o. Gives u v o) c.in-Some.is c.in_ok-node.ensures.gives in
     elim c.if-not-is_empty.branch [
       | then-not-is_empty+in_ok-path-2+in_ok-value+in_ok-push w ↦
           let r = w.row_of.result in
