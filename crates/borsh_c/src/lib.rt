@@ -120,10 +120,10 @@ pub extern "C" fn borsh_c_member(
 }
 
 /// Gives the JSON of the value that all of `value` is; on one line if `is_compact`, and with numbers of 64 bits as strings if
-/// `has_quoted_numbers`. Determined: after code 0 `value` is a member of the root, and JSON is given; after 2 `schema` is no
+/// `has_quoted_numbers`. Determined: after code 0 the JSON says `value`, a member of the root, and no other bytes; after 2 `schema` is no
 /// container, and after 0, 1 and 5 it is one; after 5 it breaks a rule or is ambiguous; an offset after 1 is that of a fault of `value`,
-/// which is no member. Left open: code 3; code 1 for any `value`, without an offset; code 5 for such a container; the JSON of another
-/// value; the text after 1; the path.
+/// which is no member. Left open: code 3; code 1 for any `value`, without an offset; code 5 for such a container; the text after 1; the
+/// path.
 ///
 /// ```c
 /// uint32_t code = borsh_c_to_json(schema, schema_length, value, value_length, true, false, &place, room, room_length, &needed);
@@ -164,9 +164,9 @@ pub extern "C" fn borsh_c_to_json(
     }
 }
 
-/// Gives the bytes of the value that `json` says, which is UTF-8. Determined: after code 0 `json` is JSON, and bytes of a
-/// member of the root are given; the other codes as of [`borsh_c_to_json`], but an offset after 1 only if `json` isn't JSON. Left open: as
-/// there; the bytes of another member; the offset.
+/// Gives the bytes of the value that `json` says, which is UTF-8. Determined: after code 0 `json` says the bytes, a member of the root,
+/// and no others; the other codes as of [`borsh_c_to_json`], but an offset after 1 only if `json` isn't JSON. Left open: as there; the
+/// offset.
 ///
 /// ```c
 /// uint32_t code = borsh_c_from_json(schema, schema_length, json, json_length, &place, room, room_length, &needed);
@@ -250,7 +250,7 @@ pub extern "C" fn borsh_c_records(
 
 /// Gives the JSON of each of the values that lie one after another in `values` and have these lengths, and a line end behind it, up to one
 /// that has none; how many have a line is written to `count`, and is 0 after any other code than [`YES`]. A length that reaches beyond the
-/// bytes is cut. Determined: after code 0 each of the first `count` values is a member of the root, and has JSON; there is one, unless
+/// bytes is cut. Determined: after code 0 the lines say the first `count` values, each a member of the root; there is one, unless
 /// there are no lengths; after 1 and 5 as of [`borsh_c_to_json`] for the first. Left open: as there; how many have a line, but for the
 /// first; that the JSON has no line end.
 ///
