@@ -37,6 +37,7 @@ class Call(typing.NamedTuple):
     comment: str
     around: tuple[str, ...]
     is_constant: bool
+    crate: str
 
 
 def prose(lines):
@@ -49,6 +50,7 @@ def prose(lines):
 def calls(file):
     """The calls of a file, in order."""
     lines = file.read_text(encoding="utf-8").splitlines()
+    crate = file.parent.parent.name
     first = next((number for number, line in enumerate(lines) if not line.startswith("//")), len(lines))
     head = prose([line.lstrip("/!").strip() for line in lines[:first]])
     types, comment, owner, is_trait = {}, [], "", False
@@ -62,7 +64,7 @@ def calls(file):
         said, comment = prose(comment), []
         if implementation := IMPLEMENTATION.match(line):
             owner = ""
-            yield Call(implementation.group(1), said, (), False)
+            yield Call(implementation.group(1), said, (), False, crate)
         elif block := TYPE.match(line):
             is_trait = block.group(1) == "trait"
             owner = block.group(2)
@@ -74,7 +76,7 @@ def calls(file):
             is_method = indent == "    " and owner
             if (is_method and (public or is_trait)) or (not indent and public):
                 full = f"{owner}::{name}" if is_method else name
-                yield Call(full, said, (types[owner], head) if is_method else (head,), kind == "const")
+                yield Call(full, said, (types[owner], head) if is_method else (head,), kind == "const", crate)
 
 
 def left_open(call):
@@ -109,7 +111,7 @@ def exported():
     for facade in FACADES:
         for file in (TOP / "crates" / facade / "src").glob("*.rt"):
             text = file.read_text(encoding="utf-8")
-            for path, names in re.findall(r"^pub use (\w+)::(?:\w+::)*(\{[^}]*\}|\w+);", text, re.M):
+            for path, names in re.findall(r"^pub use (\w+)::(?:\w+::)*(\{[^}]*\}|\w+)(?: as \w+)?;", text, re.M):
                 crate = path if (TOP / "crates" / path).is_dir() else facade
                 items |= {(crate, name) for name in re.findall(r"\w+", names)}
             if facade == "borsh" or file.stem == "lib":
@@ -131,8 +133,16 @@ def row_of(call, rows):
     return None
 
 
+def exported_as(call):
+    """A call's name for its users: a type may be exported by another name."""
+    file = TOP / "crates" / call.crate / "src/lib.rt"
+    owner, _, name = call.name.rpartition("::")
+    other = re.search(rf"^pub use \w+::{owner} as (\w+);", file.read_text(encoding="utf-8"), re.M) if owner else None
+    return f"{other[1]}::{name}" if other else call.name
+
+
 def names_of(row):
-    names = [f"`{call.name}`" for call in row]
+    names = [f"`{exported_as(call)}`" for call in row]
     return ", ".join(names) if len(names) < 4 else f"{names[0]} to {names[-1]}"
 
 

@@ -29,7 +29,7 @@ struct Part<'a> {
 /// bytes of parts too, it with its own bytes alone, and then one for each part, and the parts of these.
 ///
 /// Determined: the bytes of the nodes are, one after another, those of the nodes that were passed in, and each node says where
-/// its bytes begin. Left open: memory; how the bytes are cut, and the names, definitions and depths: tested.
+/// its bytes begin. Left open of each call: memory; how the bytes are cut, and the names, definitions and depths: tested.
 ///
 /// ```
 /// let mut unpacked = Unpacked::new(alloc, &layout, nodes.as_slice());
