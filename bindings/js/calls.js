@@ -120,7 +120,7 @@ function ask(it, name, given, roomLength) {
   }
   const block = Number(it.heap_take(BigInt(size)));
   if (block === 0) return outOfMemory();
-  const words = given.flatMap((argument, index) => put(it, argument, block + starts[index]));
+  const words = given.flatMap((argument, index) => writePart(it, argument, block + starts[index]));
   // The answer of a second call is as long as the first one's, so that no third is needed.
   for (let count = 0; count < 2; count++) {
     const room = Number(it.heap_take(BigInt(roomLength)));
@@ -130,7 +130,7 @@ function ask(it, name, given, roomLength) {
     if (length <= roomLength) {
       const answer = new Answer(kind, bytesAt(it, room, length).slice());
       // The last first, since how many numbers there are is told behind the room for them.
-      for (let index = given.length - 1; index >= 0; index--) take(answer, given[index], viewOf(it, block + starts[index]));
+      for (let index = given.length - 1; index >= 0; index--) readPart(answer, given[index], viewOf(it, block + starts[index]));
       return answer;
     }
     it.heap_give_back(BigInt(room));
@@ -148,7 +148,7 @@ function sizeOf(argument) {
 }
 
 /** Writes an argument to its part of the block, and returns the words by which it is passed. */
-function put(it, argument, at) {
+function writePart(it, argument, at) {
   if (typeof argument === "number") return [argument];
   if (typeof argument === "symbol") return [BigInt(at)];
   if (argument instanceof Room) return [BigInt(at), BigInt(argument.count)];
@@ -162,7 +162,7 @@ function put(it, argument, at) {
 }
 
 /** Has the answer what the call has written to an argument's part of the block. */
-function take(answer, argument, view) {
+function readPart(answer, argument, view) {
   if (answer.kind === "yes" && argument === RESULT) answer.number = view.getBigUint64(0, true);
   if (answer.kind === "yes" && argument instanceof Room) {
     answer.lengths = Array.from({ length: Number(answer.number) }, (_, index) => numberAt(view, index));
