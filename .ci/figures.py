@@ -11,11 +11,11 @@ CLAUSE = re.compile(r"\s*(ensures|requires|ghost (?!use)\w+)\b[^{;]*\{")
 TOP = pathlib.Path(__file__).resolve().parent.parent
 
 # What may not be passed: of the lines, 31,000, 900 for floats, `Arc`, `Cow` and what came with them, 2,500 for values by their
-# container, one after another too, and 2,000 for their JSON and the calls from C; of tests and examples, 9,000 and 400.
+# container, one after another too, and 2,000 for their JSON and the calls from C.
 BARS = {
     "crates": 26,
     "lines of .rt": 36400,
-    "of these, tests and examples": 9400,
+    "of these, tests and examples": 9000,
     "must-fail edits": 75,
     "crates with must-fail edits": 7,
 }
