@@ -40,7 +40,7 @@ struct Part<'a> {
 #[derive(Drop)]
 pub struct Unpacked<'a, 'l, 'b, 'n> {
     layout: &'l Layout<'a>,
-    // A name, and its place.
+    // A name, and its place: at first the root, which is the first name of a layout.
     known: (&'a str, usize),
     // The parts that are still to be given of the node that is taken apart.
     rests: Vec<Rest>,
@@ -235,7 +235,7 @@ impl<'a, 'l, 'b, 'n> Unpacked<'a, 'l, 'b, 'n> {
     {
         Unpacked {
             layout,
-            known: ("", usize::MAX),
+            known: (layout.root, 0),
             rests: Vec::new(alloc),
             nodes,
             around: None,
