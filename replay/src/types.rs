@@ -2,7 +2,7 @@
 
 use crate::random::Random;
 use crate::samples::Sample;
-use crate::user_types::{A, LongA, MyEnum, MyStruct, Octet, One, OneOrZero, ShortA, WideOne};
+use crate::user_types::{A, LongA, MyEnum, MyStruct, One, OneOrZero, ShortA, WideOne};
 use borsh::schema::{BorshSchemaContainer, Definition, Fields};
 use borsh::{BorshDeserialize, BorshSerialize};
 use bytes::{Bytes, BytesMut};
@@ -197,9 +197,9 @@ static TYPES: [Type; 88] = types! {
     described ([u8; 8], [u16; 3], [Option<u8>; 3], [[u8; 2]; 2], [u128; 2], [String; 2]),
     described [String; 3],
     plain ([One; 2], [ShortA; 3]),
-    plain (One, ShortA, LongA, Octet),
+    plain (One, ShortA, LongA, ShortA),
     described Vec<LongA>,
-    plain Vec<Octet>,
+    plain Vec<ShortA>,
     described LengthRange,
     described Fields,
     described Definition,

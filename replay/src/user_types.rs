@@ -228,5 +228,4 @@ macro_rules! numbers {
 numbers! {
     ShortA: u8, "A", 1;
     LongA: u16, "A", 2;
-    Octet: u8, "Octet", 1;
 }

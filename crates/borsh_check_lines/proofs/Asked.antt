@@ -4,7 +4,7 @@ use Rattle.std.proofs.lemmas.Fmt.{decimal_by_steps}
 use Rattle.std.proofs.lemmas.List.Elements.{All-nil, All-push, All-append}
 use Rattle.borsh_walks.specs.Container.{Shape, zst_sequence, tag_too_wide, tag_too_narrow, tag_not_power_of_two, missing_definition, empty_length_range}
 use Rattle.borsh_walks.specs.Counts.{add_saturating}
-use Rattle.borsh_walks.specs.Errors.{broken_rule}
+use Rattle.borsh_walks.specs.Errors.{broken_rule, size_reason}
 use Rattle.borsh_walks.specs.RulesAnswer.{RulesFault}
 use Rattle.borsh_walks.specs.SizeAnswer.{SizeFault}
 use Rattle.borsh_walks.specs.declared.counted.Expansions.{Expansions}
@@ -12,7 +12,7 @@ use Rattle.borsh_walks.specs.declared.error.SchemaContainerValidateError.{Schema
 use Rattle.borsh_walks.specs.declared.error.SchemaContainerValidateError.TheVariants.{ZSTSequence, TagTooWide, TagTooNarrow, TagNotPowerOfTwo, MissingDefinition, EmptyLengthRange, OutOfMemory}
 use Rattle.borsh_walks.specs.declared.error.SchemaMaxSerializedSizeError.{SchemaMaxSerializedSizeError}
 use Rattle.borsh_walks.specs.declared.error.SchemaMaxSerializedSizeError.TheVariants.{Overflow, Recursive, MissingDefinition as Missing, OutOfMemory as NoMemory, Redefinition}
-use Rattle.borsh_check_lines.specs.Containers.{IsRulesText, IsSizeText, broken_text, missing_text, counts_text}
+use Rattle.borsh_check_lines.specs.Containers.{IsRulesText, IsSizeText, broken_text, reason_text, counts_text}
 use Rattle.borsh_check_lines.specs.Containers.IsRulesText.{invalid}
 use Rattle.borsh_check_lines.specs.Containers.IsSizeText.{overflows, recurs, misses}
 use Rattle.borsh_check_lines.specs.Digits.{digits_of}
@@ -67,8 +67,18 @@ line_of_rule out (MissingDefinition m) t = line_of_broken (codes "MissingDefinit
 line_of_rule out (EmptyLengthRange m) t = line_of_broken (codes "EmptyLengthRange") (string_bytes m) (line_of_text (codes "EmptyLengthRange") refl) t
 line_of_rule out OutOfMemory t = absurd t
 
-pub line_of_missing : {out : List ℕ} (name : List ℕ) → out ≡ missing_text name → IsLine out
-line_of_missing name e = subst IsLine (sym e) (joined (codes "missing ") (digits_of name) (line_of_text (codes "missing ") refl) (line_of_digits name))
+-- what is said of a size's error, by the table of the reasons
+pub reason_told : (e : SchemaMaxSerializedSizeError) {out : List ℕ} {p : List ℕ × Option (List ℕ)} → Some p ≡ size_reason e → out ≡ reason_text p → IsNoSizeText e out
+reason_told e {out = out} says t = subst (λ o. MatchOption o ⊥ (λ p. out ≡ reason_text p)) says t
+
+pub line_of_reason : (out : List ℕ) (e : SchemaMaxSerializedSizeError) → IsNoSizeText e out → IsLine out
+line_of_reason out Overflow t = subst IsLine (sym t) (line_of_text (codes "overflow") refl)
+line_of_reason out Recursive t = subst IsLine (sym t) (line_of_text (codes "recursive") refl)
+line_of_reason out (Missing m) t =
+    let named = joined (codes " ") (digits_of (string_bytes m)) (line_of_text (codes " ") refl) (line_of_digits (string_bytes m)) in
+    subst IsLine (sym t) (joined (codes "missing") (codes " " ++ digits_of (string_bytes m)) (line_of_text (codes "missing") refl) named)
+line_of_reason out NoMemory t = absurd t
+line_of_reason out (Redefinition m) t = absurd t
 
 pub line_of_counts : {out : List ℕ} (e : Expansions) → e.rules < 2 ^ 64 → e.zero < 2 ^ 64 → e.size < 2 ^ 64 → out ≡ counts_text e → IsLine out
 line_of_counts e r z s i =

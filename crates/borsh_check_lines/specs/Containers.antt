@@ -29,16 +29,17 @@ pub data IsRulesText (C : List ℕ → Option Shape) (root out : List ℕ) : Typ
 
 -- ---- `size`
 
--- that a name has no definition
-abbrev pub missing_text : List ℕ → List ℕ
-missing_text name = codes "missing " ++ digits_of name
+-- a word, and a name, if there is one
+abbrev pub reason_text : List ℕ × Option (List ℕ) → List ℕ
+reason_text (word, None) = word
+reason_text (word, Some name) = word ++ (codes " " ++ digits_of name)
 
 -- the size, or why there is none
 pub data IsSizeText (C : List ℕ → Option Shape) (root out : List ℕ) : Type 0 where
   sized : (n : ℕ) → MaxSize C root n → n < 2 ^ 64 → out ≡ decimal n → IsSizeText C root out
   overflows : (k : ℕ) → PartialSize C [] root k → 2 ^ 64 ≤ k → out ≡ codes "overflow" → IsSizeText C root out
   recurs : IsRecursive C root → out ≡ codes "recursive" → IsSizeText C root out
-  misses : (x : List ℕ) → SizeReaches C root x → C x ≡ None → out ≡ missing_text x → IsSizeText C root out
+  misses : (x : List ℕ) → SizeReaches C root x → C x ≡ None → out ≡ reason_text (codes "missing", Some x) → IsSizeText C root out
 
 -- ---- `counts`
 

@@ -1,5 +1,5 @@
 // What is asked of a container that comes as bytes.
-ghost use Rattle.std.specs.Prelude.{◌≡◌, ◌++◌, codes, decimal, true, Some, IfOk, IfErr, OnOk, string_bytes};
+ghost use Rattle.std.specs.Prelude.{◌≡◌, ◌++◌, codes, decimal, true, Some, IfOk, IfErr, OnOk, option_map, string_bytes};
 ghost use Rattle.std.specs.BTreeMap.{btree_map_len};
 ghost use Rattle.borsh.specs.Errors.{error_kind};
 ghost use Rattle.borsh.specs.Reading.{WhyNotDecoded};
@@ -7,7 +7,7 @@ ghost use Rattle.borsh_walks.specs.RulesState.{RulesWork};
 ghost use Rattle.borsh_schema.specs.Codecs.{container as container_codec};
 ghost use Rattle.borsh_schema.specs.Containers.{language_of, root_of, map_of};
 ghost use Rattle.borsh_schema.specs.Questions.{SizeWork};
-ghost use Rattle.borsh_check_lines.specs.Containers.{AnswersInquiry, CountsIfSized, CountsIfValid, OnlyNeeded, IsRulesText, IsSizeText, IsCountsText, broken_text, missing_text, counts_text};
+ghost use Rattle.borsh_check_lines.specs.Containers.{AnswersInquiry, CountsIfSized, CountsIfValid, OnlyNeeded, IsRulesText, IsSizeText, IsCountsText, broken_text, reason_text, counts_text};
 ghost use Rattle.borsh_check_lines.specs.OneLine.{IsLine};
 ghost use Rattle.borsh_check_lines.specs.ErrorTexts.{IsBrokenRuleText, IsNoSizeText};
 
@@ -114,22 +114,24 @@ fn no_size(alloc: Global, error: &SchemaMaxSerializedSizeError) -> Result<Vec<u8
     ensures text { IfOk result (λ out. IsNoSizeText error.now out.items) }
     ensures line { IfOk result (λ out. IsLine out.items) }
 {
-    match error {
-        SchemaMaxSerializedSizeError::Overflow => line_of(alloc, b"overflow"),
-        SchemaMaxSerializedSizeError::Recursive => line_of(alloc, b"recursive"),
-        SchemaMaxSerializedSizeError::MissingDefinition(name) => missing(alloc, name),
-        // The size of a container never has this error: only that of a type has.
-        SchemaMaxSerializedSizeError::Redefinition(_) => Err(AllocError),
-        SchemaMaxSerializedSizeError::OutOfMemory => Err(AllocError),
+    match error.reason() {
+        Some((word, name)) => reason_line(alloc, word, name),
+        // The size of a container never has two definitions of one name: only that of a type has.
+        None => Err(AllocError),
     }
 }
 
-/// `missing` and the name as digits.
-fn missing(alloc: Global, name: &str) -> Result<Vec<u8>, AllocError>
-    ensures { IfOk result (λ out. out.items ≡ missing_text name.now) }
+/// A word, and a name as digits, if there is one.
+fn reason_line(alloc: Global, word: &str, name: Option<&str>) -> Result<Vec<u8>, AllocError>
+    ensures { IfOk result
+        (λ out. out.items ≡ reason_text (word.now, option_map (λ name. name.now) name)) }
 {
     let mut out = Vec::new(alloc);
-    out.extend_from_slice(b"missing ")?;
+    out.extend_from_slice(word.as_bytes())?;
+    let Some(name) = name else {
+        return Ok(out);
+    };
+    out.push(b' ')?;
     push_digits(alloc, name.as_bytes(), &mut out)?;
     Ok(out)
 }

@@ -69,6 +69,7 @@ pub(crate) fn read_list<T: BorshDeserialize, R: Read>(
 
 impl<T: BorshDeserialize> BorshDeserialize for Vec<T> {
     #[inline]
+    #[tactic(auto, using(borsh_codec::proofs::DecodeViews::decodes_as))]
     fn deserialize_reader<R: Read>(alloc: Global, reader: &mut R) -> Result<Vec<T>> {
         read_list(alloc, reader)
     }

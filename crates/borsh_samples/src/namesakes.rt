@@ -1,4 +1,4 @@
-// Two types that go by one name: no container can have the schemas of both.
+// Two types that go by one name: no container can have the schemas of both. A list of them is written and read one by one.
 ghost use Rattle.borsh.specs.Laws.OfParts.{contramap, contramap-lawful, from, key_facts};
 ghost use Rattle.std.specs.Prelude.{codes};
 ghost use Rattle.borsh.specs.Schema.Laws.Quoted.{contramap_described, number_described};

@@ -16,6 +16,7 @@ use borsh_io::{Result, Write};
 use std::alloc::Global;
 
 #[inline]
+#[tactic(auto, using(borsh_codec::proofs::NumberBytes::byte_of))]
 pub(crate) fn bytes_of_u8(n: u8) -> [u8; 1]
     ensures { unsigned_encoding 1 n ≡ Some result }
 {
@@ -23,6 +24,7 @@ pub(crate) fn bytes_of_u8(n: u8) -> [u8; 1]
 }
 
 #[inline]
+#[tactic(auto, using(borsh_codec::proofs::NumberBytes::bytes_of))]
 pub(crate) fn bytes_of_u16(n: u16) -> [u8; 2]
     ensures { unsigned_encoding 2 n ≡ Some result }
 {

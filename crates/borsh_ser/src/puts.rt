@@ -66,6 +66,7 @@ pub(crate) fn put_front<T: BorshSerialize>(items: &[T], room: &mut [u8]) -> (usi
 
 /// Puts two parts in order.
 #[inline]
+#[tactic(auto, using(borsh_codec::proofs::PutSteps::puts_then))]
 pub fn put_two<A: BorshSerialize, B: BorshSerialize>(a: &A, b: &B, room: &mut [u8]) -> Option<usize>
     ensures { Puts ((pair A.codec B.codec).encoding (a.now, b.now)) room.old room.new result }
 {

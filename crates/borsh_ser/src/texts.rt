@@ -13,6 +13,7 @@ use std::sync::ArcStr;
 
 /// Writes the count of bytes and the bytes. The errors are those of `write_counted`.
 #[inline]
+#[tactic(auto, using(borsh_codec::proofs::WriteOutcomes::writes_is, borsh_codec::proofs::TextBytes::text_encoding))]
 pub(crate) fn write_text<W: Write>(string: &str, alloc: Global, writer: &mut W) -> Result<()>
     ensures { Writes text string.now W.writing writer.old writer.new result }
 {

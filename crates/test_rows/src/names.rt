@@ -2,7 +2,7 @@
 use super::generated_types::call_generated;
 use borsh::derived::Tuple12;
 use borsh::schema::{BorshSchemaContainer, Definition, Fields, LengthRange};
-use borsh_samples::{A, LongA, MyEnum, MyStruct, Octet, One, OneOrZero, ShortA};
+use borsh_samples::{A, LongA, MyEnum, MyStruct, One, OneOrZero, ShortA};
 use bytes::{Bytes, BytesMut};
 use indexmap::{IndexMap, IndexSet};
 use std::alloc::Global;
@@ -335,9 +335,9 @@ fn group_10(alloc: Global, name: &str, call: &Call<'_>) -> Result<Report, Fault>
             >(alloc, call),
         "[String; 3]" => call_with_schema::<[String; 3]>(alloc, call),
         "([One; 2], [ShortA; 3])" => call_at::<([One; 2], [ShortA; 3])>(alloc, call),
-        "(One, ShortA, LongA, Octet)" => call_at::<(One, ShortA, LongA, Octet)>(alloc, call),
+        "(One, ShortA, LongA, ShortA)" => call_at::<(One, ShortA, LongA, ShortA)>(alloc, call),
         "Vec<LongA>" => call_with_schema::<Vec<LongA>>(alloc, call),
-        "Vec<Octet>" => call_at::<Vec<Octet>>(alloc, call),
+        "Vec<ShortA>" => call_at::<Vec<ShortA>>(alloc, call),
         "LengthRange" => call_with_schema::<LengthRange>(alloc, call),
         _ => group_11(alloc, name, call),
     }

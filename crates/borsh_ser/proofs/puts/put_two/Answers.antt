@@ -1,5 +1,0 @@
-use Rattle.borsh_codec.proofs.PutSteps.{puts_then}
-use Rattle.borsh_ser.proofs.puts.put_two.Goals as goal
-
-pub returns : goal.returns
-returns g c = puts_then c.in_ok-first.first c.in_ok-second.second _ c.args.room.now c.put.new._room c.put-2.new._room c.in_ok-first.ensures c.in_ok-second.ensures
