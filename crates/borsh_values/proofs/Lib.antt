@@ -33,3 +33,4 @@ pub mod RecordLaws
 pub mod FreeWalk
 pub mod OnlyLaws
 pub mod WalkedLaws
+pub mod PreorderLaws
