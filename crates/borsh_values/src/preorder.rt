@@ -131,10 +131,7 @@ impl<'a, 'l, 'b> Preorder<'a, 'l, 'b> {
             return Ok(None);
         };
         let depth = self.places.outer.len();
-        self.path.steps.truncate(depth.saturating_sub(1));
-        if let Some(leading) = self.places.place.step() {
-            self.path.steps.push(leading)?;
-        }
+        lead_on(&mut self.path, depth, self.places.place.step())?;
         match self.walker.take(step.at, depth)? {
             Some((node, parts)) => {
                 self.places.go_on(layout, step, parts, leads_from(&node))?;
@@ -226,6 +223,19 @@ impl<'a> Place<'a> {
         };
         Place { rest, leads }
     }
+}
+
+// Makes the path that of a part which so many values are around: the step leads to it from the last of these.
+fn lead_on<'a>(
+    path: &mut Path<'a>,
+    depth: usize,
+    step: Option<PathStep<'a>>,
+) -> Result<(), AllocError> {
+    path.steps.truncate(depth.saturating_sub(1));
+    if let Some(step) = step {
+        path.steps.push(step)?;
+    }
+    Ok(())
 }
 
 // What leads from a value to its first part.
