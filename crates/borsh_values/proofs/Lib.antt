@@ -32,3 +32,5 @@ pub mod NextLaws
 pub mod RecordLaws
 pub mod FreeWalk
 pub mod OnlyLaws
+pub mod WalkedLaws
+pub mod PreorderLaws

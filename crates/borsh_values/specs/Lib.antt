@@ -18,3 +18,5 @@ pub mod Fronts
 pub mod Next
 pub mod Records
 pub mod Unpacked
+pub mod Walks
+pub mod Preorder
