@@ -1,10 +1,11 @@
 //! Values by their container alone: whether bytes are a value of a type, and which, where only the definitions
 //! of the type are known.
 //!
-//! [`is_member`] says whether bytes are a value, and where they aren't; [`decode`] lists the nodes of the value,
-//! [`Unpacked`] also those of parts that lie in them, and [`encode_value`] gives the bytes of a value by its nodes. [`find_ambiguous`] says whether the definitions
-//! allow at most one value for any bytes. Each takes any definitions: names that lead back to themselves, names
-//! without a definition, and 18446744073709551615 elements without bytes. None recurses.
+//! [`is_member`] says whether bytes are a value, and where they aren't. [`Preorder`] gives the nodes of a value one after
+//! another, [`Walker`] those that a caller asks for; [`decode`] lists them, [`Unpacked`] with those of parts that lie in them, and
+//! [`encode_value`] gives the bytes of a value by its nodes. [`find_ambiguous`] says whether the definitions allow at most one
+//! value for any bytes. Each takes any definitions: names that lead back to themselves, names without a definition, and
+//! 18446744073709551615 elements without bytes. None recurses.
 #![tactic(auto)]
 
 mod buffered;

@@ -252,25 +252,23 @@ impl<'a> Root<'a> {
     pub fn judge_nodes(&self, bytes: &[u8], wanted: &[&str]) -> Result<(), Wrong> {
         let alloc = self.alloc;
         self.judge_member(bytes)?;
-        let Decoded::Nodes(nodes) = decode(alloc, self.name, self.map, bytes)? else {
-            return check(alloc, false, "decode", "no nodes");
-        };
         let layout = Layout::new(alloc, self.name, self.map)?;
-        let mut unpacked = Unpacked::new(alloc, &layout, nodes.as_slice());
-        let mut paths = Paths::new(alloc, self.name);
+        let Membership::Member = layout.is_member(alloc, bytes)? else {
+            return check(alloc, false, "is_member", "no member");
+        };
+        let mut nodes = Preorder::new(alloc, &layout, bytes);
         for wanted in wanted {
-            let Some(node) = unpacked.next()? else {
+            let Ok(Some(node)) = nodes.next() else {
                 return check(alloc, false, "nodes", "too few");
             };
-            paths.enter(&node)?;
-            let path = paths.path(alloc)?;
-            let (depth, offset, name) = (node.depth, node.offset, node.name);
+            let (depth, offset, path) = (node.depth, node.offset, nodes.path());
+            let name = node.name;
             let own = digits_of(alloc, node.bytes)?;
             let detail = detail(alloc, &node)?;
             let line = format!(in alloc; "{depth} {offset} {path}: {name} {own}{detail}")?;
             expect(alloc, "a node", line.as_str(), wanted)?;
         }
-        check(alloc, unpacked.next()?.is_none(), "nodes", "too many")
+        check(alloc, matches!(nodes.next(), Ok(None)), "nodes", "too many")
     }
 }
 
