@@ -1,6 +1,6 @@
 -- Values that are passed and listed.
-use Rattle.std.proofs.Common.{◌≡◌, ℕ, suc, zero, ◌+◌, ◌-◌, ◌*◌, ◌<◌, ◌≤◌, List, [], ◌∷◌, ◌++◌, length, take, drop, replicate, Some, None, refl, sym, ◌∙◌, ap, subst, arith, add-one, append_assoc, append-nil, length-append, length-drop, length-take-le, take-add}
-use Rattle.std.specs.Prelude.{Option, IfSome, MatchOption, String}
+use Rattle.std.proofs.Common.{◌≡◌, ℕ, suc, zero, ◌+◌, ◌-◌, ◌<◌, ◌≤◌, List, [], ◌∷◌, ◌++◌, length, take, drop, replicate, Some, None, refl, sym, ◌∙◌, ap, subst, arith, add-one, append_assoc, append-nil, length-append, length-drop, length-take-le, take-add}
+use Rattle.std.specs.Prelude.{Option, MatchOption, String}
 use Rattle.std.specs.BTreeMap.{BTreeMap, get_by_text}
 use Rattle.std.proofs.Math.Nat.{mul-le-mul_left}
 use Rattle.borsh_walks.specs.declared.definition.Definition.{Definition}
@@ -15,7 +15,6 @@ use Rattle.borsh_values.specs.Layouts.{name_at}
 use Rattle.borsh_values.specs.Free.{HasOneNode, Passes}
 use Rattle.borsh_values.specs.Nodes.{NodeView, Nodes, views, view_of, joined_bytes, AreOffsets, HaveDefinitions}
 use Rattle.borsh_values.specs.Passing.{AllLike, ListsRun, ListsPassed}
-use Rattle.borsh_values.specs.Steps.{remaining}
 use Rattle.borsh_values.proofs.Measure.{opens}
 use Rattle.borsh_values.proofs.Offsets.{total, Placed}
 use Rattle.borsh_values.proofs.OnlyLaws.{copies_split}

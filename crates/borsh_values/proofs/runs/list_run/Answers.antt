@@ -1,4 +1,4 @@
-use Rattle.std.proofs.Common.{◌≡◌, ◌<◌, ◌∙◌, sym, ap, subst, arith}
+use Rattle.std.proofs.Common.{◌≡◌, ◌∙◌, sym, ap, subst, arith}
 use Rattle.std.specs.Prelude.{IfSome, MatchOption}
 use Rattle.std.specs.BTreeMap.{get_by_text}
 use Rattle.borsh_walks.specs.Definitions.{definitions_in}

@@ -1,5 +1,5 @@
 use Rattle.std.proofs.Common.{◌≡◌, ◌<◌, ◌≤◌, ◌∙◌, ℕ, List, [], Some, ap, subst, sym, refl, arith}
-use Rattle.std.specs.Prelude.{Option, get_or}
+use Rattle.std.specs.Prelude.{Option}
 use Rattle.std.proofs.lemmas.List.Elements.{All-nil}
 use Rattle.borsh_walks.specs.Container.{Shape, primitive, product, zero_size_references}
 use Rattle.borsh_walks.specs.Definitions.{definitions_in, shape_of}
