@@ -6,7 +6,7 @@ ghost use Rattle.borsh_walks.specs.Container.{choice, product};
 ghost use Rattle.borsh_values.specs.Passing.{ListsPassed, ListsRun};
 ghost use Rattle.borsh_values.specs.Steps.{Fits};
 ghost use Rattle.borsh_walks.specs.Definitions.{definitions_in, shape_of};
-ghost use Rattle.std.specs.Prelude.{All, IfOk, IfSome, MatchOption, Some, [], ◌∷◌, ◌+◌, ◌^◌, ◌≡◌, ◌<◌, ◌≤◌, ◌⊎◌, length, map, string_bytes};
+ghost use Rattle.std.specs.Prelude.{All, IfOk, IfSome, MatchOption, Some, [], ◌∷◌, ◌+◌, ◌^◌, ◌≡◌, ◌<◌, ◌≤◌, ◌⊎◌, length, map, string_bytes, take};
 
 use crate::frames::{Opened, Rest, part_at};
 use crate::free::{Passed, size_at};
@@ -158,6 +158,17 @@ fn run_of_enums(layout: &Layout<'_>, at: usize, variants: &Variants, count: u64,
     Run { taken, values }
 }
 
+// At most so many values lie in the bytes, each of some of them.
+fn most_values(count: u64, left: &[u8]) -> usize
+    ensures { result ≤ count }
+{
+    if count < left.len() as u64 {
+        count as usize
+    } else {
+        left.len()
+    }
+}
+
 // Lists the nodes of values of the enum at a place, at most so many; the first has the name, the definition and all bytes.
 fn list_enums<'a, 'b>(
     layout: &Layout<'a>,
@@ -181,40 +192,90 @@ fn list_enums<'a, 'b>(
     ensures listed { let C = definitions_in layout.now.map.now in
         IfOk result (λ r. ListsRun C first.entry r.taken r.values nodes.old.items nodes.new.items) }
 {
+    let start = nodes.len();
+    let room = most_values(count, first.bytes);
+    let Some(end) = start.checked_add(room) else {
+        return Ok(Run {
+            taken: 0,
+            values: 0,
+        });
+    };
+    // A node that is passed to `push` would be copied twice.
+    nodes.resize(end, first)?;
+    let run = put_enums(layout, at, variants, room, first, start, nodes);
+    nodes.truncate(start + run.values as usize);
+    Ok(run)
+}
+
+// Puts such nodes, at most so many, in the places from `start` on.
+fn put_enums<'a, 'b>(
+    layout: &Layout<'a>,
+    at: usize,
+    variants: &Variants,
+    room: usize,
+    first: Node<'a, 'b>,
+    start: usize,
+    nodes: &mut Vec<Node<'a, 'b>>,
+) -> Run
+    requires laid_out { IsLaidOut layout.now }
+    requires sizes { KnowsSizes layout.now }
+    requires within { at < length layout.now.names.items }
+    requires shape { let vs = map (λ v. (v.0, string_bytes v.2)) variants.now.items in
+        shape_at layout.now.names.items at ≡ Some (choice 1 vs) }
+    requires name { first.name.now ≡ name_at layout.now.names.items at }
+    requires definition { shape_at layout.now.names.items at ≡ Some (shape_of first.definition.now) }
+    requires bytes { first.offset + length first.bytes.now < 2 ^ 64 }
+    requires small { All (λ b. b < 256) first.bytes.now }
+    requires places { start + room ≤ length nodes.old.items }
+    ensures run { let name = name_at layout.now.names.items at in
+        IsRun (definitions_in layout.now.map.now) name first.entry.bytes.now room result }
+    ensures listed { let C = definitions_in layout.now.map.now in
+        let old = take start nodes.old.items in
+        ListsRun C first.entry result.taken result.values old (take (start + result.values) nodes.new.items) }
+{
     let left = first.bytes;
     let length = length_by_tag(layout, at, variants, 0);
     let mut last = TagLength { tag: 0, length };
     let mut other = last;
     let mut taken: usize = 0;
-    let mut values: u64 = 0;
-    while values < count {
+    let mut values: usize = 0;
+    while values < room {
         let next = after(left, taken);
         let Some(tag) = next.first() else {
-            return Ok(Run { taken, values });
+            return run_of(taken, values);
         };
         let known = length_of(layout, at, variants, *tag, last, other);
         other = kept(known, last, other);
         last = known;
         let Some(length) = known.length else {
-            return Ok(Run { taken, values });
+            return run_of(taken, values);
         };
         if length == 0 {
-            return Ok(Run { taken, values });
+            return run_of(taken, values);
         }
         if length > next.len() as u64 {
-            return Ok(Run { taken, values });
+            return run_of(taken, values);
         }
-        nodes.push(Node {
+        nodes[start + values] = Node {
             name: first.name,
             definition: first.definition,
             bytes: front(next, length as usize),
             offset: first.offset + taken,
             depth: first.depth,
-        })?;
+        };
         taken += length as usize;
         values += 1;
     }
-    Ok(Run { taken, values })
+    run_of(taken, values)
+}
+
+fn run_of(taken: usize, values: usize) -> Run
+    ensures { (result.taken ≡ taken) × (result.values ≡ values) }
+{
+    Run {
+        taken,
+        values: values as u64,
+    }
 }
 
 /// Passes the next values of an enum, and lists their nodes, where what each variant has is of a free size.
