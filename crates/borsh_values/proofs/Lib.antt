@@ -35,3 +35,4 @@ pub mod FreeWalk
 pub mod OnlyLaws
 pub mod WalkedLaws
 pub mod KeptLaws
+pub mod PreorderLaws
