@@ -1,5 +1,6 @@
 pub mod FormsLaws
 pub mod RepresentsLaws
+pub mod IntegerLaws
 pub mod DecimalLaws
 pub mod NumberLaws
 pub mod PlaceLaws

@@ -1,12 +1,12 @@
 -- What is written of a value without places of its own.
-use Rattle.std.specs.Prelude.{◌≡◌, ⊤, ℕ, ◌≤◌, List, [], ◌∷◌, ◌++◌, Bool, true, Option, Some, Result, MatchResult}
+use Rattle.std.specs.Prelude.{◌≡◌, ◌⊎◌, ⊤, ℕ, ◌<◌, ◌≤◌, ◌^◌, List, [], ◌∷◌, ◌++◌, Bool, true, Option, Some, Result, MatchResult}
 use Rattle.json.specs.Token.{Token}
 use Rattle.json.specs.Token as token
 use Rattle.json.specs.Json.{Json}
 use Rattle.json.specs.Tree.{json_tokens, depth, HasNumbers}
 use Rattle.borsh_walks.specs.declared.definition.Definition.{Definition}
+use Rattle.borsh_walks.specs.Container.{Shape, primitive, sequence, product, choice}
 use Rattle.borsh_values.specs.Nodes.{Opens}
-use Rattle.borsh_values.specs.Walks.{IsCounted}
 use Rattle.borsh_values.specs.declared.layout.Named.{Named}
 use Rattle.borsh_json.specs.declared.error.Refusal.{Refusal}
 use Rattle.borsh_json.specs.declared.error.Refusal.TheVariants.{TooDeep, RepeatedName, EmptyElements, NotBool, NotUtf8, Zero, NotNumber, Descends, OtherNodes, Expected, MissingField, UnknownName, RepeatedKey, Undefined}
@@ -41,6 +41,13 @@ pub record Adds (ts : List Token) (old new : Output) : Type 0 where
   pub tokens : output_tokens new ≡ output_tokens old ++ ts
 
 -- ---- values
+
+-- the count of a sequence is the one that its definition allows, or a number of at most eight bytes
+abbrev pub IsCounted : Shape → Type 0
+IsCounted (primitive n) = ⊤
+IsCounted (sequence w lo hi e) = ((w ≡ 0) × (lo ≡ hi)) ⊎ ((w ≤ 8) × (hi < 256 ^ w))
+IsCounted (product ps) = ⊤
+IsCounted (choice w vs) = ⊤
 
 -- how many bytes a primitive of the kind has
 abbrev pub HasSize : Kind → ℕ → Type 0
