@@ -23,3 +23,5 @@ pub mod KeyJson
 pub mod NumberTexts
 pub mod LaidLaws
 pub mod FieldLaws
+pub mod LeafLaws
+pub mod KeyLaws
