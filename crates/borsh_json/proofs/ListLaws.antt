@@ -17,15 +17,18 @@ use Rattle.borsh_json.specs.declared.error.Refusal.{Refusal}
 use Rattle.borsh_json.specs.declared.error.Refusal.TheVariants.{TooDeep, RepeatedName, EmptyElements, NotBool, NotUtf8, Zero, NotNumber, Descends, OtherNodes, Expected, MissingField, UnknownName, RepeatedKey, Undefined}
 use Rattle.borsh_json.specs.declared.error.WriteError.{WriteError}
 use Rattle.borsh_json.specs.declared.error.WriteError.TheVariants.{OutOfMemory, Refused, Element}
+use Rattle.borsh_json.specs.declared.kinds.Elements.{Elements}
+use Rattle.borsh_json.specs.declared.kinds.Kind.TheVariants.{Numbers}
 use Rattle.borsh_json.specs.declared.output.Output.{Output}
 use Rattle.borsh_json.specs.Forms.{Form, primitive, sequence, tuple, newtype, unnamed, named, choice, form_of, shape_of_form, shapes, IsByte}
-use Rattle.borsh_json.specs.Leaves.{Adds, HasSize, IsCounted, IsElementRefusal, IsLeafRefusal, IsNoJson, IsWritten, RefusesElement, RefusesLeaf, WritesHex, WritesLeaf, output_before, output_tokens}
-use Rattle.borsh_json.specs.Places.{lengths_of}
+use Rattle.borsh_json.specs.Leaves.{Adds, HasSize, IsCounted, IsElementRefusal, IsLeafRefusal, IsNoJson, IsOpenedAs, IsWritten, RefusesElement, RefusesLeaf, WritesHex, WritesLeaf, output_before, output_tokens}
+use Rattle.borsh_json.specs.Places.{IsAt, IsKindOf, IsListOf, lengths_of}
 use Rattle.borsh_json.specs.Reads.{SaysFirst}
 use Rattle.borsh_json.specs.Represents.{HaveBytes, next_part}
 use Rattle.borsh_json.specs.Table.{Lengths, Kind, no_bytes, truth, whole, float, raw, utf8, byte_list, list, row, inner, fields, optional, variants, entries, a_text, some_bytes, an_object, some_elements, nullable, by_name, primitive_kind, DefinedKind, HasKind, IsArray, IsHex, IsPrefixed, Part, Says, list_parts}
 use Rattle.borsh_json.proofs.FormsLaws.{shape_is}
-use Rattle.borsh_json.proofs.LeafLaws.{front_one, no_json, primitive_sized, put_hex, put_string, tag_length, tag_one}
+use Rattle.borsh_json.proofs.FoundLaws.{full_primitive}
+use Rattle.borsh_json.proofs.LeafLaws.{defined, front_one, no_json, primitive_sized, put_hex, put_string, tag_length, tag_one}
 use Rattle.borsh_json.proofs.ReaderLaws.{uncons}
 use Rattle.borsh_json.proofs.RepresentsLaws.{kind_one}
 
@@ -295,7 +298,7 @@ split_front (x ∷ xs) ys (c ∷ cs) ds e h =
     let r = split_front xs ys cs ds t (omega arith) in
     (r.0, ap (λ l. c ∷ l) r.1 ∙ ap (λ y. y ∷ (xs ++ r.0)) (sym a), r.2)
 
-no_items_there : (done : List ℕ) → length done ≡ 0 → done ≡ []
+pub no_items_there : (done : List ℕ) → length done ≡ 0 → done ≡ []
 no_items_there [] e = refl
 no_items_there (d ∷ ds) e = absurd (omega arith)
 
@@ -331,3 +334,18 @@ module _ (F : List ℕ → Option Form) (e : List ℕ) (k : Kind) (size : ℕ) (
             | inl h ↦ h
             | inr h ↦ (let m = mul-le-mul_right {m = n} {n = g.count} size h in absurd (omega (arith, a, b, d, e, m, p, some)))
           ]
+
+-- a list of primitives that was found, and its elements
+pub numbers_there : (F : List ℕ → Option Form) (ns : List Named) (x own es : List ℕ) (parts : List (List ℕ)) (d : Definition) (at : Elements) (size : ℕ) → IsOpenedAs F x (form_of d) own parts → IsKindOf F ns x (form_of d) (Numbers at) → AreElementsOf (shape_of d) own es → size ≡ at.size
+    → (parts ≡ []) × (e : List ℕ) × IsAt ns at.at e × HasKind F x (list (lengths_of (form_of d)) e) × HasKind F e (primitive_kind e size) × IsListed (lengths_of (form_of d)) own es size × (1 ≤ size)
+numbers_there F ns x own es parts d at size o i a q = found size q (i.2)
+  where
+    t : (e : List ℕ) × IsAt ns at.at e × HasKind F x (list (lengths_of (form_of d)) e)
+    t = subst (λ b. IsListOf F ns x (form_of d) at.at b) i.1 i.0
+
+    found : (n : ℕ) → n ≡ at.size → 0 < at.size → (parts ≡ []) × (e : List ℕ) × IsAt ns at.at e × HasKind F x (list (lengths_of (form_of d)) e) × HasKind F e (primitive_kind e n) × IsListed (lengths_of (form_of d)) own es n × (1 ≤ n)
+    found zero e h = absurd (omega arith)
+    found (suc n) e h =
+        let p : F t.0 ≡ Some (primitive (suc n)) = i.3 t.0 t.1 ∙ ap (λ k. Some (primitive k)) (sym e) in
+        let b = list_node F x own es parts (list (lengths_of (form_of d)) t.0) d n (defined F ns x (form_of d) (list (lengths_of (form_of d)) t.0) o.0 (λ e. cc) t.2) tt (λ y z. ap (λ (y : List ℕ). F y) (sym z) ∙ p) o.1 a in
+        (b.0, t.0, t.1, t.2, inr (full_primitive F {x = t.0} {n = n} p, primitive (suc n), p, refl), b.1, omega arith)

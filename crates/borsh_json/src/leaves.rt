@@ -138,7 +138,7 @@ pub fn write_key<'b>(
     node: &Node<'_, 'b>,
     out: &mut Output,
 ) -> Result<EntryKey<'b>, WriteError>
-    ensures { WritesKey kind.entry node.now.definition.now node.now.bytes.now out.old out.new result }
+    ensures { WritesKey kind node.now.definition.now node.now.bytes.now out.old out.new result }
 {
     match kind {
         KeyKind::Text => match str::from_utf8(elements_of(node)) {
