@@ -1,7 +1,8 @@
 // What is written of a value without places of its own.
 ghost use Rattle.borsh_json.specs.Leaves.{HasSize, IsElementWritten, IsOpenedAs, IsWritten, RefusesElement, RefusesLeaf, WritesHex, WritesKey, WritesNode};
 ghost use Rattle.borsh_json.specs.Words.{AreKeysOf, Form, FoundBytes, FoundKeyKind, FoundNumbers, FoundText, HasKind, IsEntryKey, IsInfinity, IsKindOf, IsKnown, IsPrimitiveKind, Json, Keys, NamedPlace, SaysFirst, TableKind, float, form_of, forms_of, key_order, names_of, null, string, truth, whole};
-ghost use Rattle.std.specs.Prelude.{◌≡◌, ◌≤◌, ◌∷◌, [], if◌then◌else◌, ℕ, List, Decides, MatchBool, MatchOption, Option, length};
+ghost use Rattle.hex.specs.Hex.{encode_lower};
+ghost use Rattle.std.specs.Prelude.{◌≡◌, ◌≤◌, ◌+◌, ◌*◌, ◌∷◌, ◌++◌, [], if◌then◌else◌, ℕ, List, Decides, MatchBool, MatchOption, Option, codes, length};
 ghost use Rattle.std.specs.declared.cmp.Ordering.TheVariants.{Less};
 
 use crate::definitions::Definitions;
@@ -252,9 +253,43 @@ fn put_float(alloc: Global, own: &[u8], out: &mut Output) -> Written
 fn put_bytes(alloc: Global, own: &[u8], out: &mut Output) -> Written
     ensures { WritesHex own.now out.old out.new result }
 {
-    let digits = hex::encode(alloc, own)?;
-    let mut text = String::with_capacity(alloc, digits.len().saturating_add(2))?;
-    text.push_str("0x")?;
-    text.push_str(digits.as_str())?;
-    Ok(out.put(Token::String(text.as_str()))?)
+    if own.len() <= 32 {
+        return put_short(own, out);
+    }
+    match own.len().saturating_add(1).checked_mul(2) {
+        Some(len) => {
+            let mut text = vec![in alloc; 0u8; len]?;
+            put_hex(own, text.as_mut_slice(), out)
+        }
+        None => Err(WriteError::OutOfMemory),
+    }
+}
+
+/// The same of at most 32 bytes.
+fn put_short(own: &[u8], out: &mut Output) -> Written
+    requires { length own.now ≤ 32 }
+    ensures { WritesHex own.now out.old out.new result }
+{
+    let mut text = [0u8; 66];
+    put_hex(own, &mut text[..2 * own.len() + 2], out)
+}
+
+/// The same, through a text of so many bytes.
+fn put_hex(own: &[u8], text: &mut [u8], out: &mut Output) -> Written
+    requires { length text.old ≡ 2 * length own.now + 2 }
+    ensures { WritesHex own.now out.old out.new result }
+{
+    spell(own, text);
+    let text = str::from_utf8(text).unwrap();
+    Ok(out.put(Token::String(text))?)
+}
+
+/// Writes `0x` and the digits over a text.
+fn spell(own: &[u8], text: &mut [u8])
+    requires { length text.old ≡ 2 * length own.now + 2 }
+    ensures { text.new ≡ codes "0x" ++ encode_lower own.now }
+{
+    text[0] = b'0';
+    text[1] = b'x';
+    hex::encode_to_slice(own, &mut text[2..]).unwrap()
 }
