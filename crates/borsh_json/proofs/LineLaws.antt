@@ -1,11 +1,12 @@
 -- JSON without white space is one line.
-use Rattle.std.proofs.Common.{◌≡◌, ◌⊎◌, inl, inr, ℕ, suc, zero, ◌+◌, ◌<◌, ◌≤◌, Bool, true, false, cond, ◌&&◌, ◌||◌, ◌==◌, eqb, nat_lt, nat_le, List, [], ◌∷◌, ◌++◌, length, drop, All, refl, sym, ◌∙◌, ap, subst, arith}
+use Rattle.std.proofs.Common.{◌≡◌, ◌⊎◌, inl, inr, ℕ, suc, zero, ◌+◌, ◌<◌, ◌≤◌, Bool, true, false, cond, ◌&&◌, ◌||◌, ◌==◌, eqb, nat_lt, nat_le, List, [], ◌∷◌, ◌++◌, length, drop, encode_utf8, All, refl, sym, ◌∙◌, ap, subst, arith}
 use Rattle.std.specs.Prelude.{Option, Some, None, option_and_then}
 use Rattle.std.specs.List.{prefix_len}
 use Rattle.std.specs.Char.{is_ascii_digit}
 use Rattle.std.proofs.lemmas.Bool.{and_parts, cases_eq, cases_lt}
 use Rattle.std.proofs.lemmas.Bool.Decides.{nat_tests}
-use Rattle.std.proofs.lemmas.List.Elements.{All-nil, All-cons, All-append}
+use Rattle.std.proofs.lemmas.List.Elements.{All-nil, All-cons, All-head, All-tail, All-append}
+use Rattle.std.proofs.lemmas.Str.{encode_ascii}
 use Rattle.json.specs.Token.{Token, begin_object, end_object, begin_array, end_array, key, string, number, boolean, null, bad}
 use Rattle.json.specs.Json.{Json}
 use Rattle.json.specs.Word.{head, after_digits, after_minus, after_sign, after_whole, after_fraction, after_exponent, after_number}
@@ -168,3 +169,14 @@ printed b (t ∷ ts) h = both (separator b t) (token_text t ++ print_from (ends 
 -- JSON that is printed without white space
 pub compact_line : (j : Json) → HasNumbers j → All IsInLine (print (json_tokens j))
 compact_line j h = printed false (json_tokens j) (ArePrintable-json_tokens j h)
+
+-- the first character of such a text, and what follows it
+all_behind : (xs ys : List ℕ) → InLine (xs ++ ys) → InLine ys
+all_behind [] ys h = h
+all_behind (x ∷ xs) ys h = all_behind xs ys (All-tail IsInLine x (xs ++ ys) h)
+
+pub character_line : (c : ℕ) (all rest : List ℕ) → all ≡ encode_utf8 c ++ rest → All IsInLine all → (32 ≤ c) × All IsInLine rest
+character_line c all rest e l = elim (cases_lt c 128) [
+  | inl h ↦ (let m = subst InLine (e ∙ ap (λ l. l ++ rest) (encode_ascii c h)) l in (All-head IsInLine c rest m, All-tail IsInLine c rest m))
+  | inr h ↦ (omega arith, all_behind (encode_utf8 c) rest (subst InLine e l))
+]
