@@ -1,6 +1,6 @@
 -- What was written of a value, and the JSON that may still follow: the invariant of the writer's loop.
 use Rattle.std.specs.Prelude.{◌≡◌, ⊤, ℕ, suc, zero, ◌≤◌, List, [], ◌∷◌, ◌++◌, length, map, replicate, Bool, true, false, Option, Some, None, Result, MatchResult, MatchOption}
-use Rattle.std.specs.List.Sorted.{IsStrictlySortedBy}
+use Rattle.std.specs.declared.cmp.Ordering.TheVariants.{Less}
 use Rattle.json.specs.Token.{Token}
 use Rattle.json.specs.Json.{Json, null, Items, no_items, item, Members, no_members, member}
 use Rattle.json.specs.Tree.{json_tokens, items_tokens, members_tokens, depth, items_depth, members_depth, HasNumbers, ItemsHaveNumbers, MembersHaveNumbers}
@@ -63,15 +63,20 @@ abbrev pub AreMembers : List Wanted → Members → List Part → Type 0
 AreMembers [] ms ps = (ms ≡ no_members) × (ps ≡ [])
 AreMembers (w ∷ ws) ms ps = (j : Json) × (more : Members) × (qs : List Part) × (ms ≡ member w.0 j more) × (ps ≡ (w.1, j) ∷ qs) × AreMembers ws more qs
 
--- the tokens are a value of the only name, as a part; or there is none
+-- the tokens are a value of each name, as a part
 abbrev pub AreValues : List (List ℕ) → ℕ → List Token → List Part → Type 0
 AreValues [] n ts ps = (ts ≡ []) × (ps ≡ [])
-AreValues (x ∷ xs) n ts ps = (j : Json) × (ts ≡ json_tokens j) × HasNumbers j × (depth j ≤ n) × (ps ≡ (x, j) ∷ []) × (xs ≡ [])
+AreValues (x ∷ xs) n ts ps = (j : Json) × (t : List Token) × (qs : List Part) × HasNumbers j × (depth j ≤ n) × (ts ≡ json_tokens j ++ t) × (ps ≡ (x, j) ∷ qs) × AreValues xs n t qs
 
--- the keys ascend from the last one
+-- the key is above the last one
+abbrev pub IsAbove : Keys → Option (List ℕ) → List ℕ → Type 0
+IsAbove keys None s = ⊤
+IsAbove keys (Some t) s = key_order keys (t, null) (s, null) ≡ Less
+
+-- each key is above the one before it
 abbrev pub AreAbove : Keys → Option (List ℕ) → List Entry → Type 0
-AreAbove keys None es = IsStrictlySortedBy (key_order keys) es
-AreAbove keys (Some s) es = IsStrictlySortedBy (key_order keys) ((s, null) ∷ es)
+AreAbove keys last [] = ⊤
+AreAbove keys last (e ∷ es) = IsAbove keys last e.0 × AreAbove keys (Some e.0) es
 
 -- these tokens may be written of what is left, brackets at the end included: they nest at most so deep, and have these parts
 abbrev pub MayFollow : Rest → ℕ → List Token → List Part → Type 0
@@ -85,7 +90,7 @@ abbrev pub MayFollowAll : List Rest → List Token → List Part → Type 0
 MayFollowAll [] ts ps = (ts ≡ []) × (ps ≡ [])
 MayFollowAll (r ∷ rs) ts ps =
     (n : ℕ) × (t : List Token) × (u : List Token) × (a : List Part) × (b : List Part)
-    × (n + length rs ≤ 128) × MayFollow r n t a × MayFollowAll rs u b × (ts ≡ t ++ u) × (ps ≡ a ++ b)
+    × (n + length rs ≡ 128) × MayFollow r n t a × MayFollowAll rs u b × (ts ≡ t ++ u) × (ps ≡ a ++ b)
 
 -- the same of a value of this name, which nests at most so deep, and then of the places
 abbrev pub MayFollowFirst : List ℕ → ℕ → List Rest → List Token → List Part → Type 0

@@ -12,6 +12,7 @@ mod floats;
 mod formats;
 mod kinds;
 mod laws;
+mod leaves;
 mod maps;
 mod not_json;
 mod numbers;
@@ -25,6 +26,7 @@ mod reading;
 mod rows;
 mod sources;
 mod strict;
+mod values;
 mod writing;
 
 pub use ascii::in_ascii;
