@@ -3,6 +3,7 @@ pub mod Errors
 pub mod Forms
 pub mod Table
 pub mod Ranks
+pub mod Integers
 pub mod Places
 pub mod InOrder
 pub mod Represents
@@ -11,4 +12,5 @@ pub mod Found
 pub mod Reads
 pub mod Frames
 pub mod Rows
+pub mod Leaves
 pub mod Words

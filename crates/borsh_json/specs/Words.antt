@@ -8,13 +8,13 @@ pub use Rattle.borsh_json.specs.Places.{AreKeysOf, IsAt, IsInfinity, IsKindAt, I
 pub use Rattle.borsh_json.specs.Ranks.{HasRank, IsLeading, IsPlain, magnitude, number_found, rank_of}
 pub use Rattle.borsh_json.specs.Reads.{AreRead, Left, PartsOfAll, SaysFirst, SaysSome, entries_left}
 pub use Rattle.borsh_json.specs.Represents.{HaveBytes, TextSays}
-pub use Rattle.borsh_json.specs.Table.{AreKeys, Entry, HasKind, InRange, IsHex, IsNoNan, IsNullable, IsNumber, IsPrefixed, IsWhole, Keys, Kind as TableKind, Lengths, MayBeNull, Part as JsonPart, byte_list, entries as map_entries, entries_of, float, key_json, list_parts, no_bytes, number_kind, number_types, optional, primitive_kind, raw, texts, truth, utf8, variants as spec_variants, whole}
+pub use Rattle.borsh_json.specs.Table.{AreKeys, Entry, HasKind, InRange, IsHex, IsNoNan, IsNullable, IsNumber, IsPrefixed, IsWhole, Keys, Kind as TableKind, Lengths, MayBeNull, Part as JsonPart, byte_list, entries as map_entries, entries_of, float, key_json, key_order, list_parts, no_bytes, number_kind, number_types, optional, primitive_kind, raw, texts, truth, utf8, variants as spec_variants, whole}
 pub use Rattle.borsh_json.specs.declared.error.ReadError.TheVariants.{OutOfMemory}
 pub use Rattle.borsh_json.specs.declared.error.Refusal.TheVariants.{TooDeep}
 pub use Rattle.borsh_json.specs.declared.kinds.KeyKind.{KeyKind as FoundKeyKind}
 pub use Rattle.borsh_json.specs.declared.kinds.KeyKind.TheVariants.{Text as TextKeys}
 pub use Rattle.borsh_json.specs.declared.kinds.Kind.{Kind as Found}
-pub use Rattle.borsh_json.specs.declared.kinds.Kind.TheVariants.{Map as FoundMap, Object as FoundObject, Row as FoundRow}
+pub use Rattle.borsh_json.specs.declared.kinds.Kind.TheVariants.{ByteList as FoundBytes, Map as FoundMap, Numbers as FoundNumbers, Object as FoundObject, Row as FoundRow, Text as FoundText}
 pub use Rattle.borsh_json.specs.declared.order.Ordered.{Ordered as FoundOrder}
 pub use Rattle.borsh_json.specs.declared.parts.Next.TheVariants.{Missing as NextMissing, Part as NextPart}
 pub use Rattle.borsh_json.specs.declared.position.Parts.TheVariants.{Root}
@@ -26,7 +26,7 @@ pub use Rattle.borsh_walks.specs.Container.{Member, references, tag}
 pub use Rattle.borsh_walks.specs.Definitions.{definitions_in}
 pub use Rattle.borsh_walks.specs.Tables.{mark_of}
 pub use Rattle.json.specs.Find.{BeginsWith, Finds, InItems, InMembers, as_array, get_member}
-pub use Rattle.json.specs.Json.{Items as JsonItems, Json, Members as JsonMembers, array, document, item, no_items, object, string}
+pub use Rattle.json.specs.Json.{Items as JsonItems, Json, Members as JsonMembers, array, document, item, no_items, null, object, string}
 pub use Rattle.std.specs.Fmt.{decimal, signed_decimal}
 pub use Rattle.std.specs.Int.{w128}
 pub use Rattle.std.specs.Int.RustNames.{FitsSigned}

@@ -414,7 +414,7 @@ impl<'a, 'd, 'l, 'b, 'n> Writing<'a, 'd, 'l, 'b, 'n> {
         if number.is_quoted() || number.is_long() && self.long_numbers == LongNumbers::Quoted {
             Ok(self.out.put(Token::String(text))?)
         } else {
-            Ok(self.out.number(text)?)
+            Ok(self.out.put(Token::Number(text))?)
         }
     }
 
