@@ -17,11 +17,11 @@ pub use Rattle.borsh_json.specs.declared.kinds.KeyKind.{KeyKind as FoundKeyKind}
 pub use Rattle.borsh_json.specs.declared.kinds.KeyKind.TheVariants.{Text as TextKeys}
 pub use Rattle.borsh_json.specs.declared.kinds.Kind.{Kind as Found}
 pub use Rattle.borsh_json.specs.declared.kinds.Kind.TheVariants.{ByteList as FoundBytes, Choice as FoundChoice, List as FoundList, Map as FoundMap, Numbers as FoundNumbers, Object as FoundObject, Optional as FoundOption, Row as FoundRow, Text as FoundText}
-pub use Rattle.borsh_json.specs.declared.leaves.WriteError.TheVariants.{OutOfMemory as NoMemory}
+pub use Rattle.borsh_json.specs.declared.error.WriteError.TheVariants.{OutOfMemory as NoMemory}
 pub use Rattle.borsh_json.specs.declared.position.Key.TheVariants.{Entry as EntryOf}
 pub use Rattle.borsh_json.specs.declared.position.Part.{Part as FoundPart}
 pub use Rattle.borsh_json.specs.declared.position.Place.{Place}
-pub use Rattle.borsh_values.specs.Walks.{IsCounted, IsWalk}
+pub use Rattle.borsh_values.specs.Walks.{IsCounted, IsWalker}
 pub use Rattle.json.specs.Json.{null}
 pub use Rattle.borsh_json.specs.declared.order.Ordered.{Ordered as FoundOrder}
 pub use Rattle.borsh_json.specs.declared.parts.Next.TheVariants.{Missing as NextMissing, Part as NextPart}
@@ -34,7 +34,7 @@ pub use Rattle.borsh_walks.specs.Container.{Member, references, tag}
 pub use Rattle.borsh_walks.specs.Definitions.{definitions_in}
 pub use Rattle.borsh_walks.specs.Tables.{mark_of}
 pub use Rattle.json.specs.Find.{BeginsWith, Finds, InItems, InMembers, as_array, get_member}
-pub use Rattle.json.specs.Json.{Items as JsonItems, Json, Members as JsonMembers, array, document, item, no_items, object, string}
+pub use Rattle.json.specs.Json.{Items as JsonItems, Json, Members as JsonMembers, array, document, item, no_items, null, object, string}
 pub use Rattle.std.specs.Fmt.{decimal, signed_decimal}
 pub use Rattle.std.specs.Int.{w128}
 pub use Rattle.std.specs.Int.RustNames.{FitsSigned}

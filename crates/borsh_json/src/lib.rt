@@ -10,6 +10,7 @@ mod digits;
 mod error;
 mod floats;
 mod formats;
+mod integers;
 mod kinds;
 mod laws;
 mod leaves;

@@ -27,7 +27,7 @@ mod tag_tables;
 mod tags;
 mod unambiguous;
 mod unpacked;
-mod walk;
+mod walker;
 mod zeros;
 
 pub use buffered::Buffered;
@@ -42,4 +42,4 @@ pub use paths::Paths;
 pub use records::{MOST_BYTES, RecordError, Records};
 pub use unambiguous::find_ambiguous;
 pub use unpacked::Unpacked;
-pub use walk::Walk;
+pub use walker::Walker;

@@ -1,6 +1,6 @@
 // A value that is walked part by part.
 ghost use Rattle.borsh_values.specs.Layouts.{IsLaidOut};
-ghost use Rattle.borsh_values.specs.Walks.{FindsAt, IsWalk};
+ghost use Rattle.borsh_values.specs.Walks.{FindsAt, IsWalker};
 ghost use Rattle.std.specs.Prelude.{IfOk, IfSome, OnOk, ◌≡◌};
 
 use crate::frames::Opened;
@@ -18,12 +18,12 @@ use std::collections::BTreeMap;
 ///
 /// ```
 /// // the parts of `(u8, u16)`, whose layout has `u8` at 1 and `u16` at 2
-/// let mut walk = Walk::new(alloc, &layout, b"\x07\x01\x00");
+/// let mut walk = Walker::new(alloc, &layout, b"\x07\x01\x00");
 /// let first = walk.open(1, 1)?; // the node of `u8`, of the byte 07
 /// let second = walk.open(2, 1)?; // that of `u16`, of 01 00
 /// ```
 #[derive(Drop)]
-pub struct Walk<'a, 'l, 'b> {
+pub struct Walker<'a, 'l, 'b> {
     alloc: Global,
     pub layout: &'l Layout<'a>,
     tables: BTreeMap<&'a str, BTreeMap<u64, AtKey>>,
@@ -33,16 +33,16 @@ pub struct Walk<'a, 'l, 'b> {
     pub offset: usize,
 }
 
-impl<'a, 'l, 'b> Walk<'a, 'l, 'b> {
+impl<'a, 'l, 'b> Walker<'a, 'l, 'b> {
     /// At the beginning of the bytes of a value. Nothing is allocated.
-    pub fn new(alloc: Global, layout: &'l Layout<'a>, bytes: &'b [u8]) -> Walk<'a, 'l, 'b>
+    pub fn new(alloc: Global, layout: &'l Layout<'a>, bytes: &'b [u8]) -> Walker<'a, 'l, 'b>
         requires { IsLaidOut layout.now }
-        ensures walk { IsWalk result }
+        ensures walk { IsWalker result }
         ensures layout { result.layout ≡ layout.entry }
         ensures left { result.left.now ≡ bytes.now }
         ensures offset { result.offset ≡ 0 }
     {
-        Walk {
+        Walker {
             alloc,
             layout,
             tables: BTreeMap::new(alloc),
@@ -63,9 +63,9 @@ impl<'a, 'l, 'b> Walk<'a, 'l, 'b> {
     /// let node = walk.open(0, 0)?;
     /// ```
     pub fn open(&mut self, at: usize, depth: usize) -> Result<Option<Node<'a, 'b>>, AllocError>
-        requires { IsWalk self.old }
+        requires { IsWalker self.old }
         ensures finds { IfOk result (λ found. FindsAt at self.old self.new found) }
-        ensures walk { OnOk result (IsWalk self.new) }
+        ensures walk { OnOk result (IsWalker self.new) }
         ensures layout { self.new.layout ≡ self.old.layout }
         ensures depth { IfOk result (λ found. IfSome found (λ n. n.depth ≡ depth)) }
     {

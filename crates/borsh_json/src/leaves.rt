@@ -1,0 +1,211 @@
+// What is written of a value without places of its own.
+ghost use Rattle.borsh_json.specs.Leaves.{HasSize, IsOpenedAs, IsWritten, WritesKey, WritesNode};
+ghost use Rattle.borsh_json.specs.Words.{AreKeysOf, Form, FoundBytes, FoundNumbers, FoundText, HasKind, IsEntryKey, IsKindOf, IsKnown, IsPrimitiveKind, Json, Keys, NamedPlace, SaysFirst, TableKind, form_of, forms_of, key_order, names_of, null, string, whole};
+ghost use Rattle.std.specs.Prelude.{◌≡◌, [], ℕ, List, Decides, MatchResult, Option, length};
+ghost use Rattle.std.specs.declared.cmp.Ordering.TheVariants.{Less};
+
+use crate::definitions::Definitions;
+use crate::error::{Refusal, WriteError};
+use crate::floats::is_nan;
+use crate::integers::Integer;
+use crate::kinds::{Elements, KeyKind, Kind, kind_of_primitive};
+use crate::numbers::Number;
+use crate::output::{LongNumbers, Output};
+use crate::sources::EntryKey;
+use borsh_values::{Node, elements_of};
+use itoa::Buffer;
+use json::Token;
+use std::alloc::Global;
+use std::str;
+
+/// What a step of writing returns.
+pub type Written = Result<(), WriteError>;
+
+/// Writes `null`, of a value without bytes, or of an option that is none.
+pub fn write_null(out: &mut Output) -> Written
+    ensures { (F : List ℕ → Option Form) (x own : List ℕ) → SaysFirst F x null own [] →
+        IsWritten F 0 x own out.old out.new result }
+{
+    Ok(out.put(Token::Null)?)
+}
+
+/// Writes the name of a variant without bytes.
+pub fn write_name(name: &str, out: &mut Output) -> Written
+    ensures { (F : List ℕ → Option Form) (x own : List ℕ) → SaysFirst F x (string name.now) own [] →
+        IsWritten F 0 x own out.old out.new result }
+{
+    Ok(out.put(Token::String(name))?)
+}
+
+/// Writes a primitive: a whole number, a `bool`, a float or other bytes.
+pub fn write_primitive(
+    alloc: Global,
+    kind: Kind<'_>,
+    node: &Node<'_, '_>,
+    long_numbers: LongNumbers,
+    out: &mut Output,
+) -> Written
+    ensures { (k : TableKind) → IsPrimitiveKind kind.entry k →
+        WritesNode kind.entry 0 node.now.definition.now node.now.bytes.now out.old out.new result }
+{
+    put_primitive(alloc, kind, node.bytes, long_numbers, out)
+}
+
+/// Writes a `String`.
+pub fn write_text(node: &Node<'_, '_>, out: &mut Output) -> Written
+    ensures { WritesNode FoundText 0 node.now.definition.now node.now.bytes.now out.old out.new result }
+{
+    match str::from_utf8(elements_of(node)) {
+        Ok(text) => Ok(out.put(Token::String(text))?),
+        Err(_) => Err(WriteError::Refused(Refusal::NotUtf8)),
+    }
+}
+
+/// Writes a list of `u8`, in hexadecimal.
+pub fn write_byte_list(
+    alloc: Global,
+    node: &Node<'_, '_>,
+    elements: Elements,
+    out: &mut Output,
+) -> Written
+    ensures { WritesNode (FoundBytes elements) 0 node.now.definition.now node.now.bytes.now out.old out.new result }
+{
+    put_bytes(alloc, elements_of(node), out)
+}
+
+/// Writes a list of primitives.
+pub fn write_numbers(
+    definitions: &Definitions<'_, '_>,
+    node: &Node<'_, '_>,
+    elements: Elements,
+    long_numbers: LongNumbers,
+    out: &mut Output,
+) -> Written
+    ensures { let F = forms_of definitions.now in let f = form_of node.now.definition.now in
+        IsKnown definitions.now → (x : List ℕ) (parts : List (List ℕ)) →
+        IsOpenedAs F x f node.now.bytes.now parts →
+        IsKindOf F (names_of definitions.now) x f (FoundNumbers elements) →
+        (parts ≡ []) × IsWritten F 1 x node.now.bytes.now out.old out.new result }
+{
+    let kind = kind_of_primitive(definitions.name(elements.at), elements.size);
+    let size = usize::from(elements.size);
+    let mut rest = elements_of(node);
+    let mut index = 0;
+    out.put(Token::BeginArray)?;
+    while !rest.is_empty() {
+        let (element, after) = rest.split_at(size.clamp(1, rest.len()));
+        put_element(definitions.alloc, kind, index, element, long_numbers, out)?;
+        rest = after;
+        index += 1;
+    }
+    Ok(out.put(Token::EndArray)?)
+}
+
+/// Writes the element of an index.
+fn put_element(
+    alloc: Global,
+    kind: Kind<'_>,
+    index: usize,
+    own: &[u8],
+    long_numbers: LongNumbers,
+    out: &mut Output,
+) -> Written {
+    match put_primitive(alloc, kind, own, long_numbers, out) {
+        Err(WriteError::Refused(refusal)) => Err(WriteError::Element(index, refusal)),
+        other => other,
+    }
+}
+
+/// Writes the key of an entry, which its node has; the key that it gives orders it.
+pub fn write_key<'b>(
+    kind: KeyKind,
+    node: &Node<'_, 'b>,
+    out: &mut Output,
+) -> Result<EntryKey<'b>, WriteError>
+    ensures { WritesKey kind.entry node.now.definition.now node.now.bytes.now out.old out.new result }
+{
+    match kind {
+        KeyKind::Text => match str::from_utf8(elements_of(node)) {
+            Ok(text) => {
+                out.put(Token::Key(text))?;
+                Ok(EntryKey::Text(text))
+            }
+            Err(_) => Err(WriteError::Refused(Refusal::NotUtf8)),
+        },
+        KeyKind::Number(number) => {
+            let integer = Integer::decode(node.bytes, number.is_signed);
+            if number.is_non_zero && integer.is_zero() {
+                return Err(WriteError::Refused(Refusal::Zero));
+            }
+            let mut buffer = Buffer::new();
+            out.put(Token::Key(integer.decimal(&mut buffer)))?;
+            Ok(EntryKey::Rank(integer.rank(number.is_signed)))
+        }
+    }
+}
+
+/// Whether a key of a map is above another one.
+pub fn is_above(key: EntryKey<'_>, last: EntryKey<'_>) -> bool
+    ensures { (F : List ℕ → Option Form) (ns : List NamedPlace) (k : List ℕ) (f : Form) (kind : FoundKeyKind)
+        (keys : Keys) (s t : List ℕ) (i j : Json) → AreKeysOf F ns k f kind keys →
+        IsEntryKey kind last s → IsEntryKey kind key t → Decides result (key_order keys (s, i) (t, j) ≡ Less) }
+{
+    match (last, key) {
+        (EntryKey::Text(last), EntryKey::Text(key)) => last < key,
+        (EntryKey::Rank(last), EntryKey::Rank(key)) => last < key,
+        _ => false,
+    }
+}
+
+/// Writes a primitive.
+fn put_primitive(
+    alloc: Global,
+    kind: Kind<'_>,
+    own: &[u8],
+    long_numbers: LongNumbers,
+    out: &mut Output,
+) -> Written
+    ensures { (F : List ℕ → Option Form) (x : List ℕ) (k : TableKind) → IsPrimitiveKind kind.entry k →
+        HasKind F x k → HasSize k (length own.now) → IsWritten F 0 x own.now out.old out.new result }
+{
+    match kind {
+        Kind::Number(number) => put_number(number, own, long_numbers, out),
+        Kind::Bool => put_bool(own, out),
+        Kind::Float(_) if is_nan(own) => Err(WriteError::Refused(Refusal::NotNumber)),
+        _ => put_bytes(alloc, own, out),
+    }
+}
+
+fn put_number(number: Number, own: &[u8], long_numbers: LongNumbers, out: &mut Output) -> Written
+    ensures { (F : List ℕ → Option Form) (x : List ℕ) → length own.now ≡ number.size →
+        HasKind F x (whole number.size number.is_signed number.is_non_zero) →
+        IsWritten F 0 x own.now out.old out.new result }
+{
+    let integer = Integer::decode(own, number.is_signed);
+    if number.is_non_zero && integer.is_zero() {
+        return Err(WriteError::Refused(Refusal::Zero));
+    }
+    let mut buffer = Buffer::new();
+    let text = integer.decimal(&mut buffer);
+    let is_quoted = own.len() > 8 || own.len() == 8 && long_numbers == LongNumbers::Quoted;
+    if is_quoted {
+        Ok(out.put(Token::String(text))?)
+    } else {
+        Ok(out.put(Token::Number(text))?)
+    }
+}
+
+fn put_bool(own: &[u8], out: &mut Output) -> Written {
+    match own {
+        [0] => Ok(out.put(Token::Bool(false))?),
+        [1] => Ok(out.put(Token::Bool(true))?),
+        _ => Err(WriteError::Refused(Refusal::NotBool)),
+    }
+}
+
+/// Writes `0x` and two hexadecimal digits for each byte.
+fn put_bytes(alloc: Global, own: &[u8], out: &mut Output) -> Written {
+    let digits = hex::encode(alloc, own)?;
+    let text = format!(in alloc; "0x{digits}")?;
+    Ok(out.put(Token::String(text.as_str()))?)
+}
