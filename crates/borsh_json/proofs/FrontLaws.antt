@@ -1,20 +1,24 @@
 -- The JSON of a value of which the beginning was written: what it says, with any that may follow.
 use Rattle.std.proofs.Common.{◌≡◌, inl, inr, ℕ, suc, zero, ◌≤◌, List, [], ◌∷◌, ◌++◌, length, map, replicate, Option, Some, None, refl, sym, ◌∙◌, ap, subst, arith, append-nil}
 use Rattle.std.specs.Prelude.{ℤ, pos}
-use Rattle.std.specs.List.{IsDistinct}
+use Rattle.std.specs.List.{AllByRecursion, IsDistinct}
+use Rattle.std.specs.List.Sorted.{IsStrictlySortedBy}
+use Rattle.std.specs.Str.Parse.{signed_digits_value}
+use Rattle.std.specs.declared.cmp.Ordering.TheVariants.{Less}
+use Rattle.std.proofs.lemmas.Cmp.{nat_list_cmp_total, int_cmp_total}
 use Rattle.std.specs.Str.{bytes_eq}
 use Rattle.std.proofs.lemmas.List.Sorted.{IsPermutation-refl}
 use Rattle.json.specs.Token.{Token}
 use Rattle.json.specs.Json.{Json, null, array, object, Items, Members, no_members, member}
-use Rattle.json.specs.Find.{get_member}
+use Rattle.json.specs.Tree.{json_tokens}
 use Rattle.borsh_walks.specs.Container.{tag}
 use Rattle.borsh_json.specs.declared.output.Output.{Output}
 use Rattle.borsh_json.specs.Forms.{Form, HasNoBytes}
 use Rattle.borsh_json.specs.Frames.{Wanted, AreNext}
 use Rattle.borsh_json.specs.Leaves.{output_tokens, output_before, Adds}
 use Rattle.borsh_json.specs.Represents.{HaveBytes, next_part}
-use Rattle.borsh_json.specs.Table.{Lengths, Keys, Kind, list, row, inner, fields, optional, variants, entries, HasKind, Part, row_parts, list_parts, field_parts, entries_of, IsVariant, Says}
-use Rattle.borsh_json.specs.Writes.{items_rest, members_rest, value_rest, entries_rest, AreMembers, WritesFront}
+use Rattle.borsh_json.specs.Table.{Lengths, Keys, texts, numbers, Kind, list, row, inner, fields, optional, variants, entries, HasKind, Part, row_parts, list_parts, field_parts, Entry, entries_of, key_order, IsVariant, Says}
+use Rattle.borsh_json.specs.Writes.{items_rest, members_rest, value_rest, entries_rest, AreMembers, AreAbove, WritesFront}
 use Rattle.borsh_json.proofs.FieldLaws.{keys_of, next_all}
 use Rattle.borsh_json.proofs.FormKinds.{form_found}
 use Rattle.borsh_json.proofs.FrameLaws.{length_map}
@@ -59,6 +63,30 @@ named ws ms qs d a =
     let l = ap (λ xs. length xs) k in
     (omega (arith, l, m, n), member_found ws ms ms qs (next_all ws ms d k) a)
 
+-- keys one above the other
+less_any : (keys : Keys) (s t : List ℕ) (i j k l : Json) → key_order keys (s, i) (t, j) ≡ Less → key_order keys (s, k) (t, l) ≡ Less
+less_any texts s t i j k l e = e
+less_any (numbers n) s t i j k l e = e
+
+less_on : (keys : Keys) (a b c : Entry) → key_order keys a b ≡ Less → key_order keys b c ≡ Less → key_order keys a c ≡ Less
+less_on texts a b c e f = nat_list_cmp_total.trans a.0 b.0 c.0 e f
+less_on (numbers n) a b c e f = int_cmp_total.trans (signed_digits_value 10 a.0) (signed_digits_value 10 b.0) (signed_digits_value 10 c.0) e f
+
+above : (keys : Keys) (a : Entry) (es : List Entry) → AreAbove keys (Some a.0) es → AllByRecursion (λ e. key_order keys a e ≡ Less) es
+above keys a [] h = tt
+above keys a (e ∷ es) h =
+    let l : key_order keys a e ≡ Less = less_any keys a.0 e.0 null null a.1 e.1 h.0 in
+    (l, onward keys a e l es (above keys e es h.1))
+  where
+    onward : (keys : Keys) (a e : Entry) → key_order keys a e ≡ Less → (es : List Entry) → AllByRecursion (λ f. key_order keys e f ≡ Less) es → AllByRecursion (λ f. key_order keys a f ≡ Less) es
+    onward keys a e l [] h = tt
+    onward keys a e l (f ∷ es) h = (less_on keys a e f l h.0, onward keys a e l es h.1)
+
+rising : (keys : Keys) (last : Option (List ℕ)) (es : List Entry) → AreAbove keys last es → IsStrictlySortedBy (key_order keys) es
+unfolding IsStrictlySortedBy
+rising keys last [] h = tt
+rising keys last (e ∷ es) h = (above keys e es h.1, rising keys (Some e.0) es h.1)
+
 module _ (F : List ℕ → Option Form) (x own : List ℕ) (old new : Output) where
   -- ---- a bracket, or nothing, and then what may follow
   items_front : (xs : List (List ℕ)) (kind : Kind) → HasKind F x kind → ((js : Items) (qs : List Part) → row_parts xs js ≡ Some qs → Says F kind (array js) own qs) → Adds (Token.begin_array ∷ []) old new → WritesFront F x own (items_rest xs) old new
@@ -79,7 +107,9 @@ module _ (F : List ℕ → Option Form) (x own : List ℕ) (old new : Output) wh
   value_front p s e = record {
     front = [];
     adds = adds_none old new e;
-    whole = λ n ts qs ps bs m b. (m.0, sym m.1, m.2, (let d = m.3 in omega (arith, d)), s m.0 ps bs (subst (λ (l : List Part). HaveBytes F (l ++ ps) bs) m.4 b));
+    whole = λ n ts qs ps bs m b.
+        let one = m.6 ∙ ap (λ l. (p, m.0) ∷ l) m.7.1 in
+        (m.0, sym (m.5 ∙ ap (λ t. json_tokens m.0 ++ t) m.7.0 ∙ append-nil (json_tokens m.0)), m.3, (let d = m.4 in omega (arith, d)), s m.0 ps bs (subst (λ (l : List Part). HaveBytes F (l ++ ps) bs) one b));
   }
 
   -- ---- each kind
@@ -105,7 +135,7 @@ module _ (F : List ℕ → Option Form) (x own : List ℕ) (old new : Output) wh
     whole = λ d ts qs ps bs m b.
         let es = entries_of m.0 in
         let c = m.2 in
-        let t : Says F (entries l keys k v) (object m.0) own qs = (m.0, es, refl, IsPermutation-refl es, m.3, (omega (arith, c, low), omega (arith, c, high), o ∙ ap (λ i. tag l.width (pos i) ++ []) (sym c)), m.4) in
+        let t : Says F (entries l keys k v) (object m.0) own qs = (m.0, es, refl, IsPermutation-refl es, rising keys None es m.3, (omega (arith, c, low), omega (arith, c, high), o ∙ ap (λ i. tag l.width (pos i) ++ []) (sym c)), m.4) in
         (object m.0, ap (λ l. Token.begin_object ∷ l) (sym m.1), m.5, (let i = m.6 in omega (arith, i)), next_part (entries l keys k v) own qs h t b);
   }
 
