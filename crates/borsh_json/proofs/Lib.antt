@@ -11,6 +11,9 @@ pub mod RowsLaws
 pub mod ReaderLaws
 pub mod StepLaws
 pub mod OpeningLaws
+pub mod FormKinds
+pub mod FrontLaws
+pub mod NullLaws
 pub mod PartsLaws
 pub mod LoopLaws
 pub mod ReadingLaws

@@ -1,12 +1,12 @@
 -- What was written of a value, and the JSON that may still follow: the invariant of the writer's loop.
-use Rattle.std.specs.Prelude.{◌≡◌, ⊤, ℕ, suc, zero, ◌≤◌, List, [], ◌∷◌, ◌++◌, length, map, replicate, Bool, true, false, Option, Some, None, Result, MatchResult, MatchOption}
-use Rattle.std.specs.List.Sorted.{IsStrictlySortedBy}
+use Rattle.std.specs.Prelude.{◌≡◌, ◌⊎◌, ⊤, ℕ, suc, ◌+◌, ◌≤◌, List, [], ◌∷◌, ◌++◌, length, map, replicate, Bool, true, false, Option, Some, None, Result, MatchResult, MatchOption}
+use Rattle.std.specs.declared.cmp.Ordering.TheVariants.{Less}
 use Rattle.json.specs.Token.{Token}
 use Rattle.json.specs.Json.{Json, null, Items, no_items, item, Members, no_members, member}
 use Rattle.json.specs.Tree.{json_tokens, items_tokens, members_tokens, depth, items_depth, members_depth, HasNumbers, ItemsHaveNumbers, MembersHaveNumbers}
 use Rattle.borsh_walks.specs.Container.{Shape, product, IsIn, references}
 use Rattle.borsh_values.specs.Nodes.{Reads, Opens}
-use Rattle.borsh_values.specs.Walks.{IsReadTo, IsWalk}
+use Rattle.borsh_values.specs.Walks.{IsReadTo, IsWalker}
 use Rattle.borsh_values.specs.Membership.{IsUndecided}
 use Rattle.borsh_values.specs.declared.layout.Named.{Named}
 use Rattle.borsh_values.specs.declared.nodes.Node.{Node}
@@ -17,19 +17,20 @@ use Rattle.borsh_json.specs.declared.error.PartError.{PartError}
 use Rattle.borsh_json.specs.declared.error.PartError.TheVariants.{OutOfMemory as NoPartMemory, Refused as RefusedPart}
 use Rattle.borsh_json.specs.declared.error.JsonError.{JsonError}
 use Rattle.borsh_json.specs.declared.error.JsonError.TheVariants.{OutOfMemory as NoMemory, NoMember, NoValue, Ambiguous, NotJson, Refused as RefusedBytes}
-use Rattle.borsh_json.specs.declared.leaves.WriteError.{WriteError}
-use Rattle.borsh_json.specs.declared.leaves.WriteError.TheVariants.{OutOfMemory, Refused, Element}
+use Rattle.borsh_json.specs.declared.error.WriteError.{WriteError}
+use Rattle.borsh_json.specs.declared.error.WriteError.TheVariants.{OutOfMemory, Refused, Element}
 use Rattle.borsh_json.specs.declared.kinds.KeyKind.{KeyKind}
 use Rattle.borsh_json.specs.declared.kinds.Kind.{Kind as Found}
 use Rattle.borsh_json.specs.declared.kinds.Kind.TheVariants.{Number, Bool as Truth, Text, Bytes, Float, ByteList, Numbers, List as ListKind, Map, Row as RowKind, Newtype as NewtypeKind, Object as ObjectKind, Optional, Choice, Repeated}
 use Rattle.borsh_json.specs.declared.output.Output.{Output}
 use Rattle.borsh_json.specs.declared.position.Parts.{Parts}
 use Rattle.borsh_json.specs.declared.position.Parts.TheVariants.{Root, List as Elements, Row, Object, Entries as MapEntries, Newtype, Some as Present, Variant}
+use Rattle.borsh_json.specs.declared.position.Part.{Part as FoundPart}
 use Rattle.borsh_json.specs.declared.position.Place.{Place}
 use Rattle.borsh_json.specs.declared.sources.EntryKey.{EntryKey}
 use Rattle.borsh_json.specs.declared.writing.Writing.{Writing}
 use Rattle.borsh_json.specs.Forms.{Form, form_of, shape_of_form, shapes, HasNoBytes}
-use Rattle.borsh_json.specs.Frames.{Wanted, IsWanted, IsEntryKey, IsOf}
+use Rattle.borsh_json.specs.Frames.{Wanted, IsWanted, IsEntryKey, IsOf, GivesPart}
 use Rattle.borsh_json.specs.Found.{forms_of, names_of}
 use Rattle.borsh_json.specs.Places.{IsAt, AreKeysOf, IsKindOf}
 use Rattle.borsh_json.specs.Represents.{HaveBytes}
@@ -63,15 +64,20 @@ abbrev pub AreMembers : List Wanted → Members → List Part → Type 0
 AreMembers [] ms ps = (ms ≡ no_members) × (ps ≡ [])
 AreMembers (w ∷ ws) ms ps = (j : Json) × (more : Members) × (qs : List Part) × (ms ≡ member w.0 j more) × (ps ≡ (w.1, j) ∷ qs) × AreMembers ws more qs
 
--- the tokens are a value of the only name, as a part; or there is none
+-- the tokens are a value of each name, as a part
 abbrev pub AreValues : List (List ℕ) → ℕ → List Token → List Part → Type 0
 AreValues [] n ts ps = (ts ≡ []) × (ps ≡ [])
-AreValues (x ∷ xs) n ts ps = (j : Json) × (ts ≡ json_tokens j) × HasNumbers j × (depth j ≤ n) × (ps ≡ (x, j) ∷ []) × (xs ≡ [])
+AreValues (x ∷ xs) n ts ps = (j : Json) × (t : List Token) × (qs : List Part) × HasNumbers j × (depth j ≤ n) × (ts ≡ json_tokens j ++ t) × (ps ≡ (x, j) ∷ qs) × AreValues xs n t qs
 
--- the keys ascend from the last one
+-- the key is above the last one
+abbrev pub IsAbove : Keys → Option (List ℕ) → List ℕ → Type 0
+IsAbove keys None s = ⊤
+IsAbove keys (Some t) s = key_order keys (t, null) (s, null) ≡ Less
+
+-- each key is above the one before it
 abbrev pub AreAbove : Keys → Option (List ℕ) → List Entry → Type 0
-AreAbove keys None es = IsStrictlySortedBy (key_order keys) es
-AreAbove keys (Some s) es = IsStrictlySortedBy (key_order keys) ((s, null) ∷ es)
+AreAbove keys last [] = ⊤
+AreAbove keys last (e ∷ es) = IsAbove keys last e.0 × AreAbove keys (Some e.0) es
 
 -- these tokens may be written of what is left, brackets at the end included: they nest at most so deep, and have these parts
 abbrev pub MayFollow : Rest → ℕ → List Token → List Part → Type 0
@@ -85,13 +91,51 @@ abbrev pub MayFollowAll : List Rest → List Token → List Part → Type 0
 MayFollowAll [] ts ps = (ts ≡ []) × (ps ≡ [])
 MayFollowAll (r ∷ rs) ts ps =
     (n : ℕ) × (t : List Token) × (u : List Token) × (a : List Part) × (b : List Part)
-    × (n + length rs ≤ 128) × MayFollow r n t a × MayFollowAll rs u b × (ts ≡ t ++ u) × (ps ≡ a ++ b)
+    × (n + length rs ≡ 128) × MayFollow r n t a × MayFollowAll rs u b × (ts ≡ t ++ u) × (ps ≡ a ++ b)
 
 -- the same of a value of this name, which nests at most so deep, and then of the places
 abbrev pub MayFollowFirst : List ℕ → ℕ → List Rest → List Token → List Part → Type 0
 MayFollowFirst x n rs ts ps =
     (j : Json) × (u : List Token) × (b : List Part)
     × HasNumbers j × (depth j ≤ n) × MayFollowAll rs u b × (ts ≡ json_tokens j ++ u) × (ps ≡ (x, j) ∷ b)
+
+-- ---- kinds
+
+-- the kinds of values that have own bytes
+abbrev pub HasNode : Found → Type 0
+HasNode (Number n) = ⊤
+HasNode Truth = ⊤
+HasNode Text = ⊤
+HasNode (Bytes n) = ⊤
+HasNode (Float n) = ⊤
+HasNode (ByteList es) = ⊤
+HasNode (Numbers es) = ⊤
+HasNode (ListKind es) = ⊤
+HasNode (Map es order) = ⊤
+HasNode (RowKind n) = ⊥
+HasNode (NewtypeKind at) = ⊥
+HasNode (ObjectKind fs) = ⊥
+HasNode (Optional at) = ⊤
+HasNode (Choice w vs) = ⊤
+HasNode (Repeated name) = ⊥
+
+-- how deep JSON of a kind nests that is written whole
+abbrev pub leaf_depth : Found → ℕ
+leaf_depth (Number n) = 0
+leaf_depth Truth = 0
+leaf_depth Text = 0
+leaf_depth (Bytes n) = 0
+leaf_depth (Float n) = 0
+leaf_depth (ByteList es) = 0
+leaf_depth (Numbers es) = 1
+leaf_depth (ListKind es) = 0
+leaf_depth (Map es order) = 0
+leaf_depth (RowKind n) = 0
+leaf_depth (NewtypeKind at) = 0
+leaf_depth (ObjectKind fs) = 0
+leaf_depth (Optional at) = 0
+leaf_depth (Choice w vs) = 0
+leaf_depth (Repeated name) = 0
 
 -- ---- the invariant
 
@@ -220,42 +264,6 @@ module _ (F : List ℕ → Option Form) where
         (λ found. MatchOption found (HasNode kind × (new ≡ old)) (λ p. (r : Rest) × IsRest p r × WritesFront x [] r old new × (shape_of_form f ≡ product (names_of_rest r))))
         (λ e. RefusesValue x [] e)
 
--- the kinds of values that have own bytes
-abbrev pub HasNode : Found → Type 0
-HasNode (Number n) = ⊤
-HasNode Truth = ⊤
-HasNode Text = ⊤
-HasNode (Bytes n) = ⊤
-HasNode (Float n) = ⊤
-HasNode (ByteList es) = ⊤
-HasNode (Numbers es) = ⊤
-HasNode (ListKind es) = ⊤
-HasNode (Map es order) = ⊤
-HasNode (RowKind n) = ⊥
-HasNode (NewtypeKind at) = ⊥
-HasNode (ObjectKind fs) = ⊥
-HasNode (Optional at) = ⊤
-HasNode (Choice w vs) = ⊤
-HasNode (Repeated name) = ⊥
-
--- how deep JSON of a kind nests that is written whole
-abbrev pub leaf_depth : Found → ℕ
-leaf_depth (Number n) = 0
-leaf_depth Truth = 0
-leaf_depth Text = 0
-leaf_depth (Bytes n) = 0
-leaf_depth (Float n) = 0
-leaf_depth (ByteList es) = 0
-leaf_depth (Numbers es) = 1
-leaf_depth (ListKind es) = 0
-leaf_depth (Map es order) = 0
-leaf_depth (RowKind n) = 0
-leaf_depth (NewtypeKind at) = 0
-leaf_depth (ObjectKind fs) = 0
-leaf_depth (Optional at) = 0
-leaf_depth (Choice w vs) = 0
-leaf_depth (Repeated name) = 0
-
 -- of the name at the place, that the code found this kind of, the value whose node this is was written or begun, or is refused
 abbrev pub WritesValueOf : (List ℕ → Option Form) → List Named → ℕ → Found → Node → Output → Output → Result (Option Place) WriteError → Type 0
 WritesValueOf F ns at kind n old new result =
@@ -303,7 +311,7 @@ module _ (d : Definitions) (w : Writing) where
   -- the writer walks by these definitions, and its text is all its own
   pub record IsWriterOf : Type 0 where
     pub layout : w.walk.layout.now ≡ d.layout.now
-    pub walk : IsWalk w.walk
+    pub walk : IsWalker w.walk
     pub fresh : output_before w.out ≡ []
 
   -- it is in front of a part of this place

@@ -20,7 +20,7 @@ use std::alloc::{AllocError, Global};
 /// The parts of a value, and the JSON of those that are left.
 #[derive(Drop)]
 pub struct Frame<'a, 't, 's> {
-    pub place: Place<'a, 't>,
+    pub place: Place<'a, 'static>,
     pub source: Source<'t, 's>,
 }
 

@@ -61,7 +61,7 @@ pub fn read_value<'a>(
 #[derive(Drop)]
 struct Reading<'a, 't, 's> {
     out: Vec<u8>,
-    position: Position<'a, 't>,
+    position: Position<'a, 'static>,
     source: Source<'t, 's>,
     outer: Vec<Source<'t, 's>>,
 }

@@ -1,12 +1,11 @@
 // Where in a value the reader or writer is.
-ghost use Rattle.borsh_json.specs.Words.{GivesPart, IsKnown, IsOf, IsOfRead, IsPartError, IsReadRefusal, IsUnreadable, IsUnwritable, Root, TooDeep};
-ghost use Rattle.std.specs.Prelude.{◌≡◌, ◌+◌, ◌^◌, ◌<◌, ◌≤◌, ◌∷◌, ◌++◌, [], true, false, ℕ, List, IfErr, IfSome, MatchOption, OnOk};
+ghost use Rattle.borsh_json.specs.Words.{GivesPart, IsFull, IsKnown, IsOf, IsOfRead, IsOfWrite, IsPartError, IsReadRefusal, IsUnreadable, IsUnwritable, Root, TooDeep};
+ghost use Rattle.std.specs.Prelude.{◌≡◌, ◌+◌, ◌^◌, ◌<◌, ◌≤◌, ◌∷◌, ◌++◌, [], true, false, ℕ, List, None, length, IfErr, IfSome, MatchOption, OnOk};
 
 use crate::definitions::Definitions;
-use crate::error::{PartError, PartResult, ReadError, Refusal};
+use crate::error::{PartError, PartResult, ReadError, Refusal, WriteError};
 use crate::kinds::{Elements, Entries, NamedFields};
 use crate::order::{Ascent, Ordered, first_descent};
-use crate::leaves::WriteError;
 use crate::sources::EntryKey;
 use borsh_values::{Path, PathStep};
 use json::MAX_DEPTH;

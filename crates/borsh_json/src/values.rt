@@ -1,12 +1,12 @@
 // How a value of each kind is written: whole, or its beginning, behind which its parts follow.
-ghost use Rattle.borsh_json.specs.Words.{Form, HasNode, IsAt, IsCounted, IsKindOf, IsKnown, NamedPlace, NoWriteMemory, WriteFailed, WritesStruct, WritesValueOf, form_of, forms_of, names_of};
-ghost use Rattle.std.specs.Prelude.{◌≡◌, ℕ, List, Option, Some};
+ghost use Rattle.borsh_json.specs.Words.{Form, FoundChoice, FoundList, FoundMap, FoundOption, FoundOrder, HasNode, IsAt, IsKindOf, IsKnown, NamedPlace, WritesStruct, WritesValueOf, forms_of, names_of};
+ghost use Rattle.std.specs.Prelude.{◌≡◌, ℕ, List, Err, MatchResult, None, Ok, Option, Some};
 
 use crate::definitions::Definitions;
-use crate::error::Refusal;
+use crate::error::{Refusal, WriteError};
 use crate::kinds::{Elements, Entries, Kind, Variants};
 use crate::leaves::{
-    WriteError, write_byte_list, write_name, write_null, write_numbers, write_primitive, write_text,
+    write_byte_list, write_name, write_null, write_numbers, write_primitive, write_text,
 };
 use crate::output::{LongNumbers, Output};
 use crate::position::{Parts, Place};
@@ -126,7 +126,7 @@ fn begin_variant<'a, 'b>(
     out: &mut Output,
 ) -> Begun<'a, 'b>
     ensures { IsKnown definitions.now → (w : ℕ) →
-        WritesValueOf (forms_of definitions.now) (names_of definitions.now) at (FoundChoice w variants.now) node.now out.old out.new result }
+        WritesValueOf (forms_of definitions.now) (names_of definitions.now) at (FoundChoice w variants) node.now out.old out.new result }
 {
     let index = variant_of(node).unwrap_or(usize::MAX);
     let Some((_, variant, _)) = variants.get(index) else {

@@ -1,8 +1,8 @@
 // A value as JSON.
-ghost use Rattle.borsh_json.specs.Words.{HasKinds, IsNoJsonReason, IsPartError, IsUnwritable, Member, SaysBy, TextSays, definitions_in, forms_in};
+ghost use Rattle.borsh_json.specs.Words.{Adds, EntryOf, Form, FoundPart, HasKinds, HasNode, IsAt, IsAwaitingAt, IsBegunOf, IsFullOrDescends, IsKindOf, IsNoJsonReason, IsWalker, IsWritingAt, IsWrittenOn, Member, Place, SaysBy, StopsBy, TextSays, definitions_in, ends_of, forms_in, forms_of, leaf_depth, names_of, shapes};
 ghost use Rattle.borsh_json.specs.Ascii.{IsPlain};
 ghost use Rattle.borsh_json.specs.declared.output.Characters.TheVariants.{Ascii};
-ghost use Rattle.std.specs.Prelude.{◌≡◌, All, IfErr, IfOk, OnOk, string_bytes};
+ghost use Rattle.std.specs.Prelude.{◌≡◌, ◌+◌, ◌≤◌, ℕ, All, IfErr, IfOk, IsUtf8, List, MatchResult, OnOk, Some, length, string_bytes};
 
 use crate::ascii::{in_ascii, is_ascii};
 use crate::definitions::Definitions;
@@ -12,7 +12,7 @@ use crate::leaves::{is_above, write_key};
 use crate::output::{Characters, LongNumbers, Output, Style};
 use crate::position::{Key, Part, Parts, Place, Position};
 use crate::values::{begin_struct, begin_value};
-use borsh_values::{Layout, Membership, Node, Walk, elements_of};
+use borsh_values::{Layout, Membership, Node, Walker, elements_of};
 use borsh_walks::Definition;
 use json::Token;
 use std::alloc::{AllocError, Global};
@@ -70,7 +70,7 @@ impl<'a, 'l> Definitions<'a, 'l> {
         ensures says { IfOk result (λ text. SaysBy self.now (string_bytes text) bytes.now) }
         ensures ascii { style.characters ≡ Ascii → IfOk result (λ text. All IsPlain (string_bytes text)) }
         ensures reason { let l = self.now.layout.now in
-            IfErr result (λ e. IsNoJsonReason (forms_in l.map.now) l.root.now bytes.now e) }
+            IfErr result (λ e. IsNoJsonReason (definitions_in l.map.now) l.root.now bytes.now e) }
     {
         match self.layout.is_member(self.alloc, bytes)? {
             Membership::Member => {
@@ -115,13 +115,14 @@ fn write_value<'a>(
 ) -> Result<Vec<u8>, JsonError<'a>>
     requires known { HasKinds definitions.now }
     requires member { Member (shapes (forms_of definitions.now)) definitions.now.layout.now.root.now bytes.now }
-    ensures says { IfOk result (λ text. IsUtf8 text.items × SaysBy definitions.now text.items bytes.now) }
+    ensures says { IfOk result (λ text. SaysBy definitions.now text.items bytes.now) }
+    ensures utf8 { IfOk result (λ text. IsUtf8 text.items) }
     ensures stops { IfErr result (StopsBy definitions.now bytes.now) }
 {
     let alloc = definitions.alloc;
     let layout = definitions.layout;
     let mut writing = Writing {
-        walk: Walk::new(alloc, layout, bytes),
+        walk: Walker::new(alloc, layout, bytes),
         position: Position::new(alloc, layout.root),
         out: Output::new(alloc, style.layout),
         bytes,
@@ -139,7 +140,7 @@ fn write_value<'a>(
 /// What is left of the bytes, and where the writer is.
 #[derive(Drop)]
 struct Writing<'a, 'l, 'b> {
-    walk: Walk<'a, 'l, 'b>,
+    walk: Walker<'a, 'l, 'b>,
     position: Position<'a, 'b>,
     out: Output,
     bytes: &'b [u8],
@@ -172,7 +173,7 @@ impl<'a, 'l, 'b> Writing<'a, 'l, 'b> {
         definitions: &Definitions<'a, '_>,
         part: Part<'a>,
     ) -> Result<(), JsonError<'a>>
-        requires walk { IsWalk self.old.walk }
+        requires walk { IsWalker self.old.walk }
         ensures key { HasKinds definitions.now → (p : Place) → IsWritingAt definitions.now self.old p →
             IsBegunOf definitions.now p self.old.position.place part.entry → MatchResult result
             (λ _. (x : List ℕ) × IsAt (names_of definitions.now) part.entry.at x × IsAwaitingAt definitions.now self.new x)
@@ -192,7 +193,7 @@ impl<'a, 'l, 'b> Writing<'a, 'l, 'b> {
         definitions: &Definitions<'a, '_>,
         entries: Entries<'a>,
     ) -> Result<(), JsonError<'a>>
-        requires walk { IsWalk self.old.walk }
+        requires walk { IsWalker self.old.walk }
         ensures key { HasKinds definitions.now → (p : Place) (part : FoundPart) → IsWritingAt definitions.now self.old p →
             part.key ≡ EntryOf entries.entry →
             IsBegunOf definitions.now p self.old.position.place part → MatchResult result
@@ -223,7 +224,7 @@ impl<'a, 'l, 'b> Writing<'a, 'l, 'b> {
         definitions: &Definitions<'a, '_>,
         at: usize,
     ) -> Result<(), JsonError<'a>>
-        requires walk { IsWalk self.old.walk }
+        requires walk { IsWalker self.old.walk }
         ensures part { HasKinds definitions.now → (x : List ℕ) → IsAt (names_of definitions.now) at x →
             IsAwaitingAt definitions.now self.old x → MatchResult result
             (λ _. IsWritingAt definitions.now self.new self.new.position.place)
@@ -250,7 +251,7 @@ impl<'a, 'l, 'b> Writing<'a, 'l, 'b> {
         at: usize,
         kind: Kind<'a>,
     ) -> Result<(), JsonError<'a>>
-        requires walk { IsWalk self.old.walk }
+        requires walk { IsWalker self.old.walk }
         ensures part { HasKinds definitions.now → (x : List ℕ) (f : Form) → IsAt (names_of definitions.now) at x →
             forms_of definitions.now x ≡ Some f →
             IsKindOf (forms_of definitions.now) (names_of definitions.now) x f kind.entry → HasNode kind.entry →
