@@ -270,6 +270,10 @@ WritesValueOf F ns at kind n old new result =
     (x : List ℕ) (parts : List (List ℕ)) → IsAt ns at x → IsOpenedAs F x (form_of n.definition.now) n.bytes.now parts → IsKindOf F ns x (form_of n.definition.now) kind
     → WritesValue F ns (leaf_depth kind) x (form_of n.definition.now) n.bytes.now old new result
 
+-- of the name at the place, that the code found this kind of, a value without own bytes was begun, or is refused
+abbrev pub BeginsStruct : ℕ → Found → Output → Output → Result (Option Place) WriteError → Type 0
+BeginsStruct at kind old new result = (F : List ℕ → Option Form) (ns : List Named) (x : List ℕ) (f : Form) → IsAt ns at x → F x ≡ Some f → IsKindOf F ns x f kind → WritesStruct F ns x f kind old new result
+
 -- ---- why a value has no JSON
 
 module _ (F : List ℕ → Option Form) (root bytes : List ℕ) where

@@ -1,10 +1,10 @@
 // How a value of each kind is written: whole, or its beginning, behind which its parts follow.
-ghost use Rattle.borsh_json.specs.Words.{Form, FoundChoice, FoundList, FoundMap, FoundOption, FoundOrder, HasNode, IsAt, IsKindOf, IsKnown, NamedPlace, WritesStruct, WritesValueOf, forms_of, names_of};
+ghost use Rattle.borsh_json.specs.Words.{BeginsStruct, Form, FoundChoice, FoundList, FoundMap, FoundObject, FoundOption, FoundOrder, FoundRow, HasNode, IsKnown, IsNoJson, NamedPlace, RefusesValue, WritesValueOf, forms_of, names_of};
 ghost use Rattle.std.specs.Prelude.{◌≡◌, ℕ, List, Err, MatchResult, None, Ok, Option, Some};
 
 use crate::definitions::Definitions;
 use crate::error::{Refusal, WriteError};
-use crate::kinds::{Elements, Entries, Kind, Variants};
+use crate::kinds::{Elements, Entries, Kind, NamedFields, Variants};
 use crate::leaves::{
     write_byte_list, write_name, write_null, write_numbers, write_primitive, write_text,
 };
@@ -17,6 +17,13 @@ use std::alloc::Global;
 /// Where a value's parts are written; none if it was written whole.
 type Begun<'a, 'b> = Result<Option<Place<'a, 'b>>, WriteError>;
 
+/// That a value's parts are written at this place.
+fn begun<'a, 'b>(place: Place<'a, 'b>) -> Begun<'a, 'b>
+    ensures { result ≡ Ok (Some place.entry) }
+{
+    Ok(Some(place))
+}
+
 /// Begins a value of a kind that has no own bytes; of another kind none is begun, and nothing is written.
 pub fn begin_struct<'a, 'b>(
     alloc: Global,
@@ -24,24 +31,39 @@ pub fn begin_struct<'a, 'b>(
     kind: Kind<'a>,
     out: &mut Output,
 ) -> Begun<'a, 'b>
-    ensures { (F : List ℕ → Option Form) (ns : List NamedPlace) (x : List ℕ) (f : Form) → IsAt ns at x → F x ≡ Some f →
-        IsKindOf F ns x f kind.entry → WritesStruct F ns x f kind.entry out.old out.new result }
+    ensures { BeginsStruct at kind.entry out.old out.new result }
 {
     match kind {
-        Kind::Row(count) => {
-            out.put(Token::BeginArray)?;
-            Ok(Some(Place::new(Parts::Row(at, count))))
-        }
-        Kind::Newtype(part) => Ok(Some(Place::new(Parts::Newtype(part)))),
-        Kind::Object(fields) => {
-            out.put(Token::BeginObject)?;
-            Ok(Some(Place::new(Parts::Object(at, fields))))
-        }
-        Kind::Repeated(name) => {
-            let name = String::from_str(alloc, name)?;
-            Err(WriteError::Refused(Refusal::RepeatedName(name)))
-        }
+        Kind::Row(count) => begin_row(at, count, out),
+        Kind::Newtype(part) => begun(Place::new(Parts::Newtype(part))),
+        Kind::Object(fields) => begin_object(at, fields, out),
+        Kind::Repeated(name) => Err(repeated(alloc, name)),
         _ => Ok(None),
+    }
+}
+
+fn begin_row<'a, 'b>(at: usize, count: usize, out: &mut Output) -> Begun<'a, 'b>
+    ensures { BeginsStruct at (FoundRow count) out.old out.new result }
+{
+    out.put(Token::BeginArray)?;
+    let parts: Parts<'a> = Parts::Row(at, count);
+    begun(Place::new(parts))
+}
+
+fn begin_object<'a, 'b>(at: usize, fields: &'a NamedFields, out: &mut Output) -> Begun<'a, 'b>
+    ensures { BeginsStruct at (FoundObject fields.entry) out.old out.new result }
+{
+    out.put(Token::BeginObject)?;
+    begun(Place::new(Parts::Object(at, fields)))
+}
+
+/// That two fields or variants have the name.
+fn repeated(alloc: Global, name: &str) -> WriteError
+    ensures { (F : List ℕ → Option Form) (x own : List ℕ) → IsNoJson F x own → RefusesValue F x own result }
+{
+    match String::from_str(alloc, name) {
+        Ok(name) => WriteError::Refused(Refusal::RepeatedName(name)),
+        Err(_) => WriteError::OutOfMemory,
     }
 }
 
@@ -96,7 +118,7 @@ fn begin_list<'a, 'b>(elements: Elements, node: &Node<'a, 'b>, out: &mut Output)
     out.put(Token::BeginArray)?;
     let count = count_of(node).unwrap_or(0);
     let parts = Parts::List(elements.at, count);
-    Ok(Some(Place::in_order(parts, elements.order)))
+    begun(Place::in_order(parts, elements.order))
 }
 
 fn begin_map<'a, 'b>(entries: Entries<'a>, node: &Node<'a, 'b>, out: &mut Output) -> Begun<'a, 'b>
@@ -105,7 +127,7 @@ fn begin_map<'a, 'b>(entries: Entries<'a>, node: &Node<'a, 'b>, out: &mut Output
 {
     out.put(Token::BeginObject)?;
     let count = count_of(node).unwrap_or(0);
-    Ok(Some(Place::new(Parts::Entries(entries, count))))
+    begun(Place::new(Parts::Entries(entries, count)))
 }
 
 fn begin_option<'a, 'b>(part: usize, node: &Node<'a, 'b>, out: &mut Output) -> Begun<'a, 'b>
@@ -114,7 +136,7 @@ fn begin_option<'a, 'b>(part: usize, node: &Node<'a, 'b>, out: &mut Output) -> B
 {
     match variant_of(node) {
         Some(0) => whole(write_null(out)),
-        _ => Ok(Some(Place::new(Parts::Some(part)))),
+        _ => begun(Place::new(Parts::Some(part))),
     }
 }
 
@@ -137,5 +159,5 @@ fn begin_variant<'a, 'b>(
         return whole(write_name(variant.as_str(), out));
     }
     out.put(Token::BeginObject)?;
-    Ok(Some(Place::new(Parts::Variant(variant.as_str(), part))))
+    begun(Place::new(Parts::Variant(variant.as_str(), part)))
 }
