@@ -17,6 +17,8 @@ pub mod NullLaws
 pub mod PartsLaws
 pub mod LoopLaws
 pub mod ReadingLaws
+pub mod WritingLaws
+pub mod WritingPlaces
 pub mod MemberLaws
 pub mod EachLaws
 pub mod MapLaws
