@@ -19,6 +19,7 @@ pub mod LoopLaws
 pub mod ReadingLaws
 pub mod WritingLaws
 pub mod WritingPlaces
+pub mod WritingSteps
 pub mod MemberLaws
 pub mod EachLaws
 pub mod MapLaws

@@ -1,5 +1,5 @@
 -- What is left to be written of places.
-use Rattle.std.proofs.Common.{◌≡◌, ℕ, suc, zero, ◌+◌, ◌≤◌, List, [], ◌∷◌, ◌++◌, length, map, replicate, Option, Some, None, refl, sym, ◌∙◌, ap, subst, arith, append_assoc, length-append}
+use Rattle.std.proofs.Common.{◌≡◌, ℕ, suc, zero, ◌+◌, ◌-◌, ◌≤◌, List, [], ◌∷◌, ◌++◌, length, map, replicate, Option, Some, None, refl, sym, ◌∙◌, ap, subst, arith, append_assoc, length-append}
 use Rattle.json.specs.Token.{Token}
 use Rattle.json.specs.Json.{Json, no_items, no_members}
 use Rattle.borsh_walks.specs.Container.{product}
@@ -111,9 +111,6 @@ module _ (F : List ℕ → Option Form) (ns : List Named) where
     pub is_last : IsLast es.key_kind last before
     pub is : r ≡ entries_rest keys key value pair (suc count) before
     pub here : (new : Option EntryKey) (s : Option (List ℕ)) → IsLast es.key_kind new s → IsRestOf F ns parts c new (entries_rest keys key value pair count s)
-
-  entries_are : {A : Type 0} (xs : List Wanted) (w : Wanted) (rest : List Wanted) → xs ≡ w ∷ rest → length xs ≡ suc (length rest)
-  entries_are xs w rest e = ap (λ (l : List Wanted). length l) e
 
   copies_of : (at n i : ℕ) (x : List ℕ) (ws : List Wanted) → IsAt ns at x → ws ≡ replicate n ([], x) → (w : Wanted) (rest : List Wanted) → ws ≡ w ∷ rest → w.1 ≡ x
   copies_of at zero i x ws a e w rest f = cc

@@ -70,6 +70,11 @@ abbrev pub AreValues : List (List ℕ) → ℕ → List Token → List Part → 
 AreValues [] n ts ps = (ts ≡ []) × (ps ≡ [])
 AreValues (x ∷ xs) n ts ps = (j : Json) × (t : List Token) × (qs : List Part) × HasNumbers j × (depth j ≤ n) × (ts ≡ json_tokens j ++ t) × (ps ≡ (x, j) ∷ qs) × AreValues xs n t qs
 
+-- the last key of a map
+abbrev pub IsLast : KeyKind → Option EntryKey → Option (List ℕ) → Type 0
+IsLast kind None last = last ≡ None
+IsLast kind (Some key) last = (s : List ℕ) × (last ≡ Some s) × IsEntryKey kind key s
+
 -- the key is above the last one
 abbrev pub IsAbove : Keys → Option (List ℕ) → List ℕ → Type 0
 IsAbove keys None s = ⊤
@@ -201,11 +206,6 @@ module _ (F : List ℕ → Option Form) where
     pub whole : IsFront x own r front
 
   module _ (ns : List Named) where
-    -- the last key of a map
-    abbrev pub IsLast : KeyKind → Option EntryKey → Option (List ℕ) → Type 0
-    IsLast kind None last = last ≡ None
-    IsLast kind (Some key) last = (s : List ℕ) × (last ≡ Some s) × IsEntryKey kind key s
-
     -- what is left of a place
     abbrev pub IsRestOf : Parts → ℕ → Option EntryKey → Rest → Type 0
     IsRestOf Root i last r = (ws : List Wanted) × IsWanted F ns Root i ws × (r ≡ value_rest (map (λ w. w.1) ws))
