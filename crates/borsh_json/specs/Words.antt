@@ -29,6 +29,7 @@ pub use Rattle.borsh_json.specs.declared.position.Parts.TheVariants.{Root}
 pub use Rattle.borsh_json.specs.declared.sources.Source.TheVariants.{One as OneSource}
 pub use Rattle.borsh_values.specs.Free.{KnowsSizes}
 pub use Rattle.borsh_values.specs.Layouts.{IsLaidOut}
+pub use Rattle.borsh_values.specs.Nodes.{packed_size}
 pub use Rattle.borsh_values.specs.declared.layout.Named.{Named as NamedPlace}
 pub use Rattle.borsh_walks.specs.Container.{Member, references, tag}
 pub use Rattle.borsh_walks.specs.Definitions.{definitions_in}
