@@ -1,5 +1,6 @@
 pub mod FormsLaws
 pub mod RepresentsLaws
+pub mod IntegerLaws
 pub mod DecimalLaws
 pub mod NumberLaws
 pub mod PlaceLaws
@@ -29,3 +30,5 @@ pub mod KeyJson
 pub mod NumberTexts
 pub mod LaidLaws
 pub mod FieldLaws
+pub mod LeafLaws
+pub mod KeyLaws

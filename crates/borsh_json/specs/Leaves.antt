@@ -1,12 +1,12 @@
 -- What is written of a value without places of its own.
-use Rattle.std.specs.Prelude.{◌≡◌, ⊤, ℕ, ◌≤◌, List, [], ◌∷◌, ◌++◌, Bool, true, Option, Some, Result, MatchResult}
+use Rattle.std.specs.Prelude.{◌≡◌, ◌⊎◌, ⊤, ℕ, ◌<◌, ◌≤◌, ◌^◌, List, [], ◌∷◌, ◌++◌, Bool, true, Option, Some, Result, MatchResult}
 use Rattle.json.specs.Token.{Token}
 use Rattle.json.specs.Token as token
-use Rattle.json.specs.Json.{Json}
+use Rattle.json.specs.Json.{Json, string}
 use Rattle.json.specs.Tree.{json_tokens, depth, HasNumbers}
 use Rattle.borsh_walks.specs.declared.definition.Definition.{Definition}
+use Rattle.borsh_walks.specs.Container.{Shape, primitive, sequence, product, choice}
 use Rattle.borsh_values.specs.Nodes.{Opens}
-use Rattle.borsh_values.specs.Walks.{IsCounted}
 use Rattle.borsh_values.specs.declared.layout.Named.{Named}
 use Rattle.borsh_json.specs.declared.error.Refusal.{Refusal}
 use Rattle.borsh_json.specs.declared.error.Refusal.TheVariants.{TooDeep, RepeatedName, EmptyElements, NotBool, NotUtf8, Zero, NotNumber, Descends, OtherNodes, Expected, MissingField, UnknownName, RepeatedKey, Undefined}
@@ -22,7 +22,7 @@ use Rattle.borsh_json.specs.Frames.{IsEntryKey}
 use Rattle.borsh_json.specs.Places.{AreKeysOf, IsKindOf}
 use Rattle.borsh_json.specs.Reads.{SaysFirst}
 use Rattle.borsh_json.specs.Represents.{HaveBytes}
-use Rattle.borsh_json.specs.Table.{Keys, Kind, Lengths, Part, HasKind, key_json, no_bytes, truth, whole, float, raw, utf8, byte_list, list, row, inner, fields, optional, variants, entries}
+use Rattle.borsh_json.specs.Table.{Keys, Kind, Lengths, Part, HasKind, IsHex, key_json, no_bytes, truth, whole, float, raw, utf8, byte_list, list, row, inner, fields, optional, variants, entries}
 
 -- ---- tokens
 
@@ -42,11 +42,18 @@ pub record Adds (ts : List Token) (old new : Output) : Type 0 where
 
 -- ---- values
 
+-- the count of a sequence is the one that its definition allows, or a number of at most eight bytes
+abbrev pub IsCounted : Shape → Type 0
+IsCounted (primitive n) = ⊤
+IsCounted (sequence w lo hi e) = ((w ≡ 0) × (lo ≡ hi)) ⊎ ((w ≤ 8) × (hi < 256 ^ w))
+IsCounted (product ps) = ⊤
+IsCounted (choice w vs) = ⊤
+
 -- how many bytes a primitive of the kind has
 abbrev pub HasSize : Kind → ℕ → Type 0
 HasSize no_bytes n = ⊥
 HasSize truth n = n ≡ 1
-HasSize (whole m signed non_zero) n = (n ≡ m) × (m ≤ 16)
+HasSize (whole m signed non_zero) n = (n ≡ m) × (1 ≤ m) × (m ≤ 16)
 HasSize (float m infinity) n = n ≡ m
 HasSize (raw m) n = n ≡ m
 HasSize (utf8 l) n = ⊥
@@ -58,6 +65,14 @@ HasSize (fields fs) n = ⊥
 HasSize (optional x) n = ⊥
 HasSize (variants w vs) n = ⊥
 HasSize (entries l keys k v) n = ⊥
+
+-- the token was written, or an allocation failed
+abbrev pub IsPut : Token → Output → Output → Result (Unit {0}) WriteError → Type 0
+IsPut t old new result = MatchResult result (λ _. Adds (t ∷ []) old new) (λ e. e ≡ OutOfMemory)
+
+-- hexadecimal digits of these bytes were written, or an allocation failed
+abbrev pub WritesHex : List ℕ → Output → Output → Result (Unit {0}) WriteError → Type 0
+WritesHex bytes old new result = MatchResult result (λ _. (s : List ℕ) × Adds (token.string s ∷ []) old new × IsHex (string s) bytes) (λ e. e ≡ OutOfMemory)
 
 module _ (F : List ℕ → Option Form) where
   -- no JSON says a value of the name whose bytes begin so, whatever parts and bytes follow

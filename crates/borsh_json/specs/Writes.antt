@@ -1,6 +1,7 @@
 -- What was written of a value, and the JSON that may still follow: the invariant of the writer's loop.
 use Rattle.std.specs.Prelude.{◌≡◌, ◌⊎◌, ⊤, ℕ, suc, ◌+◌, ◌≤◌, List, [], ◌∷◌, ◌++◌, length, map, replicate, Bool, true, false, Option, Some, None, Result, MatchResult, MatchOption}
 use Rattle.std.specs.declared.cmp.Ordering.TheVariants.{Less}
+use Rattle.std.specs.Borrow.{Bor}
 use Rattle.json.specs.Token.{Token}
 use Rattle.json.specs.Json.{Json, null, Items, no_items, item, Members, no_members, member}
 use Rattle.json.specs.Tree.{json_tokens, items_tokens, members_tokens, depth, items_depth, members_depth, HasNumbers, ItemsHaveNumbers, MembersHaveNumbers}
@@ -192,13 +193,17 @@ module _ (F : List ℕ → Option Form) where
   RefusesValue x own (Refused refusal) = RefusesOwn x own refusal
   RefusesValue x own (Element index refusal) = RefusesOwn x own refusal
 
+  -- behind these tokens whatever may follow of a place makes JSON of x that says these own bytes
+  abbrev pub IsFront : List ℕ → List ℕ → Rest → List Token → Type 0
+  IsFront x own r front =
+      (n : ℕ) (ts : List Token) (qs ps : List Part) (bs : List ℕ) → MayFollow r n ts qs → HaveBytes F (qs ++ ps) bs
+      → (j : Json) × (json_tokens j ≡ front ++ ts) × HasNumbers j × (depth j ≤ suc n) × HaveBytes F ((x, j) ∷ ps) (own ++ bs)
+
   -- the beginning of JSON of x was written, and with what may follow of a place it says these own bytes
   pub record WritesFront (x own : List ℕ) (r : Rest) (old new : Output) : Type 0 where
     pub front : List Token
     pub adds : Adds front old new
-    pub whole :
-        (n : ℕ) (ts : List Token) (qs ps : List Part) (bs : List ℕ) → MayFollow r n ts qs → HaveBytes F (qs ++ ps) bs
-        → (j : Json) × (json_tokens j ≡ front ++ ts) × HasNumbers j × (depth j ≤ suc n) × HaveBytes F ((x, j) ∷ ps) (own ++ bs)
+    pub whole : IsFront x own r front
 
   module _ (ns : List Named) where
     -- what is left of a place
@@ -269,6 +274,39 @@ abbrev pub WritesValueOf : (List ℕ → Option Form) → List Named → ℕ →
 WritesValueOf F ns at kind n old new result =
     (x : List ℕ) (parts : List (List ℕ)) → IsAt ns at x → IsOpenedAs F x (form_of n.definition.now) n.bytes.now parts → IsKindOf F ns x (form_of n.definition.now) kind
     → WritesValue F ns (leaf_depth kind) x (form_of n.definition.now) n.bytes.now old new result
+
+-- the bracket in front of the parts of a place
+abbrev pub begins_of : Parts → List Token
+begins_of Root = []
+begins_of (Elements at n) = Token.begin_array ∷ []
+begins_of (Row at n) = Token.begin_array ∷ []
+begins_of (Object at fs) = Token.begin_object ∷ []
+begins_of (MapEntries es n) = Token.begin_object ∷ []
+begins_of (Newtype at) = []
+begins_of (Present at) = []
+begins_of (Variant v at) = Token.begin_object ∷ []
+
+-- the bracket was written, and none of the parts
+abbrev pub BeginsAt : Parts → Output → Output → Result (Option Place) WriteError → Type 0
+BeginsAt parts old new result = MatchResult result
+    (λ found. MatchOption found ⊥ (λ p. (p.parts ≡ parts) × (p.begun ≡ 0) × (p.last ≡ None) × Adds (begins_of parts) old new))
+    (λ e. e ≡ OutOfMemory)
+
+-- the parts of a value of a kind without own bytes, that has the name at the place
+abbrev pub ArePartsOf : ℕ → Found → Option Parts → Type 0
+ArePartsOf at kind None = HasNode kind ⊎ ((name : Bor (List ℕ)) × (kind ≡ Repeated name))
+ArePartsOf at kind (Some (Row i n)) = (i ≡ at) × (kind ≡ RowKind n)
+ArePartsOf at kind (Some (Newtype p)) = kind ≡ NewtypeKind p
+ArePartsOf at kind (Some (Object i fs)) = (i ≡ at) × (kind ≡ ObjectKind fs)
+ArePartsOf at kind (Some Root) = ⊥
+ArePartsOf at kind (Some (Elements i n)) = ⊥
+ArePartsOf at kind (Some (MapEntries es n)) = ⊥
+ArePartsOf at kind (Some (Present p)) = ⊥
+ArePartsOf at kind (Some (Variant v p)) = ⊥
+
+-- of the name at the place, that the code found this kind of, a value without own bytes was begun, or is refused
+abbrev pub BeginsStruct : ℕ → Found → Output → Output → Result (Option Place) WriteError → Type 0
+BeginsStruct at kind old new result = (F : List ℕ → Option Form) (ns : List Named) (x : List ℕ) (f : Form) → IsAt ns at x → F x ≡ Some f → IsKindOf F ns x f kind → WritesStruct F ns x f kind old new result
 
 -- ---- why a value has no JSON
 

@@ -3,7 +3,7 @@ ghost use Rattle.borsh_values.specs.Numbers.{value_of};
 ghost use Rattle.borsh_json.specs.Integers.{IsEncoded, integer_of, turned};
 ghost use Rattle.borsh_json.specs.Words.{InRange, rank_of};
 ghost use Rattle.std.specs.Fmt.{signed_decimal};
-ghost use Rattle.std.specs.Prelude.{◌≡◌, ◌≤◌, ℕ, Decides, length, map, pos};
+ghost use Rattle.std.specs.Prelude.{◌≡◌, ◌≤◌, ◌-◌, ℕ, Bool, Decides, length, map, pos, slice_index};
 
 use itoa::Buffer;
 
@@ -18,7 +18,8 @@ pub struct Integer {
 impl Integer {
     /// The number that at most sixteen bytes encode, the lowest first.
     pub fn decode(bytes: &[u8], is_signed: bool) -> Integer
-        ensures { length bytes.now ≤ 16 → IsEncoded (length bytes.now) is_signed (integer_of result) bytes.now }
+        ensures { length bytes.now ≤ 16 →
+            IsEncoded (length bytes.now) is_signed (integer_of result) bytes.now }
     {
         let is_negative = is_signed && has_top_bit(bytes);
         Integer {
@@ -35,10 +36,11 @@ impl Integer {
 
     /// The number in decimal, as a text in the buffer.
     pub fn decimal<'b>(&self, buffer: &'b mut Buffer) -> &'b str
-        ensures { (n : ℕ) → n ≤ 16 → InRange n self.now.is_negative (integer_of self.now) → result.now ≡ signed_decimal (integer_of self.now) }
+        ensures { (n : ℕ) (signed : Bool) → n ≤ 16 → InRange n signed (integer_of self.now) →
+            result.now ≡ signed_decimal (integer_of self.now) }
     {
         if self.is_negative {
-            buffer.format(!self.magnitude as i128)
+            buffer.format((!self.magnitude).cast_signed())
         } else {
             buffer.format(self.magnitude)
         }
@@ -46,7 +48,8 @@ impl Integer {
 
     /// A number without a sign that is greater for a greater number of the type.
     pub fn rank(&self, is_signed: bool) -> u128
-        ensures { (n : ℕ) → n ≤ 16 → InRange n is_signed (integer_of self.now) → result ≡ rank_of is_signed (integer_of self.now) }
+        ensures { (n : ℕ) → n ≤ 16 → InRange n is_signed (integer_of self.now) →
+            result ≡ rank_of is_signed (integer_of self.now) }
     {
         if self.is_negative {
             ((1 << 127) - 1u128).wrapping_sub(self.magnitude)
@@ -59,11 +62,10 @@ impl Integer {
 }
 
 /// Whether the highest bit of the last byte is set.
-fn has_top_bit(bytes: &[u8]) -> bool {
-    match bytes.last() {
-        Some(last) => *last >= 128,
-        None => false,
-    }
+fn has_top_bit(bytes: &[u8]) -> bool
+    ensures { Decides result (128 ≤ slice_index bytes.now (length bytes.now - 1)) }
+{
+    !bytes.is_empty() && bytes[bytes.len() - 1] >= 128
 }
 
 /// The number that the bytes encode, or their complements do.
@@ -74,12 +76,15 @@ fn magnitude_in(bytes: &[u8], is_negative: bool) -> u128
     let mut place = bytes.len();
     while place > 0 {
         place -= 1;
-        let byte = if is_negative {
-            255 - bytes[place]
-        } else {
-            bytes[place]
-        };
+        let byte = turned(bytes[place], is_negative);
         value = value.wrapping_mul(256).wrapping_add(u128::from(byte));
     }
     value
+}
+
+/// The byte, or its complement.
+fn turned(byte: u8, is_negative: bool) -> u8
+    ensures { result ≡ turned is_negative byte }
+{
+    if is_negative { 255 - byte } else { byte }
 }

@@ -1,7 +1,7 @@
 // What is written of a value without places of its own.
-ghost use Rattle.borsh_json.specs.Leaves.{HasSize, IsOpenedAs, IsWritten, WritesKey, WritesNode};
-ghost use Rattle.borsh_json.specs.Words.{AreKeysOf, Form, FoundBytes, FoundNumbers, FoundText, HasKind, IsEntryKey, IsKindOf, IsKnown, IsPrimitiveKind, Json, Keys, NamedPlace, SaysFirst, TableKind, form_of, forms_of, key_order, names_of, null, string, whole};
-ghost use Rattle.std.specs.Prelude.{◌≡◌, [], ℕ, List, Decides, MatchResult, Option, length};
+ghost use Rattle.borsh_json.specs.Leaves.{HasSize, IsOpenedAs, IsWritten, WritesHex, WritesKey, WritesNode};
+ghost use Rattle.borsh_json.specs.Words.{AreKeysOf, Form, FoundBytes, FoundKeyKind, FoundNumbers, FoundText, HasKind, IsEntryKey, IsInfinity, IsKindOf, IsKnown, IsPrimitiveKind, Json, Keys, NamedPlace, SaysFirst, TableKind, float, form_of, forms_of, key_order, names_of, null, string, truth, whole};
+ghost use Rattle.std.specs.Prelude.{◌≡◌, ◌≤◌, ◌∷◌, [], if◌then◌else◌, ℕ, List, Decides, MatchBool, MatchOption, Option, length};
 ghost use Rattle.std.specs.declared.cmp.Ordering.TheVariants.{Less};
 
 use crate::definitions::Definitions;
@@ -148,7 +148,7 @@ pub fn write_key<'b>(
 pub fn is_above(key: EntryKey<'_>, last: EntryKey<'_>) -> bool
     ensures { (F : List ℕ → Option Form) (ns : List NamedPlace) (k : List ℕ) (f : Form) (kind : FoundKeyKind)
         (keys : Keys) (s t : List ℕ) (i j : Json) → AreKeysOf F ns k f kind keys →
-        IsEntryKey kind last s → IsEntryKey kind key t → Decides result (key_order keys (s, i) (t, j) ≡ Less) }
+        IsEntryKey kind last.entry s → IsEntryKey kind key.entry t → Decides result (key_order keys (s, i) (t, j) ≡ Less) }
 {
     match (last, key) {
         (EntryKey::Text(last), EntryKey::Text(key)) => last < key,
@@ -171,15 +171,14 @@ fn put_primitive(
     match kind {
         Kind::Number(number) => put_number(number, own, long_numbers, out),
         Kind::Bool => put_bool(own, out),
-        Kind::Float(_) if is_nan(own) => Err(WriteError::Refused(Refusal::NotNumber)),
+        Kind::Float(_) => put_float(alloc, own, out),
         _ => put_bytes(alloc, own, out),
     }
 }
 
 fn put_number(number: Number, own: &[u8], long_numbers: LongNumbers, out: &mut Output) -> Written
-    ensures { (F : List ℕ → Option Form) (x : List ℕ) → length own.now ≡ number.size →
-        HasKind F x (whole number.size number.is_signed number.is_non_zero) →
-        IsWritten F 0 x own.now out.old out.new result }
+    ensures { (F : List ℕ → Option Form) (x : List ℕ) → let k = whole number.size number.is_signed number.is_non_zero in
+        HasKind F x k → HasSize k (length own.now) → IsWritten F 0 x own.now out.old out.new result }
 {
     let integer = Integer::decode(own, number.is_signed);
     if number.is_non_zero && integer.is_zero() {
@@ -187,25 +186,59 @@ fn put_number(number: Number, own: &[u8], long_numbers: LongNumbers, out: &mut O
     }
     let mut buffer = Buffer::new();
     let text = integer.decimal(&mut buffer);
-    let is_quoted = own.len() > 8 || own.len() == 8 && long_numbers == LongNumbers::Quoted;
-    if is_quoted {
+    if is_quoted(own.len(), long_numbers) {
         Ok(out.put(Token::String(text))?)
     } else {
         Ok(out.put(Token::Number(text))?)
     }
 }
 
-fn put_bool(own: &[u8], out: &mut Output) -> Written {
-    match own {
-        [0] => Ok(out.put(Token::Bool(false))?),
-        [1] => Ok(out.put(Token::Bool(true))?),
-        _ => Err(WriteError::Refused(Refusal::NotBool)),
+/// Whether a number of so many bytes is written as a string.
+fn is_quoted(size: usize, long_numbers: LongNumbers) -> bool
+    ensures { MatchBool result (8 ≤ size) (size ≤ 8) }
+{
+    size > 8 || size == 8 && long_numbers == LongNumbers::Quoted
+}
+
+fn put_bool(own: &[u8], out: &mut Output) -> Written
+    ensures { (F : List ℕ → Option Form) (x : List ℕ) → HasKind F x truth → length own.now ≡ 1 →
+        IsWritten F 0 x own.now out.old out.new result }
+{
+    match bool_of(own) {
+        Some(value) => Ok(out.put(Token::Bool(value))?),
+        None => Err(WriteError::Refused(Refusal::NotBool)),
     }
 }
 
+/// The `bool` of a byte.
+fn bool_of(own: &[u8]) -> Option<bool>
+    ensures { MatchOption result ((own.now ≡ 0 ∷ [] → ⊥) × (own.now ≡ 1 ∷ [] → ⊥)) (λ b. own.now ≡ (if b then 1 else 0) ∷ []) }
+{
+    match own {
+        [0] => Some(false),
+        [1] => Some(true),
+        _ => None,
+    }
+}
+
+/// Writes a float, as its bytes.
+fn put_float(alloc: Global, own: &[u8], out: &mut Output) -> Written
+    ensures { (F : List ℕ → Option Form) (x : List ℕ) (n bits : ℕ) → IsInfinity n bits → HasKind F x (float n bits) →
+        length own.now ≡ n → IsWritten F 0 x own.now out.old out.new result }
+{
+    if is_nan(own) {
+        return Err(WriteError::Refused(Refusal::NotNumber));
+    }
+    put_bytes(alloc, own, out)
+}
+
 /// Writes `0x` and two hexadecimal digits for each byte.
-fn put_bytes(alloc: Global, own: &[u8], out: &mut Output) -> Written {
+fn put_bytes(alloc: Global, own: &[u8], out: &mut Output) -> Written
+    ensures { WritesHex own.now out.old out.new result }
+{
     let digits = hex::encode(alloc, own)?;
-    let text = format!(in alloc; "0x{digits}")?;
+    let mut text = String::with_capacity(alloc, digits.len().saturating_add(2))?;
+    text.push_str("0x")?;
+    text.push_str(digits.as_str())?;
     Ok(out.put(Token::String(text.as_str()))?)
 }

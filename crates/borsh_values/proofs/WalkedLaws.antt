@@ -4,11 +4,13 @@ use Rattle.std.specs.Prelude.{Option, ℤ, pos, slice_get}
 use Rattle.std.proofs.Math.Seq.{take-append_seam, drop-append_seam}
 use Rattle.borsh_walks.specs.Container.{Shape, sequence, product, choice, tag, low_bytes, Member, Members, IsZeroSize}
 use Rattle.borsh_walks.proofs.Laws.{length-tag, zero_member}
+use Rattle.borsh_values.specs.declared.frames.Opened.{Opened}
+use Rattle.borsh_values.specs.declared.frames.Opened.TheVariants.{Undecided, Refused, Taken}
 use Rattle.borsh_values.specs.Nodes.{packed_size, Opens, OpensElements, IsCountOf, IsVariantOf, Reads, reads_none}
 use Rattle.borsh_values.specs.Numbers.{value_of}
 use Rattle.borsh_values.specs.Steps.{OpensOnce}
 use Rattle.borsh_values.specs.Tags.{IsVariantIndex}
-use Rattle.borsh_values.specs.Walks.{IsReadTo, IsCounted}
+use Rattle.borsh_values.specs.Walks.{IsReadTo, IsCounted, CountsIfTaken}
 use Rattle.borsh_values.proofs.FoundLaws.{listed_at}
 use Rattle.borsh_values.proofs.FrontLaws.{member_opens}
 use Rattle.borsh_values.proofs.KeyLaws.{value_low}
@@ -23,6 +25,11 @@ first_of w xs ys own e l = (
   ap (λ b. take w b) e ∙ ap (λ i. take i (xs ++ ys)) (sym l) ∙ take-append_seam xs ys,
   ap (λ b. drop w b) e ∙ ap (λ i. drop i (xs ++ ys)) (sym l) ∙ drop-append_seam xs ys,
 )
+
+pub counts_if : (d : Shape) → IsCounted d → (o : Opened) → CountsIfTaken d o
+counts_if d c Undecided = tt
+counts_if d c (Refused r) = tt
+counts_if d c (Taken n r) = c
 
 module _ (C : List ℕ → Option Shape) where
   -- at the beginning
