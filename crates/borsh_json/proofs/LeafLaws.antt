@@ -111,7 +111,7 @@ number_sized : (ts : List (List ℕ × ℕ × Bool × Bool)) (x : List ℕ) (n :
 number_sized [] x n h = refl
 number_sized (t ∷ ts) x n h = sized_if (bytes_eq x t.0 && (t.1 == n)) (whole t.1 t.2 t.3) (number_kind ts x n) n (λ e. (same_size (bytes_eq x t.0) t.1 n e, h.0.0, h.0.1)) (number_sized ts x n h.1)
 
-primitive_sized : (x : List ℕ) (n : ℕ) → HasSize (primitive_kind x n) n
+pub primitive_sized : (x : List ℕ) (n : ℕ) → HasSize (primitive_kind x n) n
 primitive_sized x n =
     let others = number_sized number_types x n (omega arith) in
     let doubles = sized_if (bytes_eq x (codes "f64") && (n == 8)) (float 8 0x7ff0000000000000) (number_kind number_types x n) n (λ e. sym (same_size (bytes_eq x (codes "f64")) n 8 e)) others in
@@ -135,10 +135,10 @@ module _ (F : List ℕ → Option Form) (x own : List ℕ) (old new : Output) wh
   pub put_digits : (s : List ℕ) → Adds (token.number s ∷ []) old new → IsNumberText s → SaysFirst F x (number s) own [] → WritesLeaf F 0 x own old new
   put_digits s a h says = wrote 0 (number s) a h (omega arith) says
 
-  -- bytes in hexadecimal
-  pub put_hex : (r : Result Unit WriteError) → WritesHex own old new r → ((j : Json) → IsHex j own → SaysFirst F x j own []) → IsWritten F 0 x own old new r
-  put_hex (Ok u) w f = put_string w.0 w.1 (f (string w.0) w.2)
-  put_hex (Err e) w f = subst (λ (e : WriteError). RefusesLeaf F x own e) (sym w) tt
+-- bytes in hexadecimal
+pub put_hex : (F : List ℕ → Option Form) (x own bytes : List ℕ) (old new : Output) (r : Result Unit WriteError) → WritesHex bytes old new r → ((j : Json) → IsHex j bytes → SaysFirst F x j own []) → IsWritten F 0 x own old new r
+put_hex F x own bytes old new (Ok u) w f = put_string F x own old new w.0 w.1 (f (string w.0) w.2)
+put_hex F x own bytes old new (Err e) w f = subst (λ (e : WriteError). RefusesLeaf F x own e) (sym w) tt
 
 -- ---- what no JSON says
 module _ (F : List ℕ → Option Form) (x own : List ℕ) (kind : Kind) (h : HasKind F x kind) where
@@ -174,7 +174,7 @@ module _ (F : List ℕ → Option Form) (x own : List ℕ) where
 
 -- other bytes
 pub raw_hex : (F : List ℕ → Option Form) (x own : List ℕ) (old new : Output) (n : ℕ) (k : Kind) (r : Result Unit WriteError) → k ≡ raw n → HasKind F x k → HasSize k (length own) → WritesHex own old new r → IsWritten F 0 x own old new r
-raw_hex F x own old new n k r e h l w = put_hex F x own old new r w (λ j i. (raw n, subst (λ k. HasKind F x k) e h, (i, subst (λ k. HasSize k (length own)) e l, refl)))
+raw_hex F x own old new n k r e h l w = put_hex F x own own old new r w (λ j i. (raw n, subst (λ k. HasKind F x k) e h, (i, subst (λ k. HasSize k (length own)) e l, refl)))
 
 -- a number that was decoded
 module _ (F : List ℕ → Option Form) (x own : List ℕ) (old new : Output) (n : ℕ) (signed non_zero : Bool) (z : ℤ) (h : HasKind F x (whole n signed non_zero)) (l : HasSize (whole n signed non_zero) (length own)) (e : length own ≤ 16 → IsEncoded (length own) signed z own) where

@@ -104,11 +104,24 @@ module _ (F : List ℕ → Option Form) where
   IsLeafRefusal (RepeatedKey name) x own = ⊥
   IsLeafRefusal (Undefined name) x own = ⊥
 
-  -- so is that of an element of a list, and no JSON says the list
+  -- so is that of an element of a value of the name, and no JSON says the value
+  abbrev pub IsElementRefusal : Refusal → List ℕ → List ℕ → Type 0
+  IsElementRefusal refusal x own = (e : List ℕ) × (piece : List ℕ) × IsLeafRefusal refusal e piece × IsNoJson x own
+
+  -- the error is right
   abbrev pub RefusesLeaf : List ℕ → List ℕ → WriteError → Type 0
   RefusesLeaf x own OutOfMemory = ⊤
   RefusesLeaf x own (Refused refusal) = IsLeafRefusal refusal x own
-  RefusesLeaf x own (Element index refusal) = ((e : List ℕ) × (piece : List ℕ) × IsLeafRefusal refusal e piece) × IsNoJson x own
+  RefusesLeaf x own (Element index refusal) = IsElementRefusal refusal x own
+
+  -- the same of an element, whose index the error has
+  abbrev pub RefusesElement : List ℕ → List ℕ → WriteError → Type 0
+  RefusesElement x own OutOfMemory = ⊤
+  RefusesElement x own (Refused refusal) = ⊥
+  RefusesElement x own (Element index refusal) = IsElementRefusal refusal x own
+
+  abbrev pub IsElementWritten : List ℕ → List ℕ → Output → Output → Result (Unit {0}) WriteError → Type 0
+  IsElementWritten e own old new result = MatchResult result (λ _. WritesLeaf 0 e own old new) (λ error. RefusesElement e own error)
 
   -- JSON of the name was written that says these bytes, or none can be
   abbrev pub IsWritten : ℕ → List ℕ → List ℕ → Output → Output → Result (Unit {0}) WriteError → Type 0

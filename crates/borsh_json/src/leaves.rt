@@ -1,5 +1,5 @@
 // What is written of a value without places of its own.
-ghost use Rattle.borsh_json.specs.Leaves.{HasSize, IsOpenedAs, IsWritten, WritesHex, WritesKey, WritesNode};
+ghost use Rattle.borsh_json.specs.Leaves.{HasSize, IsElementWritten, IsOpenedAs, IsWritten, RefusesElement, RefusesLeaf, WritesHex, WritesKey, WritesNode};
 ghost use Rattle.borsh_json.specs.Words.{AreKeysOf, Form, FoundBytes, FoundKeyKind, FoundNumbers, FoundText, HasKind, IsEntryKey, IsInfinity, IsKindOf, IsKnown, IsPrimitiveKind, Json, Keys, NamedPlace, SaysFirst, TableKind, float, form_of, forms_of, key_order, names_of, null, string, truth, whole};
 ghost use Rattle.std.specs.Prelude.{◌≡◌, ◌≤◌, ◌∷◌, [], if◌then◌else◌, ℕ, List, Decides, MatchBool, MatchOption, Option, length};
 ghost use Rattle.std.specs.declared.cmp.Ordering.TheVariants.{Less};
@@ -90,13 +90,15 @@ pub fn write_numbers(
     let kind = kind_of_primitive(definitions.name(elements.at), elements.size);
     let size = usize::from(elements.size);
     let mut rest = elements_of(node);
-    let mut index = 0;
+    let mut index: usize = 0;
     out.put(Token::BeginArray)?;
-    while !rest.is_empty() {
+    'elements: while !rest.is_empty() {
         let (element, after) = rest.split_at(size.clamp(1, rest.len()));
-        put_element(definitions.alloc, kind, index, element, long_numbers, out)?;
-        rest = after;
-        index += 1;
+        match put_element(definitions.alloc, kind, index, element, long_numbers, out) {
+            Ok(()) => rest = after,
+            Err(error) => return Err(error),
+        }
+        index = index.saturating_add(1);
     }
     Ok(out.put(Token::EndArray)?)
 }
@@ -109,10 +111,24 @@ fn put_element(
     own: &[u8],
     long_numbers: LongNumbers,
     out: &mut Output,
-) -> Written {
+) -> Written
+    ensures { (F : List ℕ → Option Form) (e : List ℕ) (k : TableKind) → IsPrimitiveKind kind.entry k →
+        HasKind F e k → HasSize k (length own.now) → IsElementWritten F e own.now out.old out.new result }
+{
     match put_primitive(alloc, kind, own, long_numbers, out) {
-        Err(WriteError::Refused(refusal)) => Err(WriteError::Element(index, refusal)),
-        other => other,
+        Ok(()) => Ok(()),
+        Err(error) => Err(of_element(error, index)),
+    }
+}
+
+/// The error, as that of the element of an index.
+fn of_element(error: WriteError, index: usize) -> WriteError
+    ensures { (F : List ℕ → Option Form) (e own : List ℕ) → RefusesLeaf F e own error → RefusesElement F e own result }
+{
+    match error {
+        WriteError::OutOfMemory => WriteError::OutOfMemory,
+        WriteError::Refused(refusal) => WriteError::Element(index, refusal),
+        WriteError::Element(index, refusal) => WriteError::Element(index, refusal),
     }
 }
 
@@ -122,7 +138,7 @@ pub fn write_key<'b>(
     node: &Node<'_, 'b>,
     out: &mut Output,
 ) -> Result<EntryKey<'b>, WriteError>
-    ensures { WritesKey kind.entry node.now.definition.now node.now.bytes.now out.old out.new result }
+    ensures { WritesKey kind node.now.definition.now node.now.bytes.now out.old out.new result }
 {
     match kind {
         KeyKind::Text => match str::from_utf8(elements_of(node)) {
