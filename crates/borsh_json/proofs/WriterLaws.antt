@@ -1,6 +1,6 @@
 -- What the writer's calls give.
 use Rattle.std.proofs.Common.{◌≡◌, inl, inr, ℕ, suc, zero, ◌+◌, ◌-◌, ◌<◌, ◌≤◌, List, [], ◌∷◌, ◌++◌, length, map, replicate, Option, Some, None, refl, sym, ◌∙◌, ap, subst, arith, append_assoc, append-nil}
-use Rattle.std.specs.Prelude.{ℤ, String, option_map, MatchOption, Result, Ok, Err, IfErr, Bool, true, Decides}
+use Rattle.std.specs.Prelude.{ℤ, String, option_map, MatchOption, Result, Ok, Err, IfErr, Bool, true, false, Decides}
 use Rattle.std.specs.declared.cmp.Ordering.TheVariants.{Less}
 use Rattle.std.specs.BTreeMap.{BTreeMap}
 use Rattle.std.specs.Borrow.{Bor}
@@ -42,18 +42,18 @@ use Rattle.borsh_json.specs.declared.writing.Writing.{Writing}
 use Rattle.borsh_json.specs.Errors.{error_of}
 use Rattle.borsh_json.specs.Forms.{Form, form_of, forms_in, shape_of_form, shapes, HasNoBytes}
 use Rattle.borsh_json.specs.Found.{forms_of, names_of}
-use Rattle.borsh_json.specs.Frames.{Wanted, IsWanted, IsKey, IsEntryKey, IsOf}
+use Rattle.borsh_json.specs.Frames.{Wanted, IsWanted, GivesPart, IsKey, IsEntryKey, IsOf}
 use Rattle.borsh_json.specs.Leaves.{output_before, output_tokens, Adds, IsNoJson, IsOpenedAs, WritesLeaf, IsLeafRefusal, RefusesLeaf}
 use Rattle.borsh_json.specs.Places.{IsAt, AreKeysOf, lengths_of}
 use Rattle.borsh_json.specs.Reads.{SaysFirst}
 use Rattle.borsh_json.specs.Represents.{next_part}
 use Rattle.borsh_json.specs.Table.{Keys, no_bytes, utf8, HasKind, key_order, key_json}
 use Rattle.borsh_values.proofs.WalkedLaws.{read_product}
-use Rattle.borsh_json.specs.Writes.{IsAbove, IsLast, IsBegunOf, Rest, IsRest, WritesFront, names_of_rest, names_of_all, leaf_depth, IsBelow, IsHalved, AreRests, IsWriting, IsAwaiting, RefusesOwn, RefusesValue, IsWrittenAs, HasNoJsonPart, RefusesBytes, Stops, IsWriterOf, IsWritingAt, IsAwaitingAt, IsFull, IsFullOrDescends, IsOfWrite}
+use Rattle.borsh_json.specs.Writes.{IsAbove, IsLast, IsBegunOf, IsWhole, IsWrittenOn, ends_of, Rest, IsRest, WritesFront, names_of_rest, names_of_all, leaf_depth, IsBelow, IsHalved, AreRests, IsWriting, IsAwaiting, RefusesOwn, RefusesValue, IsWrittenAs, HasNoJsonPart, RefusesBytes, Stops, IsWriterOf, IsWritingAt, IsAwaitingAt, IsFull, IsFullOrDescends, IsOfWrite}
 use Rattle.borsh_json.proofs.FormsLaws.{shape_is, shapes_are}
-use Rattle.borsh_json.proofs.WritingPlaces.{as_many, key_tokens, TakesPart, TakesEntry, takes_part, takes_entry}
+use Rattle.borsh_json.proofs.WritingPlaces.{as_many, key_tokens, TakesPart, TakesEntry, takes_part, takes_entry, place_ends}
 use Rattle.borsh_json.proofs.FormKinds.{form_known}
-use Rattle.borsh_json.proofs.WritingSteps.{only_in, not_in, halved_on, leaf_writes, front_writes, awaits, entry_halved, awaits_entry}
+use Rattle.borsh_json.proofs.WritingSteps.{only_in, not_in, halved_on, leaf_writes, front_writes, awaits, entry_halved, awaits_entry, end_writes, end_whole}
 
 -- ---- the parts of a definition are its references
 in_copies : (n : ℕ) (e y : List ℕ) → IsIn y (replicate n e) → e ≡ y
@@ -422,3 +422,36 @@ module _ (d : Definitions) (w new : Writing) (p : Place) (part : FoundPart) (es 
         let root = d.layout.now.root.now in
         let node = node_is d w new.walk es.key t.key a.writer.layout t.key_named found n is g in
         stops_value F root w.bytes.now t.key n.bytes.now e pe i (no_json_part F root w.bytes.now t.key a.state.done n.bytes.now new.walk.left.now w.walk.left.now (t.value ∷ (replicate t.count t.pair ++ names_of_all a.state.around)) node.bytes entry_next) (leaf_refused F e t.key n.bytes.now r)
+
+-- ---- the parts of a place have ended
+pub place_ended : (d : Definitions) (w new : Writing) (p : Place) → IsWritingAt d w p → ((ws : List Wanted) → IsWanted (forms_of d) (names_of d) p.parts p.begun ws → ws ≡ []) → Adds (ends_of p.parts) w.out new.out → new.walk ≡ w.walk → new.bytes ≡ w.bytes
+    → (b : Bool) → (b ≡ true → w.position.outer.items ≡ new.position.outer.items ++ new.position.place ∷ []) → (b ≡ false → w.position.outer.items ≡ []) → IsWrittenOn d new b
+place_ended d w new p a g t walk bytes true left all =
+    let F = forms_of d in
+    let ns = names_of d in
+    let root = d.layout.now.root.now in
+    let s = a.state in
+    let e = place_ends F ns p.parts p.begun (128 - length s.around) p.last s.inner s.here g in
+    let r = end_writes F ns root w.bytes.now p w.position.outer.items w.walk.left.now (output_tokens w.out) (output_tokens new.out) (ends_of p.parts) s e.0 e.1 t.tokens new.position.place new.position.outer.items (left refl) in
+    record {
+      writer = record { layout = subst (λ (k : Walker). k.layout.now ≡ d.layout.now) (sym walk) a.writer.layout; walk = subst (λ (k : Walker). IsWalker k) (sym walk) a.writer.walk; fresh = t.before ∙ a.writer.fresh };
+      state =
+          subst (λ (b : Bor (List ℕ)). IsWriting F ns root b.now new.position.place new.position.outer.items new.walk.left.now (output_tokens new.out)) (sym bytes)
+          (subst (λ (k : Walker). IsWriting F ns root w.bytes.now new.position.place new.position.outer.items k.left.now (output_tokens new.out)) (sym walk) r);
+    }
+place_ended d w new p a g t walk bytes false left all =
+    let F = forms_of d in
+    let ns = names_of d in
+    let root = d.layout.now.root.now in
+    let s = a.state in
+    let e = place_ends F ns p.parts p.begun (128 - length s.around) p.last s.inner s.here g in
+    let r = end_whole F ns root w.bytes.now p w.position.outer.items w.walk.left.now (output_tokens w.out) (output_tokens new.out) (ends_of p.parts) s e.0 e.1 t.tokens (all refl) in
+    record {
+      fresh = t.before ∙ a.writer.fresh;
+      whole = subst (λ (b : Bor (List ℕ)). IsWhole F root (output_tokens new.out) b.now) (sym bytes) r;
+    }
+
+-- the order of a place was looked at
+pub begun_still : (d : Definitions) (p q r : Place) (part : FoundPart) → GivesPart d p.parts p.begun q.parts q.begun (Some part) → q.parts ≡ p.parts → q.last ≡ p.last → r.parts ≡ q.parts → r.begun ≡ q.begun → r.last ≡ q.last → IsBegunOf d p r part
+begun_still d p q r part g e f a b l =
+    (subst (λ (k : Parts). GivesPart d p.parts p.begun k r.begun (Some part)) (sym a) (subst (λ (n : ℕ). GivesPart d p.parts p.begun q.parts n (Some part)) (sym b) g), a ∙ e, l ∙ f)

@@ -4,6 +4,7 @@ use Rattle.borsh_values.specs.Walks.{FindsAt}
 use Rattle.borsh_json.specs.declared.error.JsonError.{JsonError}
 use Rattle.borsh_json.specs.declared.sources.EntryKey.{EntryKey}
 use Rattle.borsh_json.specs.declared.writing.Writing.{Writing}
+use Rattle.borsh_json.specs.Forms.{form_of}
 use Rattle.borsh_json.specs.Found.{forms_of, names_of}
 use Rattle.borsh_json.specs.Writes.{names_of_all, IsLast, Stops}
 use Rattle.borsh_json.proofs.WriterLaws.{undecided, entry_of, entry_next, entry_opened, entry_keys, entry_awaits, entry_stops, node_is}
@@ -34,7 +35,7 @@ returns-else-not-is_next-clause-key c k p part a e b =
     let ks = entry_keys d w new p part es a b.1 t o n c.in-Some.is f in
     let u = c.in-Ok.ensures (forms_of d) (names_of d) t.key t.keys h.parts op ks in
     let v = u.1 in
-    let above = c.is_next.ensures (forms_of d) (names_of d) t.key _ es.key_kind t.keys t.before v.0 ks (subst (λ (l : Option EntryKey). IsLast es.key_kind l t.before) (sym b.2) t.is_last) v.1 c.if-not-is_next.false in
+    let above = c.is_next.ensures (forms_of d) (names_of d) t.key (form_of n.definition.now) es.key_kind t.keys t.before v.0 ks (subst (λ (l : Option EntryKey). IsLast es.key_kind l t.before) (sym b.2) t.is_last) v.1 c.if-not-is_next.false in
     entry_awaits d w new p part es a b.1 t o n c.in-Some.is f c.in-Ok.key h.parts v.0 (ap (λ l. l.now) c.in_ok-node.ensures.layout ∙ a.writer.layout) c.in_ok-node.ensures.walk refl refl refl op.1 u.0 v.1 v.2 v.3 above
 
 pub returns-in-Err-clause-key : goal.returns-in-Err-clause-key
