@@ -442,12 +442,10 @@ fn open_items<'a, 't, 's>(
 {
     match array_of(element) {
         Array::Of(items, count) => match put_length(alloc, definition, count, out) {
-            Ok(()) => {
-                let parts = Parts::List(elements.at, count as u64);
-                let place = Place::in_order(parts, elements.order);
-                let source = Source::Items(items);
-                Ok(Some(Frame { place, source }))
-            }
+            Ok(()) => Ok(Some(Frame {
+                place: Place::in_order(Parts::List(elements.at, count as u64), elements.order),
+                source: Source::Items(items),
+            })),
             Err(error) => Err(error),
         },
         Array::No => Err(expected(alloc, "an array")),
@@ -467,9 +465,10 @@ fn open_row<'a, 't, 's>(
     match array_of(element) {
         Array::Of(items, found) => {
             if found == count {
-                let place = Place::new(Parts::Row(at, count));
-                let source = Source::Items(items);
-                Ok(Some(Frame { place, source }))
+                Ok(Some(Frame {
+                    place: Place::new(Parts::Row(at, count)),
+                    source: Source::Items(items),
+                }))
             } else {
                 Err(wrong_row(alloc, count))
             }
