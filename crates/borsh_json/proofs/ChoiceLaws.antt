@@ -1,5 +1,5 @@
 -- Options and variants of which the beginning was written.
-use Rattle.std.proofs.Common.{◌≡◌, ◌⊎◌, inl, inr, ℕ, suc, zero, List, [], ◌∷◌, length, map, Option, Some, None, refl, sym, ◌∙◌, ap, subst, arith, string_bytes}
+use Rattle.std.proofs.Common.{◌≡◌, ◌⊎◌, inl, inr, ℕ, suc, zero, ◌<◌, ◌≤◌, List, [], ◌∷◌, length, map, get_or, Option, Some, None, refl, sym, ◌∙◌, ap, subst, arith, string_bytes}
 use Rattle.std.specs.Prelude.{ℤ, pos, Result, slice_get, String, Vec, codes}
 use Rattle.std.specs.Borrow.{Bor}
 use Rattle.std.specs.Global.{Global}
@@ -7,7 +7,7 @@ use Rattle.std.specs.List.{IsDistinct}
 use Rattle.std.specs.Option.{unwrap_or}
 use Rattle.std.specs.Str.{bytes_eq}
 use Rattle.json.specs.Json.{null, string}
-use Rattle.borsh_walks.specs.Container.{Shape, choice as choice_shape, tag, IsIn, first, later}
+use Rattle.borsh_walks.specs.Container.{Shape, choice as choice_shape, tag, references, IsIn, first, later}
 use Rattle.borsh_values.specs.Nodes.{Opens, IsVariantOf}
 use Rattle.borsh_values.specs.declared.layout.Named.{Named}
 use Rattle.borsh_values.proofs.WalkedLaws.{read_variant}
@@ -24,10 +24,10 @@ use Rattle.borsh_json.specs.Table.{HasKind, optional, variants, IsVariant}
 use Rattle.borsh_json.specs.Writes.{members_rest, value_rest, BeginsAt, IsWrittenAs, WritesValue}
 use Rattle.borsh_json.proofs.BegunLaws.{value_begun}
 use Rattle.borsh_json.proofs.FormKinds.{form_known}
-use Rattle.borsh_json.proofs.FrameLaws.{get_map}
+use Rattle.borsh_json.proofs.FrameLaws.{get_from, get_map}
 use Rattle.borsh_json.proofs.FrontLaws.{some_front, variant_front}
 use Rattle.borsh_json.proofs.OpeningLaws.{variant_here}
-use Rattle.borsh_json.proofs.PartsLaws.{third_names}
+use Rattle.borsh_json.proofs.PartsLaws.{third_names, variant_part}
 
 -- the only name
 one_in : (F : List ℕ → Option Form) (x : List ℕ) → HasNoBytes F x → (y : List ℕ) → IsIn y (x ∷ []) → HasNoBytes F y
@@ -39,6 +39,12 @@ got f [] zero b e = cc
 got f [] (suc i) b e = cc
 got f (x ∷ xs) zero b e = (x, refl, cc)
 got f (x ∷ xs) (suc i) b e = got f xs i b e
+
+inside : {A : Type 0} (xs : List A) (i : ℕ) (a : A) → slice_get xs i ≡ Some a → i < length xs
+inside [] zero a e = cc
+inside [] (suc i) a e = cc
+inside (x ∷ xs) zero a e = omega arith
+inside (x ∷ xs) (suc i) a e = omega (arith, inside xs i a e)
 
 module _ (F : List ℕ → Option Form) (ns : List Named) (x : List ℕ) (f : Form) (own : List ℕ) (parts : List (List ℕ)) (o : IsOpenedAs F x f own parts) where
   -- ---- options
@@ -117,18 +123,30 @@ module _ (F : List ℕ → Option Form) (ns : List Named) (x : List ℕ) (f : Fo
       at_index : slice_get vs.now.items index ≡ Some chosen.1
       at_index = ap (λ i. slice_get vs.now.items i) (e ∙ ap (λ o. unwrap_or o most) chosen.2) ∙ chosen.3
 
-      pub there : slice_get vs.now.items index ≡ None → ⊥
-      there n = (let a = at_index in cc)
+      pub there : (all : List (ℤ × String Global × String Global)) → all ≡ vs.now.items → length all ≤ index → ⊥
+      there all a n =
+          let l = ap (λ l. length l) a in
+          let h = inside vs.now.items index chosen.1 at_index in
+          omega (arith, h, n, l)
 
-      pub is_chosen : (u : ℤ × String Global × String Global) → slice_get vs.now.items index ≡ Some u → IsChosen u
-      is_chosen u h = (let q : Some chosen.1 ≡ Some u = sym at_index ∙ h in let s : chosen.1 ≡ u = cc in subst (λ (u : ℤ × String Global × String Global). IsChosen u) s chosen.4)
+      module _ (u : ℤ × String Global × String Global) (all : List (ℤ × String Global × String Global)) (a : all ≡ vs.now.items) (h : index < length all) (q : u ≡ get_or all index u) where
+        found_at : slice_get vs.now.items index ≡ Some u
+        found_at = ap (λ l. slice_get l index) (sym a) ∙ get_from all index u h q
+
+        pub is_chosen : IsChosen u
+        is_chosen = (let q : Some chosen.1 ≡ Some u = sym at_index ∙ found_at in let s : chosen.1 ≡ u = cc in subst (λ (u : ℤ × String Global × String Global). IsChosen u) s chosen.4)
+
+        pub its_part : slice_get (references (shape_of_form f)) index ≡ Some (string_bytes u.2)
+        its_part =
+            let here = get_map (λ (v : ℤ × String Global × String Global). (v.0, string_bytes v.1, string_bytes v.2)) vs.now.items index u found_at in
+            ap (λ g. slice_get (references (shape_of_form g)) index) (form_known F (variants w listed) f k.0 o.0 (λ e. cc)) ∙ variant_part listed index u.0 (string_bytes u.1) (string_bytes u.2) here
 
     distinct : IsDistinct bytes_eq (map (λ (v : ℤ × List ℕ × List ℕ). v.1) listed)
     distinct = subst (λ (l : List (List ℕ)). IsDistinct bytes_eq l) (sym (third_names (λ (v : ℤ × String Global × String Global). v.0) (λ v. string_bytes v.1) (λ v. string_bytes v.2) vs.now.items)) k.1
 
     module _ (u : ℤ × String Global × String Global) (c : IsChosen u) where
-      pub name_said : HasNoBytes F (string_bytes u.2) → SaysFirst F x (string (string_bytes u.1)) own []
-      name_said z = (variants w listed, k.0, (distinct, u.0, string_bytes u.1, string_bytes u.2, c.2, c.0, inl (refl, z, refl)))
+      pub name_said : (name : List ℕ) → name ≡ string_bytes u.1 → HasNoBytes F (string_bytes u.2) → SaysFirst F x (string name) own []
+      name_said name n z = (variants w listed, k.0, (distinct, u.0, string_bytes u.1, string_bytes u.2, c.2, c.0, inl (ap string n, z, refl)))
 
       pub name_written : (old new : Output) → HasNoBytes F (string_bytes u.2) → WritesLeaf F 0 x own old new → IsWrittenAs F ns 0 x f own old new None
       name_written old new z l = (l, string_bytes u.2 ∷ [], c.1, one_in F (string_bytes u.2) z)
