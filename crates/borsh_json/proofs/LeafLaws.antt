@@ -1,6 +1,6 @@
 -- Values that are written whole: primitives, texts and lists of primitives.
-use Rattle.std.proofs.Common.{◌≡◌, ◌⊎◌, inl, inr, ℕ, suc, zero, ◌+◌, ◌-◌, ◌*◌, ◌/◌, ◌%◌, ◌^◌, ◌<◌, ◌≤◌, List, [], ◌∷◌, ◌++◌, length, map, Bool, true, false, eqb, Option, Some, refl, sym, ◌∙◌, ap, subst, arith, append_assoc, append-nil, pow-suc, length-append}
-use Rattle.std.specs.Prelude.{⊤, ℤ, pos, negsuc, ◌&&◌, ◌==◌, if◌then◌else◌, codes, Result, Ok, Err, MatchResult, All}
+use Rattle.std.proofs.Common.{◌≡◌, inl, inr, ℕ, suc, zero, ◌+◌, ◌-◌, ◌/◌, ◌^◌, ◌<◌, ◌≤◌, List, [], ◌∷◌, ◌++◌, length, map, Bool, true, false, Option, Some, refl, sym, ◌∙◌, ap, subst, arith, pow-suc}
+use Rattle.std.specs.Prelude.{⊤, ℤ, pos, negsuc, ◌&&◌, ◌==◌, if◌then◌else◌, codes, Result, Ok, Err}
 use Rattle.std.specs.Fmt.{signed_decimal}
 use Rattle.std.specs.List.{AllByRecursion}
 use Rattle.std.specs.Str.{bytes_eq}
@@ -17,7 +17,6 @@ use Rattle.borsh_values.specs.Nodes.{Opens}
 use Rattle.borsh_values.specs.Numbers.{value_of}
 use Rattle.borsh_values.specs.declared.layout.Named.{Named}
 use Rattle.borsh_json.specs.declared.error.WriteError.{WriteError}
-use Rattle.borsh_json.specs.declared.error.WriteError.TheVariants.{OutOfMemory}
 use Rattle.borsh_json.specs.declared.kinds.Kind.{Kind as Found}
 use Rattle.borsh_json.specs.declared.kinds.Kind.TheVariants.{Number, Bool as Truth, Text, Bytes, Float, ByteList, Numbers, List as ElementList, Map as Entries, Row, Newtype, Object, Optional, Choice, Repeated}
 use Rattle.borsh_json.specs.declared.numbers.Number.{Number as NumberOf}
@@ -25,11 +24,11 @@ use Rattle.borsh_json.specs.declared.output.Output.{Output}
 use Rattle.borsh_json.specs.Forms.{Form, primitive, sequence, tuple, newtype, unnamed, named, choice, shape_of_form, shapes}
 use Rattle.borsh_json.specs.Found.{IsPrimitiveKind}
 use Rattle.borsh_json.specs.Integers.{IsEncoded}
-use Rattle.borsh_json.specs.Leaves.{Adds, HasSize, IsNoJson, IsPut, IsOpenedAs, IsWritten, RefusesLeaf, WritesHex, WritesLeaf}
+use Rattle.borsh_json.specs.Leaves.{Adds, HasSize, IsNoJson, IsOpenedAs, IsWritten, RefusesLeaf, WritesHex, WritesLeaf}
 use Rattle.borsh_json.specs.Places.{IsInfinity, IsKindOf}
 use Rattle.borsh_json.specs.Reads.{SaysFirst}
 use Rattle.borsh_json.specs.Represents.{HaveBytes, next_part}
-use Rattle.borsh_json.specs.Table.{Kind, no_bytes, truth, whole, float, raw, utf8, byte_list, list, row, inner, fields, optional, variants, entries, a_text, some_bytes, an_object, some_elements, nullable, by_name, number_types, number_kind, primitive_kind, DefinedKind, HasKind, InRange, IsHex, IsNoNan, IsNumber, IsWhole, Part, Says}
+use Rattle.borsh_json.specs.Table.{Kind, no_bytes, truth, whole, float, raw, utf8, byte_list, list, row, inner, fields, optional, variants, entries, a_text, some_bytes, an_object, some_elements, nullable, by_name, number_types, number_kind, primitive_kind, DefinedKind, HasKind, InRange, IsHex, IsNoNan, IsNumber, Part, Says}
 use Rattle.borsh_json.proofs.ReaderLaws.{uncons}
 use Rattle.borsh_json.proofs.RepresentsLaws.{kind_one}
 
@@ -111,7 +110,7 @@ number_sized : (ts : List (List ℕ × ℕ × Bool × Bool)) (x : List ℕ) (n :
 number_sized [] x n h = refl
 number_sized (t ∷ ts) x n h = sized_if (bytes_eq x t.0 && (t.1 == n)) (whole t.1 t.2 t.3) (number_kind ts x n) n (λ e. (same_size (bytes_eq x t.0) t.1 n e, h.0.0, h.0.1)) (number_sized ts x n h.1)
 
-primitive_sized : (x : List ℕ) (n : ℕ) → HasSize (primitive_kind x n) n
+pub primitive_sized : (x : List ℕ) (n : ℕ) → HasSize (primitive_kind x n) n
 primitive_sized x n =
     let others = number_sized number_types x n (omega arith) in
     let doubles = sized_if (bytes_eq x (codes "f64") && (n == 8)) (float 8 0x7ff0000000000000) (number_kind number_types x n) n (λ e. sym (same_size (bytes_eq x (codes "f64")) n 8 e)) others in
@@ -135,10 +134,10 @@ module _ (F : List ℕ → Option Form) (x own : List ℕ) (old new : Output) wh
   pub put_digits : (s : List ℕ) → Adds (token.number s ∷ []) old new → IsNumberText s → SaysFirst F x (number s) own [] → WritesLeaf F 0 x own old new
   put_digits s a h says = wrote 0 (number s) a h (omega arith) says
 
-  -- bytes in hexadecimal
-  pub put_hex : (r : Result Unit WriteError) → WritesHex own old new r → ((j : Json) → IsHex j own → SaysFirst F x j own []) → IsWritten F 0 x own old new r
-  put_hex (Ok u) w f = put_string w.0 w.1 (f (string w.0) w.2)
-  put_hex (Err e) w f = subst (λ (e : WriteError). RefusesLeaf F x own e) (sym w) tt
+-- bytes in hexadecimal
+pub put_hex : (F : List ℕ → Option Form) (x own bytes : List ℕ) (old new : Output) (r : Result Unit WriteError) → WritesHex bytes old new r → ((j : Json) → IsHex j bytes → SaysFirst F x j own []) → IsWritten F 0 x own old new r
+put_hex F x own bytes old new (Ok u) w f = put_string F x own old new w.0 w.1 (f (string w.0) w.2)
+put_hex F x own bytes old new (Err e) w f = subst (λ (e : WriteError). RefusesLeaf F x own e) (sym w) tt
 
 -- ---- what no JSON says
 module _ (F : List ℕ → Option Form) (x own : List ℕ) (kind : Kind) (h : HasKind F x kind) where
@@ -174,7 +173,7 @@ module _ (F : List ℕ → Option Form) (x own : List ℕ) where
 
 -- other bytes
 pub raw_hex : (F : List ℕ → Option Form) (x own : List ℕ) (old new : Output) (n : ℕ) (k : Kind) (r : Result Unit WriteError) → k ≡ raw n → HasKind F x k → HasSize k (length own) → WritesHex own old new r → IsWritten F 0 x own old new r
-raw_hex F x own old new n k r e h l w = put_hex F x own old new r w (λ j i. (raw n, subst (λ k. HasKind F x k) e h, (i, subst (λ k. HasSize k (length own)) e l, refl)))
+raw_hex F x own old new n k r e h l w = put_hex F x own own old new r w (λ j i. (raw n, subst (λ k. HasKind F x k) e h, (i, subst (λ k. HasSize k (length own)) e l, refl)))
 
 -- a number that was decoded
 module _ (F : List ℕ → Option Form) (x own : List ℕ) (old new : Output) (n : ℕ) (signed non_zero : Bool) (z : ℤ) (h : HasKind F x (whole n signed non_zero)) (l : HasSize (whole n signed non_zero) (length own)) (e : length own ≤ 16 → IsEncoded (length own) signed z own) where

@@ -33,4 +33,5 @@ pub mod NumberTexts
 pub mod LaidLaws
 pub mod FieldLaws
 pub mod LeafLaws
+pub mod ListLaws
 pub mod KeyLaws

@@ -10,4 +10,4 @@ returns-then-is_nan c = λ F x n bits i h l. (n, bits, h, no_nan F x c.args.own.
 pub returns : goal.returns
 returns c = λ F x n bits i h l.
     let f = on_false _ c.is_nan.result c.if-is_nan.false (c.is_nan.ensures n bits i l) in
-    put_hex F x c.args.own.now c.args.out.now c.put_bytes.new.out c.put_bytes.result c.put_bytes.ensures (λ j e. (float n bits, h, (e, l, f, refl)))
+    put_hex F x c.args.own.now c.args.own.now c.args.out.now c.put_bytes.new.out c.put_bytes.result c.put_bytes.ensures (λ j e. (float n bits, h, (e, l, f, refl)))
