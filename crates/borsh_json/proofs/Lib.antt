@@ -24,6 +24,7 @@ pub mod ReadingLaws
 pub mod WritingLaws
 pub mod WritingPlaces
 pub mod WritingSteps
+pub mod WriterLaws
 pub mod MemberLaws
 pub mod EachLaws
 pub mod MapLaws

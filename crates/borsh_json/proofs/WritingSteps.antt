@@ -26,10 +26,10 @@ use Rattle.borsh_json.specs.Writes.{Rest, value_rest, entries_rest, names_of_res
 use Rattle.borsh_json.proofs.WritingLaws.{begins, ends, key_written, leaf_written, front_written, end_written, entry_taken}
 use Rattle.borsh_json.proofs.WritingPlaces.{key_tokens, TakesPart, TakesEntry, rest_pushed, rest_popped}
 
-not_in : (x : List ℕ) → IsIn x [] → ⊥
+pub not_in : (x : List ℕ) → IsIn x [] → ⊥
 not_in x i = elim i [ ]
 
-only_in : (x y : List ℕ) → IsIn x (y ∷ []) → y ≡ x
+pub only_in : (x y : List ℕ) → IsIn x (y ∷ []) → y ≡ x
 only_in x y first = refl
 only_in x y (later i) = absurd (not_in x i)
 

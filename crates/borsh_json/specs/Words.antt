@@ -13,6 +13,7 @@ pub use Rattle.borsh_json.specs.Leaves.{Adds, IsOpenedAs, output_before, output_
 pub use Rattle.borsh_json.specs.Writes.{ArePartsOf, BeginsAt, BeginsStruct, HasNode, IsAwaitingAt, IsBegunOf, IsFull, IsFullOrDescends, IsOfWrite, IsWritingAt, IsWrittenOn, StopsBy, WritesStruct, WritesValueOf, ends_of, leaf_depth}
 pub use Rattle.borsh_json.specs.declared.error.ReadError.TheVariants.{OutOfMemory}
 pub use Rattle.borsh_json.specs.declared.error.Refusal.TheVariants.{TooDeep}
+pub use Rattle.borsh_json.specs.declared.kinds.Elements.{Elements as FoundElements}
 pub use Rattle.borsh_json.specs.declared.kinds.KeyKind.{KeyKind as FoundKeyKind}
 pub use Rattle.borsh_json.specs.declared.kinds.KeyKind.TheVariants.{Text as TextKeys}
 pub use Rattle.borsh_json.specs.declared.kinds.Kind.{Kind as Found}

@@ -315,7 +315,7 @@ module _ (F : List ℕ → Option Form) (root bytes : List ℕ) where
   abbrev pub HasNoJsonPart : Type 0
   HasNoJsonPart =
       (before : List ℕ) × (own : List ℕ) × (after : List ℕ) × (x : List ℕ) × (names : List (List ℕ))
-      × (bytes ≡ before ++ own ++ after) × Reads (shapes F) (root ∷ []) before (x ∷ names) × IsNoJson F x own
+      × (bytes ≡ before ++ (own ++ after)) × Reads (shapes F) (root ∷ []) before (x ∷ names) × IsNoJson F x own
 
   -- the refusal is a true reason why a member has no JSON
   abbrev pub RefusesBytes : Refusal → Type 0

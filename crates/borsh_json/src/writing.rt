@@ -1,8 +1,8 @@
 // A value as JSON.
-ghost use Rattle.borsh_json.specs.Words.{Adds, EntryOf, Form, FoundPart, HasKinds, HasNode, IsAt, IsAwaitingAt, IsBegunOf, IsFullOrDescends, IsKindOf, IsNoJsonReason, IsWalker, IsWritingAt, IsWrittenOn, Member, Place, SaysBy, StopsBy, TextSays, definitions_in, ends_of, forms_in, forms_of, leaf_depth, names_of, shapes};
+ghost use Rattle.borsh_json.specs.Words.{Adds, EntryOf, Form, FoundPart, HasKinds, HasNode, IsAt, IsAwaitingAt, IsBegunOf, IsFullOrDescends, IsKindOf, IsNoJsonReason, IsWalker, IsWritingAt, IsWrittenOn, Member, Place, SaysBy, StopsBy, TextSays, definitions_in, ends_of, forms_in, forms_of, FoundElements, FoundNumbers, names_of, shapes};
 ghost use Rattle.borsh_json.specs.Ascii.{IsPlain};
 ghost use Rattle.borsh_json.specs.declared.output.Characters.TheVariants.{Ascii};
-ghost use Rattle.std.specs.Prelude.{◌≡◌, ◌+◌, ◌≤◌, ℕ, All, IfErr, IfOk, IsUtf8, List, MatchResult, OnOk, Some, length, string_bytes};
+ghost use Rattle.std.specs.Prelude.{◌≡◌, ◌<◌, ℕ, All, IfErr, IfOk, IsUtf8, List, MatchResult, OnOk, Some, length, string_bytes};
 
 use crate::ascii::{in_ascii, is_ascii};
 use crate::definitions::Definitions;
@@ -278,7 +278,7 @@ fn check_elements<'a>(
     kind: Kind<'a>,
     node: &Node<'_, '_>,
 ) -> PartResult<'a, ()>
-    ensures room { OnOk result (leaf_depth kind.entry + length position.now.outer.items ≤ 128) }
+    ensures room { OnOk result ((es : FoundElements) → kind.entry ≡ FoundNumbers es → length position.now.outer.items < 128) }
     ensures full { IfErr result (IsFullOrDescends (length position.now.outer.items)) }
 {
     match kind {
