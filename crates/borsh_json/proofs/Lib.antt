@@ -16,7 +16,7 @@ pub mod FormKinds
 pub mod FrontLaws
 pub mod BegunLaws
 pub mod ChoiceLaws
-pub mod RefusedLaws
+pub mod WholeLaws
 pub mod NullLaws
 pub mod PartsLaws
 pub mod LoopLaws
