@@ -36,3 +36,4 @@ pub mod FieldLaws
 pub mod LeafLaws
 pub mod ListLaws
 pub mod KeyLaws
+pub mod BegunLaws

@@ -1,11 +1,12 @@
 -- What the writer's calls give.
-use Rattle.std.proofs.Common.{◌≡◌, inl, inr, ℕ, suc, zero, ◌+◌, ◌-◌, ◌<◌, ◌≤◌, List, [], ◌∷◌, ◌++◌, length, map, replicate, Option, Some, None, refl, sym, ◌∙◌, ap, subst, arith, append_assoc}
-use Rattle.std.specs.Prelude.{ℤ, String, option_map, MatchOption, Result, Ok, Err, IfErr}
+use Rattle.std.proofs.Common.{◌≡◌, inl, inr, ℕ, suc, zero, ◌+◌, ◌-◌, ◌<◌, ◌≤◌, List, [], ◌∷◌, ◌++◌, length, map, replicate, Option, Some, None, refl, sym, ◌∙◌, ap, subst, arith, append_assoc, append-nil}
+use Rattle.std.specs.Prelude.{ℤ, String, option_map, MatchOption, Result, Ok, Err, IfErr, Bool, true, Decides}
+use Rattle.std.specs.declared.cmp.Ordering.TheVariants.{Less}
 use Rattle.std.specs.BTreeMap.{BTreeMap}
 use Rattle.std.specs.Borrow.{Bor}
-use Rattle.json.specs.Json.{Json}
+use Rattle.json.specs.Json.{Json, null}
 use Rattle.json.specs.Token.{Token}
-use Rattle.borsh_walks.specs.Container.{Shape, primitive, sequence, product, choice, IsIn, first, later, references, variant_names, IsListedVariant, first_variant, later_variant, Members}
+use Rattle.borsh_walks.specs.Container.{Shape, primitive, sequence, product, choice, IsIn, first, later, references, variant_names, IsListedVariant, first_variant, later_variant, Member, of_primitive, of_sequence, of_parts, of_choice, Members, more_members}
 use Rattle.borsh_walks.specs.Definitions.{definitions_in, shape_of}
 use Rattle.borsh_walks.specs.declared.definition.Definition.{Definition}
 use Rattle.borsh_values.specs.Layouts.{name_of}
@@ -27,18 +28,32 @@ use Rattle.borsh_json.specs.declared.error.WriteError.TheVariants.{OutOfMemory, 
 use Rattle.borsh_json.specs.declared.kinds.Elements.{Elements as FoundElements}
 use Rattle.borsh_json.specs.declared.kinds.Kind.{Kind as Found}
 use Rattle.borsh_json.specs.declared.kinds.Kind.TheVariants.{Number, Bool as Truth, Text, Bytes, Float, ByteList, Numbers, List as ListKind, Map, Row as RowKind, Newtype as NewtypeKind, Object as ObjectKind, Optional, Choice, Repeated}
+use Rattle.borsh_json.specs.declared.kinds.Entries.{Entries as FoundEntries}
+use Rattle.borsh_json.specs.declared.kinds.KeyKind.{KeyKind}
+use Rattle.borsh_json.specs.declared.kinds.KeyKind.TheVariants.{Text as TextKeys, Number as NumberKeys}
+use Rattle.borsh_json.specs.declared.output.Output.{Output}
+use Rattle.borsh_json.specs.declared.position.Key.TheVariants.{Entry as EntryOf}
+use Rattle.borsh_json.specs.declared.position.Part.{Part as FoundPart}
+use Rattle.borsh_json.specs.declared.position.Parts.{Parts}
 use Rattle.borsh_json.specs.declared.position.Place.{Place}
+use Rattle.borsh_json.specs.declared.position.Position.{Position}
+use Rattle.borsh_json.specs.declared.sources.EntryKey.{EntryKey}
 use Rattle.borsh_json.specs.declared.writing.Writing.{Writing}
 use Rattle.borsh_json.specs.Errors.{error_of}
-use Rattle.borsh_json.specs.Forms.{Form, form_of, forms_in, shape_of_form, shapes}
+use Rattle.borsh_json.specs.Forms.{Form, form_of, forms_in, shape_of_form, shapes, HasNoBytes}
 use Rattle.borsh_json.specs.Found.{forms_of, names_of}
-use Rattle.borsh_json.specs.Frames.{IsOf}
-use Rattle.borsh_json.specs.Leaves.{output_before, output_tokens, Adds, IsNoJson, IsOpenedAs}
-use Rattle.borsh_json.specs.Places.{IsAt}
-use Rattle.borsh_json.specs.Writes.{Rest, names_of_rest, names_of_all, leaf_depth, IsBelow, IsHalved, AreRests, IsWriting, IsAwaiting, RefusesOwn, RefusesValue, IsWrittenAs, HasNoJsonPart, RefusesBytes, Stops, IsWriterOf, IsWritingAt, IsAwaitingAt, IsFull, IsFullOrDescends, IsOfWrite}
+use Rattle.borsh_json.specs.Frames.{Wanted, IsWanted, IsKey, IsEntryKey, IsOf}
+use Rattle.borsh_json.specs.Leaves.{output_before, output_tokens, Adds, IsNoJson, IsOpenedAs, WritesLeaf, IsLeafRefusal, RefusesLeaf}
+use Rattle.borsh_json.specs.Places.{IsAt, AreKeysOf, lengths_of}
+use Rattle.borsh_json.specs.Reads.{SaysFirst}
+use Rattle.borsh_json.specs.Represents.{next_part}
+use Rattle.borsh_json.specs.Table.{Keys, no_bytes, utf8, HasKind, key_order, key_json}
+use Rattle.borsh_values.proofs.WalkedLaws.{read_product}
+use Rattle.borsh_json.specs.Writes.{IsAbove, IsLast, IsBegunOf, Rest, IsRest, WritesFront, names_of_rest, names_of_all, leaf_depth, IsBelow, IsHalved, AreRests, IsWriting, IsAwaiting, RefusesOwn, RefusesValue, IsWrittenAs, HasNoJsonPart, RefusesBytes, Stops, IsWriterOf, IsWritingAt, IsAwaitingAt, IsFull, IsFullOrDescends, IsOfWrite}
 use Rattle.borsh_json.proofs.FormsLaws.{shape_is, shapes_are}
-use Rattle.borsh_json.proofs.WritingPlaces.{as_many}
-use Rattle.borsh_json.proofs.WritingSteps.{only_in, not_in, halved_on, leaf_writes, front_writes}
+use Rattle.borsh_json.proofs.WritingPlaces.{as_many, key_tokens, TakesPart, TakesEntry, takes_part, takes_entry}
+use Rattle.borsh_json.proofs.FormKinds.{form_known}
+use Rattle.borsh_json.proofs.WritingSteps.{only_in, not_in, halved_on, leaf_writes, front_writes, awaits, entry_halved, awaits_entry}
 
 -- ---- the parts of a definition are its references
 in_copies : (n : ℕ) (e y : List ℕ) → IsIn y (replicate n e) → e ≡ y
@@ -227,3 +242,183 @@ module _ (d : Definitions) (w : Writing) (x : List ℕ) (a : IsAwaitingAt d w x)
 
   pub room_awaiting : a.room + length w.position.outer.items ≡ 128
   room_awaiting = let l = as_many (forms_of d) (names_of d) w.position.outer.items a.state.around a.state.there in let m = a.state.room in omega (arith, l, m)
+
+-- ---- a name whose values have no bytes, or none of their own
+undefined_first : (C : List ℕ → Option Shape) (x bs : List ℕ) → Member C x bs → C x ≡ None → ⊥
+undefined_first C x bs (of_primitive c a) e = let q : None ≡ Some _ = sym e ∙ c in cc
+undefined_first C x bs (of_sequence k c a b m) e = let q : None ≡ Some _ = sym e ∙ c in cc
+undefined_first C x bs (of_parts c m) e = let q : None ≡ Some _ = sym e ∙ c in cc
+undefined_first C x bs (of_choice c l m) e = let q : None ≡ Some _ = sym e ∙ c in cc
+
+pub undefined_next : (F : List ℕ → Option Form) (x bs : List ℕ) (ps : List (List ℕ)) → Members (shapes F) (x ∷ ps) bs → F x ≡ None → ⊥
+undefined_next F x bs ps (more_members m r) e = undefined_first (shapes F) x _ m (ap (λ o. option_map shape_of_form o) e)
+
+module _ (d : Definitions) (w new : Writing) (x : List ℕ) (a : IsAwaitingAt d w x) (walk : new.walk ≡ w.walk) (same : new.bytes ≡ w.bytes) where
+  -- `null` was written
+  pub zero_begun : HasNoBytes (forms_of d) x → Adds (Token.null ∷ []) w.out new.out → new.position.place ≡ w.position.place → new.position.outer.items ≡ w.position.outer.items → IsWritingAt d new new.position.place
+  zero_begun z t p o =
+      let F = forms_of d in
+      let ns = names_of d in
+      let root = d.layout.now.root.now in
+      let s = a.state in
+      let names = names_of_all (s.inner ∷ s.around) in
+      let leaf : WritesLeaf F 0 x [] w.out new.out = record { json = null; adds = t; numbers = tt; nests = omega arith; says = λ ps bs h. next_part no_bytes [] [] (inl (z, refl)) (refl, refl, refl) h } in
+      let h = subst (λ b. IsHalved F root w.bytes.now b w.walk.left.now (x ∷ names)) (sym (append-nil s.done)) s.halved in
+      let k = leaf_writes F ns root w.bytes.now x a.room w.position.place w.position.outer.items w.walk.left.now w.out s [] w.walk.left.now new.out 0 (x ∷ []) (omega arith) leaf (λ y i. subst (λ y. HasNoBytes F y) (only_in y x i) z) h in
+      record {
+        writer = record { layout = subst (λ (k : Walker). k.layout.now ≡ d.layout.now) (sym walk) a.writer.layout; walk = subst (λ (k : Walker). IsWalker k) (sym walk) a.writer.walk; fresh = t.before ∙ a.writer.fresh };
+        state =
+            subst (λ (b : Bor (List ℕ)). IsWriting F ns root b.now new.position.place new.position.outer.items new.walk.left.now (output_tokens new.out)) (sym same)
+            (subst (λ (k : Walker). IsWriting F ns root w.bytes.now new.position.place new.position.outer.items k.left.now (output_tokens new.out)) (sym walk)
+            (subst (λ (q : Place). IsWriting F ns root w.bytes.now q new.position.outer.items w.walk.left.now (output_tokens new.out)) (sym p)
+            (subst (λ (qs : List Place). IsWriting F ns root w.bytes.now w.position.place qs w.walk.left.now (output_tokens new.out)) (sym o) k)));
+      }
+
+struct_on : (C : List ℕ → Option Shape) (root x left : List ℕ) (names : List (List ℕ)) (s : Shape) → C x ≡ Some s → s ≡ product names → (done : List ℕ) (parts ps : List (List ℕ)) → Opens C s [] parts → IsReadTo C root done (x ∷ ps) left → IsReadTo C root (done ++ []) (parts ++ ps) left
+struct_on C root x left names s c e done parts ps o r =
+    let q = subst (λ s. Opens C s [] parts) e o in
+    subst (λ b. IsReadTo C root b (parts ++ ps) left) (sym (append-nil done)) (subst (λ l. IsReadTo C root done (l ++ ps) left) (sym q.1) (read_product C (c ∙ ap (λ s. Some s) e) r))
+
+module _ (d : Definitions) (w new : Writing) (x : List ℕ) (a : IsAwaitingAt d w x) (f : Form) (e : forms_of d x ≡ Some f) where
+  -- the beginning of a struct was written
+  pub struct_begun : (q : Place) → new.walk ≡ w.walk → new.bytes ≡ w.bytes → length w.position.outer.items < 128
+      → (r : Rest) → IsRest (forms_of d) (names_of d) q r → WritesFront (forms_of d) x [] r w.out new.out → shape_of_form f ≡ product (names_of_rest r)
+      → new.position.place ≡ q → new.position.outer.items ≡ w.position.outer.items ++ w.position.place ∷ [] → IsWritingAt d new new.position.place
+  struct_begun q walk same room r h t s p o =
+      let F = forms_of d in
+      let root = d.layout.now.root.now in
+      let c : shapes F x ≡ Some (shape_of_form f) = ap (λ o. option_map shape_of_form o) e in
+      let opens : Opens (shapes F) (shape_of_form f) [] (names_of_rest r) = subst (λ s. Opens (shapes F) s [] (names_of_rest r)) (sym s) (refl, refl) in
+      place_begun d w new x f [] a same (subst (λ (k : Walker). k.layout.now ≡ d.layout.now) (sym walk) a.writer.layout) (subst (λ (k : Walker). IsWalker k) (sym walk) a.writer.walk) (ap (λ (k : Walker). k.left.now) (sym walk))
+      (λ done parts ps n g. subst (λ (k : Walker). IsReadTo (shapes F) root (done ++ []) (parts ++ ps) k.left.now) (sym walk) (struct_on (shapes F) root x w.walk.left.now (names_of_rest r) (shape_of_form f) c s done parts ps n g)) 0 q c room (r, h, t, opens) p o
+
+-- ---- parts and their keys
+-- the refusal of a leaf is one of a value
+leaf_refusal : (F : List ℕ → Option Form) (r : Refusal) (x own : List ℕ) → IsLeafRefusal F r x own → RefusesOwn F x own r
+leaf_refusal F TooDeep x own h = absurd h
+leaf_refusal F (RepeatedName n) x own h = absurd h
+leaf_refusal F EmptyElements x own h = absurd h
+leaf_refusal F NotBool x own h = h.1
+leaf_refusal F NotUtf8 x own h = h.2
+leaf_refusal F Zero x own h = h.3
+leaf_refusal F NotNumber x own h = h.3
+leaf_refusal F Descends x own h = absurd h
+leaf_refusal F OtherNodes x own h = absurd h
+leaf_refusal F (Expected w) x own h = absurd h
+leaf_refusal F MissingField x own h = absurd h
+leaf_refusal F (UnknownName n) x own h = absurd h
+leaf_refusal F (RepeatedKey n) x own h = absurd h
+leaf_refusal F (Undefined n) x own h = absurd h
+
+-- so is that of an element, since no JSON says the list
+element_refusal : (F : List ℕ → Option Form) (r : Refusal) (x own e piece : List ℕ) → IsLeafRefusal F r e piece → IsNoJson F x own → RefusesOwn F x own r
+element_refusal F TooDeep x own e piece h n = absurd h
+element_refusal F (RepeatedName m) x own e piece h n = n
+element_refusal F EmptyElements x own e piece h n = n
+element_refusal F NotBool x own e piece h n = n
+element_refusal F NotUtf8 x own e piece h n = n
+element_refusal F Zero x own e piece h n = n
+element_refusal F NotNumber x own e piece h n = n
+element_refusal F Descends x own e piece h n = tt
+element_refusal F OtherNodes x own e piece h n = absurd h
+element_refusal F (Expected w) x own e piece h n = absurd h
+element_refusal F MissingField x own e piece h n = absurd h
+element_refusal F (UnknownName m) x own e piece h n = absurd h
+element_refusal F (RepeatedKey m) x own e piece h n = absurd h
+element_refusal F (Undefined m) x own e piece h n = absurd h
+
+pub leaf_refused : (F : List ℕ → Option Form) (e : WriteError) (x own : List ℕ) → RefusesLeaf F x own e → RefusesValue F x own e
+leaf_refused F OutOfMemory x own h = tt
+leaf_refused F (Refused r) x own h = leaf_refusal F r x own h
+leaf_refused F (Element i r) x own h = element_refusal F r x own h.0 h.1 h.2 h.3
+
+-- the key is above the last one
+pub first_above : (kind : KeyKind) (keys : Keys) (o : Option (List ℕ)) (s : List ℕ) → IsLast kind None o → IsAbove keys o s
+first_above kind keys o s e = subst (λ o. IsAbove keys o s) (sym e) tt
+
+pub next_above : (kind : KeyKind) (keys : Keys) (o : Option (List ℕ)) (s : List ℕ) (last : EntryKey) (b : Bool) → (l : IsLast kind (Some last) o) → Decides b (key_order keys (l.0, null) (s, null) ≡ Less) → b ≡ true → IsAbove keys o s
+next_above kind keys o s last b l d e = subst (λ o. IsAbove keys o s) (sym l.1) (d.0 e)
+
+-- the kind of keys, by the definition that their name has
+keys_of_form : (F : List ℕ → Option Form) (ns : List Named) (k : List ℕ) (g f : Form) (kind : KeyKind) (keys : Keys) → AreKeysOf F ns k g kind keys → F k ≡ Some f → AreKeysOf F ns k f kind keys
+keys_of_form F ns k g f TextKeys keys a c =
+    let l = lengths_of g in
+    let h = form_known F (utf8 l) f a.1 c (λ e. cc) in
+    (a.0, subst (λ l. HasKind F k (utf8 l)) (sym (ap lengths_of h.1)) a.1)
+keys_of_form F ns k g f (NumberKeys n) keys a c = a
+
+module _ (d : Definitions) (p q : Place) (part : FoundPart) (b : IsBegunOf d p q part) where
+  -- the first of what was wanted of the place
+  wanted_first : (ws : List Wanted) → IsWanted (forms_of d) (names_of d) p.parts p.begun ws → (w : Wanted) × (rest : List Wanted) × (ws ≡ w ∷ rest) × IsAt (names_of d) part.at w.1 × IsKey p.parts part.key w.0 × IsWanted (forms_of d) (names_of d) p.parts q.begun rest
+  wanted_first ws h = let g = b.0 ws h in (g.0, g.1, g.2, g.3, g.4, subst (λ (k : Parts). IsWanted (forms_of d) (names_of d) k q.begun g.1) b.1 g.5)
+
+  pub entry_of : (es : FoundEntries) (r : Rest) → part.key ≡ EntryOf es → IsRest (forms_of d) (names_of d) p r → TakesEntry (forms_of d) (names_of d) es p.parts q.begun p.last part r
+  entry_of es r k h = takes_entry (forms_of d) (names_of d) es p.parts p.begun q.begun p.last part r k h wanted_first
+
+  pub part_of : (r : Rest) → ((es : FoundEntries) → part.key ≡ EntryOf es → ⊥) → IsRest (forms_of d) (names_of d) p r → TakesPart (forms_of d) (names_of d) p.parts q.begun p.last part r
+  part_of r n h = takes_part (forms_of d) (names_of d) p.parts p.begun q.begun p.last part r n h wanted_first
+
+pub none_added : (out : Output) → Adds [] out out
+none_added out = record { before = refl; tokens = sym (append-nil (output_tokens out)) }
+
+-- a key that is no entry's was written, or none
+pub key_begun : (d : Definitions) (w new : Writing) (p : Place) (part : FoundPart) → IsWritingAt d w p → IsBegunOf d p w.position.place part → ((es : FoundEntries) → part.key ≡ EntryOf es → ⊥)
+    → Adds (key_tokens part.key) w.out new.out → new.walk ≡ w.walk → new.position ≡ w.position → new.bytes ≡ w.bytes → (x : List ℕ) × IsAt (names_of d) part.at x × IsAwaitingAt d new x
+key_begun d w new p part a b n t walk position bytes =
+    let F = forms_of d in
+    let ns = names_of d in
+    let root = d.layout.now.root.now in
+    let s = a.state in
+    let q = w.position.place in
+    let h = part_of d p q part b s.inner n s.here in
+    let r = awaits F ns root w.bytes.now p q w.position.outer.items w.walk.left.now (output_tokens w.out) (output_tokens new.out) s b.1 part b.2 h t.tokens in
+    (h.name, h.named, record {
+      writer = record { layout = subst (λ (k : Walker). k.layout.now ≡ d.layout.now) (sym walk) a.writer.layout; walk = subst (λ (k : Walker). IsWalker k) (sym walk) a.writer.walk; fresh = t.before ∙ a.writer.fresh };
+      room = 128 - length s.around;
+      state =
+          subst (λ (b : Bor (List ℕ)). IsAwaiting F ns root b.now h.name (128 - length s.around) new.position.place new.position.outer.items new.walk.left.now (output_tokens new.out)) (sym bytes)
+          (subst (λ (k : Walker). IsAwaiting F ns root w.bytes.now h.name (128 - length s.around) new.position.place new.position.outer.items k.left.now (output_tokens new.out)) (sym walk)
+          (subst (λ (k : Position). IsAwaiting F ns root w.bytes.now h.name (128 - length s.around) k.place k.outer.items w.walk.left.now (output_tokens new.out)) (sym position) r));
+    })
+
+module _ (d : Definitions) (w new : Writing) (p : Place) (part : FoundPart) (es : FoundEntries) (a : IsWritingAt d w p) (parts : new.position.place.parts ≡ p.parts)
+    (t : TakesEntry (forms_of d) (names_of d) es p.parts new.position.place.begun p.last part a.state.inner) where
+  pub entry_next : IsHalved (forms_of d) d.layout.now.root.now w.bytes.now a.state.done w.walk.left.now (t.key ∷ t.value ∷ (replicate t.count t.pair ++ names_of_all a.state.around))
+  entry_next = entry_halved (forms_of d) (names_of d) d.layout.now.root.now w.bytes.now p new.position.place w.position.outer.items w.walk.left.now (output_tokens w.out) (output_tokens new.out) a.state parts es part t
+
+  module _ (found : Option Node) (n : Node) (is : found ≡ Some n) (g : FindsAt es.key w.walk new.walk found) where
+    pub entry_opened : IsOpenedAs (forms_of d) t.key (form_of n.definition.now) n.bytes.now (node_is d w new.walk es.key t.key a.writer.layout t.key_named found n is g).parts
+    entry_opened = node_opened d w new.walk es.key t.key a.writer.layout t.key_named found n is g
+
+    pub entry_keys : AreKeysOf (forms_of d) (names_of d) t.key (form_of n.definition.now) es.key_kind t.keys
+    entry_keys = keys_of_form (forms_of d) (names_of d) t.key (form_of es.key_definition.now) (form_of n.definition.now) es.key_kind t.keys t.kind entry_opened.0
+
+    -- the key was written
+    pub entry_awaits : (key : EntryKey) (names : List (List ℕ)) (s : List ℕ) → new.walk.layout.now ≡ d.layout.now → IsWalker new.walk → new.bytes ≡ w.bytes → new.position.outer.items ≡ w.position.outer.items → new.position.place.last ≡ Some key
+        → Opens (shapes (forms_of d)) (shape_of_form (form_of n.definition.now)) n.bytes.now names → names ≡ [] → IsEntryKey es.key_kind key s → Adds (Token.key s ∷ []) w.out new.out → SaysFirst (forms_of d) t.key (key_json t.keys s) n.bytes.now [] → IsAbove t.keys t.before s
+        → (x : List ℕ) × IsAt (names_of d) part.at x × IsAwaitingAt d new x
+    entry_awaits key names s layout walk bytes outer last opens none k adds says above =
+        let F = forms_of d in
+        let ns = names_of d in
+        let root = d.layout.now.root.now in
+        let v = a.state in
+        let rest = t.value ∷ (replicate t.count t.pair ++ names_of_all v.around) in
+        let node = node_is d w new.walk es.key t.key a.writer.layout t.key_named found n is g in
+        let o = subst (λ l. Opens (shapes F) (shape_of_form (form_of n.definition.now)) n.bytes.now l) none opens in
+        let h = halved_on F ns root w.bytes.now t.key (shape_of_form (form_of n.definition.now)) v.done w.walk.left.now n.bytes.now new.walk.left.now [] rest node.bytes (λ r. node_on d w new.walk es.key t.key a.writer.layout t.key_named found n is g v.done [] rest o r) entry_next in
+        let r = awaits_entry F ns root w.bytes.now p new.position.place w.position.outer.items w.walk.left.now (output_tokens w.out) (output_tokens new.out) v parts es part t n.bytes.now new.walk.left.now key s last k says above h adds.tokens in
+        (t.value, t.named, record {
+          writer = record { layout = layout; walk = walk; fresh = adds.before ∙ a.writer.fresh };
+          room = 128 - length v.around;
+          state =
+              subst (λ (b : Bor (List ℕ)). IsAwaiting F ns root b.now t.value (128 - length v.around) new.position.place new.position.outer.items new.walk.left.now (output_tokens new.out)) (sym bytes)
+              (subst (λ (l : List Place). IsAwaiting F ns root w.bytes.now t.value (128 - length v.around) new.position.place l new.walk.left.now (output_tokens new.out)) (sym outer) r);
+        })
+
+    -- or is refused
+    pub entry_stops : (e : WriteError) (pe : PartError) → IsOfWrite e pe → RefusesLeaf (forms_of d) t.key n.bytes.now e → Stops (forms_of d) d.layout.now.root.now w.bytes.now (error_of pe)
+    entry_stops e pe i r =
+        let F = forms_of d in
+        let root = d.layout.now.root.now in
+        let node = node_is d w new.walk es.key t.key a.writer.layout t.key_named found n is g in
+        stops_value F root w.bytes.now t.key n.bytes.now e pe i (no_json_part F root w.bytes.now t.key a.state.done n.bytes.now new.walk.left.now w.walk.left.now (t.value ∷ (replicate t.count t.pair ++ names_of_all a.state.around)) node.bytes entry_next) (leaf_refused F e t.key n.bytes.now r)

@@ -14,7 +14,7 @@ use Rattle.borsh_json.specs.declared.position.Parts.TheVariants.{Root, List as E
 use Rattle.borsh_json.specs.declared.position.Place.{Place}
 use Rattle.borsh_json.specs.declared.sources.EntryKey.{EntryKey}
 use Rattle.borsh_json.specs.Forms.{Form, form_of, shapes}
-use Rattle.borsh_json.specs.Frames.{Wanted, IsWanted, IsKey, IsMapPlace}
+use Rattle.borsh_json.specs.Frames.{Wanted, IsWanted, IsKey}
 use Rattle.borsh_json.specs.Places.{IsAt, AreKeysOf}
 use Rattle.borsh_json.specs.Table.{Keys}
 use Rattle.borsh_json.specs.Writes.{Rest, items_rest, members_rest, value_rest, entries_rest, names_of_rest, AreAbove, MayFollow, IsLast, IsRestOf, IsRest, AreRests, ends_of}
@@ -79,7 +79,7 @@ module _ (F : List ℕ → Option Form) (ns : List Named) where
   same_map [] = refl
   same_map (w ∷ ws) = ap (λ l. w ∷ l) (same_map ws)
 
-  pub takes_part : (parts : Parts) (b c : ℕ) (last : Option EntryKey) (part : FoundPart) (r : Rest) → (IsMapPlace parts → ⊥) → IsRestOf F ns parts b last r
+  pub takes_part : (parts : Parts) (b c : ℕ) (last : Option EntryKey) (part : FoundPart) (r : Rest) → ((es : FoundEntries) → part.key ≡ EntryOf es → ⊥) → IsRestOf F ns parts b last r
       → ((ws : List Wanted) → IsWanted F ns parts b ws → (w : Wanted) × (rest : List Wanted) × (ws ≡ w ∷ rest) × IsAt ns part.at w.1 × IsKey parts part.key w.0 × IsWanted F ns parts c rest)
       → TakesPart parts c last part r
   takes_part Root b c last part r n h g = let w = g h.0 h.1 in takes_value Root c last part r w.0 w.1 h.0 w.3 w.2 w.4 h.2 (w.1, w.5, refl)
@@ -89,7 +89,7 @@ module _ (F : List ℕ → Option Form) (ns : List Named) where
       let w = g h.0 h.1 in
       let k = w.4 in
       takes_member (Object at fs) c last part r w.0 w.1 h.0 w.3 w.2 (λ (w : Wanted). w) (ap key_tokens k.1 ∙ ap (λ s. Token.key s ∷ []) k.2) refl (h.2 ∙ ap members_rest (sym (same_map h.0))) (w.1, w.5, ap members_rest (same_map w.1))
-  takes_part (MapEntries es m) b c last part r n h g = absurd (n tt)
+  takes_part (MapEntries es m) b c last part r n h g = let w = g h.5 h.11 in absurd (n es w.4)
   takes_part (Newtype at) b c last part r n h g = let w = g h.0 h.1 in takes_value (Newtype at) c last part r w.0 w.1 h.0 w.3 w.2 w.4 h.2 (w.1, w.5, refl)
   takes_part (Present at) b c last part r n h g = let w = g h.0 h.1 in takes_value (Present at) c last part r w.0 w.1 h.0 w.3 w.2 w.4 h.2 (w.1, w.5, refl)
   takes_part (Variant v at) b c last part r n h g =

@@ -1,8 +1,8 @@
 // A value as JSON.
-ghost use Rattle.borsh_json.specs.Words.{Adds, EntryOf, Form, FoundPart, HasKinds, HasNode, IsAt, IsAwaitingAt, IsBegunOf, IsFullOrDescends, IsKindOf, IsNoJsonReason, IsWalker, IsWritingAt, IsWrittenOn, Member, Place, SaysBy, StopsBy, TextSays, definitions_in, ends_of, forms_in, forms_of, FoundElements, FoundNumbers, names_of, shapes};
+ghost use Rattle.borsh_json.specs.Words.{Adds, AreKeysOf, EntryOf, Form, FoundKeyKind, IsAbove, IsEntryKey, IsLast, Keys, NamedPlace, FoundPart, HasKinds, HasNode, IsAt, IsAwaitingAt, IsBegunOf, IsFullOrDescends, IsKindOf, IsNoJsonReason, IsWalker, IsWritingAt, IsWrittenOn, Member, Place, SaysBy, StopsBy, TextSays, definitions_in, ends_of, forms_in, forms_of, FoundElements, FoundNumbers, names_of, shapes};
 ghost use Rattle.borsh_json.specs.Ascii.{IsPlain};
 ghost use Rattle.borsh_json.specs.declared.output.Characters.TheVariants.{Ascii};
-ghost use Rattle.std.specs.Prelude.{◌≡◌, ◌<◌, ℕ, All, IfErr, IfOk, IsUtf8, List, MatchResult, OnOk, Some, length, string_bytes};
+ghost use Rattle.std.specs.Prelude.{◌≡◌, ◌<◌, ℕ, All, IfErr, IfOk, IsUtf8, List, MatchResult, OnOk, Option, Some, length, string_bytes, true};
 
 use crate::ascii::{in_ascii, is_ascii};
 use crate::definitions::Definitions;
@@ -11,6 +11,7 @@ use crate::kinds::{Entries, Kind};
 use crate::leaves::{is_above, write_key};
 use crate::output::{Characters, LongNumbers, Output, Style};
 use crate::position::{Key, Part, Parts, Place, Position};
+use crate::sources::EntryKey;
 use crate::values::{begin_struct, begin_value};
 use borsh_values::{Layout, Membership, Node, Walker, elements_of};
 use borsh_walks::Definition;
@@ -206,10 +207,8 @@ impl<'a, 'l, 'b> Writing<'a, 'l, 'b> {
         };
         match write_key(entries.key_kind, &node, &mut self.out) {
             Ok(key) => {
-                if let Some(last) = self.position.place.last {
-                    if !is_above(key, last) {
-                        return Err(self.position.refused_element(Refusal::Descends).into());
-                    }
+                if !is_next(self.position.place.last, key) {
+                    return Err(self.position.refused_element(Refusal::Descends).into());
                 }
                 self.position.place.last = Some(key);
                 Ok(())
@@ -288,6 +287,18 @@ fn check_elements<'a>(
             position.check_ascent(elements, elements_of(node))
         }
         _ => Ok(()),
+    }
+}
+
+/// Whether a key of a map is above the last one, if there is one.
+fn is_next(last: Option<EntryKey<'_>>, key: EntryKey<'_>) -> bool
+    ensures { (F : List ℕ → Option Form) (ns : List NamedPlace) (k : List ℕ) (f : Form) (kind : FoundKeyKind)
+        (keys : Keys) (o : Option (List ℕ)) (s : List ℕ) → AreKeysOf F ns k f kind keys →
+        IsLast kind last.entry o → IsEntryKey kind key.entry s → result ≡ true → IsAbove keys o s }
+{
+    match last {
+        Some(last) => is_above(key, last),
+        None => true,
     }
 }
 
