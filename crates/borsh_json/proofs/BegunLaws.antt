@@ -113,11 +113,11 @@ module _ (F : List ℕ → Option Form) (ns : List Named) (x : List ℕ) (f : Fo
         (t.0, t.1, t.2, t.3, t.4 ∙ ap (λ bs. tag l.width (pos t.0) ++ bs) u.0, subst (λ (ps : List (List ℕ)). Opens (shapes F) (shape_of_form f) own ps) u.1 o.1)
 
     pub list_begun : (n : ℕ) (es : FoundElements) (count : ℕ) (found : Option ℕ) (old new : Output) (result : Result (Option Place) WriteError) → IsKindOf F ns x f (ListKind es) → es.is_refused ≡ false → IsCountOf (shape_of_form f) own found → ((k : ℕ) → found ≡ Some k → count ≡ k) → BeginsAt (Elements es.at count) old new result → WritesValue F ns n x f own old new result
-    list_begun n es count found old new result k no c same b =
+    list_begun n es count found old new result k off c same b =
         let l = lengths_of f in
-        let t = subst (λ (r : Bool). IsListOf F ns x f es.at r) no k.0 in
+        let t = subst (λ (r : Bool). IsListOf F ns x f es.at r) off k.0 in
         let e = t.0 in
-        let m = counted l e found (form_known F (list l e) f t.2 o.0 (λ e. cc)) (k.1 no e t.1) c in
+        let m = counted l e found (form_known F (list l e) f t.2 o.0 (λ e. cc)) (k.1 off e t.1) c in
         let copies : map (λ (w : Wanted). w.1) (replicate count ([], e)) ≡ replicate m.0 e = second_copies count e ∙ ap (λ (i : ℕ). replicate i e) (same m.0 m.1) in
         let none : count ≡ count - 0 = omega arith in
         value_begun n own (Elements es.at count) (items_rest (replicate m.0 e)) old new result
@@ -125,7 +125,7 @@ module _ (F : List ℕ → Option Form) (ns : List Named) (x : List ℕ) (f : Fo
         (list_front F x own l e m.0 t.2 m.2 m.3 m.4) m.5 b
 
     pub list_refused : (n : ℕ) (es : FoundElements) (old new : Output) → IsKindOf F ns x f (ListKind es) → es.is_refused ≡ true → WritesValue F ns n x f own old new (Err (Refused EmptyElements))
-    list_refused n es old new k yes = none_says own (subst (λ (r : Bool). IsListOf F ns x f es.at r) yes k.0)
+    list_refused n es old new k on = none_says own (subst (λ (r : Bool). IsListOf F ns x f es.at r) on k.0)
 
     pub map_begun : (n : ℕ) (es : FoundEntries) (order : Ordered) (count : ℕ) (found : Option ℕ) (old new : Output) (result : Result (Option Place) WriteError) → IsKindOf F ns x f (MapKind es order) → IsCountOf (shape_of_form f) own found → ((k : ℕ) → found ≡ Some k → count ≡ k) → BeginsAt (MapEntries es count) old new result → WritesValue F ns n x f own old new result
     map_begun n es order count found old new result h c same b =

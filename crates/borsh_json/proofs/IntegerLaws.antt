@@ -1,7 +1,7 @@
 -- Whole numbers and the bytes that encode them.
-use Rattle.std.proofs.Common.{◌≡◌, ℕ, suc, zero, ◌+◌, ◌-◌, ◌*◌, ◌/◌, ◌%◌, ◌^◌, ◌<◌, ◌≤◌, Bool, true, false, List, [], ◌∷◌, length, map, drop, get_or, refl, sym, ◌∙◌, ap, subst, arith, pow-suc, length-drop}
+use Rattle.std.proofs.Common.{◌≡◌, ℕ, suc, zero, ◌+◌, ◌-◌, ◌*◌, ◌%◌, ◌^◌, ◌<◌, ◌≤◌, Bool, true, false, List, [], ◌∷◌, length, map, drop, get_or, refl, sym, ◌∙◌, ap, subst, arith, pow-suc, length-drop}
 use Rattle.std.proofs.lemmas.Int.{to_z-of_z}
-use Rattle.std.specs.Prelude.{ℤ, pos, negsuc}
+use Rattle.std.specs.Prelude.{pos, negsuc}
 use Rattle.std.specs.Int.{cast_signed, w128}
 use Rattle.borsh_walks.specs.Container.{low_bytes}
 use Rattle.borsh_values.specs.Numbers.{value_of}
@@ -99,9 +99,10 @@ decoded true false bs v f n p e =
 decoded true true bs v f n p e =
     let cs = map (turned true) bs in
     let l = turned_length true bs in
-    let g = turned_bytes true bs f in
-    (sym (ap (λ l. map (λ b. 255 - b) l) (low_back cs (length bs) v g (sym l) e) ∙ turned_back bs f),
-    subst (λ x. 2 * x < 256 ^ length bs) (sym e) (subst (λ k. 2 * value_of cs < 256 ^ k) l (half_value cs g (turned_top bs f (n refl).1))))
+    let g = turned_bytes true bs f in (
+      sym (ap (λ l. map (λ b. 255 - b) l) (low_back cs (length bs) v g (sym l) e) ∙ turned_back bs f),
+      subst (λ x. 2 * x < 256 ^ length bs) (sym e) (subst (λ k. 2 * value_of cs < 256 ^ k) l (half_value cs g (turned_top bs f (n refl).1))),
+    )
 
 -- ---- numbers as they are printed and ordered
 pub negative_cast : (n : ℕ) (signed : Bool) (m : ℕ) → n ≤ 16 → InRange n signed (negsuc m) → cast_signed w128 (2 ^ 128 - 1 - m) ≡ negsuc m

@@ -1,9 +1,8 @@
 -- The order of keys, by the numbers that order them.
-use Rattle.std.proofs.Common.{◌≡◌, ◌⊎◌, inl, inr, ℕ, ◌<◌, ◌≤◌, Bool, true, false, List, Option, Decides, refl, sym, ◌∙◌, ap, subst, arith, ltb}
+use Rattle.std.proofs.Common.{◌≡◌, inl, inr, ℕ, ◌≤◌, Bool, true, false, List, Option, Decides, refl, sym, ◌∙◌, ap, arith}
 use Rattle.std.specs.Prelude.{nat_lt}
 use Rattle.std.specs.Cmp.{nat_cmp_is}
 use Rattle.std.specs.Ordering.{nat_cmp}
-use Rattle.std.specs.declared.cmp.Ordering.{Ordering}
 use Rattle.std.specs.declared.cmp.Ordering.TheVariants.{Less, Equal, Greater}
 use Rattle.std.proofs.lemmas.Bool.{cases_lt}
 use Rattle.std.proofs.lemmas.Bool.Decides.{nat_tests}
@@ -11,11 +10,11 @@ use Rattle.json.specs.Json.{Json}
 use Rattle.borsh_values.specs.declared.layout.Named.{Named}
 use Rattle.borsh_json.specs.declared.kinds.KeyKind.{KeyKind}
 use Rattle.borsh_json.specs.declared.kinds.KeyKind.TheVariants.{Text as TextKeys, Number as NumberKeys}
-use Rattle.borsh_json.specs.declared.sources.EntryKey.TheVariants.{Text as TextKey, Rank}
+use Rattle.borsh_json.specs.declared.sources.EntryKey.TheVariants.{Rank}
 use Rattle.borsh_json.specs.Forms.{Form}
 use Rattle.borsh_json.specs.Frames.{IsEntryKey}
 use Rattle.borsh_json.specs.Places.{AreKeysOf}
-use Rattle.borsh_json.specs.Table.{Keys, numbers, key_order}
+use Rattle.borsh_json.specs.Table.{Keys, key_order}
 use Rattle.borsh_json.proofs.NumberLaws.{ranks_compare}
 use Rattle.borsh_json.proofs.RepresentsLaws.{kind_small}
 

@@ -1,6 +1,6 @@
 -- Values that are written whole: primitives, texts and lists of primitives.
-use Rattle.std.proofs.Common.{◌≡◌, ◌⊎◌, inl, inr, ℕ, suc, zero, ◌+◌, ◌-◌, ◌*◌, ◌/◌, ◌%◌, ◌^◌, ◌<◌, ◌≤◌, List, [], ◌∷◌, ◌++◌, length, map, Bool, true, false, eqb, Option, Some, refl, sym, ◌∙◌, ap, subst, arith, append_assoc, append-nil, pow-suc, length-append}
-use Rattle.std.specs.Prelude.{⊤, ℤ, pos, negsuc, ◌&&◌, ◌==◌, if◌then◌else◌, codes, Result, Ok, Err, MatchResult, All}
+use Rattle.std.proofs.Common.{◌≡◌, inl, inr, ℕ, suc, zero, ◌+◌, ◌-◌, ◌/◌, ◌^◌, ◌<◌, ◌≤◌, List, [], ◌∷◌, ◌++◌, length, map, Bool, true, false, Option, Some, refl, sym, ◌∙◌, ap, subst, arith, pow-suc}
+use Rattle.std.specs.Prelude.{⊤, ℤ, pos, negsuc, ◌&&◌, ◌==◌, if◌then◌else◌, codes, Result, Ok, Err}
 use Rattle.std.specs.Fmt.{signed_decimal}
 use Rattle.std.specs.List.{AllByRecursion}
 use Rattle.std.specs.Str.{bytes_eq}
@@ -17,7 +17,6 @@ use Rattle.borsh_values.specs.Nodes.{Opens}
 use Rattle.borsh_values.specs.Numbers.{value_of}
 use Rattle.borsh_values.specs.declared.layout.Named.{Named}
 use Rattle.borsh_json.specs.declared.error.WriteError.{WriteError}
-use Rattle.borsh_json.specs.declared.error.WriteError.TheVariants.{OutOfMemory}
 use Rattle.borsh_json.specs.declared.kinds.Kind.{Kind as Found}
 use Rattle.borsh_json.specs.declared.kinds.Kind.TheVariants.{Number, Bool as Truth, Text, Bytes, Float, ByteList, Numbers, List as ElementList, Map as Entries, Row, Newtype, Object, Optional, Choice, Repeated}
 use Rattle.borsh_json.specs.declared.numbers.Number.{Number as NumberOf}
@@ -25,11 +24,11 @@ use Rattle.borsh_json.specs.declared.output.Output.{Output}
 use Rattle.borsh_json.specs.Forms.{Form, primitive, sequence, tuple, newtype, unnamed, named, choice, shape_of_form, shapes}
 use Rattle.borsh_json.specs.Found.{IsPrimitiveKind}
 use Rattle.borsh_json.specs.Integers.{IsEncoded}
-use Rattle.borsh_json.specs.Leaves.{Adds, HasSize, IsNoJson, IsPut, IsOpenedAs, IsWritten, RefusesLeaf, WritesHex, WritesLeaf}
+use Rattle.borsh_json.specs.Leaves.{Adds, HasSize, IsNoJson, IsOpenedAs, IsWritten, RefusesLeaf, WritesHex, WritesLeaf}
 use Rattle.borsh_json.specs.Places.{IsInfinity, IsKindOf}
 use Rattle.borsh_json.specs.Reads.{SaysFirst}
 use Rattle.borsh_json.specs.Represents.{HaveBytes, next_part}
-use Rattle.borsh_json.specs.Table.{Kind, no_bytes, truth, whole, float, raw, utf8, byte_list, list, row, inner, fields, optional, variants, entries, a_text, some_bytes, an_object, some_elements, nullable, by_name, number_types, number_kind, primitive_kind, DefinedKind, HasKind, InRange, IsHex, IsNoNan, IsNumber, IsWhole, Part, Says}
+use Rattle.borsh_json.specs.Table.{Kind, no_bytes, truth, whole, float, raw, utf8, byte_list, list, row, inner, fields, optional, variants, entries, a_text, some_bytes, an_object, some_elements, nullable, by_name, number_types, number_kind, primitive_kind, DefinedKind, HasKind, InRange, IsHex, IsNoNan, IsNumber, Part, Says}
 use Rattle.borsh_json.proofs.ReaderLaws.{uncons}
 use Rattle.borsh_json.proofs.RepresentsLaws.{kind_one}
 

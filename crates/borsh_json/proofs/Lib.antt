@@ -14,6 +14,9 @@ pub mod StepLaws
 pub mod OpeningLaws
 pub mod FormKinds
 pub mod FrontLaws
+pub mod BegunLaws
+pub mod ChoiceLaws
+pub mod WholeLaws
 pub mod NullLaws
 pub mod PartsLaws
 pub mod LoopLaws

@@ -1,34 +1,32 @@
 -- Texts, and lists of primitives.
-use Rattle.std.proofs.Common.{◌≡◌, ◌⊎◌, inl, inr, ℕ, suc, zero, ◌+◌, ◌-◌, ◌*◌, ◌^◌, ◌<◌, ◌≤◌, max, min, List, [], ◌∷◌, ◌++◌, length, take, drop, Bool, true, false, Option, Some, refl, sym, ◌∙◌, ap, subst, arith, append_assoc, append-nil, length-append, option_map}
+use Rattle.std.proofs.Common.{◌≡◌, ◌⊎◌, inl, inr, ℕ, suc, zero, ◌+◌, ◌*◌, ◌^◌, ◌<◌, ◌≤◌, List, [], ◌∷◌, ◌++◌, length, drop, Option, Some, refl, sym, ◌∙◌, ap, subst, arith, append_assoc, append-nil, length-append, option_map}
 use Rattle.std.proofs.Math.Nat.{le_of_mul-le-mul_right, mul-le-mul_right, suc-mul}
-use Rattle.std.specs.Prelude.{⊤, ℤ, pos, IsUtf8, Result, Ok, Err}
+use Rattle.std.specs.Prelude.{⊤, pos, IsUtf8}
 use Rattle.std.proofs.lemmas.Bool.{cases_lt}
 use Rattle.json.specs.Token.{Token}
 use Rattle.json.specs.Token as token
 use Rattle.json.specs.Json.{Json, string, array, Items, no_items, item}
-use Rattle.json.specs.Tree.{json_tokens, items_tokens, depth, items_depth, HasNumbers, ItemsHaveNumbers}
+use Rattle.json.specs.Tree.{json_tokens, items_tokens, items_depth, ItemsHaveNumbers}
 use Rattle.borsh_walks.specs.Container.{Shape, tag}
 use Rattle.borsh_walks.specs.Container as shape
 use Rattle.borsh_walks.specs.Definitions.{shape_of}
 use Rattle.borsh_walks.specs.declared.definition.Definition.{Definition}
 use Rattle.borsh_values.specs.Nodes.{AreElementsOf, Opens, OpensElements, packed_size}
 use Rattle.borsh_values.specs.declared.layout.Named.{Named}
-use Rattle.borsh_json.specs.declared.error.Refusal.{Refusal}
-use Rattle.borsh_json.specs.declared.error.Refusal.TheVariants.{TooDeep, RepeatedName, EmptyElements, NotBool, NotUtf8, Zero, NotNumber, Descends, OtherNodes, Expected, MissingField, UnknownName, RepeatedKey, Undefined}
 use Rattle.borsh_json.specs.declared.error.WriteError.{WriteError}
 use Rattle.borsh_json.specs.declared.error.WriteError.TheVariants.{OutOfMemory, Refused, Element}
 use Rattle.borsh_json.specs.declared.kinds.Elements.{Elements}
 use Rattle.borsh_json.specs.declared.kinds.Kind.TheVariants.{Numbers}
 use Rattle.borsh_json.specs.declared.output.Output.{Output}
 use Rattle.borsh_json.specs.Forms.{Form, primitive, sequence, tuple, newtype, unnamed, named, choice, form_of, shape_of_form, shapes, IsByte}
-use Rattle.borsh_json.specs.Leaves.{Adds, HasSize, IsCounted, IsElementRefusal, IsLeafRefusal, IsNoJson, IsOpenedAs, IsWritten, RefusesElement, RefusesLeaf, WritesHex, WritesLeaf, output_before, output_tokens}
+use Rattle.borsh_json.specs.Leaves.{Adds, HasSize, IsCounted, IsNoJson, IsOpenedAs, RefusesElement, RefusesLeaf, WritesLeaf, output_before, output_tokens}
 use Rattle.borsh_json.specs.Places.{IsAt, IsKindOf, IsListOf, lengths_of}
 use Rattle.borsh_json.specs.Reads.{SaysFirst}
 use Rattle.borsh_json.specs.Represents.{HaveBytes, next_part}
-use Rattle.borsh_json.specs.Table.{Lengths, Kind, no_bytes, truth, whole, float, raw, utf8, byte_list, list, row, inner, fields, optional, variants, entries, a_text, some_bytes, an_object, some_elements, nullable, by_name, primitive_kind, DefinedKind, HasKind, IsArray, IsHex, IsPrefixed, Part, Says, list_parts}
+use Rattle.borsh_json.specs.Table.{Lengths, Kind, no_bytes, truth, whole, float, raw, utf8, byte_list, list, row, inner, fields, optional, variants, entries, a_text, some_bytes, an_object, some_elements, nullable, by_name, primitive_kind, DefinedKind, HasKind, IsHex, IsPrefixed, Part, Says, list_parts}
 use Rattle.borsh_json.proofs.FormsLaws.{shape_is}
 use Rattle.borsh_json.proofs.FoundLaws.{full_primitive}
-use Rattle.borsh_json.proofs.LeafLaws.{defined, front_one, no_json, primitive_sized, put_hex, put_string, tag_length, tag_one}
+use Rattle.borsh_json.proofs.LeafLaws.{defined, front_one, no_json, primitive_sized, tag_length, tag_one}
 use Rattle.borsh_json.proofs.ReaderLaws.{uncons}
 use Rattle.borsh_json.proofs.RepresentsLaws.{kind_one}
 

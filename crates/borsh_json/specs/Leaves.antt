@@ -1,5 +1,6 @@
 -- What is written of a value without places of its own.
-use Rattle.std.specs.Prelude.{◌≡◌, ◌⊎◌, ⊤, ℕ, ◌<◌, ◌≤◌, ◌^◌, List, [], ◌∷◌, ◌++◌, Bool, true, Option, Some, Result, MatchResult}
+use Rattle.std.specs.Prelude.{◌≡◌, ◌⊎◌, ⊤, ℕ, ◌<◌, ◌≤◌, ◌^◌, List, [], ◌∷◌, ◌++◌, length, Bool, true, Decides, Option, Some, Result, MatchResult}
+use Rattle.std.specs.declared.cmp.Ordering.TheVariants.{Less}
 use Rattle.json.specs.Token.{Token}
 use Rattle.json.specs.Token as token
 use Rattle.json.specs.Json.{Json, string}
@@ -18,11 +19,12 @@ use Rattle.borsh_json.specs.declared.output.Output.{Output}
 use Rattle.borsh_json.specs.declared.output.Output.TheVariants.{Compact, Pretty}
 use Rattle.borsh_json.specs.declared.sources.EntryKey.{EntryKey}
 use Rattle.borsh_json.specs.Forms.{Form, form_of, shape_of_form, shapes}
+use Rattle.borsh_json.specs.Found.{IsPrimitiveKind}
 use Rattle.borsh_json.specs.Frames.{IsEntryKey}
 use Rattle.borsh_json.specs.Places.{AreKeysOf, IsKindOf}
 use Rattle.borsh_json.specs.Reads.{SaysFirst}
 use Rattle.borsh_json.specs.Represents.{HaveBytes}
-use Rattle.borsh_json.specs.Table.{Keys, Kind, Lengths, Part, HasKind, IsHex, key_json, no_bytes, truth, whole, float, raw, utf8, byte_list, list, row, inner, fields, optional, variants, entries}
+use Rattle.borsh_json.specs.Table.{Keys, Kind, Lengths, Part, HasKind, IsHex, key_json, key_order, no_bytes, truth, whole, float, raw, utf8, byte_list, list, row, inner, fields, optional, variants, entries}
 
 -- ---- tokens
 
@@ -65,10 +67,6 @@ HasSize (fields fs) n = ⊥
 HasSize (optional x) n = ⊥
 HasSize (variants w vs) n = ⊥
 HasSize (entries l keys k v) n = ⊥
-
--- the token was written, or an allocation failed
-abbrev pub IsPut : Token → Output → Output → Result (Unit {0}) WriteError → Type 0
-IsPut t old new result = MatchResult result (λ _. Adds (t ∷ []) old new) (λ e. e ≡ OutOfMemory)
 
 -- hexadecimal digits of these bytes were written, or an allocation failed
 abbrev pub WritesHex : List ℕ → Output → Output → Result (Unit {0}) WriteError → Type 0
@@ -148,3 +146,13 @@ abbrev pub WritesKey : KeyKind → Definition → List ℕ → Output → Output
 WritesKey kind d own old new result =
     (F : List ℕ → Option Form) (ns : List Named) (k : List ℕ) (keys : Keys) (parts : List (List ℕ)) → IsOpenedAs F k (form_of d) own parts → AreKeysOf F ns k (form_of d) kind keys
     → (parts ≡ []) × IsKeyWritten F k kind keys own old new result
+
+-- P holds of any name of a primitive's kind that the code found, where the value has as many bytes as these
+abbrev pub ForPrimitives : Found → List ℕ → ((List ℕ → Option Form) → List ℕ → Type 0) → Type 0
+ForPrimitives kind own P = (F : List ℕ → Option Form) (x : List ℕ) (k : Kind) → IsPrimitiveKind kind k → HasKind F x k → HasSize k (length own) → P F x
+
+-- whether the key of a map is above another one, whose keys are of one kind
+abbrev pub TellsAbove : EntryKey → EntryKey → Bool → Type 0
+TellsAbove last key above =
+    (F : List ℕ → Option Form) (ns : List Named) (k : List ℕ) (f : Form) (kind : KeyKind) (keys : Keys) (s t : List ℕ) (i j : Json)
+    → AreKeysOf F ns k f kind keys → IsEntryKey kind last s → IsEntryKey kind key t → Decides above (key_order keys (s, i) (t, j) ≡ Less)

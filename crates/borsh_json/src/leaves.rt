@@ -1,8 +1,8 @@
 // What is written of a value without places of its own.
-ghost use Rattle.borsh_json.specs.Leaves.{HasSize, IsElementWritten, IsOpenedAs, IsWritten, RefusesElement, RefusesLeaf, WritesHex, WritesKey, WritesNode};
-ghost use Rattle.borsh_json.specs.Words.{AreKeysOf, Form, FoundBytes, FoundKeyKind, FoundNumbers, FoundText, HasKind, IsEntryKey, IsInfinity, IsKindOf, IsKnown, IsPrimitiveKind, Json, Keys, NamedPlace, SaysFirst, TableKind, float, form_of, forms_of, key_order, names_of, null, string, truth, whole};
-ghost use Rattle.std.specs.Prelude.{◌≡◌, ◌≤◌, ◌∷◌, [], if◌then◌else◌, ℕ, List, Decides, MatchBool, MatchOption, Option, length};
-ghost use Rattle.std.specs.declared.cmp.Ordering.TheVariants.{Less};
+ghost use Rattle.borsh_json.specs.Leaves.{ForPrimitives, HasSize, IsElementWritten, IsOpenedAs, IsWritten, RefusesElement, RefusesLeaf, TellsAbove, WritesHex, WritesKey, WritesNode};
+ghost use Rattle.borsh_json.specs.Words.{Form, FoundBytes, FoundNumbers, FoundText, HasKind, IsInfinity, IsKindOf, IsKnown, IsPrimitiveKind, SaysFirst, TableKind, float, form_of, forms_of, names_of, null, string, truth, whole};
+ghost use Rattle.hex.specs.Hex.{encode_lower};
+ghost use Rattle.std.specs.Prelude.{◌≡◌, ◌≤◌, ◌+◌, ◌*◌, ◌∷◌, ◌++◌, [], if◌then◌else◌, ℕ, List, MatchBool, MatchOption, Option, codes, length};
 
 use crate::definitions::Definitions;
 use crate::error::{Refusal, WriteError};
@@ -68,7 +68,8 @@ pub fn write_byte_list(
     elements: Elements,
     out: &mut Output,
 ) -> Written
-    ensures { WritesNode (FoundBytes elements) 0 node.now.definition.now node.now.bytes.now out.old out.new result }
+    ensures { let d = node.now.definition.now in
+        WritesNode (FoundBytes elements) 0 d node.now.bytes.now out.old out.new result }
 {
     put_bytes(alloc, elements_of(node), out)
 }
@@ -112,8 +113,8 @@ fn put_element(
     long_numbers: LongNumbers,
     out: &mut Output,
 ) -> Written
-    ensures { (F : List ℕ → Option Form) (e : List ℕ) (k : TableKind) → IsPrimitiveKind kind.entry k →
-        HasKind F e k → HasSize k (length own.now) → IsElementWritten F e own.now out.old out.new result }
+    ensures { ForPrimitives kind.entry own.now
+        (λ F e. IsElementWritten F e own.now out.old out.new result) }
 {
     match put_primitive(alloc, kind, own, long_numbers, out) {
         Ok(()) => Ok(()),
@@ -123,7 +124,8 @@ fn put_element(
 
 /// The error, as that of the element of an index.
 fn of_element(error: WriteError, index: usize) -> WriteError
-    ensures { (F : List ℕ → Option Form) (e own : List ℕ) → RefusesLeaf F e own error → RefusesElement F e own result }
+    ensures { (F : List ℕ → Option Form) (e own : List ℕ) →
+        RefusesLeaf F e own error → RefusesElement F e own result }
 {
     match error {
         WriteError::OutOfMemory => WriteError::OutOfMemory,
@@ -162,9 +164,7 @@ pub fn write_key<'b>(
 
 /// Whether a key of a map is above another one.
 pub fn is_above(key: EntryKey<'_>, last: EntryKey<'_>) -> bool
-    ensures { (F : List ℕ → Option Form) (ns : List NamedPlace) (k : List ℕ) (f : Form) (kind : FoundKeyKind)
-        (keys : Keys) (s t : List ℕ) (i j : Json) → AreKeysOf F ns k f kind keys →
-        IsEntryKey kind last.entry s → IsEntryKey kind key.entry t → Decides result (key_order keys (s, i) (t, j) ≡ Less) }
+    ensures { TellsAbove last.entry key.entry result }
 {
     match (last, key) {
         (EntryKey::Text(last), EntryKey::Text(key)) => last < key,
@@ -181,8 +181,7 @@ fn put_primitive(
     long_numbers: LongNumbers,
     out: &mut Output,
 ) -> Written
-    ensures { (F : List ℕ → Option Form) (x : List ℕ) (k : TableKind) → IsPrimitiveKind kind.entry k →
-        HasKind F x k → HasSize k (length own.now) → IsWritten F 0 x own.now out.old out.new result }
+    ensures { ForPrimitives kind.entry own.now (λ F x. IsWritten F 0 x own.now out.old out.new result) }
 {
     match kind {
         Kind::Number(number) => put_number(number, own, long_numbers, out),
@@ -193,8 +192,9 @@ fn put_primitive(
 }
 
 fn put_number(number: Number, own: &[u8], long_numbers: LongNumbers, out: &mut Output) -> Written
-    ensures { (F : List ℕ → Option Form) (x : List ℕ) → let k = whole number.size number.is_signed number.is_non_zero in
-        HasKind F x k → HasSize k (length own.now) → IsWritten F 0 x own.now out.old out.new result }
+    ensures { let k = whole number.size number.is_signed number.is_non_zero in
+        (F : List ℕ → Option Form) (x : List ℕ) → HasKind F x k → HasSize k (length own.now) →
+        IsWritten F 0 x own.now out.old out.new result }
 {
     let integer = Integer::decode(own, number.is_signed);
     if number.is_non_zero && integer.is_zero() {
@@ -228,7 +228,8 @@ fn put_bool(own: &[u8], out: &mut Output) -> Written
 
 /// The `bool` of a byte.
 fn bool_of(own: &[u8]) -> Option<bool>
-    ensures { MatchOption result ((own.now ≡ 0 ∷ [] → ⊥) × (own.now ≡ 1 ∷ [] → ⊥)) (λ b. own.now ≡ (if b then 1 else 0) ∷ []) }
+    ensures { MatchOption result ((own.now ≡ 0 ∷ [] → ⊥) × (own.now ≡ 1 ∷ [] → ⊥))
+        (λ b. own.now ≡ (if b then 1 else 0) ∷ []) }
 {
     match own {
         [0] => Some(false),
@@ -239,8 +240,9 @@ fn bool_of(own: &[u8]) -> Option<bool>
 
 /// Writes a float, as its bytes.
 fn put_float(alloc: Global, own: &[u8], out: &mut Output) -> Written
-    ensures { (F : List ℕ → Option Form) (x : List ℕ) (n bits : ℕ) → IsInfinity n bits → HasKind F x (float n bits) →
-        length own.now ≡ n → IsWritten F 0 x own.now out.old out.new result }
+    ensures { (F : List ℕ → Option Form) (x : List ℕ) (n bits : ℕ) → IsInfinity n bits →
+        HasKind F x (float n bits) → length own.now ≡ n →
+        IsWritten F 0 x own.now out.old out.new result }
 {
     if is_nan(own) {
         return Err(WriteError::Refused(Refusal::NotNumber));
@@ -252,9 +254,43 @@ fn put_float(alloc: Global, own: &[u8], out: &mut Output) -> Written
 fn put_bytes(alloc: Global, own: &[u8], out: &mut Output) -> Written
     ensures { WritesHex own.now out.old out.new result }
 {
-    let digits = hex::encode(alloc, own)?;
-    let mut text = String::with_capacity(alloc, digits.len().saturating_add(2))?;
-    text.push_str("0x")?;
-    text.push_str(digits.as_str())?;
-    Ok(out.put(Token::String(text.as_str()))?)
+    if own.len() <= 32 {
+        return put_short(own, out);
+    }
+    match own.len().saturating_add(1).checked_mul(2) {
+        Some(len) => {
+            let mut text = vec![in alloc; 0u8; len]?;
+            put_hex(own, text.as_mut_slice(), out)
+        }
+        None => Err(WriteError::OutOfMemory),
+    }
+}
+
+/// The same of at most 32 bytes.
+fn put_short(own: &[u8], out: &mut Output) -> Written
+    requires { length own.now ≤ 32 }
+    ensures { WritesHex own.now out.old out.new result }
+{
+    let mut text = [0u8; 66];
+    put_hex(own, &mut text[..2 * own.len() + 2], out)
+}
+
+/// The same, through a text of so many bytes.
+fn put_hex(own: &[u8], text: &mut [u8], out: &mut Output) -> Written
+    requires { length text.old ≡ 2 * length own.now + 2 }
+    ensures { WritesHex own.now out.old out.new result }
+{
+    spell(own, text);
+    let text = str::from_utf8(text).unwrap();
+    Ok(out.put(Token::String(text))?)
+}
+
+/// Writes `0x` and the digits over a text.
+fn spell(own: &[u8], text: &mut [u8])
+    requires { length text.old ≡ 2 * length own.now + 2 }
+    ensures { text.new ≡ codes "0x" ++ encode_lower own.now }
+{
+    text[0] = b'0';
+    text[1] = b'x';
+    hex::encode_to_slice(own, &mut text[2..]).unwrap()
 }

@@ -164,11 +164,13 @@ impl<'a, 'k> Position<'a, 'k> {
         ensures outer { result.outer.items ≡ [] }
         ensures place { (result.place.parts ≡ Root) × (result.place.begun ≡ 0) }
     {
+        let parts: Parts<'a> = Parts::Root;
+        let place: Place<'a, 'k> = Place::new(parts);
         Position {
             alloc,
             root,
             outer: Vec::new(alloc),
-            place: Place::new(Parts::Root),
+            place,
         }
     }
 

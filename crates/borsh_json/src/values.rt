@@ -125,8 +125,8 @@ fn begin_option<'a, 'b>(part: usize, node: &Node<'a, 'b>, out: &mut Output) -> B
     ensures { (F : List ℕ → Option Form) (ns : List NamedPlace) (at : ℕ) →
         WritesValueOf F ns at (FoundOption part) node.now out.old out.new result }
 {
-    let is_none = matches!(variant_of(node), Some(0));
-    if is_none {
+    let index = variant_of(node).unwrap_or(usize::MAX);
+    if index == 0 {
         write_null(out)?;
         return Ok(None);
     }

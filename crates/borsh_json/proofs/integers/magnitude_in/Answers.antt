@@ -1,5 +1,4 @@
-use Rattle.std.proofs.Common.{◌≡◌, ◌-◌, ◌∙◌, arith, suc, sym, ap}
-use Rattle.borsh_json.specs.Integers.{turned}
+use Rattle.std.proofs.Common.{◌-◌, ◌∙◌, arith}
 use Rattle.borsh_json.proofs.IntegerLaws.{decoded_more}
 use Rattle.borsh_json.proofs.integers.magnitude_in.Goals as goal
 

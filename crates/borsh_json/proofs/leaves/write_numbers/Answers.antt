@@ -1,4 +1,4 @@
-use Rattle.std.proofs.Common.{◌≡◌, ◌∙◌, ℕ, ◌<◌, ◌≤◌, List, [], max, min, length, ap, arith, subst, sym}
+use Rattle.std.proofs.Common.{◌≡◌, ℕ, List, [], length, arith, subst, sym}
 use Rattle.std.proofs.lemmas.Bool.Decides.{nat_tests}
 use Rattle.borsh_json.specs.Forms.{form_of}
 use Rattle.borsh_json.specs.Found.{IsPrimitiveKind, forms_of, names_of}

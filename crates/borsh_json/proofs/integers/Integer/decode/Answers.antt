@@ -1,5 +1,4 @@
-use Rattle.std.proofs.Common.{◌≡◌, ℕ, ◌<◌, ◌≤◌, ◌-◌, ◌∙◌, Bool, true, false, length, get_or, arith, sym}
-use Rattle.std.proofs.lemmas.Bool.Decides.{nat_tests}
+use Rattle.std.proofs.Common.{◌≡◌, ℕ, ◌<◌, ◌≤◌, ◌-◌, ◌∙◌, true, false, length, get_or, arith, sym}
 use Rattle.borsh_json.proofs.IntegerLaws.{decoded}
 use Rattle.borsh_json.proofs.integers.Integer.decode.Goals as goal
 use Rattle.borsh_json.proofs.integers.Integer.decode.Goals.{then-is_signed, else-is_signed}
