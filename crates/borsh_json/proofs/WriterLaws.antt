@@ -43,7 +43,7 @@ use Rattle.borsh_json.specs.Errors.{error_of}
 use Rattle.borsh_json.specs.Forms.{Form, form_of, forms_in, shape_of_form, shapes, HasNoBytes}
 use Rattle.borsh_json.specs.Found.{forms_of, names_of}
 use Rattle.borsh_json.specs.Frames.{Wanted, IsWanted, GivesPart, IsKey, IsEntryKey, IsOf}
-use Rattle.borsh_json.specs.Leaves.{output_before, output_tokens, Adds, IsNoJson, IsOpenedAs, WritesLeaf, IsLeafRefusal, RefusesLeaf}
+use Rattle.borsh_json.specs.Leaves.{output_before, output_tokens, Adds, IsNoJson, IsOpenedAs, WritesLeaf, RefusesLeaf}
 use Rattle.borsh_json.specs.Places.{IsAt, AreKeysOf, lengths_of}
 use Rattle.borsh_json.specs.Reads.{SaysFirst}
 use Rattle.borsh_json.specs.Represents.{next_part}
@@ -53,6 +53,7 @@ use Rattle.borsh_json.specs.Writes.{IsAbove, IsLast, IsBegunOf, IsWhole, IsWritt
 use Rattle.borsh_json.proofs.FormsLaws.{shape_is, shapes_are}
 use Rattle.borsh_json.proofs.WritingPlaces.{as_many, key_tokens, TakesPart, TakesEntry, takes_part, takes_entry, place_ends}
 use Rattle.borsh_json.proofs.FormKinds.{form_known}
+use Rattle.borsh_json.proofs.WholeLaws.{leaf_refused}
 use Rattle.borsh_json.proofs.WritingSteps.{only_in, not_in, halved_on, leaf_writes, front_writes, awaits, entry_halved, awaits_entry, end_writes, end_whole}
 
 -- ---- the parts of a definition are its references
@@ -293,45 +294,6 @@ module _ (d : Definitions) (w new : Writing) (x : List ℕ) (a : IsAwaitingAt d 
       (λ done parts ps n g. subst (λ (k : Walker). IsReadTo (shapes F) root (done ++ []) (parts ++ ps) k.left.now) (sym walk) (struct_on (shapes F) root x w.walk.left.now (names_of_rest r) (shape_of_form f) c s done parts ps n g)) 0 q c room (r, h, t, opens) p o
 
 -- ---- parts and their keys
--- the refusal of a leaf is one of a value
-leaf_refusal : (F : List ℕ → Option Form) (r : Refusal) (x own : List ℕ) → IsLeafRefusal F r x own → RefusesOwn F x own r
-leaf_refusal F TooDeep x own h = absurd h
-leaf_refusal F (RepeatedName n) x own h = absurd h
-leaf_refusal F EmptyElements x own h = absurd h
-leaf_refusal F NotBool x own h = h.1
-leaf_refusal F NotUtf8 x own h = h.2
-leaf_refusal F Zero x own h = h.3
-leaf_refusal F NotNumber x own h = h.3
-leaf_refusal F Descends x own h = absurd h
-leaf_refusal F OtherNodes x own h = absurd h
-leaf_refusal F (Expected w) x own h = absurd h
-leaf_refusal F MissingField x own h = absurd h
-leaf_refusal F (UnknownName n) x own h = absurd h
-leaf_refusal F (RepeatedKey n) x own h = absurd h
-leaf_refusal F (Undefined n) x own h = absurd h
-
--- so is that of an element, since no JSON says the list
-element_refusal : (F : List ℕ → Option Form) (r : Refusal) (x own e piece : List ℕ) → IsLeafRefusal F r e piece → IsNoJson F x own → RefusesOwn F x own r
-element_refusal F TooDeep x own e piece h n = absurd h
-element_refusal F (RepeatedName m) x own e piece h n = n
-element_refusal F EmptyElements x own e piece h n = n
-element_refusal F NotBool x own e piece h n = n
-element_refusal F NotUtf8 x own e piece h n = n
-element_refusal F Zero x own e piece h n = n
-element_refusal F NotNumber x own e piece h n = n
-element_refusal F Descends x own e piece h n = tt
-element_refusal F OtherNodes x own e piece h n = absurd h
-element_refusal F (Expected w) x own e piece h n = absurd h
-element_refusal F MissingField x own e piece h n = absurd h
-element_refusal F (UnknownName m) x own e piece h n = absurd h
-element_refusal F (RepeatedKey m) x own e piece h n = absurd h
-element_refusal F (Undefined m) x own e piece h n = absurd h
-
-pub leaf_refused : (F : List ℕ → Option Form) (e : WriteError) (x own : List ℕ) → RefusesLeaf F x own e → RefusesValue F x own e
-leaf_refused F OutOfMemory x own h = tt
-leaf_refused F (Refused r) x own h = leaf_refusal F r x own h
-leaf_refused F (Element i r) x own h = element_refusal F r x own h.0 h.1 h.2 h.3
-
 -- the key is above the last one
 pub first_above : (kind : KeyKind) (keys : Keys) (o : Option (List ℕ)) (s : List ℕ) → IsLast kind None o → IsAbove keys o s
 first_above kind keys o s e = subst (λ o. IsAbove keys o s) (sym e) tt
@@ -421,7 +383,7 @@ module _ (d : Definitions) (w new : Writing) (p : Place) (part : FoundPart) (es 
         let F = forms_of d in
         let root = d.layout.now.root.now in
         let node = node_is d w new.walk es.key t.key a.writer.layout t.key_named found n is g in
-        stops_value F root w.bytes.now t.key n.bytes.now e pe i (no_json_part F root w.bytes.now t.key a.state.done n.bytes.now new.walk.left.now w.walk.left.now (t.value ∷ (replicate t.count t.pair ++ names_of_all a.state.around)) node.bytes entry_next) (leaf_refused F e t.key n.bytes.now r)
+        stops_value F root w.bytes.now t.key n.bytes.now e pe i (no_json_part F root w.bytes.now t.key a.state.done n.bytes.now new.walk.left.now w.walk.left.now (t.value ∷ (replicate t.count t.pair ++ names_of_all a.state.around)) node.bytes entry_next) (leaf_refused F t.key n.bytes.now e r)
 
 -- ---- the parts of a place have ended
 pub place_ended : (d : Definitions) (w new : Writing) (p : Place) → IsWritingAt d w p → ((ws : List Wanted) → IsWanted (forms_of d) (names_of d) p.parts p.begun ws → ws ≡ []) → Adds (ends_of p.parts) w.out new.out → new.walk ≡ w.walk → new.bytes ≡ w.bytes

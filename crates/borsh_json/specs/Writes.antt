@@ -343,6 +343,15 @@ module _ (F : List ℕ → Option Form) (root bytes : List ℕ) where
   Stops (NotJson offset) = ⊥
   Stops (RefusedBytes path refusal) = RefusesBytes refusal
 
+  -- and so is the refusal of a call for a member
+  abbrev pub ShowsNoJson : JsonError → Type 0
+  ShowsNoJson NoMemory = ⊤
+  ShowsNoJson (NoMember f) = ⊤
+  ShowsNoJson NoValue = ⊥
+  ShowsNoJson (Ambiguous x) = ⊤
+  ShowsNoJson (NotJson offset) = ⊥
+  ShowsNoJson (RefusedBytes path refusal) = RefusesBytes refusal
+
 -- ---- the writer
 
 module _ (d : Definitions) (w : Writing) where

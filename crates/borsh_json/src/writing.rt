@@ -1,19 +1,19 @@
 // A value as JSON.
-ghost use Rattle.borsh_json.specs.Words.{Adds, AreKeysOf, EntryOf, Form, FoundKeyKind, IsAbove, IsEntryKey, IsLast, Keys, NamedPlace, FoundPart, HasKinds, HasNode, IsAt, IsAwaitingAt, IsBegunOf, IsFullOrDescends, IsKindOf, IsNoJsonReason, IsWalker, IsWritingAt, IsWrittenOn, Member, Place, SaysBy, StopsBy, TextSays, definitions_in, ends_of, forms_in, forms_of, FoundElements, FoundNumbers, names_of, shapes};
+ghost use Rattle.borsh_json.specs.Words.{Adds, AreKeysOf, EntryOf, Form, FoundKeyKind, IsAbove, IsEntryKey, IsLast, Keys, NamedPlace, FoundPart, HasKinds, HasNode, IsAt, IsAwaitingAt, IsBegunOf, IsFullOrDescends, IsKindOf, IsNoJsonReason, IsPartError, IsUnwritable, IsWalker, IsWritingAt, IsWrittenOn, Member, Place, SaysBy, ShowsNoJson, StopsBy, TextSays, definitions_in, ends_of, forms_in, forms_of, FoundElements, FoundNumbers, names_of, shapes};
 ghost use Rattle.borsh_json.specs.Ascii.{IsPlain};
-ghost use Rattle.borsh_json.specs.declared.output.Characters.TheVariants.{Ascii};
+ghost use Rattle.borsh_json.specs.declared.output.Characters.TheVariants.{Any, Ascii};
 ghost use Rattle.std.specs.Prelude.{◌≡◌, ◌<◌, ℕ, All, IfErr, IfOk, IsUtf8, List, MatchResult, OnOk, Option, Some, length, string_bytes, true};
 
 use crate::ascii::{in_ascii, is_ascii};
 use crate::definitions::Definitions;
-use crate::error::{JsonError, PartResult, Refusal};
+use crate::error::{JsonError, PartError, PartResult, Refusal};
 use crate::kinds::{Entries, Kind};
 use crate::leaves::{is_above, write_key};
 use crate::output::{Characters, LongNumbers, Output, Style};
 use crate::position::{Key, Part, Parts, Place, Position};
 use crate::sources::EntryKey;
 use crate::values::{begin_struct, begin_value};
-use borsh_values::{Layout, Membership, Node, Walker, elements_of};
+use borsh_values::{Layout, Membership, Node, Path, Walker, elements_of};
 use borsh_walks::Definition;
 use json::Token;
 use std::alloc::{AllocError, Global};
@@ -58,6 +58,8 @@ pub fn to_json<'a>(
         IfOk result (λ text. TextSays F root.now (string_bytes text) bytes.now) }
     ensures ascii { style.characters ≡ Ascii → IfOk result (λ text. All IsPlain (string_bytes text)) }
     ensures reason { IfErr result (λ e. IsNoJsonReason (definitions_in map.now) root.now bytes.now e) }
+    ensures refused { style.characters ≡ Any →
+        IfErr result (λ e. ShowsNoJson (forms_in map.now) root.now bytes.now e) }
 {
     let layout = Layout::new(alloc, root, map)?;
     let json = Definitions::new(alloc, &layout)?;
@@ -72,40 +74,84 @@ impl<'a, 'l> Definitions<'a, 'l> {
         ensures ascii { style.characters ≡ Ascii → IfOk result (λ text. All IsPlain (string_bytes text)) }
         ensures reason { let l = self.now.layout.now in
             IfErr result (λ e. IsNoJsonReason (definitions_in l.map.now) l.root.now bytes.now e) }
+        ensures refused { let l = self.now.layout.now in style.characters ≡ Any →
+            IfErr result (λ e. ShowsNoJson (forms_in l.map.now) l.root.now bytes.now e) }
     {
         match self.layout.is_member(self.alloc, bytes)? {
             Membership::Member => {
-                let written = write_value(self, bytes, style)?;
-                in_characters(self.alloc, text_of(written), style.characters)
+                let text = text_of(write_value(self, bytes, style)?);
+                Ok(self.in_characters(text, bytes, style.characters)?)
             }
             Membership::NoMember(fault) => Err(JsonError::NoMember(fault)),
             Membership::Ambiguous(name) => Err(JsonError::Ambiguous(name)),
         }
     }
-}
 
-/// The text, with these characters alone.
-fn in_characters<'a>(
-    alloc: Global,
-    text: String,
-    characters: Characters,
-) -> Result<String, JsonError<'a>>
-{
-    if characters == Characters::Any || is_ascii(text.as_str()) {
-        return Ok(text);
+    /// The text, with these characters alone.
+    fn in_characters(
+        &self,
+        text: String,
+        bytes: &[u8],
+        characters: Characters,
+    ) -> PartResult<'a, String>
+        requires { HasKinds self.now }
+        ensures says { SaysBy self.now (string_bytes text.entry) bytes.now →
+            IfOk result (λ text. SaysBy self.now (string_bytes text) bytes.now) }
+        ensures ascii { characters ≡ Ascii → IfOk result (λ text. All IsPlain (string_bytes text)) }
+        ensures any { characters ≡ Any → IfErr result (λ e. ⊥) }
+        ensures refusal { IfErr result (IsPartError IsUnwritable) }
+    {
+        if characters == Characters::Any || is_ascii(text.as_str()) {
+            return Ok(text);
+        }
+        match String::from_utf8(in_ascii(self.alloc, text.as_str())?) {
+            Ok(text) => {
+                self.check_text(text.as_str(), bytes)?;
+                Ok(text)
+            }
+            Err(_) => Err(no_json(self.alloc, self.layout.root)),
+        }
     }
-    Ok(text_of(in_ascii(alloc, text.as_str())?))
+
+    /// Refuses a text that doesn't say the bytes, by reading it.
+    fn check_text(&self, text: &str, bytes: &[u8]) -> PartResult<'a, ()>
+        requires { HasKinds self.now }
+        ensures says { let l = self.now.layout.now in Member (definitions_in l.map.now) l.root.now bytes.now →
+            OnOk result (SaysBy self.now text.now bytes.now) }
+        ensures refusal { IfErr result (IsPartError IsUnwritable) }
+    {
+        match self.read_text(text) {
+            Ok(read) => {
+                let is_same = read.as_slice() == bytes;
+                if is_same {
+                    Ok(())
+                } else {
+                    Err(no_json(self.alloc, self.layout.root))
+                }
+            }
+            Err(JsonError::OutOfMemory) => Err(PartError::OutOfMemory),
+            Err(_) => Err(no_json(self.alloc, self.layout.root)),
+        }
+    }
 }
 
 /// The text of bytes, which are UTF-8.
 fn text_of(bytes: Vec<u8>) -> String
-    requires { IsUtf8 bytes.items }
-    ensures { string_bytes result ≡ bytes.items }
+    requires { IsUtf8 bytes.entry.items }
+    ensures { string_bytes result ≡ bytes.entry.items }
 {
     match String::from_utf8(bytes) {
         Ok(text) => text,
         Err(_) => unreachable!(),
     }
+}
+
+/// That a text in ASCII doesn't say the bytes.
+fn no_json<'a>(alloc: Global, root: &'a str) -> PartError<'a>
+    ensures { IsPartError IsUnwritable result }
+{
+    let steps = Vec::new(alloc);
+    PartError::Refused(Path { root, steps }, Refusal::OtherNodes)
 }
 
 /// The JSON text of a member.
@@ -122,10 +168,13 @@ fn write_value<'a>(
 {
     let alloc = definitions.alloc;
     let layout = definitions.layout;
+    let walk = Walker::new(alloc, layout, bytes);
+    let position = Position::new(alloc, layout.root);
+    let out = Output::new(alloc, style.layout);
     let mut writing = Writing {
-        walk: Walker::new(alloc, layout, bytes),
-        position: Position::new(alloc, layout.root),
-        out: Output::new(alloc, style.layout),
+        walk,
+        position,
+        out,
         bytes,
         long_numbers: style.long_numbers,
     };
