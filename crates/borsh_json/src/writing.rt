@@ -95,7 +95,7 @@ impl<'a, 'l> Definitions<'a, 'l> {
         characters: Characters,
     ) -> PartResult<'a, String>
         requires { HasKinds self.now }
-        ensures says { SaysBy self.now (string_bytes text.entry) bytes.now →
+        ensures says { SaysBy self.now (string_bytes text) bytes.now →
             IfOk result (λ text. SaysBy self.now (string_bytes text) bytes.now) }
         ensures ascii { characters ≡ Ascii → IfOk result (λ text. All IsPlain (string_bytes text)) }
         ensures any { characters ≡ Any → IfErr result (λ e. ⊥) }
@@ -137,8 +137,8 @@ impl<'a, 'l> Definitions<'a, 'l> {
 
 /// The text of bytes, which are UTF-8.
 fn text_of(bytes: Vec<u8>) -> String
-    requires { IsUtf8 bytes.entry.items }
-    ensures { string_bytes result ≡ bytes.entry.items }
+    requires { IsUtf8 bytes.items }
+    ensures { string_bytes result ≡ bytes.items }
 {
     match String::from_utf8(bytes) {
         Ok(text) => text,
