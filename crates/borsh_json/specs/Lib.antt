@@ -11,6 +11,8 @@ pub mod Known
 pub mod Found
 pub mod Reads
 pub mod Frames
+pub mod Leaves
+pub mod Writes
 pub mod Rows
 pub mod Leaves
 pub mod Words

@@ -27,6 +27,7 @@ mod reading;
 mod rows;
 mod sources;
 mod strict;
+mod values;
 mod writing;
 
 pub use ascii::in_ascii;

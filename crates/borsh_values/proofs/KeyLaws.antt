@@ -109,7 +109,7 @@ tag_key w j k m n a b e = elim (cases_lt w 8) [
 ]
 
 -- the number of low bytes
-value_low : (w n : ℕ) → n < 256 ^ w → value_of (low_bytes w n) ≡ n
+pub value_low : (w n : ℕ) → n < 256 ^ w → value_of (low_bytes w n) ≡ n
 value_low zero n h = omega arith
 value_low (suc w) n h =
     let p = pow-suc 256 w in

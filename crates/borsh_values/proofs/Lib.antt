@@ -32,3 +32,4 @@ pub mod NextLaws
 pub mod RecordLaws
 pub mod FreeWalk
 pub mod OnlyLaws
+pub mod WalkedLaws

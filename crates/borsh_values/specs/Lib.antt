@@ -18,3 +18,4 @@ pub mod Fronts
 pub mod Next
 pub mod Records
 pub mod Unpacked
+pub mod Walks

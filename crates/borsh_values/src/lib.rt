@@ -27,6 +27,7 @@ mod tag_tables;
 mod tags;
 mod unambiguous;
 mod unpacked;
+mod walker;
 mod zeros;
 
 pub use buffered::Buffered;
@@ -41,3 +42,4 @@ pub use paths::Paths;
 pub use records::{MOST_BYTES, RecordError, Records};
 pub use unambiguous::find_ambiguous;
 pub use unpacked::Unpacked;
+pub use walker::Walker;

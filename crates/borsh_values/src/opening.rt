@@ -3,6 +3,7 @@ ghost use Rattle.borsh_values.specs.Layouts.{IsLaidOut, name_at, named_definitio
 ghost use Rattle.borsh_values.specs.Nodes.{packed_size};
 ghost use Rattle.borsh_values.specs.Steps.{FitsWidth, OpensAs, TakesElements};
 ghost use Rattle.borsh_values.specs.TagTables.{AreTagTables, KeepsTables, TableFits};
+ghost use Rattle.borsh_values.specs.Walks.{CountsIfTaken};
 ghost use Rattle.borsh_walks.specs.Container.{choice, sequence};
 ghost use Rattle.borsh_walks.specs.Definitions.{definitions_in, shape_of};
 ghost use Rattle.borsh_walks.specs.Tables.{mark_of};
@@ -92,9 +93,11 @@ pub fn open_sequence(
 ) -> Opened
     requires laid_out { IsLaidOut layout.now }
     requires within { element < length layout.now.names.items }
-    ensures { let names = layout.now.names.items in
+    ensures opened { let names = layout.now.names.items in
         let d = sequence width start end (name_at names element) in
         OpensAs (definitions_in layout.now.map.now) names d bytes.now result }
+    ensures counted { let e = name_at layout.now.names.items element in
+        CountsIfTaken (sequence width start end e) result }
 {
     if width == 0 {
         if end < start {
@@ -174,6 +177,7 @@ pub fn open_definition<'a>(
     ensures opened { let C = definitions_in layout.now.map.now in
         let d = shape_of definition.now in
         IfOk result (λ o. OpensAs C layout.now.names.items d bytes.now o) }
+    ensures counted { IfOk result (λ o. CountsIfTaken (shape_of definition.now) o) }
     ensures tables { OnOk result (AreTagTables (definitions_in layout.now.map.now) tables.new) }
 {
     match definition {

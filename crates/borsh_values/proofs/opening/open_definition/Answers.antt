@@ -33,7 +33,7 @@ pub returns-in-Some-clause-opened : goal.returns-in-Some-clause-opened
 returns-in-Some-clause-opened c =
     let l = c.args.layout.now in
     let p = subst (λ o. IsPlaceOf l.names.items c.args.at 0 o) c.in-Some.is c.part_at.ensures.place in
-    opens_sequence (definitions_in l.map.now) l.names.items c.args.at c.requires.within _ _ _ c.in-Some.element _ (shape_of c.args.definition.now) c.args.bytes.now c.open_sequence.result (ap (λ d. shape_of d) c.in-Sequence.is) c.requires.shape p c.open_sequence.ensures
+    opens_sequence (definitions_in l.map.now) l.names.items c.args.at c.requires.within _ _ _ c.in-Some.element _ (shape_of c.args.definition.now) c.args.bytes.now c.open_sequence.result (ap (λ d. shape_of d) c.in-Sequence.is) c.requires.shape p c.open_sequence.ensures.opened
 
 pub returns-in-None-clause-opened : goal.returns-in-None-clause-opened
 returns-in-None-clause-opened c =

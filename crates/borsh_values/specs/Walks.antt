@@ -1,0 +1,63 @@
+-- Values that are walked part by part.
+use Rattle.std.specs.Prelude.{◌≡◌, ◌⊎◌, ⊤, ℕ, ◌+◌, ◌^◌, ◌<◌, ◌≤◌, List, [], ◌∷◌, ◌++◌, length, Option, Some, MatchOption, String}
+use Rattle.std.specs.BTreeMap.{BTreeMap, get_by_text}
+use Rattle.borsh_walks.specs.declared.definition.Definition.{Definition}
+use Rattle.borsh_walks.specs.Container.{Shape, primitive, sequence, product, choice, Members}
+use Rattle.borsh_walks.specs.Definitions.{definitions_in, shape_of}
+use Rattle.borsh_values.specs.declared.frames.Opened.{Opened}
+use Rattle.borsh_values.specs.declared.frames.Opened.TheVariants.{Undecided, Refused, Taken}
+use Rattle.borsh_values.specs.declared.nodes.Node.{Node}
+use Rattle.borsh_values.specs.declared.walker.Walker.{Walker}
+use Rattle.borsh_values.specs.Layouts.{IsLaidOut, name_of}
+use Rattle.borsh_values.specs.Membership.{IsUndecided}
+use Rattle.borsh_values.specs.Nodes.{Opens, Reads}
+use Rattle.borsh_values.specs.TagTables.{AreTagTables}
+
+-- of a member of the root the bytes `done` are read, these names come next, and the bytes `left` are members of them
+abbrev pub IsReadTo : (List ℕ → Option Shape) → List ℕ → List ℕ → List (List ℕ) → List ℕ → Type 0
+IsReadTo C root done names left = Reads C (root ∷ []) done names × Members C names left
+
+-- the count of a sequence is the one that its definition allows, or a number of at most eight bytes
+abbrev pub IsCounted : Shape → Type 0
+IsCounted (primitive n) = ⊤
+IsCounted (sequence w lo hi e) = ((w ≡ 0) × (lo ≡ hi)) ⊎ ((w ≤ 8) × (hi < 256 ^ w))
+IsCounted (product ps) = ⊤
+IsCounted (choice w vs) = ⊤
+
+-- so it is of a definition that takes bytes
+abbrev pub CountsIfTaken : Shape → Opened → Type 0
+CountsIfTaken d Undecided = ⊤
+CountsIfTaken d (Refused r) = ⊤
+CountsIfTaken d (Taken n r) = IsCounted d
+
+-- the layout is one, the tables are those of its enums, and the offset of each byte that is left is a `usize`
+pub record IsWalker (w : Walker) : Type 0 where
+  pub laid : IsLaidOut w.layout.now
+  pub tables : AreTagTables (definitions_in w.layout.now.map.now) w.tables
+  pub small : w.offset + length w.left.now < 2 ^ 64
+
+module _ {A : Type 0} (m : BTreeMap (String A) Definition) where
+  -- own bytes of a definition are taken: whichever its parts are, they come next
+  abbrev pub GoesOnTo : List ℕ → Shape → List ℕ → List ℕ → List ℕ → Type 0
+  GoesOnTo x d own old new = (root done : List ℕ) (ns ps : List (List ℕ)) → Opens (definitions_in m) d own ns → IsReadTo (definitions_in m) root done (x ∷ ps) old → IsReadTo (definitions_in m) root (done ++ own) (ns ++ ps) new
+
+  -- the node is that of the value of the name x with which the bytes begin that were left, and those behind its own bytes are left now
+  pub record IsNodeOf (x : List ℕ) (old new : Walker) (n : Node) : Type 0 where
+    pub name : n.name.now ≡ x
+    pub definition : get_by_text m x ≡ Some n.definition.now
+    pub bytes : old.left.now ≡ n.bytes.now ++ new.left.now
+    pub offset : n.offset ≡ old.offset
+    pub next : new.offset ≡ old.offset + length n.bytes.now
+    -- the parts of the value
+    pub parts : List (List ℕ)
+    pub opens : Opens (definitions_in m) (shape_of n.definition.now) n.bytes.now parts
+    pub counted : IsCounted (shape_of n.definition.now)
+    pub onward : GoesOnTo x (shape_of n.definition.now) n.bytes.now old.left.now new.left.now
+
+  -- where there is no node, no member of the name begins the bytes, or its definition is ambiguous or breaks a rule of widths
+  abbrev pub FindsNode : List ℕ → List ℕ → Walker → Walker → Option Node → Type 0
+  FindsNode root x old new found = MatchOption found ((ps : List (List ℕ)) → Members (definitions_in m) (x ∷ ps) old.left.now → IsUndecided (definitions_in m) root x) (λ n. IsNodeOf x old new n)
+
+-- so it is of the name at the place
+abbrev pub FindsAt : ℕ → Walker → Walker → Option Node → Type 0
+FindsAt at old new found = (x : List ℕ) → name_of old.layout.now.names.items at ≡ Some x → FindsNode old.layout.now.map.now old.layout.now.root.now x old new found
