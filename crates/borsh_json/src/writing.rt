@@ -1,6 +1,7 @@
 // A value as JSON.
 ghost use Rattle.borsh_json.specs.Words.{Adds, AreKeysOf, EntryOf, Form, FoundKeyKind, IsAbove, IsEntryKey, IsLast, Keys, NamedPlace, FoundPart, HasKinds, HasNode, IsAt, IsAwaitingAt, IsBegunOf, IsFullOrDescends, IsKindOf, IsNoJsonReason, IsPartError, IsUnwritable, IsWalker, IsWritingAt, IsWrittenOn, Member, Place, SaysBy, ShowsNoJson, StopsBy, TextSays, definitions_in, ends_of, forms_in, forms_of, FoundElements, FoundNumbers, names_of, shapes};
-ghost use Rattle.borsh_json.specs.Ascii.{IsPlain};
+ghost use Rattle.borsh_json.specs.Ascii.{IsInLine, IsPlain};
+ghost use Rattle.borsh_json.specs.declared.output.Layout.TheVariants.{Compact};
 ghost use Rattle.borsh_json.specs.declared.output.Characters.TheVariants.{Any, Ascii};
 ghost use Rattle.std.specs.Prelude.{◌≡◌, ◌<◌, ℕ, All, IfErr, IfOk, IsUtf8, List, MatchResult, OnOk, Option, Some, length, string_bytes, true};
 
@@ -164,6 +165,7 @@ fn write_value<'a>(
     requires member { Member (shapes (forms_of definitions.now)) definitions.now.layout.now.root.now bytes.now }
     ensures says { IfOk result (λ text. SaysBy definitions.now text.items bytes.now) }
     ensures utf8 { IfOk result (λ text. IsUtf8 text.items) }
+    ensures line { style.layout ≡ Compact → IfOk result (λ text. All IsInLine text.items) }
     ensures stops { IfErr result (StopsBy definitions.now bytes.now) }
 {
     let alloc = definitions.alloc;
@@ -181,7 +183,10 @@ fn write_value<'a>(
     for _ in 0..u64::MAX {
         let more = writing.write_next(definitions)?;
         if !more {
-            return Ok(writing.out.into_bytes());
+            if writing.out.is_in(style.layout) {
+                return Ok(writing.out.into_bytes());
+            }
+            break;
         }
     }
     Err(JsonError::OutOfMemory)
