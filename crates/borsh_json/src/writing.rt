@@ -39,9 +39,11 @@ use std::collections::BTreeMap;
 ///
 /// Determined: after `Ok` the text is JSON that says these bytes, of the characters of the style. So no other bytes have this
 /// text, they are a member of the root ([`crate::text_determines_bytes`]), and they are what [`crate::from_json`] gives for it,
-/// if anything. After `NoMember` they are none, and after `Refused` they are one; `NoMember` and `Ambiguous` are as of
-/// [`borsh_values::decode`], and `NoValue` and `NotJson` aren't returned. Left open: memory, of which texts from 4 GiB on are said
-/// to want some; `Refused` for any member, for any reason that a value has; which of the texts that say the bytes: tested.
+/// if anything. After `NoMember` they are none; `NoMember` and `Ambiguous` are as of [`borsh_values::is_member`], and `NoValue`
+/// and `NotJson` aren't returned. After `Refused` they are one, and where the style allows any characters, it has a reason:
+/// `TooDeep`, that a chain of 128 references leads from the root to a name; another, that the bytes reach a value of a name of
+/// which no JSON says these bytes. Left open: memory; the reason of `Descends`, and of refusals in ASCII; which of the texts that
+/// say the bytes: tested.
 ///
 /// ```
 /// let text = to_json(alloc, "(u8, bool)", &definitions, &[7, 1], Style::COMPACT)?;
