@@ -36,4 +36,3 @@ pub mod FieldLaws
 pub mod LeafLaws
 pub mod ListLaws
 pub mod KeyLaws
-pub mod BegunLaws
