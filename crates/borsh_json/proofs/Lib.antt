@@ -17,6 +17,7 @@ pub mod FrontLaws
 pub mod BegunLaws
 pub mod ChoiceLaws
 pub mod WholeLaws
+pub mod StopLaws
 pub mod NullLaws
 pub mod PartsLaws
 pub mod LoopLaws

@@ -333,15 +333,18 @@ key_begun d w new p part a b n t walk position bytes =
     let s = a.state in
     let q = w.position.place in
     let h = part_of d p q part b s.inner n s.here in
-    let r = awaits F ns root w.bytes.now p q w.position.outer.items w.walk.left.now (output_tokens w.out) (output_tokens new.out) s b.1 part b.2 h t.tokens in
-    (h.name, h.named, record {
-      writer = record { layout = subst (λ (k : Walker). k.layout.now ≡ d.layout.now) (sym walk) a.writer.layout; walk = subst (λ (k : Walker). IsWalker k) (sym walk) a.writer.walk; fresh = t.before ∙ a.writer.fresh };
-      room = 128 - length s.around;
-      state =
-          subst (λ (b : Bor (List ℕ)). IsAwaiting F ns root b.now h.name (128 - length s.around) new.position.place new.position.outer.items new.walk.left.now (output_tokens new.out)) (sym bytes)
-          (subst (λ (k : Walker). IsAwaiting F ns root w.bytes.now h.name (128 - length s.around) new.position.place new.position.outer.items k.left.now (output_tokens new.out)) (sym walk)
-          (subst (λ (k : Position). IsAwaiting F ns root w.bytes.now h.name (128 - length s.around) k.place k.outer.items w.walk.left.now (output_tokens new.out)) (sym position) r));
-    })
+    let r = awaits F ns root w.bytes.now p q w.position.outer.items w.walk.left.now (output_tokens w.out) (output_tokens new.out) s b.1 part b.2 h t.tokens in (
+      h.name,
+      h.named,
+      record {
+        writer = record { layout = subst (λ (k : Walker). k.layout.now ≡ d.layout.now) (sym walk) a.writer.layout; walk = subst (λ (k : Walker). IsWalker k) (sym walk) a.writer.walk; fresh = t.before ∙ a.writer.fresh };
+        room = 128 - length s.around;
+        state =
+            subst (λ (b : Bor (List ℕ)). IsAwaiting F ns root b.now h.name (128 - length s.around) new.position.place new.position.outer.items new.walk.left.now (output_tokens new.out)) (sym bytes)
+            (subst (λ (k : Walker). IsAwaiting F ns root w.bytes.now h.name (128 - length s.around) new.position.place new.position.outer.items k.left.now (output_tokens new.out)) (sym walk)
+            (subst (λ (k : Position). IsAwaiting F ns root w.bytes.now h.name (128 - length s.around) k.place k.outer.items w.walk.left.now (output_tokens new.out)) (sym position) r));
+      },
+    )
 
 module _ (d : Definitions) (w new : Writing) (p : Place) (part : FoundPart) (es : FoundEntries) (a : IsWritingAt d w p) (parts : new.position.place.parts ≡ p.parts)
     (t : TakesEntry (forms_of d) (names_of d) es p.parts new.position.place.begun p.last part a.state.inner) where
@@ -368,14 +371,17 @@ module _ (d : Definitions) (w new : Writing) (p : Place) (part : FoundPart) (es 
         let node = node_is d w new.walk es.key t.key a.writer.layout t.key_named found n is g in
         let o = subst (λ l. Opens (shapes F) (shape_of_form (form_of n.definition.now)) n.bytes.now l) none opens in
         let h = halved_on F ns root w.bytes.now t.key (shape_of_form (form_of n.definition.now)) v.done w.walk.left.now n.bytes.now new.walk.left.now [] rest node.bytes (λ r. node_on d w new.walk es.key t.key a.writer.layout t.key_named found n is g v.done [] rest o r) entry_next in
-        let r = awaits_entry F ns root w.bytes.now p new.position.place w.position.outer.items w.walk.left.now (output_tokens w.out) (output_tokens new.out) v parts es part t n.bytes.now new.walk.left.now key s last k says above h adds.tokens in
-        (t.value, t.named, record {
-          writer = record { layout = layout; walk = walk; fresh = adds.before ∙ a.writer.fresh };
-          room = 128 - length v.around;
-          state =
-              subst (λ (b : Bor (List ℕ)). IsAwaiting F ns root b.now t.value (128 - length v.around) new.position.place new.position.outer.items new.walk.left.now (output_tokens new.out)) (sym bytes)
-              (subst (λ (l : List Place). IsAwaiting F ns root w.bytes.now t.value (128 - length v.around) new.position.place l new.walk.left.now (output_tokens new.out)) (sym outer) r);
-        })
+        let r = awaits_entry F ns root w.bytes.now p new.position.place w.position.outer.items w.walk.left.now (output_tokens w.out) (output_tokens new.out) v parts es part t n.bytes.now new.walk.left.now key s last k says above h adds.tokens in (
+          t.value,
+          t.named,
+          record {
+            writer = record { layout = layout; walk = walk; fresh = adds.before ∙ a.writer.fresh };
+            room = 128 - length v.around;
+            state =
+                subst (λ (b : Bor (List ℕ)). IsAwaiting F ns root b.now t.value (128 - length v.around) new.position.place new.position.outer.items new.walk.left.now (output_tokens new.out)) (sym bytes)
+                (subst (λ (l : List Place). IsAwaiting F ns root w.bytes.now t.value (128 - length v.around) new.position.place l new.walk.left.now (output_tokens new.out)) (sym outer) r);
+          },
+        )
 
     -- or is refused
     pub entry_stops : (e : WriteError) (pe : PartError) → IsOfWrite e pe → RefusesLeaf (forms_of d) t.key n.bytes.now e → Stops (forms_of d) d.layout.now.root.now w.bytes.now (error_of pe)

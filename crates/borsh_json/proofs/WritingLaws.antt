@@ -79,12 +79,12 @@ module _ (F : List ℕ → Option Form) (root : List ℕ) where
       → Begins F root (MayFollowAll (r ∷ around)) written done → Begins F root (MayFollowFirst x n (s ∷ around)) (written ++ key) (done ++ own)
   key_written r s around x key keys own n written done room taken said =
       goes_on F root (MayFollowAll (r ∷ around)) (MayFollowFirst x n (s ∷ around)) written done key own (λ ts ps bs q h.
-        let a = q.5 in
-        let jt = json_tokens q.0 in
-        let i : depth q.0 ≤ a.0 = (let d = q.4 in let r = a.5 in omega (arith, d, r, room)) in
-        let t : key ++ ts ≡ (key ++ (jt ++ a.1)) ++ a.2 = ap (λ l. key ++ l) (q.6 ∙ ap (λ u. jt ++ u) a.8 ∙ sym (append_assoc jt a.1 a.2)) ∙ sym (append_assoc key (jt ++ a.1) a.2) in
-        let p : keys ++ ps ≡ (keys ++ (x, q.0) ∷ a.3) ++ a.4 = ap (λ l. keys ++ l) (q.7 ∙ ap (λ b. (x, q.0) ∷ b) a.9) ∙ sym (append_assoc keys ((x, q.0) ∷ a.3) a.4) in
-        (keys ++ ps, (a.0, key ++ (jt ++ a.1), a.2, keys ++ (x, q.0) ∷ a.3, a.4, a.5, taken a.0 q.0 a.1 a.3 q.3 i a.6, a.7, t, p), said ps bs h))
+      let a = q.5 in
+      let jt = json_tokens q.0 in
+      let i : depth q.0 ≤ a.0 = (let d = q.4 in let r = a.5 in omega (arith, d, r, room)) in
+      let t : key ++ ts ≡ (key ++ (jt ++ a.1)) ++ a.2 = ap (λ l. key ++ l) (q.6 ∙ ap (λ u. jt ++ u) a.8 ∙ sym (append_assoc jt a.1 a.2)) ∙ sym (append_assoc key (jt ++ a.1) a.2) in
+      let p : keys ++ ps ≡ (keys ++ (x, q.0) ∷ a.3) ++ a.4 = ap (λ l. keys ++ l) (q.7 ∙ ap (λ b. (x, q.0) ∷ b) a.9) ∙ sym (append_assoc keys ((x, q.0) ∷ a.3) a.4) in
+      (keys ++ ps, (a.0, key ++ (jt ++ a.1), a.2, keys ++ (x, q.0) ∷ a.3, a.4, a.5, taken a.0 q.0 a.1 a.3 q.3 i a.6, a.7, t, p), said ps bs h))
 
   -- a value was written whole
   pub leaf_written : (rs : List Rest) (x : List ℕ) (n : ℕ) (j : Json) (own : List ℕ) (written : List Token) (done : List ℕ)
@@ -100,10 +100,10 @@ module _ (F : List ℕ → Option Form) (root : List ℕ) where
       → Begins F root (MayFollowFirst x n rs) written done → Begins F root (MayFollowAll (r ∷ rs)) (written ++ front) (done ++ own)
   front_written r rs x n front own written done room whole =
       goes_on F root (MayFollowFirst x n rs) (MayFollowAll (r ∷ rs)) written done front own (λ ts ps bs q h.
-        let w = whole q.0 q.1 q.3 q.4 bs q.6 (subst (λ l. HaveBytes F l bs) q.9 h) in
-        let d : depth w.0 ≤ n = (let a = w.3 in let b = q.5 in omega (arith, a, b, room)) in
-        let t : front ++ ts ≡ json_tokens w.0 ++ q.2 = ap (λ l. front ++ l) q.8 ∙ sym (append_assoc front q.1 q.2) ∙ ap (λ l. l ++ q.2) (sym w.1) in
-        ((x, w.0) ∷ q.4, (w.0, q.2, q.4, w.2, d, q.7, t, refl), w.4))
+      let w = whole q.0 q.1 q.3 q.4 bs q.6 (subst (λ l. HaveBytes F l bs) q.9 h) in
+      let d : depth w.0 ≤ n = (let a = w.3 in let b = q.5 in omega (arith, a, b, room)) in
+      let t : front ++ ts ≡ json_tokens w.0 ++ q.2 = ap (λ l. front ++ l) q.8 ∙ sym (append_assoc front q.1 q.2) ∙ ap (λ l. l ++ q.2) (sym w.1) in
+      ((x, w.0) ∷ q.4, (w.0, q.2, q.4, w.2, d, q.7, t, refl), w.4))
 
   -- a place has ended, with its brackets
   pub end_written : (r : Rest) (rs : List Rest) (n : ℕ) (brackets : List Token) (written : List Token) (done : List ℕ)

@@ -108,8 +108,8 @@ module _ (F : List ℕ → Option Form) (ns : List Named) (root bytes : List ℕ
             chain = (λ y i. w.chain.0 y (subst (λ l. IsIn y l) (sym names_there) (later i)), w.chain.1);
             deep = (suc b.0, (let n = b.1 in omega (arith, n)), below (product (t.key ∷ t.value ∷ [])) b.2 t.defined (later first));
             begun = begun_so F root _ _ new _ (w.done ++ own) e refl (key_written F root w.inner rest w.around t.value (Token.key s ∷ []) ((t.key, key_json t.keys s) ∷ []) own (128 - length w.around) written w.done room_for
-              (λ i j ts qs nj dj m. subst (λ r. MayFollow r i (Token.key s ∷ (json_tokens j ++ ts)) ((t.key, key_json t.keys s) ∷ (t.value, j) ∷ qs)) (sym t.is) (entry_taken t.keys t.key t.value t.pair t.count t.before s above i j ts qs nj dj m))
-              (λ ps bs h. next_part says.0 own [] says.1 says.2 h) w.begun);
+                (λ i j ts qs nj dj m. subst (λ r. MayFollow r i (Token.key s ∷ (json_tokens j ++ ts)) ((t.key, key_json t.keys s) ∷ (t.value, j) ∷ qs)) (sym t.is) (entry_taken t.keys t.key t.value t.pair t.count t.before s above i j ts qs nj dj m))
+                (λ ps bs h. next_part says.0 own [] says.1 says.2 h) w.begun);
           }
 
   -- own bytes of a name are taken

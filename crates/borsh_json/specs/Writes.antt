@@ -415,3 +415,15 @@ IsFullOrDescends n (RefusedPart path refusal) = ((refusal ≡ TooDeep) × (128 �
 -- the part is begun of the place p, which is q now
 abbrev pub IsBegunOf : Definitions → Place → Place → FoundPart → Type 0
 IsBegunOf d p q part = GivesPart d p.parts p.begun q.parts q.begun (Some part) × (q.parts ≡ p.parts) × (q.last ≡ p.last)
+
+-- a step of the writer: it is in front of another part, or at the end, or has stopped
+abbrev pub IsWrittenNext : Definitions → Writing → Writing → Result Bool JsonError → Type 0
+IsWrittenNext d old new result = MatchResult result (IsWrittenOn d new) (StopsBy d old.bytes.now)
+
+-- a part was written: it is in front of another one, or has stopped
+abbrev pub IsPartWritten : Definitions → Writing → Writing → Result (Unit {0}) JsonError → Type 0
+IsPartWritten d old new result = MatchResult result (λ _. IsWritingAt d new new.position.place) (StopsBy d old.bytes.now)
+
+-- the key of a part was written, the name of whose type is at this place: it is in front of the part's value, or has stopped
+abbrev pub IsKeyPut : Definitions → ℕ → Writing → Writing → Result (Unit {0}) JsonError → Type 0
+IsKeyPut d at old new result = MatchResult result (λ _. (x : List ℕ) × IsAt (names_of d) at x × IsAwaitingAt d new x) (StopsBy d old.bytes.now)

@@ -1,5 +1,5 @@
 // Where in a value the reader or writer is.
-ghost use Rattle.borsh_json.specs.Words.{GivesPart, IsFull, IsKnown, IsOf, IsOfRead, IsOfWrite, IsPartError, IsReadRefusal, IsUnreadable, IsUnwritable, Root, TooDeep};
+ghost use Rattle.borsh_json.specs.Words.{GivesPart, IsFull, IsKnown, IsOf, IsOfRead, IsOfWrite, IsPartError, IsReadRefusal, IsUnreadable, Root, TooDeep};
 ghost use Rattle.borsh_json.specs.declared.error.Refusal.TheVariants.{Descends};
 ghost use Rattle.std.specs.Prelude.{◌≡◌, ◌+◌, ◌^◌, ◌<◌, ◌≤◌, ◌∷◌, ◌++◌, [], true, false, ℕ, List, None, length, IfErr, IfSome, MatchOption, OnOk};
 
@@ -177,7 +177,6 @@ impl<'a, 'k> Position<'a, 'k> {
     /// Goes into the parts of the part that was begun last.
     pub fn enter(&mut self, place: Place<'a, 'k>) -> PartResult<'a, ()>
         ensures reading { IfErr result (IsPartError IsUnreadable) }
-        ensures writing { IfErr result (IsPartError IsUnwritable) }
         ensures too_deep { IfErr result (IsOf TooDeep) }
         ensures full { IfErr result (IsFull (length self.old.outer.items)) }
         ensures room { OnOk result (length self.old.outer.items < 128) }
@@ -193,7 +192,6 @@ impl<'a, 'k> Position<'a, 'k> {
     /// Refuses more brackets where as many as may be are around.
     pub fn check_room(&self) -> PartResult<'a, ()>
         ensures reading { IfErr result (IsPartError IsUnreadable) }
-        ensures writing { IfErr result (IsPartError IsUnwritable) }
         ensures too_deep { IfErr result (IsOf TooDeep) }
         ensures full { IfErr result (IsFull (length self.now.outer.items)) }
         ensures room { OnOk result (length self.now.outer.items < 128) }
@@ -222,7 +220,6 @@ impl<'a, 'k> Position<'a, 'k> {
     /// Refuses a primitive of a list that isn't above the one before it, where these have to ascend.
     pub fn check_ascent(&self, elements: Elements, bytes: &[u8]) -> PartResult<'a, ()>
         ensures reading { IfErr result (IsPartError IsUnreadable) }
-        ensures writing { IfErr result (IsPartError IsUnwritable) }
         ensures descends { IfErr result (IsOf Descends) }
     {
         let Some(order) = elements.order else {
@@ -238,7 +235,6 @@ impl<'a, 'k> Position<'a, 'k> {
     pub fn refused(&self, refusal: Refusal) -> PartError<'a>
         ensures same { IsOf refusal result }
         ensures reading { IsUnreadable refusal → IsPartError IsUnreadable result }
-        ensures writing { IsUnwritable refusal → IsPartError IsUnwritable result }
     {
         refused_at(self.path(), refusal)
     }
@@ -270,7 +266,6 @@ impl<'a, 'k> Position<'a, 'k> {
     pub fn refused_element(&self, refusal: Refusal) -> PartError<'a>
         ensures same { IsOf refusal result }
         ensures reading { IsUnreadable refusal → IsPartError IsUnreadable result }
-        ensures writing { IsUnwritable refusal → IsPartError IsUnwritable result }
     {
         refused_at(self.path_of_element(), refusal)
     }
@@ -330,7 +325,6 @@ impl<'a, 'k> Position<'a, 'k> {
 fn refused_at<'a>(path: Result<Path<'a>, AllocError>, refusal: Refusal) -> PartError<'a>
     ensures same { IsOf refusal result }
     ensures reading { IsUnreadable refusal → IsPartError IsUnreadable result }
-    ensures writing { IsUnwritable refusal → IsPartError IsUnwritable result }
 {
     match path {
         Ok(path) => PartError::Refused(path, refusal),

@@ -1,5 +1,5 @@
 // A value as JSON.
-ghost use Rattle.borsh_json.specs.Words.{Adds, AreKeysOf, EntryOf, Form, FoundKeyKind, IsAbove, IsEntryKey, IsLast, Keys, NamedPlace, FoundPart, HasKinds, HasNode, IsAt, IsAwaitingAt, IsBegunOf, IsFullOrDescends, IsKindOf, IsNoJsonReason, IsPartError, IsUnwritable, IsWalker, IsWritingAt, IsWrittenOn, Member, Place, SaysBy, ShowsNoJson, StopsBy, TextSays, definitions_in, ends_of, forms_in, forms_of, FoundElements, FoundNumbers, names_of, shapes};
+ghost use Rattle.borsh_json.specs.Words.{Adds, AreKeysOf, EntryOf, Form, FoundElements, FoundKeyKind, FoundNumbers, FoundPart, HasKinds, HasNode, IsAbove, IsAt, IsAwaitingAt, IsBegunOf, IsEntryKey, IsFullOrDescends, IsKeyPut, IsKindOf, IsLast, IsNoJsonReason, IsPartError, IsPartWritten, IsUnwritable, IsWalker, IsWritingAt, IsWrittenNext, Keys, Member, NamedPlace, Place, SaysBy, ShowsNoJson, StopsBy, TextSays, definitions_in, ends_of, forms_in, forms_of, names_of, shapes};
 ghost use Rattle.borsh_json.specs.Ascii.{IsInLine, IsPlain};
 ghost use Rattle.borsh_json.specs.declared.output.Layout.TheVariants.{Compact};
 ghost use Rattle.borsh_json.specs.declared.output.Characters.TheVariants.{Any, Ascii};
@@ -38,11 +38,14 @@ use std::collections::BTreeMap;
 /// whose keys have none, and values that nest more than 128 deep. The order of keys is known of numbers, `bool`, texts, and of
 /// tuples, arrays, lists, ordered sets and maps, and options of these, and not of structs and enums.
 ///
-/// Determined: after `Ok` the text is JSON that says these bytes, of the characters of the style. So no other bytes have this
+/// Determined: after `Ok` the text is JSON that says these bytes, of the characters of the style; without white space of its own
+/// it is one line, with no control characters. So no other bytes have this
 /// text, they are a member of the root ([`crate::text_determines_bytes`]), and they are what [`crate::from_json`] gives for it,
-/// if anything. After `NoMember` they are none, and after `Refused` they are one; `NoMember` and `Ambiguous` are as of
-/// [`borsh_values::decode`], and `NoValue` and `NotJson` aren't returned. Left open: memory, of which texts from 4 GiB on are said
-/// to want some; `Refused` for any member, for any reason that a value has; which of the texts that say the bytes: tested.
+/// if anything. After `NoMember` they are none; `NoMember` and `Ambiguous` are as of [`borsh_values::is_member`], and `NoValue`
+/// and `NotJson` aren't returned. After `Refused` they are one, and where the style allows any characters, it has a reason:
+/// `TooDeep`, that a chain of 128 references leads from the root to a name; another, that the bytes reach a value of a name of
+/// which no JSON says these bytes. Left open: memory; the reason of `Descends`, and of refusals in ASCII; which of the texts that
+/// say the bytes: tested.
 ///
 /// ```
 /// let text = to_json(alloc, "(u8, bool)", &definitions, &[7, 1], Style::COMPACT)?;
@@ -58,6 +61,7 @@ pub fn to_json<'a>(
     ensures says { let F = forms_in map.now in
         IfOk result (λ text. TextSays F root.now (string_bytes text) bytes.now) }
     ensures ascii { style.characters ≡ Ascii → IfOk result (λ text. All IsPlain (string_bytes text)) }
+    ensures line { style.layout ≡ Compact → IfOk result (λ text. All IsInLine (string_bytes text)) }
     ensures reason { IfErr result (λ e. IsNoJsonReason (definitions_in map.now) root.now bytes.now e) }
     ensures refused { style.characters ≡ Any →
         IfErr result (λ e. ShowsNoJson (forms_in map.now) root.now bytes.now e) }
@@ -73,6 +77,7 @@ impl<'a, 'l> Definitions<'a, 'l> {
         requires { HasKinds self.now }
         ensures says { IfOk result (λ text. SaysBy self.now (string_bytes text) bytes.now) }
         ensures ascii { style.characters ≡ Ascii → IfOk result (λ text. All IsPlain (string_bytes text)) }
+        ensures line { style.layout ≡ Compact → IfOk result (λ text. All IsInLine (string_bytes text)) }
         ensures reason { let l = self.now.layout.now in
             IfErr result (λ e. IsNoJsonReason (definitions_in l.map.now) l.root.now bytes.now e) }
         ensures refused { let l = self.now.layout.now in style.characters ≡ Any →
@@ -99,6 +104,7 @@ impl<'a, 'l> Definitions<'a, 'l> {
         ensures says { SaysBy self.now (string_bytes text) bytes.now →
             IfOk result (λ text. SaysBy self.now (string_bytes text) bytes.now) }
         ensures ascii { characters ≡ Ascii → IfOk result (λ text. All IsPlain (string_bytes text)) }
+        ensures line { All IsInLine (string_bytes text) → IfOk result (λ text. All IsInLine (string_bytes text)) }
         ensures any { characters ≡ Any → IfErr result (λ e. ⊥) }
         ensures refusal { IfErr result (IsPartError IsUnwritable) }
     {
@@ -207,14 +213,19 @@ impl<'a, 'l, 'b> Writing<'a, 'l, 'b> {
     fn write_next(&mut self, definitions: &Definitions<'a, '_>) -> Result<bool, JsonError<'a>>
         requires known { HasKinds definitions.now }
         requires state { IsWritingAt definitions.now self.old self.old.position.place }
-        ensures state { MatchResult result (IsWrittenOn definitions.now self.new) (StopsBy definitions.now self.old.bytes.now) }
+        ensures state { IsWrittenNext definitions.now self.old self.new result }
         ensures bytes { self.new.bytes ≡ self.old.bytes }
     {
         let Some(part) = self.position.place.next_part(definitions) else {
             write_end(self.position.place.parts, &mut self.out)?;
             return Ok(self.position.leave());
         };
-        if !ascends(definitions, &mut self.position.place, self.walk.offset, self.bytes)? {
+        if !ascends(
+            definitions,
+            &mut self.position.place,
+            self.walk.offset,
+            self.bytes,
+        )? {
             return Err(self.position.refused_element(Refusal::Descends).into());
         }
         self.write_key(definitions, part)?;
@@ -230,9 +241,8 @@ impl<'a, 'l, 'b> Writing<'a, 'l, 'b> {
     ) -> Result<(), JsonError<'a>>
         requires walk { IsWalker self.old.walk }
         ensures key { HasKinds definitions.now → (p : Place) → IsWritingAt definitions.now self.old p →
-            IsBegunOf definitions.now p self.old.position.place part.entry → MatchResult result
-            (λ _. (x : List ℕ) × IsAt (names_of definitions.now) part.entry.at x × IsAwaitingAt definitions.now self.new x)
-            (StopsBy definitions.now self.old.bytes.now) }
+            IsBegunOf definitions.now p self.old.position.place part.entry →
+            IsKeyPut definitions.now part.entry.at self.old self.new result }
         ensures bytes { self.new.bytes ≡ self.old.bytes }
     {
         match part.key {
@@ -249,11 +259,10 @@ impl<'a, 'l, 'b> Writing<'a, 'l, 'b> {
         entries: Entries<'a>,
     ) -> Result<(), JsonError<'a>>
         requires walk { IsWalker self.old.walk }
-        ensures key { HasKinds definitions.now → (p : Place) (part : FoundPart) → IsWritingAt definitions.now self.old p →
-            part.key ≡ EntryOf entries.entry →
-            IsBegunOf definitions.now p self.old.position.place part → MatchResult result
-            (λ _. (x : List ℕ) × IsAt (names_of definitions.now) part.at x × IsAwaitingAt definitions.now self.new x)
-            (StopsBy definitions.now self.old.bytes.now) }
+        ensures key { HasKinds definitions.now → (p : Place) (part : FoundPart) →
+            IsWritingAt definitions.now self.old p → part.key ≡ EntryOf entries.entry →
+            IsBegunOf definitions.now p self.old.position.place part →
+            IsKeyPut definitions.now part.at self.old self.new result }
         ensures bytes { self.new.bytes ≡ self.old.bytes }
     {
         let Some(node) = self.walk.open(entries.key, 0)? else {
@@ -279,9 +288,7 @@ impl<'a, 'l, 'b> Writing<'a, 'l, 'b> {
     ) -> Result<(), JsonError<'a>>
         requires walk { IsWalker self.old.walk }
         ensures part { HasKinds definitions.now → (x : List ℕ) → IsAt (names_of definitions.now) at x →
-            IsAwaitingAt definitions.now self.old x → MatchResult result
-            (λ _. IsWritingAt definitions.now self.new self.new.position.place)
-            (StopsBy definitions.now self.old.bytes.now) }
+            IsAwaitingAt definitions.now self.old x → IsPartWritten definitions.now self.old self.new result }
         ensures bytes { self.new.bytes ≡ self.old.bytes }
     {
         if definitions.is_zero_size(at) {
@@ -305,19 +312,24 @@ impl<'a, 'l, 'b> Writing<'a, 'l, 'b> {
         kind: Kind<'a>,
     ) -> Result<(), JsonError<'a>>
         requires walk { IsWalker self.old.walk }
-        ensures part { HasKinds definitions.now → (x : List ℕ) (f : Form) → IsAt (names_of definitions.now) at x →
-            forms_of definitions.now x ≡ Some f →
-            IsKindOf (forms_of definitions.now) (names_of definitions.now) x f kind.entry → HasNode kind.entry →
-            IsAwaitingAt definitions.now self.old x → MatchResult result
-            (λ _. IsWritingAt definitions.now self.new self.new.position.place)
-            (StopsBy definitions.now self.old.bytes.now) }
+        ensures part { let F = forms_of definitions.now in let ns = names_of definitions.now in
+            HasKinds definitions.now → (x : List ℕ) (f : Form) → IsAt ns at x → F x ≡ Some f →
+            IsKindOf F ns x f kind.entry → HasNode kind.entry →
+            IsAwaitingAt definitions.now self.old x → IsPartWritten definitions.now self.old self.new result }
         ensures bytes { self.new.bytes ≡ self.old.bytes }
     {
         let Some(node) = self.walk.open(at, 0)? else {
             return Err(JsonError::Ambiguous(definitions.name(at)));
         };
         check_elements(&self.position, kind, &node)?;
-        match begin_value(definitions, at, kind, &node, self.long_numbers, &mut self.out) {
+        match begin_value(
+            definitions,
+            at,
+            kind,
+            &node,
+            self.long_numbers,
+            &mut self.out,
+        ) {
             Ok(Some(place)) => Ok(self.position.enter(place)?),
             Ok(None) => Ok(()),
             Err(error) => Err(self.position.refused_value(error).into()),

@@ -19,11 +19,13 @@ loop-init c =
     let root = d.layout.now.root.now in
     let p = c.new-position in
     let o = c.new-out in
-    let s = writing_start F ns root c.args.bytes.now p.result.place p.result.outer.items (output_tokens o.result) p.ensures.place.0 p.ensures.place.1 p.ensures.outer o.ensures.1 c.requires.known.known.laid_out.first c.requires.member in
-    (record {
-      writer = record { layout = ap (λ l. l.now) c.new-walk.ensures.layout; walk = c.new-walk.ensures.walk; fresh = o.ensures.0 };
-      state = subst (λ (l : List ℕ). IsWriting F ns root c.args.bytes.now p.result.place p.result.outer.items l (output_tokens o.result)) (sym c.new-walk.ensures.left) s;
-    }, refl)
+    let s = writing_start F ns root c.args.bytes.now p.result.place p.result.outer.items (output_tokens o.result) p.ensures.place.0 p.ensures.place.1 p.ensures.outer o.ensures.1 c.requires.known.known.laid_out.first c.requires.member in (
+      record {
+        writer = record { layout = ap (λ l. l.now) c.new-walk.ensures.layout; walk = c.new-walk.ensures.walk; fresh = o.ensures.0 };
+        state = subst (λ (l : List ℕ). IsWriting F ns root c.args.bytes.now p.result.place p.result.outer.items l (output_tokens o.result)) (sym c.new-walk.ensures.left) s;
+      },
+      refl,
+    )
 
 pub returns-then-is_in-clause-says : goal.returns-then-is_in-clause-says
 returns-then-is_in-clause-says c =

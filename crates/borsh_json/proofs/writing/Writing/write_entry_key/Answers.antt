@@ -29,7 +29,7 @@ returns-else-not-is_next-clause-key c k p part a e b =
     let o = c.in_ok-node.field-0 in
     let f = c.in_ok-node.ensures.finds in
     let t = entry_of d p q part b es a.state.inner e a.state.here in
-    let new : Writing = record {walk = c.open.new.self; position = record {alloc = w.position.alloc; root = w.position.root; outer = w.position.outer; place = record {parts = q.parts; begun = q.begun; ascent = q.ascent; last = Some c.in-Ok.key}}; out = c.write_key.new.out; bytes = w.bytes; long_numbers = w.long_numbers} in
+    let new : Writing = record { walk = c.open.new.self; position = record { alloc = w.position.alloc; root = w.position.root; outer = w.position.outer; place = record { parts = q.parts; begun = q.begun; ascent = q.ascent; last = Some c.in-Ok.key } }; out = c.write_key.new.out; bytes = w.bytes; long_numbers = w.long_numbers } in
     let h = node_is d w c.open.new.self es.key t.key a.writer.layout t.key_named o n c.in-Some.is f in
     let op = entry_opened d w new p part es a b.1 t o n c.in-Some.is f in
     let ks = entry_keys d w new p part es a b.1 t o n c.in-Some.is f in
@@ -47,7 +47,7 @@ returns-in-Err-clause-key c k p part a e b =
     let o = c.in_ok-node.field-0 in
     let f = c.in_ok-node.ensures.finds in
     let t = entry_of d p w.position.place part b es a.state.inner e a.state.here in
-    let new : Writing = record {walk = c.open.new.self; position = w.position; out = w.out; bytes = w.bytes; long_numbers = w.long_numbers} in
+    let new : Writing = record { walk = c.open.new.self; position = w.position; out = w.out; bytes = w.bytes; long_numbers = w.long_numbers } in
     let h = node_is d w c.open.new.self es.key t.key a.writer.layout t.key_named o n c.in-Some.is f in
     let op = entry_opened d w new p part es a b.1 t o n c.in-Some.is f in
     let ks = entry_keys d w new p part es a b.1 t o n c.in-Some.is f in

@@ -15,7 +15,7 @@ returns-in-None-clause-key c k p a b =
 pub returns-in_ok-put-in-Name-clause-key : goal.returns-in_ok-put-in-Name-clause-key
 returns-in_ok-put-in-Name-clause-key c k p a b =
     let w = c.args.self.now in
-    let new : Writing = record {walk = w.walk; position = w.position; out = c.put.new.self; bytes = w.bytes; long_numbers = w.long_numbers} in
+    let new : Writing = record { walk = w.walk; position = w.position; out = c.put.new.self; bytes = w.bytes; long_numbers = w.long_numbers } in
     key_begun c.args.definitions.now w new p c.args.part a b (λ es e. let q : Name c.in-Name.name ≡ EntryOf es = sym c.in-Name.is ∙ e in cc) (subst (λ (k : Key). Adds (key_tokens k) w.out c.put.new.self) (sym c.in-Name.is) c.in_ok-put-in-Name.ensures) refl refl refl
 
 pub returns-in-Entry-clause-key : goal.returns-in-Entry-clause-key

@@ -16,7 +16,7 @@ returns-in_default-clause-state c =
     let w = c.args.self.now in
     let p = w.position.place in
     let q = c.next_part.new.self in
-    let new : Writing = record {walk = w.walk; position = c.leave.new.self; out = c.write_end.new.out; bytes = w.bytes; long_numbers = w.long_numbers} in
+    let new : Writing = record { walk = w.walk; position = c.leave.new.self; out = c.write_end.new.out; bytes = w.bytes; long_numbers = w.long_numbers } in
     place_ended d w new p c.requires.state (c.in_default.ensures.part c.requires.known.known) (subst (λ (k : Parts). Adds (ends_of k) w.out c.write_end.new.out) c.next_part.ensures.same.0 c.in_ok-write_end.ensures) refl refl c.leave.result c.leave.ensures.left c.leave.ensures.all
 
 pub returns-in_err-write_key-clause-state : goal.returns-in_err-write_key-clause-state

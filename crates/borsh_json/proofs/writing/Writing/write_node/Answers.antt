@@ -50,7 +50,7 @@ returns-in_ok-enter-in-Ok-Some-clause-part c k x f i e kind has a =
     let op = node_opened d w walk c.args.at x l i o n c.in-Some.is t in
     let kd = subst (λ (f : Form). IsKindOf F ns x f c.args.kind) (node_form d w walk c.args.at x l i o n c.in-Some.is t f e) kind in
     let written = subst (λ (p : Option Place). IsWrittenAs F ns (leaf_depth c.args.kind) x (form_of n.definition.now) n.bytes.now w.out c.begin_value.new.out p) c.in-Ok-Some.field-0-is (c.in-Ok-Some.ensures k.known has x h.parts i op kd) in
-    let new : Writing = record {walk = walk; position = c.enter.new.self; out = c.begin_value.new.out; bytes = w.bytes; long_numbers = w.long_numbers} in
+    let new : Writing = record { walk = walk; position = c.enter.new.self; out = c.begin_value.new.out; bytes = w.bytes; long_numbers = w.long_numbers } in
     let z = c.in_ok-enter-in-Ok-Some.ensures in
     place_begun d w new x (form_of n.definition.now) n.bytes.now a refl (ap (λ l. l.now) c.in_ok-node.ensures.layout ∙ l) c.in_ok-node.ensures.walk h.bytes (node_on d w walk c.args.at x l i o n c.in-Some.is t) (leaf_depth c.args.kind) c.in-Ok-Some.place (node_shape d w walk c.args.at x l i o n c.in-Some.is t) z.room written z.place z.outer
 
@@ -69,7 +69,7 @@ returns-in-Ok-None-clause-part c k x f i e kind has a =
     let op = node_opened d w walk c.args.at x l i o n c.in-Some.is t in
     let kd = subst (λ (f : Form). IsKindOf F ns x f c.args.kind) (node_form d w walk c.args.at x l i o n c.in-Some.is t f e) kind in
     let written = subst (λ (p : Option Place). IsWrittenAs F ns (leaf_depth c.args.kind) x (form_of n.definition.now) n.bytes.now w.out c.begin_value.new.out p) c.in-Ok-None.field-0-is (c.in-Ok-None.ensures k.known has x h.parts i op kd) in
-    let new : Writing = record {walk = walk; position = w.position; out = c.begin_value.new.out; bytes = w.bytes; long_numbers = w.long_numbers} in
+    let new : Writing = record { walk = walk; position = w.position; out = c.begin_value.new.out; bytes = w.bytes; long_numbers = w.long_numbers } in
     leaf_begun d w new x (form_of n.definition.now) n.bytes.now a refl (ap (λ l. l.now) c.in_ok-node.ensures.layout ∙ l) c.in_ok-node.ensures.walk h.bytes (node_on d w walk c.args.at x l i o n c.in-Some.is t) (leaf_depth c.args.kind) (leaf_room c.args.kind a.room (length w.position.outer.items) (room_awaiting d w x a) c.in_ok-check_elements.ensures.room) written refl refl
 
 pub returns-in-Err-clause-part : goal.returns-in-Err-clause-part

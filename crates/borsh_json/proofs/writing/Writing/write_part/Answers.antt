@@ -16,7 +16,7 @@ use Rattle.borsh_json.proofs.writing.Writing.write_part.Goals as goal
 pub returns-then-is_zero_size-clause-part : goal.returns-then-is_zero_size-clause-part
 returns-then-is_zero_size-clause-part c k x i a =
     let w = c.args.self.now in
-    let new : Writing = record {walk = w.walk; position = w.position; out = c.put.new.self; bytes = w.bytes; long_numbers = w.long_numbers} in
+    let new : Writing = record { walk = w.walk; position = w.position; out = c.put.new.self; bytes = w.bytes; long_numbers = w.long_numbers } in
     zero_begun c.args.definitions.now w new x a refl refl ((c.is_zero_size.ensures k.known x i).0 c.if-is_zero_size.true) c.in_ok-put.ensures refl refl
 
 pub returns-in_default-clause-part : goal.returns-in_default-clause-part
@@ -41,7 +41,7 @@ returns-in_ok-enter-in-Ok-Some-clause-part c k x i a =
     let kind = c.in-Some.ensures k x i (not_true c.is_zero_size.result (c.is_zero_size.ensures k.known x i) c.if-is_zero_size.false) in
     let f = form_of c.in-Some.field-0-0.now in
     let h = subst (λ (o : Option Place). MatchOption o (HasNode c.in-Some.kind × (c.begin_struct.new.out ≡ w.out)) (λ p. (r : Rest) × IsRest F ns p r × WritesFront F x [] r w.out c.begin_struct.new.out × (shape_of_form f ≡ product (names_of_rest r)))) c.in-Ok-Some.field-0-is (c.in-Ok-Some.ensures F ns x f i kind.0 kind.1) in
-    let new : Writing = record {walk = w.walk; position = c.enter.new.self; out = c.begin_struct.new.out; bytes = w.bytes; long_numbers = w.long_numbers} in
+    let new : Writing = record { walk = w.walk; position = c.enter.new.self; out = c.begin_struct.new.out; bytes = w.bytes; long_numbers = w.long_numbers } in
     let z = c.in_ok-enter-in-Ok-Some.ensures in
     struct_begun d w new x a f kind.0 c.in-Ok-Some.place refl refl z.room h.0 h.1 h.2 h.3 z.place z.outer
 
@@ -54,7 +54,7 @@ returns-in-Ok-None-clause-part c k x i a =
     let kind = c.in-Some.ensures k x i (not_true c.is_zero_size.result (c.is_zero_size.ensures k.known x i) c.if-is_zero_size.false) in
     let f = form_of c.in-Some.field-0-0.now in
     let h = subst (λ (o : Option Place). MatchOption o (HasNode c.in-Some.kind × (c.begin_struct.new.out ≡ w.out)) (λ p. (r : Rest) × IsRest F ns p r × WritesFront F x [] r w.out c.begin_struct.new.out × (shape_of_form f ≡ product (names_of_rest r)))) c.in-Ok-None.field-0-is (c.in-Ok-None.ensures F ns x f i kind.0 kind.1) in
-    c.write_node.ensures.part k x f i kind.0 kind.1 h.0 (subst (λ (o : Output). IsAwaitingAt d (record {walk = w.walk; position = w.position; out = o; bytes = w.bytes; long_numbers = w.long_numbers}) x) (sym h.1) a)
+    c.write_node.ensures.part k x f i kind.0 kind.1 h.0 (subst (λ (o : Output). IsAwaitingAt d (record { walk = w.walk; position = w.position; out = o; bytes = w.bytes; long_numbers = w.long_numbers }) x) (sym h.1) a)
 
 pub returns-in-Err-clause-part : goal.returns-in-Err-clause-part
 returns-in-Err-clause-part c k x i a =
