@@ -1,6 +1,5 @@
-use Rattle.std.proofs.Common.{◌≡◌, List, ℕ, refl, sym, ◌∙◌, ap, subst, true, false}
+use Rattle.std.proofs.Common.{◌≡◌, List, ℕ, refl, sym, ◌∙◌, ap, subst, false}
 use Rattle.std.specs.Prelude.{Bool}
-use Rattle.json.specs.Lex.{tokens}
 use Rattle.borsh_json.specs.Found.{forms_of, names_of}
 use Rattle.borsh_json.specs.Leaves.{output_tokens}
 use Rattle.borsh_json.specs.Writes.{IsWhole, IsWriting, IsWrittenOn}
