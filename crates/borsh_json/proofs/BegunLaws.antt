@@ -1,20 +1,18 @@
 -- Values of which the beginning was written, by what the code found of their kinds.
-use Rattle.std.proofs.Common.{◌≡◌, inl, inr, ℕ, suc, zero, ◌-◌, ◌≤◌, List, [], ◌∷◌, ◌++◌, length, map, replicate, drop, Option, Some, None, refl, sym, ◌∙◌, ap, subst, arith, append-nil, string_bytes}
-use Rattle.std.specs.Prelude.{ℤ, pos, Bool, true, false, Result, Ok, Err, slice_get, String, Vec, option_map}
+use Rattle.std.proofs.Common.{◌≡◌, ℕ, ◌-◌, ◌≤◌, List, [], ◌∷◌, ◌++◌, length, map, replicate, drop, Option, Some, None, refl, sym, ◌∙◌, ap, subst, arith, string_bytes}
+use Rattle.std.specs.Prelude.{pos, Bool, true, false, Result, Ok, Err, String, Vec, option_map}
 use Rattle.std.specs.Global.{Global}
 use Rattle.std.specs.List.{IsDistinct}
 use Rattle.std.specs.Str.{bytes_eq}
 use Rattle.std.specs.Borrow.{Bor}
 use Rattle.json.specs.Token.{Token}
-use Rattle.borsh_walks.specs.Container.{Shape, sequence as sequence_shape, choice as choice_shape, product, tag, references}
-use Rattle.borsh_walks.specs.declared.definition.Definition.{Definition}
-use Rattle.borsh_walks.specs.Definitions.{shape_of}
+use Rattle.borsh_walks.specs.Container.{Shape, sequence as sequence_shape, product, tag, references}
 use Rattle.borsh_values.specs.Nodes.{packed_size, Opens, OpensElements, IsCountOf}
 use Rattle.borsh_values.specs.Walks.{IsCounted}
 use Rattle.borsh_values.specs.declared.layout.Named.{Named}
 use Rattle.borsh_values.proofs.WalkedLaws.{read_count}
 use Rattle.borsh_json.specs.declared.error.WriteError.{WriteError}
-use Rattle.borsh_json.specs.declared.error.WriteError.TheVariants.{OutOfMemory, Refused, Element}
+use Rattle.borsh_json.specs.declared.error.WriteError.TheVariants.{Refused}
 use Rattle.borsh_json.specs.declared.error.Refusal.TheVariants.{EmptyElements}
 use Rattle.borsh_json.specs.declared.kinds.Elements.{Elements as FoundElements}
 use Rattle.borsh_json.specs.declared.kinds.Entries.{Entries as FoundEntries}
@@ -26,14 +24,13 @@ use Rattle.borsh_json.specs.declared.position.Parts.{Parts}
 use Rattle.borsh_json.specs.declared.position.Parts.TheVariants.{Root, List as Elements, Row, Object, Entries as MapEntries, Newtype, Some as Present, Variant}
 use Rattle.borsh_json.specs.declared.position.Place.{Place}
 use Rattle.borsh_json.specs.declared.sources.EntryKey.{EntryKey}
-use Rattle.borsh_json.specs.Forms.{Form, named, sequence, form_of, shape_of_form, shapes}
+use Rattle.borsh_json.specs.Forms.{Form, sequence, shape_of_form, shapes}
 use Rattle.borsh_json.specs.Frames.{Wanted}
-use Rattle.borsh_json.specs.Leaves.{Adds, IsNoJson, IsOpenedAs}
+use Rattle.borsh_json.specs.Leaves.{IsNoJson, IsOpenedAs}
 use Rattle.borsh_json.specs.Places.{IsAt, IsUnsayable, IsListOf, IsKindOf, lengths_of}
-use Rattle.borsh_json.specs.Table.{Kind, Lengths, list, entries, row, inner, fields, HasKind}
+use Rattle.borsh_json.specs.Table.{Lengths, list, entries, row, inner, fields}
 use Rattle.borsh_json.specs.Writes.{Rest, items_rest, members_rest, value_rest, entries_rest, names_of_rest, IsFront, BeginsAt, begins_of, IsRestOf, IsRest, WritesValue, WritesStruct, ArePartsOf, RefusesValue}
 use Rattle.borsh_json.proofs.FormKinds.{form_known}
-use Rattle.borsh_json.proofs.FormsLaws.{shape_is}
 use Rattle.borsh_json.proofs.FrontLaws.{copies, front_written, row_front, newtype_front, object_front, list_front, map_front}
 use Rattle.borsh_json.proofs.OpeningLaws.{second_map, second_copies}
 use Rattle.borsh_json.proofs.PartsLaws.{names_of}

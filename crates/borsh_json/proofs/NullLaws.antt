@@ -1,7 +1,7 @@
 -- JSON `null` says only values of names whose JSON may be `null`.
-use Rattle.std.proofs.Common.{◌≡◌, ◌⊎◌, inl, inr, ℕ, suc, zero, List, [], ◌∷◌, ◌++◌, Option, Some, refl, sym, ◌∙◌, ap, subst}
-use Rattle.json.specs.Json.{Json, null, boolean, number, string, array, object, no_members, member}
-use Rattle.borsh_json.specs.Forms.{Form, HasNoBytes, newtype}
+use Rattle.std.proofs.Common.{inl, inr, ℕ, suc, zero, List, ◌∷◌, ◌++◌, Option, Some, ◌∙◌, ap, subst}
+use Rattle.json.specs.Json.{null}
+use Rattle.borsh_json.specs.Forms.{Form, HasNoBytes}
 use Rattle.borsh_json.specs.Table.{Kind, no_bytes, truth, whole, float, raw, utf8, byte_list, list, row, inner, fields, optional, variants, entries, MayBeNull, too_far, without_bytes, an_option, in_newtype, HasKind, IsNumber, Part, Says}
 use Rattle.borsh_json.specs.Represents.{HaveBytes}
 use Rattle.borsh_json.proofs.FormKinds.{formed, form_found}

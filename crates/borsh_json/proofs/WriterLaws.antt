@@ -1,13 +1,13 @@
 -- What the writer's calls give.
-use Rattle.std.proofs.Common.{◌≡◌, inl, inr, ℕ, suc, zero, ◌+◌, ◌-◌, ◌<◌, ◌≤◌, List, [], ◌∷◌, ◌++◌, length, map, replicate, Option, Some, None, refl, sym, ◌∙◌, ap, subst, arith, append_assoc, append-nil}
-use Rattle.std.specs.Prelude.{ℤ, String, option_map, MatchOption, Result, Ok, Err, IfErr, Bool, true, false, Decides}
+use Rattle.std.proofs.Common.{◌≡◌, inl, inr, ℕ, suc, zero, ◌+◌, ◌-◌, ◌<◌, ◌≤◌, List, [], ◌∷◌, ◌++◌, length, replicate, Option, Some, None, refl, sym, ◌∙◌, ap, subst, arith, append-nil}
+use Rattle.std.specs.Prelude.{ℤ, String, option_map, Result, Ok, Err, IfErr, Bool, true, false, Decides}
 use Rattle.std.specs.declared.cmp.Ordering.TheVariants.{Less}
 use Rattle.std.specs.BTreeMap.{BTreeMap}
 use Rattle.std.specs.Borrow.{Bor}
-use Rattle.json.specs.Json.{Json, null}
+use Rattle.json.specs.Json.{null}
 use Rattle.json.specs.Token.{Token}
 use Rattle.borsh_walks.specs.Container.{Shape, primitive, sequence, product, choice, IsIn, first, later, references, variant_names, IsListedVariant, first_variant, later_variant, Member, of_primitive, of_sequence, of_parts, of_choice, Members, more_members}
-use Rattle.borsh_walks.specs.Definitions.{definitions_in, shape_of}
+use Rattle.borsh_walks.specs.Definitions.{definitions_in}
 use Rattle.borsh_walks.specs.declared.definition.Definition.{Definition}
 use Rattle.borsh_values.specs.Layouts.{name_of}
 use Rattle.borsh_values.specs.Membership.{IsUndecided}
@@ -18,7 +18,6 @@ use Rattle.borsh_values.specs.declared.layout.Named.{Named}
 use Rattle.borsh_values.specs.declared.nodes.Node.{Node}
 use Rattle.borsh_values.specs.declared.walker.Walker.{Walker}
 use Rattle.borsh_json.specs.declared.definitions.Definitions.{Definitions}
-use Rattle.borsh_json.specs.declared.error.JsonError.{JsonError}
 use Rattle.borsh_json.specs.declared.error.PartError.{PartError}
 use Rattle.borsh_json.specs.declared.error.PartError.TheVariants.{OutOfMemory as NoPartMemory, Refused as RefusedPart}
 use Rattle.borsh_json.specs.declared.error.Refusal.{Refusal}
@@ -43,13 +42,13 @@ use Rattle.borsh_json.specs.Errors.{error_of}
 use Rattle.borsh_json.specs.Forms.{Form, form_of, forms_in, shape_of_form, shapes, HasNoBytes}
 use Rattle.borsh_json.specs.Found.{forms_of, names_of}
 use Rattle.borsh_json.specs.Frames.{Wanted, IsWanted, GivesPart, IsKey, IsEntryKey, IsOf}
-use Rattle.borsh_json.specs.Leaves.{output_before, output_tokens, Adds, IsNoJson, IsOpenedAs, WritesLeaf, RefusesLeaf}
+use Rattle.borsh_json.specs.Leaves.{output_tokens, Adds, IsNoJson, IsOpenedAs, WritesLeaf, RefusesLeaf}
 use Rattle.borsh_json.specs.Places.{IsAt, AreKeysOf, lengths_of}
 use Rattle.borsh_json.specs.Reads.{SaysFirst}
 use Rattle.borsh_json.specs.Represents.{next_part}
 use Rattle.borsh_json.specs.Table.{Keys, no_bytes, utf8, HasKind, key_order, key_json}
 use Rattle.borsh_values.proofs.WalkedLaws.{read_product}
-use Rattle.borsh_json.specs.Writes.{IsAbove, IsLast, IsBegunOf, IsWhole, IsWrittenOn, ends_of, Rest, IsRest, WritesFront, names_of_rest, names_of_all, leaf_depth, IsBelow, IsHalved, AreRests, IsWriting, IsAwaiting, RefusesOwn, RefusesValue, IsWrittenAs, HasNoJsonPart, RefusesBytes, Stops, IsWriterOf, IsWritingAt, IsAwaitingAt, IsFull, IsFullOrDescends, IsOfWrite}
+use Rattle.borsh_json.specs.Writes.{IsAbove, IsLast, IsBegunOf, IsWhole, IsWrittenOn, ends_of, Rest, IsRest, WritesFront, names_of_rest, names_of_all, leaf_depth, IsBelow, IsHalved, IsWriting, IsAwaiting, RefusesOwn, RefusesValue, IsWrittenAs, HasNoJsonPart, RefusesBytes, Stops, IsWritingAt, IsAwaitingAt, IsFull, IsFullOrDescends, IsOfWrite}
 use Rattle.borsh_json.proofs.FormsLaws.{shape_is, shapes_are}
 use Rattle.borsh_json.proofs.WritingPlaces.{as_many, key_tokens, TakesPart, TakesEntry, takes_part, takes_entry, place_ends}
 use Rattle.borsh_json.proofs.FormKinds.{form_known}

@@ -1,7 +1,7 @@
 -- Steps of the writer's loop.
-use Rattle.std.proofs.Common.{◌≡◌, ℕ, suc, zero, ◌+◌, ◌-◌, ◌≤◌, List, [], ◌∷◌, ◌++◌, length, map, replicate, Option, Some, None, refl, sym, ◌∙◌, ap, subst, arith, append_assoc, append-nil}
+use Rattle.std.proofs.Common.{◌≡◌, ℕ, suc, ◌+◌, ◌≤◌, List, [], ◌∷◌, ◌++◌, length, Option, Some, refl, sym, ◌∙◌, ap, subst, arith, append_assoc, append-nil}
 use Rattle.json.specs.Token.{Token}
-use Rattle.json.specs.Json.{Json, Items, no_items, item, Members, no_members, member, document, if_last, value, max_depth}
+use Rattle.json.specs.Json.{Json, item, member, document, if_last, value, max_depth}
 use Rattle.json.specs.Lex.{tokens}
 use Rattle.json.specs.Print.{print}
 use Rattle.json.specs.Tree.{json_tokens, depth, HasNumbers}
@@ -10,9 +10,8 @@ use Rattle.json.proofs.Printed.Trees.{document-print, ArePrintable-json_tokens}
 use Rattle.std.specs.Prelude.{option_and_then}
 use Rattle.borsh_json.specs.Forms.{Form}
 use Rattle.borsh_json.specs.Frames.{Wanted}
-use Rattle.borsh_json.specs.Represents.{HaveBytes, none_left, next_part}
+use Rattle.borsh_json.specs.Represents.{HaveBytes, none_left}
 use Rattle.borsh_json.specs.Table.{Keys, Part, key_json}
-use Rattle.borsh_json.specs.Reads.{SaysFirst}
 use Rattle.borsh_json.specs.Writes.{Rest, items_rest, members_rest, value_rest, entries_rest, IsAbove, MayFollow, MayFollowAll, MayFollowFirst, IsWhole, Begins}
 use Rattle.borsh_json.proofs.StepLaws.{item_back}
 

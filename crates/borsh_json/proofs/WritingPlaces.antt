@@ -1,11 +1,10 @@
 -- What is left to be written of places.
-use Rattle.std.proofs.Common.{◌≡◌, ℕ, suc, zero, ◌+◌, ◌-◌, ◌≤◌, List, [], ◌∷◌, ◌++◌, length, map, replicate, Option, Some, None, refl, sym, ◌∙◌, ap, subst, arith, append_assoc, length-append}
+use Rattle.std.proofs.Common.{◌≡◌, ℕ, suc, zero, ◌-◌, List, [], ◌∷◌, ◌++◌, length, map, replicate, Option, Some, refl, sym, ◌∙◌, ap, subst, arith, length-append}
 use Rattle.json.specs.Token.{Token}
-use Rattle.json.specs.Json.{Json, no_items, no_members}
+use Rattle.json.specs.Json.{no_items, no_members}
 use Rattle.borsh_walks.specs.Container.{product}
 use Rattle.borsh_values.specs.declared.layout.Named.{Named}
 use Rattle.borsh_json.specs.declared.kinds.Entries.{Entries as FoundEntries}
-use Rattle.borsh_json.specs.declared.kinds.KeyKind.{KeyKind}
 use Rattle.borsh_json.specs.declared.position.Key.{Key}
 use Rattle.borsh_json.specs.declared.position.Key.TheVariants.{None as NoKey, Name, Entry as EntryOf}
 use Rattle.borsh_json.specs.declared.position.Part.{Part as FoundPart}
@@ -17,7 +16,7 @@ use Rattle.borsh_json.specs.Forms.{Form, form_of, shapes}
 use Rattle.borsh_json.specs.Frames.{Wanted, IsWanted, IsKey}
 use Rattle.borsh_json.specs.Places.{IsAt, AreKeysOf}
 use Rattle.borsh_json.specs.Table.{Keys}
-use Rattle.borsh_json.specs.Writes.{Rest, items_rest, members_rest, value_rest, entries_rest, names_of_rest, AreAbove, MayFollow, IsLast, IsRestOf, IsRest, AreRests, ends_of}
+use Rattle.borsh_json.specs.Writes.{Rest, items_rest, members_rest, value_rest, entries_rest, names_of_rest, MayFollow, IsLast, IsRestOf, IsRest, AreRests, ends_of}
 use Rattle.borsh_json.proofs.WritingLaws.{IsTaken, item_taken, member_taken, value_taken}
 
 -- the tokens of a key, unless it is that of an entry

@@ -1,10 +1,8 @@
 -- Where the writer is after each step.
-use Rattle.std.proofs.Common.{◌≡◌, ℕ, suc, zero, ◌+◌, ◌-◌, ◌<◌, ◌≤◌, List, [], ◌∷◌, ◌++◌, length, map, replicate, Option, Some, None, refl, sym, ◌∙◌, ap, subst, arith, append_assoc, append-nil}
+use Rattle.std.proofs.Common.{◌≡◌, ℕ, suc, ◌+◌, ◌-◌, ◌<◌, ◌≤◌, List, [], ◌∷◌, ◌++◌, length, replicate, Option, Some, refl, sym, ◌∙◌, ap, subst, arith, append_assoc, append-nil}
 use Rattle.json.specs.Token.{Token}
-use Rattle.json.specs.Json.{Json}
 use Rattle.json.specs.Tree.{json_tokens}
 use Rattle.borsh_walks.specs.Container.{Shape, product, IsIn, first, later, references, Member}
-use Rattle.borsh_values.specs.Nodes.{Opens}
 use Rattle.borsh_values.specs.Walks.{IsReadTo}
 use Rattle.borsh_values.specs.declared.layout.Named.{Named}
 use Rattle.borsh_values.proofs.WalkedLaws.{read_start, read_zero, read_product, read_end}
@@ -21,7 +19,7 @@ use Rattle.borsh_json.specs.Leaves.{output_tokens, WritesLeaf}
 use Rattle.borsh_json.specs.Places.{IsAt}
 use Rattle.borsh_json.specs.Reads.{SaysFirst}
 use Rattle.borsh_json.specs.Represents.{HaveBytes, next_part}
-use Rattle.borsh_json.specs.Table.{Keys, Part, key_json}
+use Rattle.borsh_json.specs.Table.{Part, key_json}
 use Rattle.borsh_json.specs.Writes.{Rest, value_rest, entries_rest, names_of_rest, names_of_all, IsAbove, MayFollow, MayFollowAll, IsLast, IsWhole, Begins, IsBelow, here, below, AreBelow, IsHalved, IsRestOf, IsRest, AreRests, IsWriting, IsAwaiting, WritesFront}
 use Rattle.borsh_json.proofs.WritingLaws.{begins, ends, key_written, leaf_written, front_written, end_written, entry_taken}
 use Rattle.borsh_json.proofs.WritingPlaces.{key_tokens, TakesPart, TakesEntry, rest_pushed, rest_popped}

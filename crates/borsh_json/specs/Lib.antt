@@ -14,5 +14,4 @@ pub mod Frames
 pub mod Leaves
 pub mod Writes
 pub mod Rows
-pub mod Leaves
 pub mod Words

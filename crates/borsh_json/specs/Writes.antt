@@ -3,7 +3,7 @@ use Rattle.std.specs.Prelude.{◌≡◌, ◌⊎◌, ⊤, ℕ, suc, ◌+◌, ◌�
 use Rattle.std.specs.declared.cmp.Ordering.TheVariants.{Less}
 use Rattle.std.specs.Borrow.{Bor}
 use Rattle.json.specs.Token.{Token}
-use Rattle.json.specs.Json.{Json, null, Items, no_items, item, Members, no_members, member}
+use Rattle.json.specs.Json.{Json, null, Items, Members, no_members, member}
 use Rattle.json.specs.Tree.{json_tokens, items_tokens, members_tokens, depth, items_depth, members_depth, HasNumbers, ItemsHaveNumbers, MembersHaveNumbers}
 use Rattle.borsh_walks.specs.Container.{Shape, product, IsIn, references}
 use Rattle.borsh_values.specs.Nodes.{Reads, Opens}
@@ -36,7 +36,7 @@ use Rattle.borsh_json.specs.Found.{forms_of, names_of}
 use Rattle.borsh_json.specs.Places.{IsAt, AreKeysOf, IsKindOf}
 use Rattle.borsh_json.specs.Represents.{HaveBytes}
 use Rattle.borsh_json.specs.Leaves.{output_tokens, output_before, Adds, IsNoJson, IsOpenedAs, WritesLeaf}
-use Rattle.borsh_json.specs.Table.{Keys, Part, row_parts, Entry, entries_of, entry_parts, key_order, key_json}
+use Rattle.borsh_json.specs.Table.{Keys, Part, row_parts, Entry, entries_of, entry_parts, key_order}
 
 -- ---- what is left to be written of a place
 

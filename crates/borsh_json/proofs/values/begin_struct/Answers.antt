@@ -1,6 +1,3 @@
-use Rattle.std.proofs.Common.{Option, Some, ◌≡◌, sym, subst}
-use Rattle.borsh_json.specs.declared.position.Parts.{Parts}
-use Rattle.borsh_json.specs.Writes.{ArePartsOf, BeginsAt}
 use Rattle.borsh_json.proofs.BegunLaws.{parts_begun}
 use Rattle.borsh_json.proofs.values.begin_struct.Goals as goal
 

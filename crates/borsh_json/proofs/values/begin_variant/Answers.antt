@@ -1,4 +1,4 @@
-use Rattle.std.proofs.Common.{sym, subst, ap, ◌∙◌, string_bytes}
+use Rattle.std.proofs.Common.{sym, subst, string_bytes}
 use Rattle.std.proofs.lemmas.Result.{err_from_is_err_and}
 use Rattle.borsh_walks.specs.Container.{Shape}
 use Rattle.borsh_values.specs.Nodes.{IsVariantOf}

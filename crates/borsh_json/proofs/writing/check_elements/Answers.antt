@@ -1,5 +1,5 @@
 use Rattle.std.proofs.Common.{length}
-use Rattle.borsh_json.proofs.WriterLaws.{full_either, descends_or_not}
+use Rattle.borsh_json.proofs.WriterLaws.{descends_or_not}
 use Rattle.borsh_json.proofs.writing.check_elements.Goals as goal
 
 pub returns-in-ByteList-clause-full : goal.returns-in-ByteList-clause-full

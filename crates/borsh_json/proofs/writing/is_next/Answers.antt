@@ -1,4 +1,4 @@
-use Rattle.std.proofs.Common.{◌≡◌, Option, Some, None, refl, subst}
+use Rattle.std.proofs.Common.{Option, subst}
 use Rattle.json.specs.Json.{null}
 use Rattle.borsh_json.specs.declared.sources.EntryKey.{EntryKey}
 use Rattle.borsh_json.specs.Writes.{IsLast}

@@ -1,4 +1,4 @@
-use Rattle.std.proofs.Common.{ℕ, sym, subst}
+use Rattle.std.proofs.Common.{sym, subst}
 use Rattle.std.proofs.lemmas.Result.{err_from_is_err_and}
 use Rattle.borsh_walks.specs.Container.{Member}
 use Rattle.borsh_walks.specs.Definitions.{definitions_in}

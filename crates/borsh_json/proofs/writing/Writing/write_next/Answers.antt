@@ -1,12 +1,10 @@
-use Rattle.std.proofs.Common.{◌≡◌, ℕ, List, refl, subst}
+use Rattle.std.proofs.Common.{ℕ, List, refl, subst}
 use Rattle.std.proofs.lemmas.Result.{err_from_is_err_and}
 use Rattle.std.specs.Borrow.{Bor}
 use Rattle.borsh_json.specs.declared.position.Parts.{Parts}
 use Rattle.borsh_json.specs.declared.writing.Writing.{Writing}
-use Rattle.borsh_json.specs.Found.{names_of}
 use Rattle.borsh_json.specs.Leaves.{Adds}
-use Rattle.borsh_json.specs.Places.{IsAt}
-use Rattle.borsh_json.specs.Writes.{IsBegunOf, IsWritingAt, IsAwaitingAt, StopsBy, ends_of}
+use Rattle.borsh_json.specs.Writes.{StopsBy, ends_of}
 use Rattle.borsh_json.proofs.WriterLaws.{place_ended, begun_still}
 use Rattle.borsh_json.proofs.writing.Writing.write_next.Goals as goal
 
