@@ -54,7 +54,7 @@ lifted : (fs : List Wanted) (rest ms : Members) (k : List ℕ) (j : Json) → Ar
 lifted [] rest ms k j h = h
 lifted (f ∷ fs) rest ms k j h = (h.0, h.1, h.2, ap (λ o. later_or o (cond (bytes_eq k f.0) (Some j) None)) h.3, lifted fs h.1 ms k j h.4)
 
-next_all : (fs : List Wanted) (ms : Members) → IsDistinct bytes_eq (map (λ (f : Wanted). f.0) fs) → keys_of ms ≡ map (λ (f : Wanted). f.0) fs → AreNext fs ms ms
+pub next_all : (fs : List Wanted) (ms : Members) → IsDistinct bytes_eq (map (λ (f : Wanted). f.0) fs) → keys_of ms ≡ map (λ (f : Wanted). f.0) fs → AreNext fs ms ms
 next_all [] no_members d e = refl
 next_all [] (member k j ms) d e = cc
 next_all (f ∷ fs) no_members d e = cc

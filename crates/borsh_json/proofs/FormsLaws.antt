@@ -21,7 +21,7 @@ parts_are [] = refl
 parts_are (p ∷ []) = refl
 parts_are (p ∷ q ∷ ps) = refl
 
-shape_is : (d : Definition) → shape_of_form (form_of d) ≡ shape_of d
+pub shape_is : (d : Definition) → shape_of_form (form_of d) ≡ shape_of d
 shape_is (Primitive n) = refl
 shape_is (Sequence w r e) = refl
 shape_is (Tuple es) = refl

@@ -1,5 +1,6 @@
 pub mod FormsLaws
 pub mod RepresentsLaws
+pub mod IntegerLaws
 pub mod DecimalLaws
 pub mod NumberLaws
 pub mod PlaceLaws
@@ -11,9 +12,20 @@ pub mod RowsLaws
 pub mod ReaderLaws
 pub mod StepLaws
 pub mod OpeningLaws
+pub mod FormKinds
+pub mod FrontLaws
+pub mod BegunLaws
+pub mod ChoiceLaws
+pub mod WholeLaws
+pub mod StopLaws
+pub mod NullLaws
 pub mod PartsLaws
 pub mod LoopLaws
 pub mod ReadingLaws
+pub mod WritingLaws
+pub mod WritingPlaces
+pub mod WritingSteps
+pub mod WriterLaws
 pub mod MemberLaws
 pub mod EachLaws
 pub mod MapLaws
@@ -22,3 +34,7 @@ pub mod KeyJson
 pub mod NumberTexts
 pub mod LaidLaws
 pub mod FieldLaws
+pub mod LineLaws
+pub mod LeafLaws
+pub mod ListLaws
+pub mod KeyLaws

@@ -9,14 +9,16 @@ use Rattle.std.proofs.lemmas.Bool.Decides.{nat_tests}
 use Rattle.std.proofs.lemmas.Slice.Eq.{bytes_eq-Decides}
 use Rattle.borsh_values.specs.declared.layout.Named.{Named}
 use Rattle.borsh_json.specs.declared.formats.Collection.{Collection}
-use Rattle.borsh_json.specs.declared.formats.Collection.TheVariants.{List as Elements, Set, Map}
+use Rattle.borsh_json.specs.declared.formats.Collection.TheVariants.{List as AList, Set, Map}
+use Rattle.borsh_values.specs.Nodes.{packed_size}
+use Rattle.borsh_json.specs.declared.kinds.Elements.{Elements}
 use Rattle.borsh_json.specs.declared.kinds.Kind.{Kind as Found}
 use Rattle.borsh_json.specs.declared.kinds.Kind.TheVariants.{Number as NumberKind, Bool as Truth, Text, Bytes, Float, ByteList, Numbers, List as ElementList, Map as Entries, Row, Newtype, Object, Optional, Choice, Repeated}
 use Rattle.borsh_json.specs.declared.numbers.Number.{Number}
-use Rattle.borsh_json.specs.Forms.{Form, primitive, sequence, tuple, newtype, unnamed, named, choice, HasNoBytes, IsByte, IsOption, IsMap, shape_of_form}
+use Rattle.borsh_json.specs.Forms.{Form, primitive, sequence, tuple, newtype, unnamed, named, choice, HasNoBytes, IsByte, IsOption, IsMap, shape_of_form, shapes}
 use Rattle.borsh_json.specs.Table.{Keys, texts, numbers, Kind, truth, whole, float, utf8, byte_list, list, fields, variants, optional, entries, inner, DefinedKind, number_types, number_kind, primitive_kind, AreKeys, SequenceKind, a_text, some_bytes, an_object, some_elements, nullable, by_name, HasKind, IsNullable, MayBeNull, without_bytes, an_option, in_newtype, Says}
 use Rattle.borsh_json.specs.Ranks.{number_found}
-use Rattle.borsh_json.specs.Places.{IsInfinity, IsKindOf, IsListOf, IsUnsayable, lengths_of}
+use Rattle.borsh_json.specs.Places.{IsAt, IsInfinity, IsKindOf, IsListOf, IsUnsayable, lengths_of}
 use Rattle.borsh_json.specs.Found.{IsCollection, IsPrimitiveKind, IsRefusedList}
 use Rattle.borsh_json.proofs.FoundLaws.{full_primitive, full_list, byte_full, zero_key}
 use Rattle.borsh_json.proofs.RepresentsLaws.{byte_or_map, kind_one, map_one}
@@ -99,7 +101,7 @@ module _ (F : List ℕ → Option Form) where
 
   -- ---- collections
   pub no_map_in : (ns : List Named) (x : List ℕ) (c : Collection) → IsCollection F ns x c → ((a b : ℕ) → c ≡ Map a b → ⊥) → (k v : List ℕ) → IsMap F x k v → ⊥
-  no_map_in ns x Elements h n = h.1
+  no_map_in ns x AList h n = h.1
   no_map_in ns x Set h n = h.1
   no_map_in ns x (Map a b) h n = absurd (n a b refl)
 
@@ -199,4 +201,26 @@ module _ (F : List ℕ → Option Form) where
   null_inner n x p e full o (in_newtype q g m) = let h : Some (newtype q) ≡ Some (newtype p) = sym g ∙ e in let i : q ≡ p = cc in subst (λ p. MayBeNull F n p) i m
 
   pub refused_is : (ns : List Named) (x : List ℕ) (f : Form) (kind : Found) → IsRefusedList kind → IsUnsayable F ns x → IsKindOf F ns x f kind
-  refused_is ns x f kind r u = subst (λ k. IsKindOf F ns x f k) (sym r.1) (subst (λ b. IsListOf F ns x f r.0.at b) (sym r.2) u)
+  refused_is ns x f kind r u = subst (λ k. IsKindOf F ns x f k) (sym r.1) (subst (λ b. IsListOf F ns x f r.0.at b) (sym r.2) u, λ n. (let t = r.2 in cc))
+
+  -- elements that are packed are primitives, and others are not
+  pub packed_primitive : (e : List ℕ) (n m : ℕ) → n ≡ packed_size (shapes F e) → n ≡ suc m → F e ≡ Some (primitive n)
+  packed_primitive e n m p h = there (F e) p
+    where
+      there : (o : Option Form) → n ≡ packed_size (option_map shape_of_form o) → o ≡ Some (primitive n)
+      there None q = cc
+      there (Some (primitive k)) q = ap (λ k. Some (primitive k)) (sym q)
+      there (Some (sequence w lo hi y)) q = cc
+      there (Some (tuple ps)) q = cc
+      there (Some (newtype y)) q = cc
+      there (Some (unnamed ps)) q = cc
+      there (Some (named fs)) q = cc
+      there (Some (choice w vs)) q = cc
+
+  pub numbers_found : (ns : List Named) (x : List ℕ) (f : Form) (e : List ℕ) (es : Elements) → IsAt ns es.at e → HasKind F x (list (lengths_of f) e) → es.is_refused ≡ false → (n : ℕ) → es.size ≡ suc n → es.size ≡ packed_size (shapes F e) → IsKindOf F ns x f (Numbers es)
+  numbers_found ns x f e es i h r n s p =
+      let k = packed_primitive e es.size n p s in
+      (subst (λ b. IsListOf F ns x f es.at b) (sym r) (e, i, h), r, omega (arith, s), λ d j. (let g : Some d ≡ Some e = sym j ∙ i in let q : d ≡ e = cc in ap (λ (e : List ℕ). F e) q ∙ k))
+
+  pub elements_found : (ns : List Named) (x : List ℕ) (f : Form) (e : List ℕ) (es : Elements) → IsAt ns es.at e → HasKind F x (list (lengths_of f) e) → es.is_refused ≡ false → packed_size (shapes F e) ≡ 0 → IsKindOf F ns x f (ElementList es)
+  elements_found ns x f e es i h r p = (subst (λ b. IsListOf F ns x f es.at b) (sym r) (e, i, h), λ t d j. (let g : Some d ≡ Some e = sym j ∙ i in let q : d ≡ e = cc in ap (λ (e : List ℕ). packed_size (shapes F e)) q ∙ p))

@@ -34,7 +34,7 @@ field_front f fs ms j a g e =
     let m = mapped (λ ps. (f.1, j) ∷ ps) (field_parts fs ms) h in
     (m.0, m.1, sym m.2)
 
-field_back : (f : Wanted) (fs : List Wanted) (ms : Members) (j : Json) (b : List Part) → get_member f.0 ms ≡ Some j → field_parts fs ms ≡ Some b → field_parts (f ∷ fs) ms ≡ Some ((f.1, j) ∷ b)
+pub field_back : (f : Wanted) (fs : List Wanted) (ms : Members) (j : Json) (b : List Part) → get_member f.0 ms ≡ Some j → field_parts fs ms ≡ Some b → field_parts (f ∷ fs) ms ≡ Some ((f.1, j) ∷ b)
 field_back f fs ms j b g e = ap (λ o. option_and_then (λ j. option_map (λ ps. (f.1, j) ∷ ps) (field_parts fs ms)) o) g ∙ ap (λ o. option_map (λ ps. (f.1, j) ∷ ps) o) e
 
 module _ (F : List ℕ → Option Form) (root : List ℕ) (j : Json) where

@@ -3,6 +3,7 @@ pub mod Errors
 pub mod Forms
 pub mod Table
 pub mod Ranks
+pub mod Integers
 pub mod Places
 pub mod InOrder
 pub mod Represents
@@ -10,5 +11,7 @@ pub mod Known
 pub mod Found
 pub mod Reads
 pub mod Frames
+pub mod Leaves
+pub mod Writes
 pub mod Rows
 pub mod Words

@@ -1,5 +1,5 @@
 -- Names by their places in a layout, and the kinds that the code finds of them.
-use Rattle.std.specs.Prelude.{◌≡◌, ◌⊎◌, ℕ, List, map, length, Bool, true, false, Option, Some, None, MatchOption, slice_get, string_bytes}
+use Rattle.std.specs.Prelude.{◌≡◌, ◌⊎◌, ℕ, ◌<◌, List, map, length, Bool, true, false, Option, Some, None, MatchOption, slice_get, string_bytes}
 use Rattle.std.specs.Borrow.{Bor}
 use Rattle.std.specs.Str.{bytes_eq}
 use Rattle.std.specs.List.{IsDistinct}
@@ -8,11 +8,12 @@ use Rattle.borsh_walks.specs.Container.{references}
 use Rattle.borsh_walks.specs.declared.definition.Definition.{Definition}
 use Rattle.borsh_values.specs.declared.layout.Named.{Named}
 use Rattle.borsh_values.specs.Layouts.{name_of}
+use Rattle.borsh_values.specs.Nodes.{packed_size}
 use Rattle.borsh_json.specs.declared.kinds.Kind.{Kind as Found}
 use Rattle.borsh_json.specs.declared.kinds.Kind.TheVariants.{Number, Bool as Truth, Text, Bytes, Float, ByteList, Numbers, List as Elements, Map, Row, Newtype, Object, Optional, Choice, Repeated}
 use Rattle.borsh_json.specs.declared.kinds.KeyKind.{KeyKind}
 use Rattle.borsh_json.specs.declared.kinds.KeyKind.TheVariants.{Text as TextKeys, Number as NumberKeys}
-use Rattle.borsh_json.specs.Forms.{Form, primitive, sequence, tuple, newtype, unnamed, named, choice, form_of, shape_of_form, HasNoBytes}
+use Rattle.borsh_json.specs.Forms.{Form, primitive, sequence, tuple, newtype, unnamed, named, choice, form_of, shape_of_form, shapes, HasNoBytes}
 use Rattle.borsh_json.specs.Table.{Lengths, Keys, texts, numbers, Kind, truth, whole, float, raw, utf8, byte_list, list, row, inner, fields, optional, variants, entries, HasKind, Part, Says}
 
 -- the name at the place is x
@@ -56,8 +57,8 @@ module _ (F : List ℕ → Option Form) (ns : List Named) where
   IsKindOf x f (Bytes n) = HasKind F x (raw n)
   IsKindOf x f (Float n) = (bits : ℕ) × IsInfinity n bits × HasKind F x (float n bits)
   IsKindOf x f (ByteList es) = (e : List ℕ) × IsAt ns es.at e × HasKind F x (byte_list (lengths_of f) e) × (es.is_refused ≡ false)
-  IsKindOf x f (Numbers es) = IsListOf x f es.at es.is_refused
-  IsKindOf x f (Elements es) = IsListOf x f es.at es.is_refused
+  IsKindOf x f (Numbers es) = IsListOf x f es.at es.is_refused × (es.is_refused ≡ false) × (0 < es.size) × ((e : List ℕ) → IsAt ns es.at e → F e ≡ Some (primitive es.size))
+  IsKindOf x f (Elements es) = IsListOf x f es.at es.is_refused × (es.is_refused ≡ false → (e : List ℕ) → IsAt ns es.at e → packed_size (shapes F e) ≡ 0)
   IsKindOf x f (Map es order) = (k : List ℕ) × (v : List ℕ) × (keys : Keys) × IsAt ns es.key k × IsAt ns es.value v × HasKind F x (entries (lengths_of f) keys k v) × AreKeysOf k (form_of es.key_definition.now) es.key_kind keys
   IsKindOf x f (Row n) = HasKind F x (row (references (shape_of_form f))) × (length (references (shape_of_form f)) ≡ n)
   IsKindOf x f (Newtype at) = (p : List ℕ) × IsAt ns at p × HasKind F x (inner p)

@@ -1,6 +1,6 @@
 -- The words that contracts of this crate cite, from where they are defined.
 pub use Rattle.borsh_json.specs.Errors.{DeniesValue, IsNoJsonReason, IsNoRowsReason, IsPartError, IsReadRefusal, IsTextReason, IsTooDeep, IsUnreadable, IsUnwritable}
-pub use Rattle.borsh_json.specs.Forms.{Form, HasNoBytes, IsByte, IsMap, IsOption, choice, form_of, form_of_struct, forms_in, newtype, sequence, shape_of_form, tuple}
+pub use Rattle.borsh_json.specs.Forms.{Form, HasNoBytes, IsByte, IsMap, IsOption, choice, shapes, form_of, form_of_struct, forms_in, newtype, sequence, shape_of_form, tuple}
 pub use Rattle.borsh_json.specs.Found.{AreEntries, HasForm, IsAlike, IsCollection, IsMapName, IsNamed, IsPrimitiveKind, IsRefusedList, IsRepeated, IsSetName, TellsKind, forms_of, joined, names_of}
 pub use Rattle.borsh_json.specs.Frames.{AddsList, AreKeyed, AreSorted, DeniesPart, DeniesRead, GivesPart, HasEntries, HasFields, HasItems, HasLeft, HasRead, HaveLeft, HaveNumbers, HaveOneEach, IsArrayOf, IsEntryKey, IsExpected, IsKey, IsNext, IsNextEntry, IsOf, IsOfRead, IsOpened, IsRank, IsText, IsVariantAt, IsWanted, NamesVariant, NoneLeft, Opens, ReadsOn, SaysArray, Wanted}
 pub use Rattle.borsh_json.specs.Known.{HasKinds, IsKnown, SaysBy}
@@ -8,25 +8,35 @@ pub use Rattle.borsh_json.specs.Places.{AreKeysOf, IsAt, IsInfinity, IsKindAt, I
 pub use Rattle.borsh_json.specs.Ranks.{HasRank, IsLeading, IsPlain, magnitude, number_found, rank_of}
 pub use Rattle.borsh_json.specs.Reads.{AreRead, Left, PartsOfAll, SaysFirst, SaysSome, entries_left}
 pub use Rattle.borsh_json.specs.Represents.{HaveBytes, TextSays}
-pub use Rattle.borsh_json.specs.Table.{AreKeys, Entry, HasKind, InRange, IsHex, IsNoNan, IsNullable, IsNumber, IsPrefixed, IsWhole, Keys, Kind as TableKind, Lengths, MayBeNull, Part as JsonPart, byte_list, entries as map_entries, entries_of, float, key_json, list_parts, no_bytes, number_kind, number_types, optional, primitive_kind, raw, texts, truth, utf8, variants as spec_variants, whole}
+pub use Rattle.borsh_json.specs.Table.{AreKeys, Entry, HasKind, InRange, IsHex, IsNoNan, IsNullable, IsNumber, IsPrefixed, IsWhole, Keys, Kind as TableKind, Lengths, MayBeNull, Part as JsonPart, byte_list, entries as map_entries, entries_of, float, key_json, key_order, list_parts, no_bytes, number_kind, number_types, optional, primitive_kind, raw, texts, truth, utf8, variants as spec_variants, whole}
+pub use Rattle.borsh_json.specs.Leaves.{Adds, IsOpenedAs, output_before, output_tokens}
+pub use Rattle.borsh_json.specs.Writes.{ArePartsOf, BeginsAt, BeginsStruct, HasNode, IsAbove, IsAwaitingAt, IsBegunOf, IsFull, IsFullOrDescends, IsKeyPut, IsLast, IsOfWrite, IsPartWritten, IsWritingAt, IsWrittenNext, IsWrittenOn, ShowsNoJson, StopsBy, WritesStruct, WritesValueOf, ends_of, leaf_depth}
 pub use Rattle.borsh_json.specs.declared.error.ReadError.TheVariants.{OutOfMemory}
 pub use Rattle.borsh_json.specs.declared.error.Refusal.TheVariants.{TooDeep}
+pub use Rattle.borsh_json.specs.declared.kinds.Elements.{Elements as FoundElements}
 pub use Rattle.borsh_json.specs.declared.kinds.KeyKind.{KeyKind as FoundKeyKind}
 pub use Rattle.borsh_json.specs.declared.kinds.KeyKind.TheVariants.{Text as TextKeys}
 pub use Rattle.borsh_json.specs.declared.kinds.Kind.{Kind as Found}
-pub use Rattle.borsh_json.specs.declared.kinds.Kind.TheVariants.{Map as FoundMap, Object as FoundObject, Row as FoundRow}
+pub use Rattle.borsh_json.specs.declared.kinds.Kind.TheVariants.{ByteList as FoundBytes, Choice as FoundChoice, List as FoundList, Map as FoundMap, Numbers as FoundNumbers, Object as FoundObject, Optional as FoundOption, Row as FoundRow, Text as FoundText}
+pub use Rattle.borsh_json.specs.declared.error.WriteError.TheVariants.{OutOfMemory as NoMemory}
+pub use Rattle.borsh_json.specs.declared.position.Key.TheVariants.{Entry as EntryOf}
+pub use Rattle.borsh_json.specs.declared.position.Part.{Part as FoundPart}
+pub use Rattle.borsh_json.specs.declared.position.Place.{Place}
+pub use Rattle.borsh_values.specs.Walks.{IsCounted, IsWalker}
+pub use Rattle.json.specs.Json.{null}
 pub use Rattle.borsh_json.specs.declared.order.Ordered.{Ordered as FoundOrder}
 pub use Rattle.borsh_json.specs.declared.parts.Next.TheVariants.{Missing as NextMissing, Part as NextPart}
 pub use Rattle.borsh_json.specs.declared.position.Parts.TheVariants.{Root}
 pub use Rattle.borsh_json.specs.declared.sources.Source.TheVariants.{One as OneSource}
 pub use Rattle.borsh_values.specs.Free.{KnowsSizes}
 pub use Rattle.borsh_values.specs.Layouts.{IsLaidOut}
+pub use Rattle.borsh_values.specs.Nodes.{packed_size}
 pub use Rattle.borsh_values.specs.declared.layout.Named.{Named as NamedPlace}
 pub use Rattle.borsh_walks.specs.Container.{Member, references, tag}
 pub use Rattle.borsh_walks.specs.Definitions.{definitions_in}
 pub use Rattle.borsh_walks.specs.Tables.{mark_of}
 pub use Rattle.json.specs.Find.{BeginsWith, Finds, InItems, InMembers, as_array, get_member}
-pub use Rattle.json.specs.Json.{Items as JsonItems, Json, Members as JsonMembers, array, document, item, no_items, object, string}
+pub use Rattle.json.specs.Json.{Items as JsonItems, Json, Members as JsonMembers, array, document, item, no_items, null, object, string}
 pub use Rattle.std.specs.Fmt.{decimal, signed_decimal}
 pub use Rattle.std.specs.Int.{w128}
 pub use Rattle.std.specs.Int.RustNames.{FitsSigned}

@@ -3,6 +3,7 @@ ghost use Rattle.borsh_json.specs.Errors.{error_of};
 ghost use Rattle.borsh_json.specs.declared.error.JsonError.TheVariants.{OutOfMemory};
 ghost use Rattle.borsh_json.specs.declared.error.PartError.TheVariants.{OutOfMemory as NoMemory};
 ghost use Rattle.borsh_json.specs.declared.error.ReadError.TheVariants.{OutOfMemory as NoRoom};
+ghost use Rattle.borsh_json.specs.declared.error.WriteError.TheVariants.{OutOfMemory as NotWritten};
 ghost use Rattle.std.specs.Prelude.{◌≡◌};
 
 use borsh_values::{Fault, Path};
@@ -44,6 +45,17 @@ pub enum ReadError {
     Refused(Refusal),
     /// The element of this index isn't above the one before it.
     Descends(usize),
+}
+
+/// Why a part was not written; the writer knows its path.
+#[derive(Drop)]
+pub enum WriteError {
+    /// An allocation failed.
+    OutOfMemory,
+    /// What is wrong with the part.
+    Refused(Refusal),
+    /// What is wrong with the element of this index.
+    Element(usize, Refusal),
 }
 
 /// What a step of reading or writing parts returns.
@@ -127,6 +139,22 @@ impl<T: Drop> From<AllocFailed<T>> for ReadError {
 
     fn from(_: AllocFailed<T>) -> ReadError {
         ReadError::OutOfMemory
+    }
+}
+
+impl From<AllocError> for WriteError {
+    ghost from_gives = { λ _ e. e ≡ NotWritten };
+
+    fn from(_: AllocError) -> WriteError {
+        WriteError::OutOfMemory
+    }
+}
+
+impl<T: Drop> From<AllocFailed<T>> for WriteError {
+    ghost from_gives = { λ _ e. e ≡ NotWritten };
+
+    fn from(_: AllocFailed<T>) -> WriteError {
+        WriteError::OutOfMemory
     }
 }
 

@@ -1,6 +1,6 @@
 // How the values of a name are written in JSON.
-ghost use Rattle.borsh_json.specs.Words.{AreEntries, AreKeys, AreKeysOf, HasForm, HasNoBytes, IsAlike, IsAt, IsByte, IsCollection, IsKindOf, IsKnown, IsMap, IsNamed, IsNullable, IsPrimitiveKind, IsRefusedList, IsRepeated, Keys, MayBeNull, TellsKind, form_of, form_of_struct, forms_in, forms_of, primitive_kind, sequence, texts};
-ghost use Rattle.std.specs.Prelude.{◌≡◌, ℕ, List, Decides, IfOk, MatchBool, MatchOption, OnOk, Some, map, string_bytes};
+ghost use Rattle.borsh_json.specs.Words.{AreEntries, AreKeys, AreKeysOf, HasForm, HasNoBytes, IsAlike, IsAt, IsByte, IsCollection, IsKindOf, IsKnown, IsMap, IsNamed, IsNullable, IsPrimitiveKind, IsRefusedList, IsRepeated, Keys, MayBeNull, TellsKind, form_of, form_of_struct, forms_in, forms_of, packed_size, primitive_kind, sequence, shape_of_form, texts};
+ghost use Rattle.std.specs.Prelude.{◌≡◌, ℕ, List, Decides, IfOk, MatchBool, MatchOption, OnOk, Some, map, option_map, string_bytes};
 
 use crate::definitions::Definitions;
 use crate::floats::is_float;
@@ -293,7 +293,10 @@ fn refused_list<'a>(element: usize) -> Kind<'a>
 }
 
 /// How many bytes a primitive has; 0 for other definitions.
-fn size_of_primitive(definition: Option<&Definition>) -> u8 {
+fn size_of_primitive(definition: Option<&Definition>) -> u8
+    ensures { let form = option_map (λ d. form_of d.now) definition.entry in
+        result ≡ packed_size (option_map shape_of_form form) }
+{
     match definition {
         Some(Definition::Primitive(size)) => *size,
         _ => 0,

@@ -10,8 +10,10 @@ mod digits;
 mod error;
 mod floats;
 mod formats;
+mod integers;
 mod kinds;
 mod laws;
+mod leaves;
 mod maps;
 mod not_json;
 mod numbers;
@@ -25,6 +27,7 @@ mod reading;
 mod rows;
 mod sources;
 mod strict;
+mod values;
 mod writing;
 
 pub use ascii::in_ascii;

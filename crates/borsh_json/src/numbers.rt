@@ -1,7 +1,8 @@
 // Whole numbers as text.
 ghost use Rattle.borsh_json.specs.Words.{FitsSigned, HasRank, InRange, IsLeading, IsPlain, IsWhole, decimal, magnitude, number_found, number_kind, number_types, rank_of, raw, signed_decimal, w128, whole};
-ghost use Rattle.std.specs.Prelude.{◌==◌, if◌then◌else◌, ◌≡◌, ◌<◌, ◌≤◌, ◌*◌, ◌^◌, ℕ, ℤ, List, Decides, MatchOption, negsuc, pos, take, true};
+ghost use Rattle.std.specs.Prelude.{◌==◌, if◌then◌else◌, ◌≡◌, ◌<◌, ◌≤◌, ◌*◌, ◌^◌, ℕ, ℤ, List, Decides, MatchOption, false, length, negsuc, pos, take, true};
 
+use crate::integers::Integer;
 use itoa::Buffer;
 use std::alloc::{AllocError, Global};
 
@@ -58,15 +59,11 @@ impl Number {
     }
 
     /// The number that the bytes encode, in decimal, as a text in the buffer.
-    pub fn decimal<'b>(&self, buffer: &'b mut Buffer, bytes: &[u8]) -> &'b str {
-        let fill = if self.is_signed { sign_byte(bytes) } else { 0 };
-        let all = widened(bytes, fill);
-        match (self.is_signed, self.size > 8) {
-            (true, true) => buffer.format(i128::from_le_bytes(all)),
-            (true, false) => buffer.format(i64::from_le_bytes(lower_half(all))),
-            (false, true) => buffer.format(u128::from_le_bytes(all)),
-            (false, false) => buffer.format(u64::from_le_bytes(lower_half(all))),
-        }
+    pub fn decimal<'b>(&self, buffer: &'b mut Buffer, bytes: &[u8]) -> &'b str
+        ensures { length bytes.now ≤ 16 →
+            IsWhole (length bytes.now) self.now.is_signed false result.now bytes.now }
+    {
+        Integer::decode(bytes, self.is_signed).decimal(buffer)
     }
 
     /// The bytes of the number that a text is, of which `size` count; none if it isn't a number of the type, in decimal
@@ -138,33 +135,6 @@ impl Number {
         let zero = if self.is_non_zero { ", not zero" } else { "" };
         format!(in alloc; "{what} of {bits} bits, {sign}{zero}")
     }
-}
-
-/// What comes above the bytes of a signed number.
-pub fn sign_byte(bytes: &[u8]) -> u8 {
-    match bytes {
-        [.., last] if *last >= 128 => 255,
-        _ => 0,
-    }
-}
-
-/// Sixteen bytes: these, and the same byte above them.
-pub fn widened(bytes: &[u8], fill: u8) -> [u8; 16] {
-    let mut all = [fill; 16];
-    let mut index = 0;
-    for byte in bytes {
-        if index < 16 {
-            all[index] = *byte;
-            index += 1;
-        }
-    }
-    all
-}
-
-fn lower_half(all: [u8; 16]) -> [u8; 8] {
-    [
-        all[0], all[1], all[2], all[3], all[4], all[5], all[6], all[7],
-    ]
 }
 
 fn sized(bytes: u8, size: u8, is_signed: bool, is_non_zero: bool) -> Option<Number>

@@ -20,7 +20,7 @@ use std::alloc::{AllocError, Global};
 /// The parts of a value, and the JSON of those that are left.
 #[derive(Drop)]
 pub struct Frame<'a, 't, 's> {
-    pub place: Place<'a>,
+    pub place: Place<'a, 'static>,
     pub source: Source<'t, 's>,
 }
 
@@ -442,10 +442,12 @@ fn open_items<'a, 't, 's>(
 {
     match array_of(element) {
         Array::Of(items, count) => match put_length(alloc, definition, count, out) {
-            Ok(()) => Ok(Some(Frame {
-                place: Place::in_order(Parts::List(elements.at, count as u64), elements.order),
-                source: Source::Items(items),
-            })),
+            Ok(()) => {
+                let parts: Parts<'a> = Parts::List(elements.at, count as u64);
+                let place: Place<'a, 'static> = Place::in_order(parts, elements.order);
+                let source = Source::Items(items);
+                Ok(Some(Frame { place, source }))
+            }
             Err(error) => Err(error),
         },
         Array::No => Err(expected(alloc, "an array")),
@@ -465,10 +467,10 @@ fn open_row<'a, 't, 's>(
     match array_of(element) {
         Array::Of(items, found) => {
             if found == count {
-                Ok(Some(Frame {
-                    place: Place::new(Parts::Row(at, count)),
-                    source: Source::Items(items),
-                }))
+                let parts: Parts<'a> = Parts::Row(at, count);
+                let place: Place<'a, 'static> = Place::new(parts);
+                let source = Source::Items(items);
+                Ok(Some(Frame { place, source }))
             } else {
                 Err(wrong_row(alloc, count))
             }

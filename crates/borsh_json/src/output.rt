@@ -1,8 +1,12 @@
 // The JSON text that is being written.
-ghost use Rattle.json.specs.Print.{IsPrintable};
+ghost use Rattle.borsh_json.specs.Leaves.{Adds, IsCompact, output_before, output_tokens};
+ghost use Rattle.borsh_json.specs.declared.output.Layout.TheVariants.{Compact as CompactLayout};
+ghost use Rattle.json.specs.Lex.{tokens};
+ghost use Rattle.json.specs.Print.{IsPrintable, print};
 ghost use Rattle.json.specs.Reads.{token_of};
+ghost use Rattle.std.specs.Prelude.{◌≡◌, ◌∷◌, [], IsUtf8, OnOk, true};
 
-use json::{Pretty, Token, Writer, is_number};
+use json::{Pretty, Token, Writer};
 use std::alloc::{AllocError, Global};
 
 /// How JSON is laid out.
@@ -64,31 +68,40 @@ pub enum Output {
 }
 
 impl Output {
-    pub fn new(alloc: Global, layout: Layout) -> Output {
+    pub fn new(alloc: Global, layout: Layout) -> Output
+        ensures { (output_before result ≡ []) × (output_tokens result ≡ []) }
+    {
         match layout {
             Layout::Compact => Output::Compact(Writer::new(Vec::new(alloc))),
             Layout::Pretty => Output::Pretty(Pretty::new(alloc)),
         }
     }
 
-    pub fn into_bytes(self) -> Vec<u8> {
+    /// The text of the tokens that were written.
+    pub fn into_bytes(self) -> Vec<u8>
+        ensures tokens { output_before self ≡ [] → tokens result.items ≡ output_tokens self }
+        ensures utf8 { output_before self ≡ [] → IsUtf8 result.items }
+        ensures compact { IsCompact self → output_before self ≡ [] → result.items ≡ print (output_tokens self) }
+    {
         match self {
             Output::Compact(writer) => writer.into_inner(),
             Output::Pretty(writer) => writer.into_inner(),
         }
     }
 
-    /// A number in decimal; a text that is no number is written as a string.
-    pub fn number(&mut self, text: &str) -> Result<(), AllocError> {
-        if is_number(text) {
-            self.put(Token::Number(text))
-        } else {
-            self.put(Token::String(text))
+    /// Whether the text is laid out so.
+    pub fn is_in(&self, layout: Layout) -> bool
+        ensures { layout ≡ CompactLayout → result ≡ true → IsCompact self.now }
+    {
+        match self {
+            Output::Compact(_) => layout == Layout::Compact,
+            Output::Pretty(_) => layout == Layout::Pretty,
         }
     }
 
     pub fn put(&mut self, token: Token<'_>) -> Result<(), AllocError>
         requires { IsPrintable (token_of token) }
+        ensures { OnOk result (Adds (token_of token.entry ∷ []) self.old self.new) }
     {
         match self {
             Output::Compact(writer) => writer.token(token),

@@ -61,7 +61,7 @@ pub fn read_value<'a>(
 #[derive(Drop)]
 struct Reading<'a, 't, 's> {
     out: Vec<u8>,
-    position: Position<'a>,
+    position: Position<'a, 'static>,
     source: Source<'t, 's>,
     outer: Vec<Source<'t, 's>>,
 }
@@ -161,7 +161,7 @@ impl<'a, 't, 's> Reading<'a, 't, 's> {
 /// Whether the element that was read last is above the one before it, where elements have to ascend.
 fn ascends(
     definitions: &Definitions<'_, '_>,
-    place: &mut Place<'_>,
+    place: &mut Place<'_, '_>,
     bytes: &[u8],
 ) -> Result<bool, AllocError>
     ensures { (place.new.parts ≡ place.old.parts) × (place.new.begun ≡ place.old.begun) }
@@ -177,7 +177,7 @@ fn ascends(
 /// What comes next. The key of an entry is added.
 fn take_next<'a, 't, 's>(
     definitions: &Definitions<'a, '_>,
-    place: &mut Place<'a>,
+    place: &mut Place<'a, '_>,
     source: &mut Source<'t, 's>,
     out: &mut Vec<u8>,
 ) -> Result<Next<'t, 's>, ReadError>

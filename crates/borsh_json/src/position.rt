@@ -1,11 +1,13 @@
 // Where in a value the reader or writer is.
-ghost use Rattle.borsh_json.specs.Words.{GivesPart, IsKnown, IsOf, IsOfRead, IsPartError, IsReadRefusal, IsUnreadable, IsUnwritable, Root, TooDeep};
-ghost use Rattle.std.specs.Prelude.{◌≡◌, ◌+◌, ◌^◌, ◌<◌, ◌≤◌, ◌∷◌, ◌++◌, [], true, false, ℕ, List, IfErr, IfSome, MatchOption, OnOk};
+ghost use Rattle.borsh_json.specs.Words.{GivesPart, IsFull, IsKnown, IsOf, IsOfRead, IsOfWrite, IsPartError, IsReadRefusal, IsUnreadable, Root, TooDeep};
+ghost use Rattle.borsh_json.specs.declared.error.Refusal.TheVariants.{Descends};
+ghost use Rattle.std.specs.Prelude.{◌≡◌, ◌+◌, ◌^◌, ◌<◌, ◌≤◌, ◌∷◌, ◌++◌, [], true, false, ℕ, List, None, length, IfErr, IfSome, MatchOption, OnOk};
 
 use crate::definitions::Definitions;
-use crate::error::{PartError, PartResult, ReadError, Refusal};
+use crate::error::{PartError, PartResult, ReadError, Refusal, WriteError};
 use crate::kinds::{Elements, Entries, NamedFields};
 use crate::order::{Ascent, Ordered, first_descent};
+use crate::sources::EntryKey;
 use borsh_values::{Path, PathStep};
 use json::MAX_DEPTH;
 use std::alloc::{AllocError, Global};
@@ -33,11 +35,13 @@ pub enum Parts<'a> {
 
 /// The parts of a value, and how many of them were begun.
 #[derive(Clone, Copy)]
-pub struct Place<'a> {
+pub struct Place<'a, 'k> {
     pub parts: Parts<'a>,
     pub begun: usize,
     /// Where the parts have to ascend.
     pub ascent: Option<Ascent>,
+    /// The last key that was written of a map.
+    pub last: Option<EntryKey<'k>>,
 }
 
 /// The key of a part in an object.
@@ -57,22 +61,25 @@ pub struct Part<'a> {
     pub key: Key<'a>,
 }
 
-impl<'a> Place<'a> {
-    pub fn new(parts: Parts<'a>) -> Place<'a>
+impl<'a, 'k> Place<'a, 'k> {
+    pub fn new(parts: Parts<'a>) -> Place<'a, 'k>
         ensures parts { result.parts ≡ parts.entry }
         ensures begun { result.begun ≡ 0 }
+        ensures last { result.last ≡ None }
     {
         Place {
             parts,
             begun: 0,
             ascent: None,
+            last: None,
         }
     }
 
     /// Parts that have to ascend where their order is known.
-    pub fn in_order(parts: Parts<'a>, order: Option<Ordered>) -> Place<'a>
+    pub fn in_order(parts: Parts<'a>, order: Option<Ordered>) -> Place<'a, 'k>
         ensures parts { result.parts ≡ parts.entry }
         ensures begun { result.begun ≡ 0 }
+        ensures last { result.last ≡ None }
     {
         Place {
             ascent: order.map(Ascent::new),
@@ -84,7 +91,7 @@ impl<'a> Place<'a> {
     pub fn next_part(&mut self, definitions: &Definitions<'a, '_>) -> Option<Part<'a>>
         ensures part { IsKnown definitions.now →
             GivesPart definitions.now self.old.parts self.old.begun self.new.parts self.new.begun result }
-        ensures same { self.new.parts ≡ self.old.parts }
+        ensures same { (self.new.parts ≡ self.old.parts) × (self.new.last ≡ self.old.last) }
     {
         let part = self.part_at(definitions, self.begun)?;
         self.begun = self.begun.saturating_add(1);
@@ -144,41 +151,56 @@ fn copy_at<'a>(at: usize, count: u64, key: Key<'a>, index: usize) -> Option<Part
 
 /// Where the reader or writer is: the parts that it is in, the innermost in `place`.
 #[derive(Drop)]
-pub struct Position<'a> {
+pub struct Position<'a, 'k> {
     alloc: Global,
     root: &'a str,
-    outer: Vec<Place<'a>>,
-    pub place: Place<'a>,
+    outer: Vec<Place<'a, 'k>>,
+    pub place: Place<'a, 'k>,
 }
 
-impl<'a> Position<'a> {
+impl<'a, 'k> Position<'a, 'k> {
     /// In front of a value of this name.
-    pub fn new(alloc: Global, root: &'a str) -> Position<'a>
+    pub fn new(alloc: Global, root: &'a str) -> Position<'a, 'k>
         ensures outer { result.outer.items ≡ [] }
         ensures place { (result.place.parts ≡ Root) × (result.place.begun ≡ 0) }
     {
+        let parts: Parts<'a> = Parts::Root;
+        let place: Place<'a, 'k> = Place::new(parts);
         Position {
             alloc,
             root,
             outer: Vec::new(alloc),
-            place: Place::new(Parts::Root),
+            place,
         }
     }
 
     /// Goes into the parts of the part that was begun last.
-    pub fn enter(&mut self, place: Place<'a>) -> PartResult<'a, ()>
+    pub fn enter(&mut self, place: Place<'a, 'k>) -> PartResult<'a, ()>
         ensures reading { IfErr result (IsPartError IsUnreadable) }
-        ensures writing { IfErr result (IsPartError IsUnwritable) }
         ensures too_deep { IfErr result (IsOf TooDeep) }
+        ensures full { IfErr result (IsFull (length self.old.outer.items)) }
+        ensures room { OnOk result (length self.old.outer.items < 128) }
         ensures place { OnOk result (self.new.place ≡ place.entry) }
         ensures outer { OnOk result (self.new.outer.items ≡ self.old.outer.items ++ self.old.place ∷ []) }
     {
-        if self.outer.len() >= MAX_DEPTH {
-            return Err(self.refused(Refusal::TooDeep));
-        }
+        self.check_room()?;
         self.outer.push(self.place)?;
         self.place = place;
         Ok(())
+    }
+
+    /// Refuses more brackets where as many as may be are around.
+    pub fn check_room(&self) -> PartResult<'a, ()>
+        ensures reading { IfErr result (IsPartError IsUnreadable) }
+        ensures too_deep { IfErr result (IsOf TooDeep) }
+        ensures full { IfErr result (IsFull (length self.now.outer.items)) }
+        ensures room { OnOk result (length self.now.outer.items < 128) }
+    {
+        if self.outer.len() < MAX_DEPTH {
+            Ok(())
+        } else {
+            Err(self.refused(Refusal::TooDeep))
+        }
     }
 
     /// Goes back to the parts around these; says no at the value itself.
@@ -198,7 +220,7 @@ impl<'a> Position<'a> {
     /// Refuses a primitive of a list that isn't above the one before it, where these have to ascend.
     pub fn check_ascent(&self, elements: Elements, bytes: &[u8]) -> PartResult<'a, ()>
         ensures reading { IfErr result (IsPartError IsUnreadable) }
-        ensures writing { IfErr result (IsPartError IsUnwritable) }
+        ensures descends { IfErr result (IsOf Descends) }
     {
         let Some(order) = elements.order else {
             return Ok(());
@@ -213,7 +235,6 @@ impl<'a> Position<'a> {
     pub fn refused(&self, refusal: Refusal) -> PartError<'a>
         ensures same { IsOf refusal result }
         ensures reading { IsUnreadable refusal → IsPartError IsUnreadable result }
-        ensures writing { IsUnwritable refusal → IsPartError IsUnwritable result }
     {
         refused_at(self.path(), refusal)
     }
@@ -230,20 +251,35 @@ impl<'a> Position<'a> {
         }
     }
 
+    /// The error of the part that was begun last and not written, or of an element of it.
+    pub fn refused_value(&self, error: WriteError) -> PartError<'a>
+        ensures { IsOfWrite error result }
+    {
+        match error {
+            WriteError::OutOfMemory => PartError::OutOfMemory,
+            WriteError::Refused(refusal) => self.refused(refusal),
+            WriteError::Element(index, refusal) => refused_at(self.path_to(index), refusal),
+        }
+    }
+
     /// The error of the element or entry that was begun last.
     pub fn refused_element(&self, refusal: Refusal) -> PartError<'a>
         ensures same { IsOf refusal result }
         ensures reading { IsUnreadable refusal → IsPartError IsUnreadable result }
-        ensures writing { IsUnwritable refusal → IsPartError IsUnwritable result }
     {
         refused_at(self.path_of_element(), refusal)
     }
 
     /// The error of the key of the entry that was begun last.
-    pub fn refused_key(&self, refusal: Refusal) -> PartError<'a>
-        ensures { IsUnwritable refusal → IsPartError IsUnwritable result }
+    pub fn refused_key(&self, error: WriteError) -> PartError<'a>
+        ensures { IsOfWrite error result }
     {
-        refused_at(self.path_of_key(), refusal)
+        match error {
+            WriteError::OutOfMemory => PartError::OutOfMemory,
+            WriteError::Refused(refusal) | WriteError::Element(_, refusal) => {
+                refused_at(self.path_of_key(), refusal)
+            }
+        }
     }
 
     fn path(&self) -> Result<Path<'a>, AllocError> {
@@ -289,7 +325,6 @@ impl<'a> Position<'a> {
 fn refused_at<'a>(path: Result<Path<'a>, AllocError>, refusal: Refusal) -> PartError<'a>
     ensures same { IsOf refusal result }
     ensures reading { IsUnreadable refusal → IsPartError IsUnreadable result }
-    ensures writing { IsUnwritable refusal → IsPartError IsUnwritable result }
 {
     match path {
         Ok(path) => PartError::Refused(path, refusal),

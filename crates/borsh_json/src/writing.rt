@@ -1,25 +1,24 @@
 // A value as JSON.
-ghost use Rattle.borsh_json.specs.Words.{HasKinds, IsNoJsonReason, IsPartError, IsUnwritable, Member, SaysBy, TextSays, definitions_in, forms_in};
-ghost use Rattle.borsh_json.specs.Ascii.{IsPlain};
-ghost use Rattle.borsh_json.specs.declared.output.Characters.TheVariants.{Ascii};
-ghost use Rattle.std.specs.Prelude.{◌≡◌, All, IfErr, IfOk, OnOk, string_bytes};
+ghost use Rattle.borsh_json.specs.Words.{Adds, AreKeysOf, EntryOf, Form, FoundElements, FoundKeyKind, FoundNumbers, FoundPart, HasKinds, HasNode, IsAbove, IsAt, IsAwaitingAt, IsBegunOf, IsEntryKey, IsFullOrDescends, IsKeyPut, IsKindOf, IsLast, IsNoJsonReason, IsPartError, IsPartWritten, IsUnwritable, IsWalker, IsWritingAt, IsWrittenNext, Keys, Member, NamedPlace, Place, SaysBy, ShowsNoJson, StopsBy, TextSays, definitions_in, ends_of, forms_in, forms_of, names_of, shapes};
+ghost use Rattle.borsh_json.specs.Ascii.{IsInLine, IsPlain};
+ghost use Rattle.borsh_json.specs.declared.output.Layout.TheVariants.{Compact};
+ghost use Rattle.borsh_json.specs.declared.output.Characters.TheVariants.{Any, Ascii};
+ghost use Rattle.std.specs.Prelude.{◌≡◌, ◌<◌, ℕ, All, IfErr, IfOk, IsUtf8, List, MatchResult, OnOk, Option, Some, length, string_bytes, true};
 
 use crate::ascii::{in_ascii, is_ascii};
 use crate::definitions::Definitions;
 use crate::error::{JsonError, PartError, PartResult, Refusal};
-use crate::floats::is_nan;
-use crate::kinds::{Elements, Entries, KeyKind, Kind, Variants, kind_of_primitive};
-use crate::numbers::Number;
-use crate::order::Ordered;
+use crate::kinds::{Entries, Kind};
+use crate::leaves::{is_above, write_key};
 use crate::output::{Characters, LongNumbers, Output, Style};
 use crate::position::{Key, Part, Parts, Place, Position};
-use borsh_values::{Decoded, Layout, Node, Path, Unpacked, count_of, elements_of, variant_of};
+use crate::sources::EntryKey;
+use crate::values::{begin_struct, begin_value};
+use borsh_values::{Layout, Membership, Node, Path, Walker, elements_of};
 use borsh_walks::Definition;
-use itoa::Buffer;
 use json::Token;
 use std::alloc::{AllocError, Global};
 use std::collections::BTreeMap;
-use std::str;
 
 /// The JSON text of the value of `root` that all of `bytes` is, by the definitions of `map` alone.
 ///
@@ -39,11 +38,14 @@ use std::str;
 /// whose keys have none, and values that nest more than 128 deep. The order of keys is known of numbers, `bool`, texts, and of
 /// tuples, arrays, lists, ordered sets and maps, and options of these, and not of structs and enums.
 ///
-/// Determined: after `Ok` the text is JSON that says these bytes, of the characters of the style. So no other bytes have this
+/// Determined: after `Ok` the text is JSON that says these bytes, of the characters of the style; without white space of its own
+/// it is one line, with no control characters. So no other bytes have this
 /// text, they are a member of the root ([`crate::text_determines_bytes`]), and they are what [`crate::from_json`] gives for it,
-/// if anything. After `NoMember` they are none, and after `Refused` they are one; `NoMember` and `Ambiguous` are as of
-/// [`borsh_values::decode`], and `NoValue` and `NotJson` aren't returned. Left open: memory, of which texts from 4 GiB on are said
-/// to want some; `Refused` for any member, for any reason that a value has; which of the texts that say the bytes: tested.
+/// if anything. After `NoMember` they are none; `NoMember` and `Ambiguous` are as of [`borsh_values::is_member`], and `NoValue`
+/// and `NotJson` aren't returned. After `Refused` they are one, and where the style allows any characters, it has a reason:
+/// `TooDeep`, that a chain of 128 references leads from the root to a name; another, that the bytes reach a value of a name of
+/// which no JSON says these bytes. Left open: memory; the reason of `Descends`, and of refusals in ASCII; which of the texts that
+/// say the bytes: tested.
 ///
 /// ```
 /// let text = to_json(alloc, "(u8, bool)", &definitions, &[7, 1], Style::COMPACT)?;
@@ -59,7 +61,10 @@ pub fn to_json<'a>(
     ensures says { let F = forms_in map.now in
         IfOk result (λ text. TextSays F root.now (string_bytes text) bytes.now) }
     ensures ascii { style.characters ≡ Ascii → IfOk result (λ text. All IsPlain (string_bytes text)) }
+    ensures line { style.layout ≡ Compact → IfOk result (λ text. All IsInLine (string_bytes text)) }
     ensures reason { IfErr result (λ e. IsNoJsonReason (definitions_in map.now) root.now bytes.now e) }
+    ensures refused { style.characters ≡ Any →
+        IfErr result (λ e. ShowsNoJson (forms_in map.now) root.now bytes.now e) }
 {
     let layout = Layout::new(alloc, root, map)?;
     let json = Definitions::new(alloc, &layout)?;
@@ -72,42 +77,47 @@ impl<'a, 'l> Definitions<'a, 'l> {
         requires { HasKinds self.now }
         ensures says { IfOk result (λ text. SaysBy self.now (string_bytes text) bytes.now) }
         ensures ascii { style.characters ≡ Ascii → IfOk result (λ text. All IsPlain (string_bytes text)) }
+        ensures line { style.layout ≡ Compact → IfOk result (λ text. All IsInLine (string_bytes text)) }
         ensures reason { let l = self.now.layout.now in
             IfErr result (λ e. IsNoJsonReason (definitions_in l.map.now) l.root.now bytes.now e) }
+        ensures refused { let l = self.now.layout.now in style.characters ≡ Any →
+            IfErr result (λ e. ShowsNoJson (forms_in l.map.now) l.root.now bytes.now e) }
     {
-        match self.layout.decode(self.alloc, bytes)? {
-            Decoded::Nodes(nodes) => {
-                let text = self.write_nodes(bytes, nodes, style)?;
-                self.check_text(text.as_str(), bytes)?;
-                Ok(text)
+        match self.layout.is_member(self.alloc, bytes)? {
+            Membership::Member => {
+                let text = text_of(write_value(self, bytes, style)?);
+                Ok(self.in_characters(text, bytes, style.characters)?)
             }
-            Decoded::NoMember(fault) => Err(JsonError::NoMember(fault)),
-            Decoded::Ambiguous(name) => Err(JsonError::Ambiguous(name)),
+            Membership::NoMember(fault) => Err(JsonError::NoMember(fault)),
+            Membership::Ambiguous(name) => Err(JsonError::Ambiguous(name)),
         }
     }
 
-    /// The text of the nodes, which aren't needed any more.
-    fn write_nodes(
+    /// The text, with these characters alone.
+    fn in_characters(
         &self,
+        text: String,
         bytes: &[u8],
-        nodes: Vec<Node<'a, '_>>,
-        style: Style,
+        characters: Characters,
     ) -> PartResult<'a, String>
-        ensures ascii { style.characters ≡ Ascii → IfOk result (λ text. All IsPlain (string_bytes text)) }
+        requires { HasKinds self.now }
+        ensures says { SaysBy self.now (string_bytes text) bytes.now →
+            IfOk result (λ text. SaysBy self.now (string_bytes text) bytes.now) }
+        ensures ascii { characters ≡ Ascii → IfOk result (λ text. All IsPlain (string_bytes text)) }
+        ensures line { All IsInLine (string_bytes text) → IfOk result (λ text. All IsInLine (string_bytes text)) }
+        ensures any { characters ≡ Any → IfErr result (λ e. ⊥) }
         ensures refusal { IfErr result (IsPartError IsUnwritable) }
     {
-        let root = self.layout.root;
-        let mut writing = Writing {
-            definitions: self,
-            long_numbers: style.long_numbers,
-            out: Output::new(self.alloc, style.layout),
-            bytes,
-            nodes: Unpacked::new(self.alloc, self.layout, nodes.as_slice()),
-            position: Position::new(self.alloc, root),
-        };
-        writing.write_all()?;
-        let text = text_of(self.alloc, root, writing.out.into_bytes())?;
-        in_characters(self.alloc, root, text, style.characters)
+        if characters == Characters::Any || is_ascii(text.as_str()) {
+            return Ok(text);
+        }
+        match String::from_utf8(in_ascii(self.alloc, text.as_str())?) {
+            Ok(text) => {
+                self.check_text(text.as_str(), bytes)?;
+                Ok(text)
+            }
+            Err(_) => Err(no_json(self.alloc, self.layout.root)),
+        }
     }
 
     /// Refuses a text that doesn't say the bytes, by reading it.
@@ -132,34 +142,18 @@ impl<'a, 'l> Definitions<'a, 'l> {
     }
 }
 
-/// The text, with these characters alone.
-fn in_characters<'a>(
-    alloc: Global,
-    root: &'a str,
-    text: String,
-    characters: Characters,
-) -> Result<String, PartError<'a>>
-    ensures ascii { characters ≡ Ascii → IfOk result (λ text. All IsPlain (string_bytes text)) }
-    ensures refusal { IfErr result (IsPartError IsUnwritable) }
-{
-    if characters == Characters::Any || is_ascii(text.as_str()) {
-        return Ok(text);
-    }
-    text_of(alloc, root, in_ascii(alloc, text.as_str())?)
-}
-
 /// The text of bytes, which are UTF-8.
-fn text_of<'a>(alloc: Global, root: &'a str, bytes: Vec<u8>) -> Result<String, PartError<'a>>
-    ensures same { IfOk result (λ text. string_bytes text ≡ bytes.items) }
-    ensures refusal { IfErr result (IsPartError IsUnwritable) }
+fn text_of(bytes: Vec<u8>) -> String
+    requires { IsUtf8 bytes.items }
+    ensures { string_bytes result ≡ bytes.items }
 {
     match String::from_utf8(bytes) {
-        Ok(text) => Ok(text),
-        Err(_) => Err(no_json(alloc, root)),
+        Ok(text) => text,
+        Err(_) => unreachable!(),
     }
 }
 
-/// That the text that was written doesn't say the bytes, as it does where the nodes are those of the definitions.
+/// That a text in ASCII doesn't say the bytes.
 fn no_json<'a>(alloc: Global, root: &'a str) -> PartError<'a>
     ensures { IsPartError IsUnwritable result }
 {
@@ -167,281 +161,238 @@ fn no_json<'a>(alloc: Global, root: &'a str) -> PartError<'a>
     PartError::Refused(Path { root, steps }, Refusal::OtherNodes)
 }
 
-/// The nodes that are left, and where the writer is.
-#[derive(Drop)]
-struct Writing<'a, 'd, 'l, 'b, 'n> {
-    definitions: &'d Definitions<'a, 'l>,
-    long_numbers: LongNumbers,
-    out: Output,
-    bytes: &'b [u8],
-    nodes: Unpacked<'a, 'l, 'b, 'n>,
-    position: Position<'a>,
+/// The JSON text of a member.
+fn write_value<'a>(
+    definitions: &Definitions<'a, '_>,
+    bytes: &[u8],
+    style: Style,
+) -> Result<Vec<u8>, JsonError<'a>>
+    requires known { HasKinds definitions.now }
+    requires member { Member (shapes (forms_of definitions.now)) definitions.now.layout.now.root.now bytes.now }
+    ensures says { IfOk result (λ text. SaysBy definitions.now text.items bytes.now) }
+    ensures utf8 { IfOk result (λ text. IsUtf8 text.items) }
+    ensures line { style.layout ≡ Compact → IfOk result (λ text. All IsInLine text.items) }
+    ensures stops { IfErr result (StopsBy definitions.now bytes.now) }
+{
+    let alloc = definitions.alloc;
+    let layout = definitions.layout;
+    let walk = Walker::new(alloc, layout, bytes);
+    let position = Position::new(alloc, layout.root);
+    let out = Output::new(alloc, style.layout);
+    let mut writing = Writing {
+        walk,
+        position,
+        out,
+        bytes,
+        long_numbers: style.long_numbers,
+    };
+    for _ in 0..u64::MAX {
+        let more = writing.write_next(definitions)?;
+        if !more {
+            if writing.out.is_in(style.layout) {
+                return Ok(writing.out.into_bytes());
+            }
+            break;
+        }
+    }
+    Err(JsonError::OutOfMemory)
 }
 
-impl<'a, 'd, 'l, 'b, 'n> Writing<'a, 'd, 'l, 'b, 'n> {
-    fn write_all(&mut self) -> PartResult<'a, ()>
-        ensures { IfErr result (IsPartError IsUnwritable) }
+/// What is left of the bytes, and where the writer is.
+#[derive(Drop)]
+struct Writing<'a, 'l, 'b> {
+    walk: Walker<'a, 'l, 'b>,
+    position: Position<'a, 'b>,
+    out: Output,
+    bytes: &'b [u8],
+    long_numbers: LongNumbers,
+}
+
+impl<'a, 'l, 'b> Writing<'a, 'l, 'b> {
+    /// Writes the next part, or goes back to the parts around; says no at the end of the value.
+    fn write_next(&mut self, definitions: &Definitions<'a, '_>) -> Result<bool, JsonError<'a>>
+        requires known { HasKinds definitions.now }
+        requires state { IsWritingAt definitions.now self.old self.old.position.place }
+        ensures state { IsWrittenNext definitions.now self.old self.new result }
+        ensures bytes { self.new.bytes ≡ self.old.bytes }
     {
-        for _ in 0..u64::MAX {
-            match self.position.place.next_part(self.definitions) {
-                Some(part) => {
-                    self.check_order()?;
-                    self.write_part(part)?;
-                }
-                None => {
-                    self.close()?;
-                    if !self.position.leave() {
-                        return Ok(());
-                    }
-                }
-            }
+        let Some(part) = self.position.place.next_part(definitions) else {
+            write_end(self.position.place.parts, &mut self.out)?;
+            return Ok(self.position.leave());
+        };
+        if !ascends(
+            definitions,
+            &mut self.position.place,
+            self.walk.offset,
+            self.bytes,
+        )? {
+            return Err(self.position.refused_element(Refusal::Descends).into());
         }
-        Err(self.position.refused(Refusal::OtherNodes))
+        self.write_key(definitions, part)?;
+        self.write_part(definitions, part.at)?;
+        Ok(true)
     }
 
-    /// Ends the brackets of the place.
-    fn close(&mut self) -> Result<(), AllocError> {
-        match self.position.place.parts {
-            Parts::Root | Parts::Newtype(_) | Parts::Some(_) => Ok(()),
-            Parts::List(_, _) | Parts::Row(_, _) => self.out.put(Token::EndArray),
-            Parts::Object(_, _) | Parts::Entries(_, _) | Parts::Variant(_, _) => self
-                .out
-                .put(Token::EndObject),
-        }
-    }
-
-    fn write_part(&mut self, part: Part<'a>) -> PartResult<'a, ()>
-        ensures { IfErr result (IsPartError IsUnwritable) }
+    /// Writes the key of a part that was begun, where it has one.
+    fn write_key(
+        &mut self,
+        definitions: &Definitions<'a, '_>,
+        part: Part<'a>,
+    ) -> Result<(), JsonError<'a>>
+        requires walk { IsWalker self.old.walk }
+        ensures key { HasKinds definitions.now → (p : Place) → IsWritingAt definitions.now self.old p →
+            IsBegunOf definitions.now p self.old.position.place part.entry →
+            IsKeyPut definitions.now part.entry.at self.old self.new result }
+        ensures bytes { self.new.bytes ≡ self.old.bytes }
     {
         match part.key {
-            Key::None => (),
-            Key::Name(name) => self.out.put(Token::Key(name))?,
-            Key::Entry(entries) => self.write_key(entries)?,
+            Key::None => Ok(()),
+            Key::Name(name) => Ok(self.out.put(Token::Key(name))?),
+            Key::Entry(entries) => self.write_entry_key(definitions, entries),
         }
-        if self.definitions.is_zero_size(part.at) {
+    }
+
+    /// Writes the key of an entry of a map, which has to be above the one before it.
+    fn write_entry_key(
+        &mut self,
+        definitions: &Definitions<'a, '_>,
+        entries: Entries<'a>,
+    ) -> Result<(), JsonError<'a>>
+        requires walk { IsWalker self.old.walk }
+        ensures key { HasKinds definitions.now → (p : Place) (part : FoundPart) →
+            IsWritingAt definitions.now self.old p → part.key ≡ EntryOf entries.entry →
+            IsBegunOf definitions.now p self.old.position.place part →
+            IsKeyPut definitions.now part.at self.old self.new result }
+        ensures bytes { self.new.bytes ≡ self.old.bytes }
+    {
+        let Some(node) = self.walk.open(entries.key, 0)? else {
+            return Err(JsonError::Ambiguous(definitions.name(entries.key)));
+        };
+        match write_key(entries.key_kind, &node, &mut self.out) {
+            Ok(key) => {
+                if !is_next(self.position.place.last, key) {
+                    return Err(self.position.refused_element(Refusal::Descends).into());
+                }
+                self.position.place.last = Some(key);
+                Ok(())
+            }
+            Err(error) => Err(self.position.refused_key(error).into()),
+        }
+    }
+
+    /// Writes a part, or its beginning, and goes into its parts.
+    fn write_part(
+        &mut self,
+        definitions: &Definitions<'a, '_>,
+        at: usize,
+    ) -> Result<(), JsonError<'a>>
+        requires walk { IsWalker self.old.walk }
+        ensures part { HasKinds definitions.now → (x : List ℕ) → IsAt (names_of definitions.now) at x →
+            IsAwaitingAt definitions.now self.old x → IsPartWritten definitions.now self.old self.new result }
+        ensures bytes { self.new.bytes ≡ self.old.bytes }
+    {
+        if definitions.is_zero_size(at) {
             return Ok(self.out.put(Token::Null)?);
         }
-        let node = self.take_node(part.at)?;
-        let Some((_, kind)) = self.definitions.kind(part.at) else {
-            return Err(self.position.refused(Refusal::OtherNodes));
+        let Some((_, kind)) = definitions.kind(at) else {
+            return Err(JsonError::NoValue);
         };
-        match kind {
-            Kind::Number(_) | Kind::Bool | Kind::Bytes(_) | Kind::Float(_) => {
-                self.write_primitive(kind, node.bytes)
-            }
-            Kind::Text => self.write_text(elements_of(&node)),
-            Kind::ByteList(elements) => self.write_byte_list(elements, elements_of(&node)),
-            Kind::Numbers(elements) => self.write_numbers(elements, elements_of(&node)),
-            Kind::List(elements) => self.open_list(&node, elements),
-            Kind::Map(entries, order) => self.open_map(&node, entries, order),
-            Kind::Row(count) => {
-                self.out.put(Token::BeginArray)?;
-                self.open(Parts::Row(part.at, count))
-            }
-            Kind::Newtype(part) => self.open(Parts::Newtype(part)),
-            Kind::Object(fields) => {
-                self.out.put(Token::BeginObject)?;
-                self.open(Parts::Object(part.at, fields))
-            }
-            Kind::Optional(part) => match variant_of(&node) {
-                Some(0) => Ok(self.out.put(Token::Null)?),
-                _ => self.open(Parts::Some(part)),
-            },
-            Kind::Choice(_, variants) => self.open_variant(part.at, &node, variants),
-            Kind::Repeated(name) => {
-                let name = String::from_str(self.definitions.alloc, name)?;
-                Err(self.position.refused(Refusal::RepeatedName(name)))
-            }
+        match begin_struct(definitions.alloc, at, kind, &mut self.out) {
+            Ok(Some(place)) => Ok(self.position.enter(place)?),
+            Ok(None) => self.write_node(definitions, at, kind),
+            Err(error) => Err(self.position.refused_value(error).into()),
         }
     }
 
-    /// Refuses an element that isn't above the one before it, where elements have to ascend.
-    fn check_order(&mut self) -> PartResult<'a, ()>
-        ensures { IfErr result (IsPartError IsUnwritable) }
-    {
-        let Some(ascent) = &mut self.position.place.ascent else {
-            return Ok(());
-        };
-        ascent.begin(self.nodes.offset());
-        if ascent.ascends(self.definitions, self.bytes)? {
-            return Ok(());
-        }
-        Err(self.position.refused_element(Refusal::Descends))
-    }
-
-    /// The next node, which has to be of the name at this place.
-    fn take_node(&mut self, at: usize) -> PartResult<'a, Node<'a, 'b>>
-        ensures { IfErr result (IsPartError IsUnwritable) }
-    {
-        match self.nodes.next()? {
-            Some(node) if node.name == self.definitions.name(at) => Ok(node),
-            _ => Err(self.position.refused(Refusal::OtherNodes)),
-        }
-    }
-
-    /// How many elements a list has.
-    fn count_of(&self, node: &Node<'a, '_>) -> PartResult<'a, u64>
-        ensures { IfErr result (IsPartError IsUnwritable) }
-    {
-        match count_of(node) {
-            Some(count) => Ok(count),
-            None => Err(self.position.refused(Refusal::OtherNodes)),
-        }
-    }
-
-    /// Begins the parts of a value, whose bracket was written.
-    fn open(&mut self, parts: Parts<'a>) -> PartResult<'a, ()>
-        ensures { IfErr result (IsPartError IsUnwritable) }
-    {
-        self.position.enter(Place::new(parts))
-    }
-
-    fn open_list(&mut self, node: &Node<'a, '_>, elements: Elements) -> PartResult<'a, ()>
-        ensures { IfErr result (IsPartError IsUnwritable) }
-    {
-        let count = self.count_of(node)?;
-        if elements.is_refused {
-            return Err(self.position.refused(Refusal::EmptyElements));
-        }
-        self.out.put(Token::BeginArray)?;
-        let parts = Parts::List(elements.at, count);
-        self.position.enter(Place::in_order(parts, elements.order))
-    }
-
-    fn open_map(
+    /// Writes a part of a kind that has own bytes, or its beginning.
+    fn write_node(
         &mut self,
-        node: &Node<'a, '_>,
-        entries: Entries<'a>,
-        order: Ordered,
-    ) -> PartResult<'a, ()>
-        ensures { IfErr result (IsPartError IsUnwritable) }
-    {
-        let count = self.count_of(node)?;
-        self.out.put(Token::BeginObject)?;
-        let parts = Parts::Entries(entries, count);
-        self.position.enter(Place::in_order(parts, Some(order)))
-    }
-
-    /// Writes the key of an entry, after whose node the value's follow.
-    fn write_key(&mut self, entries: Entries<'a>) -> PartResult<'a, ()>
-        ensures { IfErr result (IsPartError IsUnwritable) }
-    {
-        // The node of the pair, which has no bytes of its own.
-        let _pair = self.nodes.next()?;
-        let node = self.take_node(entries.key)?;
-        match entries.key_kind {
-            KeyKind::Text => match str::from_utf8(elements_of(&node)) {
-                Ok(text) => Ok(self.out.put(Token::Key(text))?),
-                Err(_) => Err(self.position.refused_key(Refusal::NotUtf8)),
-            },
-            KeyKind::Number(number) => {
-                let mut buffer = Buffer::new();
-                let text = number.decimal(&mut buffer, node.bytes);
-                if number.is_non_zero && text == "0" {
-                    return Err(self.position.refused_key(Refusal::Zero));
-                }
-                Ok(self.out.put(Token::Key(text))?)
-            }
-        }
-    }
-
-    fn open_variant(
-        &mut self,
+        definitions: &Definitions<'a, '_>,
         at: usize,
-        node: &Node<'a, '_>,
-        variants: &'a Variants,
-    ) -> PartResult<'a, ()>
-        ensures { IfErr result (IsPartError IsUnwritable) }
+        kind: Kind<'a>,
+    ) -> Result<(), JsonError<'a>>
+        requires walk { IsWalker self.old.walk }
+        ensures part { let F = forms_of definitions.now in let ns = names_of definitions.now in
+            HasKinds definitions.now → (x : List ℕ) (f : Form) → IsAt ns at x → F x ≡ Some f →
+            IsKindOf F ns x f kind.entry → HasNode kind.entry →
+            IsAwaitingAt definitions.now self.old x → IsPartWritten definitions.now self.old self.new result }
+        ensures bytes { self.new.bytes ≡ self.old.bytes }
     {
-        let index = variant_of(node).unwrap_or(usize::MAX);
-        let Some((_, variant, _)) = variants.get(index) else {
-            return Err(self.position.refused(Refusal::OtherNodes));
+        let Some(node) = self.walk.open(at, 0)? else {
+            return Err(JsonError::Ambiguous(definitions.name(at)));
         };
-        let part = self.definitions.part(at, index);
-        if self.definitions.is_zero_size(part) {
-            return Ok(self.out.put(Token::String(variant.as_str()))?);
+        check_elements(&self.position, kind, &node)?;
+        match begin_value(
+            definitions,
+            at,
+            kind,
+            &node,
+            self.long_numbers,
+            &mut self.out,
+        ) {
+            Ok(Some(place)) => Ok(self.position.enter(place)?),
+            Ok(None) => Ok(()),
+            Err(error) => Err(self.position.refused_value(error).into()),
         }
-        self.out.put(Token::BeginObject)?;
-        self.open(Parts::Variant(variant.as_str(), part))
     }
+}
 
-    /// Writes a list of primitives.
-    fn write_numbers(&mut self, elements: Elements, bytes: &[u8]) -> PartResult<'a, ()>
-        ensures { IfErr result (IsPartError IsUnwritable) }
-    {
-        let size = usize::from(elements.size);
-        if size == 0 {
-            return Err(self.position.refused(Refusal::EmptyElements));
+/// Refuses a list that is written whole where it has no room, or its elements have to ascend and don't.
+fn check_elements<'a>(
+    position: &Position<'a, '_>,
+    kind: Kind<'a>,
+    node: &Node<'_, '_>,
+) -> PartResult<'a, ()>
+    ensures room { OnOk result ((es : FoundElements) → kind.entry ≡ FoundNumbers es → length position.now.outer.items < 128) }
+    ensures full { IfErr result (IsFullOrDescends (length position.now.outer.items)) }
+{
+    match kind {
+        Kind::ByteList(elements) => position.check_ascent(elements, elements_of(node)),
+        Kind::Numbers(elements) => {
+            position.check_room()?;
+            position.check_ascent(elements, elements_of(node))
         }
-        self.position.check_ascent(elements, bytes)?;
-        self.out.put(Token::BeginArray)?;
-        let parts = Parts::List(elements.at, (bytes.len() / size) as u64);
-        self.open(parts)?;
-        let kind = kind_of_primitive(self.definitions.name(elements.at), elements.size);
-        for element in bytes.chunks_exact(size) {
-            let _part = self.position.place.next_part(self.definitions);
-            self.write_primitive(kind, element)?;
-        }
-        Ok(())
+        _ => Ok(()),
     }
+}
 
-    fn write_byte_list(&mut self, elements: Elements, bytes: &[u8]) -> PartResult<'a, ()>
-        ensures { IfErr result (IsPartError IsUnwritable) }
-    {
-        self.position.check_ascent(elements, bytes)?;
-        self.write_bytes(bytes)
+/// Whether a key of a map is above the last one, if there is one.
+fn is_next(last: Option<EntryKey<'_>>, key: EntryKey<'_>) -> bool
+    ensures { (F : List ℕ → Option Form) (ns : List NamedPlace) (k : List ℕ) (f : Form) (kind : FoundKeyKind)
+        (keys : Keys) (o : Option (List ℕ)) (s : List ℕ) → AreKeysOf F ns k f kind keys →
+        IsLast kind last.entry o → IsEntryKey kind key.entry s → result ≡ true → IsAbove keys o s }
+{
+    match last {
+        Some(last) => is_above(key, last),
+        None => true,
     }
+}
 
-    fn write_primitive(&mut self, kind: Kind<'a>, bytes: &[u8]) -> PartResult<'a, ()>
-        ensures { IfErr result (IsPartError IsUnwritable) }
-    {
-        match kind {
-            Kind::Number(number) => self.write_number(number, bytes),
-            Kind::Bool => self.write_bool(bytes),
-            Kind::Float(_) if is_nan(bytes) => Err(self.position.refused(Refusal::NotNumber)),
-            _ => self.write_bytes(bytes),
+/// Ends the brackets of a place.
+fn write_end(parts: Parts<'_>, out: &mut Output) -> Result<(), AllocError>
+    ensures { OnOk result (Adds (ends_of parts.entry) out.old out.new) }
+{
+    match parts {
+        Parts::Root | Parts::Newtype(_) | Parts::Some(_) => Ok(()),
+        Parts::List(_, _) | Parts::Row(_, _) => out.put(Token::EndArray),
+        Parts::Object(_, _) | Parts::Entries(_, _) | Parts::Variant(_, _) => {
+            out.put(Token::EndObject)
         }
     }
+}
 
-    fn write_number(&mut self, number: Number, bytes: &[u8]) -> PartResult<'a, ()>
-        ensures { IfErr result (IsPartError IsUnwritable) }
-    {
-        let mut buffer = Buffer::new();
-        let text = number.decimal(&mut buffer, bytes);
-        if number.is_non_zero && text == "0" {
-            return Err(self.position.refused(Refusal::Zero));
-        }
-        if number.is_quoted() || number.is_long() && self.long_numbers == LongNumbers::Quoted {
-            Ok(self.out.put(Token::String(text))?)
-        } else {
-            Ok(self.out.number(text)?)
-        }
-    }
-
-    fn write_bool(&mut self, bytes: &[u8]) -> PartResult<'a, ()>
-        ensures { IfErr result (IsPartError IsUnwritable) }
-    {
-        match bytes {
-            [0] => Ok(self.out.put(Token::Bool(false))?),
-            [1] => Ok(self.out.put(Token::Bool(true))?),
-            _ => Err(self.position.refused(Refusal::NotBool)),
-        }
-    }
-
-    fn write_text(&mut self, bytes: &[u8]) -> PartResult<'a, ()>
-        ensures { IfErr result (IsPartError IsUnwritable) }
-    {
-        match str::from_utf8(bytes) {
-            Ok(text) => Ok(self.out.put(Token::String(text))?),
-            Err(_) => Err(self.position.refused(Refusal::NotUtf8)),
-        }
-    }
-
-    fn write_bytes(&mut self, bytes: &[u8]) -> PartResult<'a, ()>
-        ensures { IfErr result (IsPartError IsUnwritable) }
-    {
-        let digits = hex::encode(self.definitions.alloc, bytes)?;
-        let text = format!(in self.definitions.alloc; "0x{digits}")?;
-        Ok(self.out.put(Token::String(text.as_str()))?)
-    }
+/// Whether the next element is above the one before it, where elements have to ascend; it begins at an offset.
+fn ascends(
+    definitions: &Definitions<'_, '_>,
+    place: &mut Place<'_, '_>,
+    offset: usize,
+    bytes: &[u8],
+) -> Result<bool, AllocError>
+    ensures { (place.new.parts ≡ place.old.parts) × (place.new.begun ≡ place.old.begun) × (place.new.last ≡ place.old.last) }
+{
+    let Some(ascent) = &mut place.ascent else {
+        return Ok(true);
+    };
+    ascent.begin(offset);
+    ascent.ascends(definitions, bytes)
 }

@@ -1,10 +1,12 @@
-use Rattle.std.proofs.Common.{◌≡◌, ◌∙◌, inl, inr, Some, sym, ap, subst}
-use Rattle.borsh_json.specs.Forms.{form_of, sequence}
+use Rattle.std.proofs.Common.{◌≡◌, ◌-◌, ◌∙◌, inl, inr, false, Some, arith, option_map, refl, sym, ap, subst}
+use Rattle.borsh_values.specs.Nodes.{packed_size}
+use Rattle.borsh_json.specs.declared.kinds.Elements.{Elements}
+use Rattle.borsh_json.specs.Forms.{form_of, sequence, shape_of_form}
 use Rattle.borsh_json.specs.Table.{HasKind, list, entries}
 use Rattle.borsh_json.specs.Places.{lengths_of}
 use Rattle.borsh_json.specs.Found.{forms_of}
 use Rattle.borsh_json.proofs.FoundLaws.{on_true, on_false, not_true}
-use Rattle.borsh_json.proofs.NameLaws.{refused, refused_is, entries_kind, list_kind}
+use Rattle.borsh_json.proofs.NameLaws.{elements_found, numbers_found, refused, refused_is, entries_kind, list_kind}
 use Rattle.borsh_json.proofs.kinds.kind_of_list.Goals as goal
 
 pub returns-then-is_zero_size-clause-kind : goal.returns-then-is_zero_size-clause-kind
@@ -45,7 +47,10 @@ returns-then-size-eq0-clause-kind c = λ w lo hi e q i b x h full.
     let l = c.collection_of-collection.ensures x h in
     let z = not_true c.is_zero_size.result (c.is_zero_size.ensures h.0 e i.1) c.if-is_zero_size.false in
     let k = on_false _ c.has_empty_keys.result c.if-has_empty_keys.false (c.has_empty_keys.ensures h.0 x l) in
-    (e, i.1, subst (λ f. HasKind F x (list (lengths_of f) e)) (sym q) (list_kind F x full w lo hi e f b (c.in_default.ensures h.0 x l) z k))
+    let kind = subst (λ f. HasKind F x (list (lengths_of f) e)) (sym q) (list_kind F x full w lo hi e f b (c.in_default.ensures h.0 x l) z k) in
+    let size = c.size_of_primitive-size.ensures ∙ ap (λ o. packed_size (option_map shape_of_form o)) (c.get.ensures h.0 e i.1) in
+    let es : Elements = record { at = c.args.element; size = c.size_of_primitive-size.result; order = c.in_ok-order.order; is_refused = false } in
+    elements_found F d.layout.now.names.items x (form_of c.args.definition.now) e es i.1 kind refl (sym size ∙ c.if-size-eq0.true)
 
 pub returns-else-size-eq0-clause-kind : goal.returns-else-size-eq0-clause-kind
 returns-else-size-eq0-clause-kind c = λ w lo hi e q i b x h full.
@@ -55,4 +60,8 @@ returns-else-size-eq0-clause-kind c = λ w lo hi e q i b x h full.
     let l = c.collection_of-collection.ensures x h in
     let z = not_true c.is_zero_size.result (c.is_zero_size.ensures h.0 e i.1) c.if-is_zero_size.false in
     let k = on_false _ c.has_empty_keys.result c.if-has_empty_keys.false (c.has_empty_keys.ensures h.0 x l) in
-    (e, i.1, subst (λ f. HasKind F x (list (lengths_of f) e)) (sym q) (list_kind F x full w lo hi e f b (c.in_default.ensures h.0 x l) z k))
+    let kind = subst (λ f. HasKind F x (list (lengths_of f) e)) (sym q) (list_kind F x full w lo hi e f b (c.in_default.ensures h.0 x l) z k) in
+    let size = c.size_of_primitive-size.ensures ∙ ap (λ o. packed_size (option_map shape_of_form o)) (c.get.ensures h.0 e i.1) in
+    let some = c.if-size-eq0.false in
+    let es : Elements = record { at = c.args.element; size = c.size_of_primitive-size.result; order = c.in_ok-order.order; is_refused = false } in
+    numbers_found F d.layout.now.names.items x (form_of c.args.definition.now) e es i.1 kind refl (c.size_of_primitive-size.result - 1) (omega arith) size

@@ -25,10 +25,10 @@ pub returns-in-ByteList : goal.returns-in-ByteList
 returns-in-ByteList c F ns x j h b = c.open_byte_list.ensures F ns x j (subst (λ (k : Kind). IsKindOf F ns x (form_of c.args.definition.now) k) c.in-ByteList.is (subst (λ (f : Form). IsKindOf F ns x f c.args.kind) h.3 h.4)) b
 
 pub returns-in-Numbers : goal.returns-in-Numbers
-returns-in-Numbers c F ns x j h b = c.open_list.ensures F ns x j (subst (λ (k : Kind). IsKindOf F ns x (form_of c.args.definition.now) k) c.in-Numbers.is (subst (λ (f : Form). IsKindOf F ns x f c.args.kind) h.3 h.4)) b
+returns-in-Numbers c F ns x j h b = let i = subst (λ (k : Kind). IsKindOf F ns x (form_of c.args.definition.now) k) c.in-Numbers.is (subst (λ (f : Form). IsKindOf F ns x f c.args.kind) h.3 h.4) in c.open_list.ensures F ns x j i.0 b
 
 pub returns-in-List : goal.returns-in-List
-returns-in-List c F ns x j h b = c.open_list-in-List.ensures F ns x j (subst (λ (k : Kind). IsKindOf F ns x (form_of c.args.definition.now) k) c.in-List.is (subst (λ (f : Form). IsKindOf F ns x f c.args.kind) h.3 h.4)) b
+returns-in-List c F ns x j h b = let i = subst (λ (k : Kind). IsKindOf F ns x (form_of c.args.definition.now) k) c.in-List.is (subst (λ (f : Form). IsKindOf F ns x f c.args.kind) h.3 h.4) in c.open_list-in-List.ensures F ns x j i.0 b
 
 pub returns-in-Row : goal.returns-in-Row
 returns-in-Row c F ns x j h b = unmoved F ns x j c.args.out.now.items c.open_row.result (c.open_row.ensures F ns x j (h.0, h.1, h.2, subst (λ (k : Kind). IsKindOf F ns x h.0 k) c.in-Row.is h.4) b)

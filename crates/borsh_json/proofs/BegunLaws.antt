@@ -1,0 +1,141 @@
+-- Values of which the beginning was written, by what the code found of their kinds.
+use Rattle.std.proofs.Common.{◌≡◌, ℕ, ◌-◌, ◌≤◌, List, [], ◌∷◌, ◌++◌, length, map, replicate, drop, Option, Some, None, refl, sym, ◌∙◌, ap, subst, arith, string_bytes}
+use Rattle.std.specs.Prelude.{pos, Bool, true, false, Result, Ok, Err, String, Vec, option_map}
+use Rattle.std.specs.Global.{Global}
+use Rattle.std.specs.List.{IsDistinct}
+use Rattle.std.specs.Str.{bytes_eq}
+use Rattle.std.specs.Borrow.{Bor}
+use Rattle.json.specs.Token.{Token}
+use Rattle.borsh_walks.specs.Container.{Shape, sequence as sequence_shape, product, tag, references}
+use Rattle.borsh_values.specs.Nodes.{packed_size, Opens, OpensElements, IsCountOf}
+use Rattle.borsh_values.specs.Walks.{IsCounted}
+use Rattle.borsh_values.specs.declared.layout.Named.{Named}
+use Rattle.borsh_values.proofs.WalkedLaws.{read_count}
+use Rattle.borsh_json.specs.declared.error.WriteError.{WriteError}
+use Rattle.borsh_json.specs.declared.error.WriteError.TheVariants.{Refused}
+use Rattle.borsh_json.specs.declared.error.Refusal.TheVariants.{EmptyElements}
+use Rattle.borsh_json.specs.declared.kinds.Elements.{Elements as FoundElements}
+use Rattle.borsh_json.specs.declared.kinds.Entries.{Entries as FoundEntries}
+use Rattle.borsh_json.specs.declared.kinds.Kind.{Kind as Found}
+use Rattle.borsh_json.specs.declared.kinds.Kind.TheVariants.{List as ListKind, Map as MapKind, Row as RowKind, Newtype as NewtypeKind, Object as ObjectKind}
+use Rattle.borsh_json.specs.declared.order.Ordered.{Ordered}
+use Rattle.borsh_json.specs.declared.output.Output.{Output}
+use Rattle.borsh_json.specs.declared.position.Parts.{Parts}
+use Rattle.borsh_json.specs.declared.position.Parts.TheVariants.{Root, List as Elements, Row, Object, Entries as MapEntries, Newtype, Some as Present, Variant}
+use Rattle.borsh_json.specs.declared.position.Place.{Place}
+use Rattle.borsh_json.specs.declared.sources.EntryKey.{EntryKey}
+use Rattle.borsh_json.specs.Forms.{Form, sequence, shape_of_form, shapes}
+use Rattle.borsh_json.specs.Frames.{Wanted}
+use Rattle.borsh_json.specs.Leaves.{IsNoJson, IsOpenedAs}
+use Rattle.borsh_json.specs.Places.{IsAt, IsUnsayable, IsListOf, IsKindOf, lengths_of}
+use Rattle.borsh_json.specs.Table.{Lengths, list, entries, row, inner, fields}
+use Rattle.borsh_json.specs.Writes.{Rest, items_rest, members_rest, value_rest, entries_rest, names_of_rest, IsFront, BeginsAt, begins_of, IsRestOf, IsRest, WritesValue, WritesStruct, ArePartsOf, RefusesValue}
+use Rattle.borsh_json.proofs.FormKinds.{form_known}
+use Rattle.borsh_json.proofs.FrontLaws.{copies, front_written, row_front, newtype_front, object_front, list_front, map_front}
+use Rattle.borsh_json.proofs.OpeningLaws.{second_map, second_copies}
+use Rattle.borsh_json.proofs.PartsLaws.{names_of}
+use Rattle.borsh_json.proofs.ReaderLaws.{uncons}
+
+module _ (F : List ℕ → Option Form) (ns : List Named) (x : List ℕ) (f : Form) where
+  -- no JSON says a value of a name that none can be said of
+  pub none_says : (own : List ℕ) → IsUnsayable F ns x → IsNoJson F x own
+  none_says own u j ps bs b = let s = uncons F b in let k = s.4 in u k.0 j s.0 s.1 k.1 k.2
+
+  new_place : (parts : Parts) (p : Place) (r : Rest) → p.parts ≡ parts → p.begun ≡ 0 → p.last ≡ None → IsRestOf F ns parts 0 None r → IsRest F ns p r
+  new_place parts p r a b c i =
+      subst (λ (q : Parts). IsRestOf F ns q p.begun p.last r) (sym a)
+      (subst (λ (k : ℕ). IsRestOf F ns parts k p.last r) (sym b)
+      (subst (λ (l : Option EntryKey). IsRestOf F ns parts 0 l r) (sym c) i))
+
+  -- the bracket of a place was written, or there was no memory for it
+  pub value_begun : (n : ℕ) (own : List ℕ) (parts : Parts) (r : Rest) (old new : Output) (result : Result (Option Place) WriteError) → IsRestOf F ns parts 0 None r → IsFront F x own r (begins_of parts) → Opens (shapes F) (shape_of_form f) own (names_of_rest r) → BeginsAt parts old new result → WritesValue F ns n x f own old new result
+  value_begun n own parts r old new (Ok None) i w o b = absurd b
+  value_begun n own parts r old new (Ok (Some p)) i w o b = (r, new_place parts p r b.0 b.1 b.2 i, front_written F x own r (begins_of parts) old new w b.3, o)
+  value_begun n own parts r old new (Err e) i w o b = subst (λ (e : WriteError). RefusesValue F x own e) (sym b) tt
+
+  struct_begun : (kind : Found) (parts : Parts) (r : Rest) (old new : Output) (result : Result (Option Place) WriteError) → IsRestOf F ns parts 0 None r → IsFront F x [] r (begins_of parts) → shape_of_form f ≡ product (names_of_rest r) → BeginsAt parts old new result → WritesStruct F ns x f kind old new result
+  struct_begun kind parts r old new (Ok None) i w s b = absurd b
+  struct_begun kind parts r old new (Ok (Some p)) i w s b = (r, new_place parts p r b.0 b.1 b.2 i, front_written F x [] r (begins_of parts) old new w b.3, s)
+  struct_begun kind parts r old new (Err e) i w s b = subst (λ (e : WriteError). RefusesValue F x [] e) (sym b) tt
+
+  -- ---- structs and tuples
+  module _ (at : ℕ) (i : IsAt ns at x) (d : F x ≡ Some f) (old new : Output) (result : Result (Option Place) WriteError) where
+    row_begun : (n : ℕ) → IsKindOf F ns x f (RowKind n) → BeginsAt (Row at n) old new result → WritesStruct F ns x f (RowKind n) old new result
+    row_begun n k b =
+        let refs = references (shape_of_form f) in
+        let r = items_rest (map (λ (w : Wanted). w.1) (map (λ y. ([], y)) refs)) in
+        let same = second_map refs in
+        struct_begun (RowKind n) (Row at n) r old new result
+        (map (λ y. ([], y)) refs, (x, f, i, d, k.1, refl), refl)
+        (subst (λ (xs : List (List ℕ)). IsFront F x [] (items_rest xs) (Token.begin_array ∷ [])) (sym same) (row_front F x [] refs k.0 refl))
+        (form_known F (row refs) f k.0 d (λ e. cc) ∙ ap product (sym same)) b
+
+    newtype_begun : (p : ℕ) → IsKindOf F ns x f (NewtypeKind p) → BeginsAt (Newtype p) old new result → WritesStruct F ns x f (NewtypeKind p) old new result
+    newtype_begun p k b =
+        struct_begun (NewtypeKind p) (Newtype p) (value_rest (k.0 ∷ [])) old new result
+        (([], k.0) ∷ [], (k.0, k.1, refl), refl)
+        (newtype_front F x [] k.0 k.2 refl)
+        (ap shape_of_form (form_known F (inner k.0) f k.2 d (λ e. cc))) b
+
+    object_begun : (fs : Bor (Vec (String Global × String Global) Global)) → IsKindOf F ns x f (ObjectKind fs) → BeginsAt (Object at fs) old new result → WritesStruct F ns x f (ObjectKind fs) old new result
+    object_begun fs k b =
+        let all : List Wanted = map (λ f. (string_bytes f.0, string_bytes f.1)) fs.now.items in
+        let g = form_known F (fields all) f k.0 d (λ e. cc) in
+        let u = subst (λ (l : List (List ℕ)). IsDistinct bytes_eq l) (sym (names_of (λ (f : String Global × String Global). string_bytes f.0) (λ f. string_bytes f.1) fs.now.items)) k.1 in
+        struct_begun (ObjectKind fs) (Object at fs) (members_rest all) old new result
+        (all, (x, i, d ∙ ap (λ f. Some f) g, refl), refl)
+        (object_front F x [] all k.0 u refl)
+        (ap shape_of_form g) b
+
+    -- whichever parts the code found
+    pub parts_begun : (kind : Found) (parts : Parts) → ArePartsOf at kind (Some parts) → IsKindOf F ns x f kind → BeginsAt parts old new result → WritesStruct F ns x f kind old new result
+    parts_begun kind Root a k b = absurd a
+    parts_begun kind (Elements y n) a k b = absurd a
+    parts_begun kind (Row y n) a k b = subst (λ (k : Found). WritesStruct F ns x f k old new result) (sym a.1) (row_begun n (subst (λ (k : Found). IsKindOf F ns x f k) a.1 k) (subst (λ (y : ℕ). BeginsAt (Row y n) old new result) a.0 b))
+    parts_begun kind (Object y fs) a k b = subst (λ (k : Found). WritesStruct F ns x f k old new result) (sym a.1) (object_begun fs (subst (λ (k : Found). IsKindOf F ns x f k) a.1 k) (subst (λ (y : ℕ). BeginsAt (Object y fs) old new result) a.0 b))
+    parts_begun kind (MapEntries es n) a k b = absurd a
+    parts_begun kind (Newtype y) a k b = subst (λ (k : Found). WritesStruct F ns x f k old new result) (sym a) (newtype_begun y (subst (λ (k : Found). IsKindOf F ns x f k) a k) b)
+    parts_begun kind (Present y) a k b = absurd a
+    parts_begun kind (Variant v y) a k b = absurd a
+
+  -- ---- lists and maps
+  module _ (own : List ℕ) (parts : List (List ℕ)) (o : IsOpenedAs F x f own parts) where
+    -- how many elements a sequence without packed ones has
+    counted : (l : Lengths) (e : List ℕ) (found : Option ℕ) → f ≡ sequence l.width l.least l.greatest e → packed_size (shapes F e) ≡ 0 → IsCountOf (shape_of_form f) own found → (k : ℕ) × (found ≡ Some k) × (l.least ≤ k) × (k ≤ l.greatest) × (own ≡ tag l.width (pos k) ++ []) × Opens (shapes F) (shape_of_form f) own (replicate k e)
+    counted l e found g z c =
+        let s = sequence_shape l.width l.least l.greatest e in
+        let h : shape_of_form f ≡ s = ap shape_of_form g in
+        let t = read_count (shapes F) l.width l.least l.greatest e own parts found (subst (λ (s : Shape). IsCounted s) h o.2) (subst (λ (s : Shape). Opens (shapes F) s own parts) h o.1) (subst (λ (s : Shape). IsCountOf s own found) h c) in
+        let u = subst (λ (n : ℕ). OpensElements n e t.0 (drop l.width own) parts) z t.5 in
+        (t.0, t.1, t.2, t.3, t.4 ∙ ap (λ bs. tag l.width (pos t.0) ++ bs) u.0, subst (λ (ps : List (List ℕ)). Opens (shapes F) (shape_of_form f) own ps) u.1 o.1)
+
+    pub list_begun : (n : ℕ) (es : FoundElements) (count : ℕ) (found : Option ℕ) (old new : Output) (result : Result (Option Place) WriteError) → IsKindOf F ns x f (ListKind es) → es.is_refused ≡ false → IsCountOf (shape_of_form f) own found → ((k : ℕ) → found ≡ Some k → count ≡ k) → BeginsAt (Elements es.at count) old new result → WritesValue F ns n x f own old new result
+    list_begun n es count found old new result k off c same b =
+        let l = lengths_of f in
+        let t = subst (λ (r : Bool). IsListOf F ns x f es.at r) off k.0 in
+        let e = t.0 in
+        let m = counted l e found (form_known F (list l e) f t.2 o.0 (λ e. cc)) (k.1 off e t.1) c in
+        let copies : map (λ (w : Wanted). w.1) (replicate count ([], e)) ≡ replicate m.0 e = second_copies count e ∙ ap (λ (i : ℕ). replicate i e) (same m.0 m.1) in
+        let none : count ≡ count - 0 = omega arith in
+        value_begun n own (Elements es.at count) (items_rest (replicate m.0 e)) old new result
+        (replicate count ([], e), (e, t.1, ap (λ (i : ℕ). replicate i ([], e)) none), ap items_rest (sym copies))
+        (list_front F x own l e m.0 t.2 m.2 m.3 m.4) m.5 b
+
+    pub list_refused : (n : ℕ) (es : FoundElements) (old new : Output) → IsKindOf F ns x f (ListKind es) → es.is_refused ≡ true → WritesValue F ns n x f own old new (Err (Refused EmptyElements))
+    list_refused n es old new k on = none_says own (subst (λ (r : Bool). IsListOf F ns x f es.at r) on k.0)
+
+    pub map_begun : (n : ℕ) (es : FoundEntries) (order : Ordered) (count : ℕ) (found : Option ℕ) (old new : Output) (result : Result (Option Place) WriteError) → IsKindOf F ns x f (MapKind es order) → IsCountOf (shape_of_form f) own found → ((k : ℕ) → found ≡ Some k → count ≡ k) → BeginsAt (MapEntries es count) old new result → WritesValue F ns n x f own old new result
+    map_begun n es order count found old new result h c same b =
+        let l = lengths_of f in
+        let k = h.0 in
+        let v = h.1 in
+        let keys = h.2 in
+        let g = form_known F (entries l keys k v) f h.5 o.0 (λ e. cc) in
+        let pair : shapes F g.0 ≡ Some (product (k ∷ v ∷ [])) = ap (λ (o : Option Form). option_map shape_of_form o) g.2 in
+        let m = counted l g.0 found g.1 (ap packed_size pair) c in
+        let ws : List Wanted = replicate count ([], v) in
+        let many : length ws ≡ m.0 = copies count ([], v) ∙ same m.0 m.1 in
+        let none : count ≡ count - 0 = omega arith in
+        value_begun n own (MapEntries es count) (entries_rest keys k v g.0 m.0 None) old new result
+        (k, v, g.0, keys, None, ws, h.3, h.4, pair, h.6, refl, (v, h.4, ap (λ (i : ℕ). replicate i ([], v)) none), ap (λ (i : ℕ). entries_rest keys k v g.0 i None) (sym many))
+        (map_front F x own l keys k v g.0 m.0 h.5 m.2 m.3 m.4) m.5 b

@@ -1,0 +1,293 @@
+-- Values that are written whole: primitives, texts and lists of primitives.
+use Rattle.std.proofs.Common.{◌≡◌, inl, inr, ℕ, suc, zero, ◌+◌, ◌-◌, ◌/◌, ◌^◌, ◌<◌, ◌≤◌, List, [], ◌∷◌, ◌++◌, length, map, Bool, true, false, Option, Some, refl, sym, ◌∙◌, ap, subst, arith, pow-suc}
+use Rattle.std.specs.Prelude.{⊤, ℤ, pos, negsuc, ◌&&◌, ◌==◌, if◌then◌else◌, codes, Result, Ok, Err}
+use Rattle.std.specs.Fmt.{signed_decimal}
+use Rattle.std.specs.List.{AllByRecursion}
+use Rattle.std.specs.Str.{bytes_eq}
+use Rattle.std.proofs.Math.Nat.{pow-le-pow_right}
+use Rattle.std.proofs.lemmas.Bool.Decides.{nat_tests}
+use Rattle.json.specs.Token.{Token}
+use Rattle.json.specs.Token as token
+use Rattle.json.specs.Json.{Json, null, boolean, number, string}
+use Rattle.json.specs.Print.{IsNumber as IsNumberText}
+use Rattle.json.specs.Tree.{json_tokens, depth, HasNumbers}
+use Rattle.json.proofs.Printed.Decimals.{IsNumber-decimal, IsNumber-signed_decimal}
+use Rattle.borsh_walks.specs.Container.{tag, low_bytes}
+use Rattle.borsh_values.specs.Nodes.{Opens}
+use Rattle.borsh_values.specs.Numbers.{value_of}
+use Rattle.borsh_values.specs.declared.layout.Named.{Named}
+use Rattle.borsh_json.specs.declared.error.WriteError.{WriteError}
+use Rattle.borsh_json.specs.declared.kinds.Kind.{Kind as Found}
+use Rattle.borsh_json.specs.declared.kinds.Kind.TheVariants.{Number, Bool as Truth, Text, Bytes, Float, ByteList, Numbers, List as ElementList, Map as Entries, Row, Newtype, Object, Optional, Choice, Repeated}
+use Rattle.borsh_json.specs.declared.numbers.Number.{Number as NumberOf}
+use Rattle.borsh_json.specs.declared.output.Output.{Output}
+use Rattle.borsh_json.specs.Forms.{Form, primitive, sequence, tuple, newtype, unnamed, named, choice, shape_of_form, shapes}
+use Rattle.borsh_json.specs.Found.{IsPrimitiveKind}
+use Rattle.borsh_json.specs.Integers.{IsEncoded}
+use Rattle.borsh_json.specs.Leaves.{Adds, HasSize, IsNoJson, IsOpenedAs, IsWritten, RefusesLeaf, WritesHex, WritesLeaf}
+use Rattle.borsh_json.specs.Places.{IsInfinity, IsKindOf}
+use Rattle.borsh_json.specs.Reads.{SaysFirst}
+use Rattle.borsh_json.specs.Represents.{HaveBytes, next_part}
+use Rattle.borsh_json.specs.Table.{Kind, no_bytes, truth, whole, float, raw, utf8, byte_list, list, row, inner, fields, optional, variants, entries, a_text, some_bytes, an_object, some_elements, nullable, by_name, number_types, number_kind, primitive_kind, DefinedKind, HasKind, InRange, IsHex, IsNoNan, IsNumber, Part, Says}
+use Rattle.borsh_json.proofs.ReaderLaws.{uncons}
+use Rattle.borsh_json.proofs.RepresentsLaws.{kind_one}
+
+-- ---- lists and bytes
+pub front_one : (xs bs cs ds : List ℕ) → xs ++ bs ≡ cs ++ ds → length xs ≡ length cs → (xs ≡ cs) × (bs ≡ ds)
+front_one [] bs [] ds e l = (refl, e)
+front_one [] bs (c ∷ cs) ds e l = absurd (omega arith)
+front_one (x ∷ xs) bs [] ds e l = absurd (omega arith)
+front_one (x ∷ xs) bs (c ∷ cs) ds e l =
+    let h : x ≡ c = cc in
+    let t : xs ++ bs ≡ cs ++ ds = cc in
+    let r = front_one xs bs cs ds t (omega arith) in
+    (ap (λ y. y ∷ xs) h ∙ ap (λ ys. c ∷ ys) r.0, r.1)
+
+low_length : (w n : ℕ) → length (low_bytes w n) ≡ w
+low_length zero n = refl
+low_length (suc w) n = ap suc (low_length w (n / 256))
+
+map_length : (f : ℕ → ℕ) (bs : List ℕ) → length (map f bs) ≡ length bs
+map_length f [] = refl
+map_length f (b ∷ bs) = ap suc (map_length f bs)
+
+pub tag_length : (w : ℕ) (z : ℤ) → length (tag w z) ≡ w
+tag_length w (pos n) = low_length w n
+tag_length w (negsuc n) = map_length (λ b. 255 - b) (low_bytes w n) ∙ low_length w n
+
+value_low : (w n : ℕ) → n < 256 ^ w → value_of (low_bytes w n) ≡ n
+value_low zero n h = omega arith
+value_low (suc w) n h =
+    let p = pow-suc 256 w in
+    let r = value_low w (n / 256) (omega (arith, h, p)) in
+    omega (arith, r)
+
+pub tag_one : (w k m : ℕ) → k < 256 ^ w → m < 256 ^ w → tag w (pos k) ≡ tag w (pos m) → k ≡ m
+tag_one w k m h l e = sym (value_low w k h) ∙ ap (λ l. value_of l) e ∙ value_low w m l
+
+-- a number and its complement add up to all bits
+value_turned : (w m : ℕ) → m < 256 ^ w → value_of (map (λ b. 255 - b) (low_bytes w m)) + m + 1 ≡ 256 ^ w
+value_turned zero m h = omega arith
+value_turned (suc w) m h =
+    let p = pow-suc 256 w in
+    let r = value_turned w (m / 256) (omega (arith, h, p)) in
+    omega (arith, r, p)
+
+-- of a number of some bytes only 0 has those of 0
+not_zero : (n : ℕ) (signed : Bool) (z : ℤ) → 1 ≤ n → InRange n signed z → tag n z ≡ tag n (pos 0) → z ≡ pos 0
+not_zero zero signed z h r e = absurd (omega arith)
+not_zero (suc n) false (pos m) h r e = ap pos (tag_one (suc n) m 0 r (omega arith) e)
+not_zero (suc n) true (pos m) h r e = ap pos (tag_one (suc n) m 0 (omega arith) (omega arith) e)
+not_zero (suc n) false (negsuc m) h r e = absurd r
+not_zero (suc n) true (negsuc m) h r e =
+    let p = pow-suc 256 n in
+    let t = value_turned (suc n) m (omega arith) in
+    let o = ap (λ l. value_of l) e ∙ value_low (suc n) 0 (omega arith) in
+    absurd (omega (arith, r, p, t, o))
+
+power_8 : (n : ℕ) → n ≤ 8 → 256 ^ n ≤ 2 ^ 64
+power_8 n h = omega (arith, pow-le-pow_right {n = 256} (omega arith) h)
+
+pub printable : (n : ℕ) (signed : Bool) (z : ℤ) → n ≤ 8 → InRange n signed z → IsNumberText (signed_decimal z)
+printable n false (pos m) h r = let p = power_8 n h in IsNumber-decimal m (omega arith)
+printable n false (negsuc m) h r = absurd r
+printable n true (pos m) h r = let p = power_8 n h in IsNumber-decimal m (omega arith)
+printable n true (negsuc m) h r = let p = power_8 n h in IsNumber-signed_decimal (negsuc m) (omega arith)
+
+-- ---- sizes of primitives
+sized_if : (b : Bool) (k l : Kind) (n : ℕ) → (b ≡ true → HasSize k n) → HasSize l n → HasSize (if b then k else l) n
+sized_if true k l n p q = p refl
+sized_if false k l n p q = q
+
+and_right : (a b : Bool) → (a && b) ≡ true → b ≡ true
+and_right true b e = e
+and_right false b e = cc
+
+same_size : (a : Bool) (m n : ℕ) → (a && (m == n)) ≡ true → n ≡ m
+same_size a m n e = let h = and_right a (m == n) e in let g : m ≡ n = grind (arith, nat_tests) in sym g
+
+number_sized : (ts : List (List ℕ × ℕ × Bool × Bool)) (x : List ℕ) (n : ℕ) → AllByRecursion (λ (t : List ℕ × ℕ × Bool × Bool). (1 ≤ t.1) × (t.1 ≤ 16)) ts → HasSize (number_kind ts x n) n
+number_sized [] x n h = refl
+number_sized (t ∷ ts) x n h = sized_if (bytes_eq x t.0 && (t.1 == n)) (whole t.1 t.2 t.3) (number_kind ts x n) n (λ e. (same_size (bytes_eq x t.0) t.1 n e, h.0.0, h.0.1)) (number_sized ts x n h.1)
+
+pub primitive_sized : (x : List ℕ) (n : ℕ) → HasSize (primitive_kind x n) n
+primitive_sized x n =
+    let others = number_sized number_types x n (omega arith) in
+    let doubles = sized_if (bytes_eq x (codes "f64") && (n == 8)) (float 8 0x7ff0000000000000) (number_kind number_types x n) n (λ e. sym (same_size (bytes_eq x (codes "f64")) n 8 e)) others in
+    let floats = sized_if (bytes_eq x (codes "f32") && (n == 4)) (float 4 0x7f800000) _ n (λ e. sym (same_size (bytes_eq x (codes "f32")) n 4 e)) doubles in
+    sized_if (bytes_eq x (codes "bool") && (n == 1)) truth _ n (λ e. sym (same_size (bytes_eq x (codes "bool")) n 1 e)) floats
+
+-- ---- tokens
+module _ (F : List ℕ → Option Form) (x own : List ℕ) (old new : Output) where
+  pub wrote : (n : ℕ) (j : Json) → Adds (json_tokens j) old new → HasNumbers j → depth j ≤ n → SaysFirst F x j own [] → WritesLeaf F n x own old new
+  wrote n j a h d s = record { json = j; adds = a; numbers = h; nests = d; says = λ ps bs r. next_part s.0 own [] s.1 s.2 r }
+
+  pub put_null : Adds (token.null ∷ []) old new → SaysFirst F x null own [] → WritesLeaf F 0 x own old new
+  put_null a s = wrote 0 null a tt (omega arith) s
+
+  pub put_string : (s : List ℕ) → Adds (token.string s ∷ []) old new → SaysFirst F x (string s) own [] → WritesLeaf F 0 x own old new
+  put_string s a says = wrote 0 (string s) a tt (omega arith) says
+
+  pub put_boolean : (b : Bool) → Adds (token.boolean b ∷ []) old new → SaysFirst F x (boolean b) own [] → WritesLeaf F 0 x own old new
+  put_boolean b a s = wrote 0 (boolean b) a tt (omega arith) s
+
+  pub put_digits : (s : List ℕ) → Adds (token.number s ∷ []) old new → IsNumberText s → SaysFirst F x (number s) own [] → WritesLeaf F 0 x own old new
+  put_digits s a h says = wrote 0 (number s) a h (omega arith) says
+
+-- bytes in hexadecimal
+pub put_hex : (F : List ℕ → Option Form) (x own bytes : List ℕ) (old new : Output) (r : Result Unit WriteError) → WritesHex bytes old new r → ((j : Json) → IsHex j bytes → SaysFirst F x j own []) → IsWritten F 0 x own old new r
+put_hex F x own bytes old new (Ok u) w f = put_string F x own old new w.0 w.1 (f (string w.0) w.2)
+put_hex F x own bytes old new (Err e) w f = subst (λ (e : WriteError). RefusesLeaf F x own e) (sym w) tt
+
+-- ---- what no JSON says
+module _ (F : List ℕ → Option Form) (x own : List ℕ) (kind : Kind) (h : HasKind F x kind) where
+  pub no_json : ((j : Json) (a : List ℕ) (qs : List Part) (bs cs : List ℕ) → Says F kind j a qs → own ++ bs ≡ a ++ cs → (ps : List Part) → HaveBytes F (qs ++ ps) cs → ⊥) → IsNoJson F x own
+  no_json d = λ j ps bs r.
+      let u = uncons F r in
+      let f = u.4 in
+      d j u.0 u.1 bs u.2 (subst (λ k. Says F k j u.0 u.1) (kind_one F f.1 h) f.2) u.3 ps u.5
+
+  -- where all own bytes are of one length
+  pub no_leaf : ((j : Json) (a : List ℕ) (qs : List Part) → Says F kind j a qs → length own ≡ length a) → ((j : Json) (qs : List Part) → Says F kind j own qs → ⊥) → IsNoJson F x own
+  no_leaf l d = no_json (λ j a qs bs cs s e ps r. d j qs (subst (λ a. Says F kind j a qs) (sym (front_one own bs a cs e (l j a qs s)).0) s))
+
+module _ (F : List ℕ → Option Form) (x own : List ℕ) where
+  pub no_bool : HasKind F x truth → length own ≡ 1 → (own ≡ 0 ∷ [] → ⊥) → (own ≡ 1 ∷ [] → ⊥) → IsNoJson F x own
+  no_bool h l p q = no_leaf F x own truth h (λ j a qs s. l ∙ sym (ap (λ l. length l) s.2)) (λ j qs s. each s.0 s.2)
+    where
+      each : (b : Bool) → own ≡ (if b then 1 else 0) ∷ [] → ⊥
+      each true e = q e
+      each false e = p e
+
+  pub no_zero : (n : ℕ) (signed non_zero : Bool) → HasKind F x (whole n signed non_zero) → non_zero ≡ true → HasSize (whole n signed non_zero) (length own) → own ≡ tag n (pos 0) → IsNoJson F x own
+  no_zero n signed non_zero h t l e = no_leaf F x own (whole n signed non_zero) h (λ j a qs s. let w = s.2 in l.0 ∙ sym (ap (λ l. length l) w.2 ∙ tag_length n w.0)) (λ j qs s. let w = s.2 in w.4 t (not_zero n signed w.0 l.1 w.3 (sym w.2 ∙ e)))
+
+  pub no_nan : (n infinity : ℕ) → HasKind F x (float n infinity) → length own ≡ n → (IsNoNan n infinity own → ⊥) → IsNoJson F x own
+  no_nan n infinity h l f = no_leaf F x own (float n infinity) h (λ j a qs s. l ∙ sym s.1) (λ j qs s. f s.2)
+
+  pub says_bool : (b : Bool) → HasKind F x truth → own ≡ (if b then 1 else 0) ∷ [] → SaysFirst F x (boolean b) own []
+  says_bool b h e = (truth, h, (b, refl, e, refl))
+
+  pub says_number : (n : ℕ) (signed non_zero : Bool) (s : List ℕ) (z : ℤ) (j : Json) → HasKind F x (whole n signed non_zero) → IsEncoded n signed z own → (non_zero ≡ true → z ≡ pos 0 → ⊥) → s ≡ signed_decimal z → IsNumber n s j → SaysFirst F x j own []
+  says_number n signed non_zero s z j h e f t i = (whole n signed non_zero, h, (s, i, (z, t, e.0, e.1, f), refl))
+
+-- other bytes
+pub raw_hex : (F : List ℕ → Option Form) (x own : List ℕ) (old new : Output) (n : ℕ) (k : Kind) (r : Result Unit WriteError) → k ≡ raw n → HasKind F x k → HasSize k (length own) → WritesHex own old new r → IsWritten F 0 x own old new r
+raw_hex F x own old new n k r e h l w = put_hex F x own own old new r w (λ j i. (raw n, subst (λ k. HasKind F x k) e h, (i, subst (λ k. HasSize k (length own)) e l, refl)))
+
+-- a number that was decoded
+module _ (F : List ℕ → Option Form) (x own : List ℕ) (old new : Output) (n : ℕ) (signed non_zero : Bool) (z : ℤ) (h : HasKind F x (whole n signed non_zero)) (l : HasSize (whole n signed non_zero) (length own)) (e : length own ≤ 16 → IsEncoded (length own) signed z own) where
+  pub number_there : IsEncoded n signed z own
+  number_there = subst (λ n. IsEncoded n signed z own) l.0 (e (omega (arith, l.0, l.2)))
+
+  pub number_zero : non_zero ≡ true → z ≡ pos 0 → (m : ℕ) × (s : Bool) × HasKind F x (whole m s true) × IsNoJson F x own
+  number_zero t q = (n, signed, subst (λ b. HasKind F x (whole n signed b)) t h, no_zero F x own n signed non_zero h t l (number_there.0 ∙ ap (λ z. tag n z) q))
+
+  pub number_string : (s : List ℕ) → (non_zero ≡ true → z ≡ pos 0 → ⊥) → s ≡ signed_decimal z → 8 ≤ length own → Adds (token.string s ∷ []) old new → WritesLeaf F 0 x own old new
+  number_string s f t b a = put_string F x own old new s a (says_number F x own n signed non_zero s z (string s) h number_there f t (inr (omega (arith, l.0, b), refl)))
+
+  pub number_plain : (s : List ℕ) → (non_zero ≡ true → z ≡ pos 0 → ⊥) → s ≡ signed_decimal z → length own ≤ 8 → IsNumberText s → Adds (token.number s ∷ []) old new → WritesLeaf F 0 x own old new
+  number_plain s f t b p a = put_digits F x own old new s a p (says_number F x own n signed non_zero s z (number s) h number_there f t (inl (omega (arith, l.0, b), refl)))
+
+-- ---- definitions by what was found of them
+-- the kinds of primitives
+abbrev pub IsBare : Kind → Type 0
+IsBare no_bytes = ⊥
+IsBare truth = ⊤
+IsBare (whole n signed non_zero) = ⊤
+IsBare (float n infinity) = ⊤
+IsBare (raw n) = ⊤
+IsBare (utf8 l) = ⊥
+IsBare (byte_list l e) = ⊥
+IsBare (list l e) = ⊥
+IsBare (row xs) = ⊥
+IsBare (inner x) = ⊥
+IsBare (fields fs) = ⊥
+IsBare (optional x) = ⊥
+IsBare (variants w vs) = ⊥
+IsBare (entries l keys k v) = ⊥
+
+pub bare : (kind : Found) (k : Kind) → IsPrimitiveKind kind k → IsBare k
+bare (Number n) k e = subst IsBare (sym e) tt
+bare Truth k e = subst IsBare (sym e) tt
+bare Text k e = absurd e
+bare (Bytes n) k e = subst IsBare (sym e) tt
+bare (Float n) k e = subst IsBare (sym e.2) tt
+bare (ByteList es) k e = absurd e
+bare (Numbers es) k e = absurd e
+bare (ElementList es) k e = absurd e
+bare (Entries es order) k e = absurd e
+bare (Row n) k e = absurd e
+bare (Newtype at) k e = absurd e
+bare (Object fs) k e = absurd e
+bare (Optional at) k e = absurd e
+bare (Choice w vs) k e = absurd e
+bare (Repeated name) k e = absurd e
+
+-- the other kinds of primitives than numbers, `bool` and floats
+pub raw_kind : (kind : Found) (k : Kind) → IsPrimitiveKind kind k → ((n : NumberOf) → kind ≡ Number n → ⊥) → (kind ≡ Truth → ⊥) → ((n : ℕ) → kind ≡ Float n → ⊥) → (n : ℕ) × (k ≡ raw n)
+raw_kind (Number n) k e f g h = absurd (f n refl)
+raw_kind Truth k e f g h = absurd (g refl)
+raw_kind Text k e f g h = absurd e
+raw_kind (Bytes n) k e f g h = (n, e)
+raw_kind (Float n) k e f g h = absurd (h n refl)
+raw_kind (ByteList es) k e f g h = absurd e
+raw_kind (Numbers es) k e f g h = absurd e
+raw_kind (ElementList es) k e f g h = absurd e
+raw_kind (Entries es order) k e f g h = absurd e
+raw_kind (Row n) k e f g h = absurd e
+raw_kind (Newtype at) k e f g h = absurd e
+raw_kind (Object fs) k e f g h = absurd e
+raw_kind (Optional at) k e f g h = absurd e
+raw_kind (Choice w vs) k e f g h = absurd e
+raw_kind (Repeated name) k e f g h = absurd e
+
+infinity_one : (n a b : ℕ) → IsInfinity n a → IsInfinity n b → a ≡ b
+infinity_one n a b (inl p) (inl q) = p.1 ∙ sym q.1
+infinity_one n a b (inl p) (inr q) = let e = p.0 in let f = q.0 in absurd (omega arith)
+infinity_one n a b (inr p) (inl q) = let e = p.0 in let f = q.0 in absurd (omega arith)
+infinity_one n a b (inr p) (inr q) = p.1 ∙ sym q.1
+
+module _ (F : List ℕ → Option Form) (ns : List Named) (x : List ℕ) where
+  -- the definition tells the kind
+  pub defined : (f : Form) (k : Kind) → F x ≡ Some f → (k ≡ no_bytes → ⊥) → HasKind F x k → DefinedKind F x f k
+  defined f k e n (inl p) = absurd (n p.1)
+  defined f k e n (inr p) =
+      let g : Some p.1 ≡ Some f = sym p.2 ∙ e in
+      let d : p.1 ≡ f = cc in
+      subst (λ f. DefinedKind F x f k) d p.3
+
+  -- the kind that was found of a primitive is its own
+  pub found_kind : (f : Form) (kind : Found) (k : Kind) → IsPrimitiveKind kind k → IsKindOf F ns x f kind → HasKind F x k
+  found_kind f (Number n) k e h = subst (λ k. HasKind F x k) (sym e) h
+  found_kind f Truth k e h = subst (λ k. HasKind F x k) (sym e) h
+  found_kind f Text k e h = absurd e
+  found_kind f (Bytes n) k e h = subst (λ k. HasKind F x k) (sym e) h
+  found_kind f (Float n) k e h = subst (λ k. HasKind F x k) (ap (λ b. float n b) (infinity_one n h.0 e.0 h.1 e.1) ∙ sym e.2) h.2
+  found_kind f (ByteList es) k e h = absurd e
+  found_kind f (Numbers es) k e h = absurd e
+  found_kind f (ElementList es) k e h = absurd e
+  found_kind f (Entries es order) k e h = absurd e
+  found_kind f (Row n) k e h = absurd e
+  found_kind f (Newtype at) k e h = absurd e
+  found_kind f (Object fs) k e h = absurd e
+  found_kind f (Optional at) k e h = absurd e
+  found_kind f (Choice w vs) k e h = absurd e
+  found_kind f (Repeated name) k e h = absurd e
+
+  bare_form : (k : Kind) (f : Form) (own : List ℕ) (parts : List (List ℕ)) → DefinedKind F x f k → IsBare k → Opens (shapes F) (shape_of_form f) own parts → (parts ≡ []) × HasSize k (length own)
+  bare_form k (primitive n) own parts d b o = (o.2, subst (λ (k : Kind). HasSize k (length own)) (sym d) (subst (λ m. HasSize (primitive_kind x n) m) (sym o.0) (primitive_sized x n)))
+  bare_form k (sequence w lo hi e) own parts (a_text t c) b o = absurd b
+  bare_form k (sequence w lo hi e) own parts (some_bytes t c) b o = absurd b
+  bare_form k (sequence w lo hi e) own parts (an_object t c) b o = absurd b
+  bare_form k (sequence w lo hi e) own parts (some_elements t c u v) b o = absurd b
+  bare_form k (tuple ps) own parts d b o = absurd (subst IsBare d b)
+  bare_form k (newtype p) own parts d b o = absurd (subst IsBare d b)
+  bare_form k (unnamed ps) own parts d b o = absurd (subst IsBare d b)
+  bare_form k (named fs) own parts d b o = absurd (subst IsBare d b)
+  bare_form k (choice w vs) own parts (nullable t) b o = absurd b
+  bare_form k (choice w vs) own parts (by_name t) b o = absurd b
+
+  -- the own bytes of a primitive, which has no parts
+  pub bare_opened : (f : Form) (k : Kind) (own : List ℕ) (parts : List (List ℕ)) → IsOpenedAs F x f own parts → IsBare k → HasKind F x k → (parts ≡ []) × HasSize k (length own)
+  bare_opened f k own parts o b h = bare_form k f own parts (defined f k o.0 (λ e. subst IsBare e b) h) b o.1

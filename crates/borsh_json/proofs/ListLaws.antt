@@ -1,0 +1,349 @@
+-- Texts, and lists of primitives.
+use Rattle.std.proofs.Common.{◌≡◌, ◌⊎◌, inl, inr, ℕ, suc, zero, ◌+◌, ◌*◌, ◌^◌, ◌<◌, ◌≤◌, List, [], ◌∷◌, ◌++◌, length, drop, Option, Some, refl, sym, ◌∙◌, ap, subst, arith, append_assoc, append-nil, length-append, option_map}
+use Rattle.std.proofs.Math.Nat.{le_of_mul-le-mul_right, mul-le-mul_right, suc-mul}
+use Rattle.std.specs.Prelude.{⊤, pos, IsUtf8}
+use Rattle.std.proofs.lemmas.Bool.{cases_lt}
+use Rattle.json.specs.Token.{Token}
+use Rattle.json.specs.Token as token
+use Rattle.json.specs.Json.{Json, string, array, Items, no_items, item}
+use Rattle.json.specs.Tree.{json_tokens, items_tokens, items_depth, ItemsHaveNumbers}
+use Rattle.borsh_walks.specs.Container.{Shape, tag}
+use Rattle.borsh_walks.specs.Container as shape
+use Rattle.borsh_walks.specs.Definitions.{shape_of}
+use Rattle.borsh_walks.specs.declared.definition.Definition.{Definition}
+use Rattle.borsh_values.specs.Nodes.{AreElementsOf, Opens, OpensElements, packed_size}
+use Rattle.borsh_values.specs.declared.layout.Named.{Named}
+use Rattle.borsh_json.specs.declared.error.WriteError.{WriteError}
+use Rattle.borsh_json.specs.declared.error.WriteError.TheVariants.{OutOfMemory, Refused, Element}
+use Rattle.borsh_json.specs.declared.kinds.Elements.{Elements}
+use Rattle.borsh_json.specs.declared.kinds.Kind.TheVariants.{Numbers}
+use Rattle.borsh_json.specs.declared.output.Output.{Output}
+use Rattle.borsh_json.specs.Forms.{Form, primitive, sequence, tuple, newtype, unnamed, named, choice, form_of, shape_of_form, shapes, IsByte}
+use Rattle.borsh_json.specs.Leaves.{Adds, HasSize, IsCounted, IsNoJson, IsOpenedAs, RefusesElement, RefusesLeaf, WritesLeaf, output_before, output_tokens}
+use Rattle.borsh_json.specs.Places.{IsAt, IsKindOf, IsListOf, lengths_of}
+use Rattle.borsh_json.specs.Reads.{SaysFirst}
+use Rattle.borsh_json.specs.Represents.{HaveBytes, next_part}
+use Rattle.borsh_json.specs.Table.{Lengths, Kind, no_bytes, truth, whole, float, raw, utf8, byte_list, list, row, inner, fields, optional, variants, entries, a_text, some_bytes, an_object, some_elements, nullable, by_name, primitive_kind, DefinedKind, HasKind, IsHex, IsPrefixed, Part, Says, list_parts}
+use Rattle.borsh_json.proofs.FormsLaws.{shape_is}
+use Rattle.borsh_json.proofs.FoundLaws.{full_primitive}
+use Rattle.borsh_json.proofs.LeafLaws.{defined, front_one, no_json, primitive_sized, tag_length, tag_one}
+use Rattle.borsh_json.proofs.ReaderLaws.{uncons}
+use Rattle.borsh_json.proofs.RepresentsLaws.{kind_one}
+
+drop_front : (xs ys : List ℕ) (n : ℕ) → length xs ≡ n → drop n (xs ++ ys) ≡ ys
+drop_front [] ys zero e = refl
+drop_front [] ys (suc n) e = absurd (omega arith)
+drop_front (x ∷ xs) ys zero e = absurd (omega arith)
+drop_front (x ∷ xs) ys (suc n) e = drop_front xs ys n (omega arith)
+
+-- ---- lengths
+-- a length is the only one, or its prefix tells it
+abbrev pub TellsCount : Lengths → Type 0
+TellsCount l = ((l.width ≡ 0) × (l.least ≡ l.greatest)) ⊎ ((l.width ≤ 8) × (l.greatest < 256 ^ l.width))
+
+pub tells_count : (f : Form) → IsCounted (shape_of_form f) → TellsCount (lengths_of f)
+tells_count (primitive n) c = inr (omega arith, omega arith)
+tells_count (sequence w lo hi e) c = c
+tells_count (tuple ps) c = inr (omega arith, omega arith)
+tells_count (newtype y) c = inr (omega arith, omega arith)
+tells_count (unnamed ps) c = inr (omega arith, omega arith)
+tells_count (named fs) c = inr (omega arith, omega arith)
+tells_count (choice w vs) c = inr (omega arith, omega arith)
+
+count_one : (l : Lengths) (k m : ℕ) → TellsCount l → l.least ≤ k → k ≤ l.greatest → l.least ≤ m → m ≤ l.greatest → tag l.width (pos k) ≡ tag l.width (pos m) → k ≡ m
+count_one l k m (inl c) a b p q e = let s = c.1 in omega (arith, s, a, b, p, q)
+count_one l k m (inr c) a b p q e = let s = c.1 in tag_one l.width k m (omega (arith, s, b)) (omega (arith, s, q)) e
+
+-- the own bytes are a prefix and these elements, of so many bytes each
+abbrev pub IsListed : Lengths → List ℕ → List ℕ → ℕ → Type 0
+IsListed l own es n = (k : ℕ) × (l.least ≤ k) × (k ≤ l.greatest) × (own ≡ tag l.width (pos k) ++ es) × (length es ≡ k * n)
+
+-- behind the same prefixes are the same bytes
+listed_one : (l : Lengths) (k m : ℕ) (own es ts bs cs a : List ℕ) → TellsCount l → l.least ≤ k → k ≤ l.greatest → l.least ≤ m → m ≤ l.greatest → own ≡ tag l.width (pos k) ++ es → a ≡ tag l.width (pos m) ++ ts → own ++ bs ≡ a ++ cs → (k ≡ m) × (es ++ bs ≡ ts ++ cs)
+listed_one l k m own es ts bs cs a c p q r s d f e =
+    let x = tag l.width (pos k) in
+    let y = tag l.width (pos m) in
+    let g : x ++ (es ++ bs) ≡ y ++ (ts ++ cs) = sym (append_assoc x es bs) ∙ ap (λ o. o ++ bs) (sym d) ∙ e ∙ ap (λ o. o ++ cs) f ∙ append_assoc y ts cs in
+    let h = front_one x (es ++ bs) y (ts ++ cs) g (tag_length l.width (pos k) ∙ sym (tag_length l.width (pos m))) in
+    (count_one l k m c p q r s h.0, h.1)
+
+-- ---- definitions of texts and lists
+abbrev pub IsListKind : Kind → Type 0
+IsListKind no_bytes = ⊥
+IsListKind truth = ⊥
+IsListKind (whole n signed non_zero) = ⊥
+IsListKind (float n infinity) = ⊥
+IsListKind (raw n) = ⊥
+IsListKind (utf8 l) = ⊤
+IsListKind (byte_list l e) = ⊤
+IsListKind (list l e) = ⊤
+IsListKind (row xs) = ⊥
+IsListKind (inner x) = ⊥
+IsListKind (fields fs) = ⊥
+IsListKind (optional x) = ⊥
+IsListKind (variants w vs) = ⊥
+IsListKind (entries l keys k v) = ⊥
+
+no_size : (k : Kind) (n : ℕ) → HasSize k n → IsListKind k → ⊥
+no_size no_bytes n h i = i
+no_size truth n h i = i
+no_size (whole m signed non_zero) n h i = i
+no_size (float m infinity) n h i = i
+no_size (raw m) n h i = i
+no_size (utf8 l) n h i = h
+no_size (byte_list l e) n h i = h
+no_size (list l e) n h i = h
+no_size (row xs) n h i = i
+no_size (inner x) n h i = i
+no_size (fields fs) n h i = i
+no_size (optional x) n h i = i
+no_size (variants w vs) n h i = i
+no_size (entries l keys k v) n h i = i
+
+module _ (F : List ℕ → Option Form) (x own es : List ℕ) (parts : List (List ℕ)) where
+  -- the elements of the kind have this name
+  abbrev pub HasElements : Kind → List ℕ → Type 0
+  HasElements no_bytes e = ⊥
+  HasElements truth e = ⊥
+  HasElements (whole n signed non_zero) e = ⊥
+  HasElements (float n infinity) e = ⊥
+  HasElements (raw n) e = ⊥
+  HasElements (utf8 l) e = IsByte F e
+  HasElements (byte_list l d) e = IsByte F e
+  HasElements (list l d) e = d ≡ e
+  HasElements (row xs) e = ⊥
+  HasElements (inner y) e = ⊥
+  HasElements (fields fs) e = ⊥
+  HasElements (optional y) e = ⊥
+  HasElements (variants w vs) e = ⊥
+  HasElements (entries l keys k v) e = ⊥
+
+  listed : (w lo hi : ℕ) (e : List ℕ) (n : ℕ) → F e ≡ Some (primitive (suc n)) → Opens (shapes F) (shape.sequence w lo hi e) own parts → es ≡ drop w own → (parts ≡ []) × IsListed (lengths_of (sequence w lo hi e)) own es (suc n)
+  listed w lo hi e n q o t =
+      let s = subst (λ (c : Option Form). OpensElements (packed_size (option_map shape_of_form c)) e o.0 o.1 parts) q o.5 in
+      let d : es ≡ o.1 = t ∙ ap (λ l. drop w l) o.4 ∙ drop_front (tag w (pos o.0)) o.1 w (tag_length w (pos o.0)) in
+      (s.2, (o.0, o.2, o.3, o.4 ∙ ap (λ l. tag w (pos o.0) ++ l) (sym d), ap (λ l. length l) d ∙ s.0))
+
+  list_form : (k : Kind) (f : Form) (n : ℕ) → DefinedKind F x f k → IsListKind k → ((e : List ℕ) → HasElements k e → F e ≡ Some (primitive (suc n))) → Opens (shapes F) (shape_of_form f) own parts → AreElementsOf (shape_of_form f) own es → (parts ≡ []) × IsListed (lengths_of f) own es (suc n)
+  list_form k (primitive m) n d b p o t = absurd (no_size k m (subst (λ k. HasSize k m) (sym d) (primitive_sized x m)) b)
+  list_form k (sequence w lo hi e) n (a_text s c) b p o t = listed w lo hi e n (p e c) o t
+  list_form k (sequence w lo hi e) n (some_bytes s c) b p o t = listed w lo hi e n (p e c) o t
+  list_form k (sequence w lo hi e) n (an_object s c) b p o t = absurd b
+  list_form k (sequence w lo hi e) n (some_elements s c u v) b p o t = listed w lo hi e n (p e refl) o t
+  list_form k (tuple ps) n d b p o t = absurd (subst IsListKind d b)
+  list_form k (newtype y) n d b p o t = absurd (subst IsListKind d b)
+  list_form k (unnamed ps) n d b p o t = absurd (subst IsListKind d b)
+  list_form k (named fs) n d b p o t = absurd (subst IsListKind d b)
+  list_form k (choice w vs) n (nullable s) b p o t = absurd b
+  list_form k (choice w vs) n (by_name s) b p o t = absurd b
+
+  -- a node's elements are those of its definition
+  pub list_node : (k : Kind) (d : Definition) (n : ℕ) → DefinedKind F x (form_of d) k → IsListKind k → ((e : List ℕ) → HasElements k e → F e ≡ Some (primitive (suc n))) → Opens (shapes F) (shape_of_form (form_of d)) own parts → AreElementsOf (shape_of d) own es → (parts ≡ []) × IsListed (lengths_of (form_of d)) own es (suc n)
+  list_node k d n h b p o t = list_form k (form_of d) n h b p o (subst (λ (s : Shape). AreElementsOf s own es) (sym (shape_is d)) t)
+
+-- ---- texts and bytes
+module _ (F : List ℕ → Option Form) (x own es : List ℕ) (l : Lengths) (i : IsListed l own es 1) where
+  whole_length : i.0 ≡ length es
+  whole_length = let e = i.4 in omega arith
+
+  prefixed : IsPrefixed l (length es) es own
+  prefixed = (subst (λ k. l.least ≤ k) whole_length i.1, subst (λ k. k ≤ l.greatest) whole_length i.2, i.3 ∙ ap (λ k. tag l.width (pos k) ++ es) whole_length)
+
+  pub text_says : HasKind F x (utf8 l) → IsUtf8 es → SaysFirst F x (string es) own []
+  text_says h u = (utf8 l, h, (es, refl, u, prefixed, refl))
+
+  pub no_text : HasKind F x (utf8 l) → TellsCount l → (IsUtf8 es → ⊥) → IsNoJson F x own
+  no_text h c u = no_json F x own (utf8 l) h (λ j a qs bs cs s e ps r.
+      let p = s.3 in
+      let o = listed_one l i.0 (length s.0) own es s.0 bs cs a c i.1 i.2 p.0 p.1 i.3 p.2 e in
+      let k = o.0 in
+      let n = whole_length in
+      u (subst (λ t. IsUtf8 t) (sym (front_one es bs s.0 cs o.1 (omega arith)).0) s.2))
+
+  pub bytes_say : (e : List ℕ) (j : Json) → HasKind F x (byte_list l e) → IsHex j es → SaysFirst F x j own []
+  bytes_say e j h d = (byte_list l e, h, inl (es, d, prefixed, refl))
+
+-- ---- refusals
+module _ (F : List ℕ → Option Form) where
+  -- of an element, which is refused, and then of its list
+  element_none : (e : WriteError) (x own : List ℕ) → RefusesElement F x own e → (e ≡ OutOfMemory → ⊥) → IsNoJson F x own
+  element_none OutOfMemory x own h n = absurd (n refl)
+  element_none (Refused r) x own h n = absurd h
+  element_none (Element i r) x own h n = h.3
+
+  pub list_refused : (e : WriteError) (x y own piece : List ℕ) → RefusesElement F y piece e → (IsNoJson F y piece → IsNoJson F x own) → RefusesLeaf F x own e
+  list_refused OutOfMemory x y own piece h f = tt
+  list_refused (Refused r) x y own piece h f = absurd h
+  list_refused (Element i r) x y own piece h f = (h.0, h.1, h.2, f h.3)
+
+-- ---- lists of primitives
+items_more : (F : List ℕ → Option Form) (e : List ℕ) (k : Kind) (size : ℕ) → HasKind F e k → HasSize k size → (j : Json) (a : List ℕ) (qs : List Part) → SaysFirst F e j a qs → (length a ≡ size) × (qs ≡ [])
+items_more F e k size h l j a qs s = sized k l (subst (λ k. Says F k j a qs) (kind_one F s.1 h) s.2)
+  where
+    sized : (k : Kind) → HasSize k size → Says F k j a qs → (length a ≡ size) × (qs ≡ [])
+    sized no_bytes l s = absurd l
+    sized truth l s = (ap (λ l. length l) s.2 ∙ sym l, s.3)
+    sized (whole n signed non_zero) l s = let w = s.2 in (ap (λ l. length l) w.2 ∙ tag_length n w.0 ∙ sym l.0, s.3)
+    sized (float n infinity) l s = (s.1 ∙ sym l, s.3)
+    sized (raw n) l s = (s.1 ∙ sym l, s.2)
+    sized (utf8 m) l s = absurd l
+    sized (byte_list m d) l s = absurd l
+    sized (list m d) l s = absurd l
+    sized (row xs) l s = absurd l
+    sized (inner y) l s = absurd l
+    sized (fields fs) l s = absurd l
+    sized (optional y) l s = absurd l
+    sized (variants w vs) l s = absurd l
+    sized (entries m keys d v) l s = absurd l
+
+-- these bytes are elements, so many of all; with any items that may follow they are an array
+pub record IsArrayWith (F : List ℕ → Option Form) (e done : List ℕ) (n : ℕ) (old now : Output) (js : Items) : Type 0 where
+  pub all : Items
+  pub tokens : output_tokens now ++ items_tokens js ≡ output_tokens old ++ (token.begin_array ∷ items_tokens all)
+  pub numbers : ItemsHaveNumbers js → ItemsHaveNumbers all
+  pub nests : items_depth all ≤ items_depth js
+  pub count : length (list_parts e all) ≡ n + length (list_parts e js)
+  pub says : (ps : List Part) (bs : List ℕ) → HaveBytes F (list_parts e js ++ ps) bs → HaveBytes F (list_parts e all ++ ps) (done ++ bs)
+
+pub record IsListing (F : List ℕ → Option Form) (e : List ℕ) (size : ℕ) (all rest : List ℕ) (old now : Output) : Type 0 where
+  pub done : List ℕ
+  pub count : ℕ
+  pub whole : all ≡ done ++ rest
+  pub size_of : length done ≡ count * size
+  pub before : output_before now ≡ output_before old
+  pub begun : (js : Items) → IsArrayWith F e done count old now js
+
+module _ (F : List ℕ → Option Form) (e : List ℕ) (size : ℕ) (all : List ℕ) (old now : Output) where
+  pub listing_start : Adds (token.begin_array ∷ []) old now → IsListing F e size all all old now
+  listing_start a = record {
+    done = [];
+    count = 0;
+    whole = refl;
+    size_of = omega arith;
+    before = a.before;
+    begun = λ js. record {
+      all = js;
+      tokens = ap (λ l. l ++ items_tokens js) a.tokens ∙ append_assoc (output_tokens old) (token.begin_array ∷ []) (items_tokens js);
+      numbers = λ h. h;
+      nests = omega arith;
+      count = omega arith;
+      says = λ ps bs h. h;
+    };
+  }
+
+  pub listing_more : (new : Output) (rest piece after : List ℕ) → WritesLeaf F 0 e piece now new → rest ≡ piece ++ after → length piece ≡ size → IsListing F e size all rest old now → IsListing F e size all after old new
+  listing_more new rest piece after w r l g = record {
+    done = g.done ++ piece;
+    count = suc g.count;
+    whole = g.whole ∙ ap (λ l. g.done ++ l) r ∙ sym (append_assoc g.done piece after);
+    size_of = length-append g.done piece ∙ (let a = g.size_of in let b = suc-mul g.count size in omega (arith, a, b, l));
+    before = w.adds.before ∙ g.before;
+    begun = λ js. (let b = g.begun (item w.json js) in record {
+      all = b.all;
+      tokens = ap (λ l. l ++ items_tokens js) w.adds.tokens ∙ append_assoc (output_tokens now) (json_tokens w.json) (items_tokens js) ∙ b.tokens;
+      numbers = λ h. b.numbers (w.numbers, h);
+      nests = (let d = w.nests in let m = b.nests in omega (arith, d, m));
+      count = (let c = b.count in omega (arith, c));
+      says = λ ps bs h. subst (λ (l : List ℕ). HaveBytes F (list_parts e b.all ++ ps) l) (sym (append_assoc g.done piece bs)) (b.says ps (piece ++ bs) (w.says (list_parts e js ++ ps) bs h));
+    });
+  }
+
+  -- some are left: enough for one
+  pub one_more : (rest : List ℕ) (k : ℕ) → length all ≡ k * size → (length rest ≡ 0 → ⊥) → IsListing F e size all rest old now → size ≤ length rest
+  one_more rest k l some g =
+      let s = ap (λ l. length l) g.whole ∙ length-append g.done rest in
+      let d = g.size_of in
+      let t : k * size ≡ g.count * size + length rest = omega (arith, s, d, l) in
+      fits (cases_lt g.count k) t
+    where
+      fits : (g.count < k) ⊎ (k ≤ g.count) → k * size ≡ g.count * size + length rest → size ≤ length rest
+      fits (inl h) t = let m = mul-le-mul_right {m = suc g.count} {n = k} size h in let u = suc-mul g.count size in omega (arith, t, m, u)
+      fits (inr h) t = let m = mul-le-mul_right {m = k} {n = g.count} size h in absurd (some (omega (arith, t, m)))
+
+  -- all were written: the array says the list
+  pub listing_end : (new : Output) (x own : List ℕ) (l : Lengths) → IsListing F e size all [] old now → Adds (token.end_array ∷ []) now new → HasKind F x (list l e) → IsListed l own all size → 1 ≤ size → WritesLeaf F 1 x own old new
+  listing_end new x own l g a h i some =
+      let b = g.begun no_items in
+      let n = length (list_parts e b.all) in
+      let same : i.0 ≡ n = (let c = b.count in let d = counted i.0 g.count some (sym i.4 ∙ ap (λ l. length l) (g.whole ∙ append-nil g.done) ∙ g.size_of) in omega (arith, c, d)) in
+      let w : own ≡ tag l.width (pos n) ++ g.done = i.3 ∙ ap (λ k. tag l.width (pos k) ++ all) same ∙ ap (λ es. tag l.width (pos n) ++ es) (g.whole ∙ append-nil g.done) in
+      record {
+        json = array b.all;
+        adds = record { before = a.before ∙ g.before; tokens = a.tokens ∙ b.tokens };
+        numbers = b.numbers tt;
+        nests = (let d = b.nests in omega (arith, d));
+        says = λ ps bs r.
+            let first = tag l.width (pos n) ++ [] in
+            let s : Says F (list l e) (array b.all) first (list_parts e b.all) = (b.all, refl, refl, (subst (λ k. l.least ≤ k) same i.1, subst (λ k. k ≤ l.greatest) same i.2, refl)) in
+            let q : first ++ (g.done ++ bs) ≡ own ++ bs = ap (λ l. l ++ (g.done ++ bs)) (append-nil (tag l.width (pos n))) ∙ sym (append_assoc (tag l.width (pos n)) g.done bs) ∙ ap (λ o. o ++ bs) (sym w) in
+            subst (λ (l : List ℕ). HaveBytes F ((x, array b.all) ∷ ps) l) q (next_part (list l e) first (list_parts e b.all) h s (b.says ps bs r));
+      }
+    where
+      counted : (k m : ℕ) → 1 ≤ size → k * size ≡ m * size → k ≡ m
+      counted k m some e =
+          let f : k * size ≤ m * size = omega (arith, e) in
+          let g : m * size ≤ k * size = omega (arith, e) in
+          let a = le_of_mul-le-mul_right {m = k} {n = m} {k = size} f some in
+          let b = le_of_mul-le-mul_right {m = m} {n = k} {k = size} g some in
+          omega (arith, a, b)
+
+split_front : (xs ys cs ds : List ℕ) → xs ++ ys ≡ cs ++ ds → length xs ≤ length cs → (rest : List ℕ) × (cs ≡ xs ++ rest) × (ys ≡ rest ++ ds)
+split_front [] ys cs ds e h = (cs, refl, e)
+split_front (x ∷ xs) ys [] ds e h = absurd (omega arith)
+split_front (x ∷ xs) ys (c ∷ cs) ds e h =
+    let a : x ≡ c = cc in
+    let t : xs ++ ys ≡ cs ++ ds = cc in
+    let r = split_front xs ys cs ds t (omega arith) in
+    (r.0, ap (λ l. c ∷ l) r.1 ∙ ap (λ y. y ∷ (xs ++ r.0)) (sym a), r.2)
+
+pub no_items_there : (done : List ℕ) → length done ≡ 0 → done ≡ []
+no_items_there [] e = refl
+no_items_there (d ∷ ds) e = absurd (omega arith)
+
+module _ (F : List ℕ → Option Form) (e : List ℕ) (k : Kind) (size : ℕ) (h : HasKind F e k) (l : HasSize k size) where
+  -- behind the first elements is another
+  peel : (n : ℕ) (js : Items) (done more : List ℕ) (ps : List Part) → n < length (list_parts e js) → length done ≡ n * size → HaveBytes F (list_parts e js ++ ps) (done ++ more) → (j : Json) × (qs : List Part) × HaveBytes F ((e, j) ∷ qs) more
+  peel n no_items done more ps s d r = absurd (omega arith)
+  peel zero (item j js) done more ps s d r = (j, list_parts e js ++ ps, subst (λ (l : List ℕ). HaveBytes F ((e, j) ∷ (list_parts e js ++ ps)) (l ++ more)) (no_items_there done (omega arith)) r)
+  peel (suc n) (item j js) done more ps s d r =
+      let u = uncons F r in
+      let f = items_more F e k size h l j u.0 u.1 u.4 in
+      let m = suc-mul n size in
+      let t = split_front u.0 u.2 done more (sym u.3) (let a = f.0 in omega (arith, a, d, m)) in
+      let c = ap (λ l. length l) t.1 ∙ length-append u.0 t.0 in
+      peel n js t.0 more ps (omega arith) (let a = f.0 in omega (arith, a, c, d, m)) (subst (λ (l : List ℕ). HaveBytes F (list_parts e js ++ ps) l) t.2 (subst (λ (qs : List Part). HaveBytes F (qs ++ (list_parts e js ++ ps)) u.2) f.1 u.5))
+
+  -- an element that no JSON says, in a list
+  pub no_list : (x own all rest piece after : List ℕ) (old now : Output) (w : Lengths) → IsListing F e size all rest old now → HasKind F x (list w e) → TellsCount w → IsListed w own all size → rest ≡ piece ++ after → length piece ≡ size → 1 ≤ size → IsNoJson F e piece → IsNoJson F x own
+  no_list x own all rest piece after old now w g kind c i r p some none = no_json F x own (list w e) kind (λ j a qs bs cs s same ps b.
+      let f = s.3 in
+      let o = listed_one w i.0 (length qs) own all [] bs cs a c i.1 i.2 f.0 f.1 i.3 f.2 same in
+      let back : all ++ bs ≡ g.done ++ (piece ++ (after ++ bs)) = ap (λ l. l ++ bs) (g.whole ∙ ap (λ l. g.done ++ l) r) ∙ append_assoc g.done (piece ++ after) bs ∙ ap (λ l. g.done ++ l) (append_assoc piece after bs) in
+      let there = subst (λ (qs : List Part). HaveBytes F (qs ++ ps) (g.done ++ (piece ++ (after ++ bs)))) s.2 (subst (λ (l : List ℕ). HaveBytes F (qs ++ ps) l) (sym o.1 ∙ back) b) in
+      let q = peel g.count s.0 g.done (piece ++ (after ++ bs)) ps (subst (λ n. g.count < n) (o.0 ∙ ap (λ (l : List Part). length l) s.2) (fewer i.0 i.4)) g.size_of there in
+      none q.0 q.1 (after ++ bs) q.2)
+    where
+      fewer : (n : ℕ) → length all ≡ n * size → g.count < n
+      fewer n e =
+          let a = ap (λ l. length l) (g.whole ∙ ap (λ l. g.done ++ l) r) ∙ length-append g.done (piece ++ after) in
+          let b = length-append piece after in
+          let d = g.size_of in
+          elim (cases_lt g.count n) [
+            | inl h ↦ h
+            | inr h ↦ (let m = mul-le-mul_right {m = n} {n = g.count} size h in absurd (omega (arith, a, b, d, e, m, p, some)))
+          ]
+
+-- a list of primitives that was found, and its elements
+pub numbers_there : (F : List ℕ → Option Form) (ns : List Named) (x own es : List ℕ) (parts : List (List ℕ)) (d : Definition) (at : Elements) (size : ℕ) → IsOpenedAs F x (form_of d) own parts → IsKindOf F ns x (form_of d) (Numbers at) → AreElementsOf (shape_of d) own es → size ≡ at.size
+    → (parts ≡ []) × (e : List ℕ) × IsAt ns at.at e × HasKind F x (list (lengths_of (form_of d)) e) × HasKind F e (primitive_kind e size) × IsListed (lengths_of (form_of d)) own es size × (1 ≤ size)
+numbers_there F ns x own es parts d at size o i a q = found size q (i.2)
+  where
+    t : (e : List ℕ) × IsAt ns at.at e × HasKind F x (list (lengths_of (form_of d)) e)
+    t = subst (λ b. IsListOf F ns x (form_of d) at.at b) i.1 i.0
+
+    found : (n : ℕ) → n ≡ at.size → 0 < at.size → (parts ≡ []) × (e : List ℕ) × IsAt ns at.at e × HasKind F x (list (lengths_of (form_of d)) e) × HasKind F e (primitive_kind e n) × IsListed (lengths_of (form_of d)) own es n × (1 ≤ n)
+    found zero e h = absurd (omega arith)
+    found (suc n) e h =
+        let p : F t.0 ≡ Some (primitive (suc n)) = i.3 t.0 t.1 ∙ ap (λ k. Some (primitive k)) (sym e) in
+        let b = list_node F x own es parts (list (lengths_of (form_of d)) t.0) d n (defined F ns x (form_of d) (list (lengths_of (form_of d)) t.0) o.0 (λ e. cc) t.2) tt (λ y z. ap (λ (y : List ℕ). F y) (sym z) ∙ p) o.1 a in
+        (b.0, t.0, t.1, t.2, inr (full_primitive F {x = t.0} {n = n} p, primitive (suc n), p, refl), b.1, omega arith)

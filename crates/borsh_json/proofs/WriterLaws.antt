@@ -1,0 +1,424 @@
+-- What the writer's calls give.
+use Rattle.std.proofs.Common.{◌≡◌, inl, inr, ℕ, suc, zero, ◌+◌, ◌-◌, ◌<◌, ◌≤◌, List, [], ◌∷◌, ◌++◌, length, replicate, Option, Some, None, refl, sym, ◌∙◌, ap, subst, arith, append-nil}
+use Rattle.std.specs.Prelude.{ℤ, String, option_map, Result, Ok, Err, IfErr, Bool, true, false, Decides}
+use Rattle.std.specs.declared.cmp.Ordering.TheVariants.{Less}
+use Rattle.std.specs.BTreeMap.{BTreeMap}
+use Rattle.std.specs.Borrow.{Bor}
+use Rattle.json.specs.Json.{null}
+use Rattle.json.specs.Token.{Token}
+use Rattle.borsh_walks.specs.Container.{Shape, primitive, sequence, product, choice, IsIn, first, later, references, variant_names, IsListedVariant, first_variant, later_variant, Member, of_primitive, of_sequence, of_parts, of_choice, Members, more_members}
+use Rattle.borsh_walks.specs.Definitions.{definitions_in}
+use Rattle.borsh_walks.specs.declared.definition.Definition.{Definition}
+use Rattle.borsh_values.specs.Layouts.{name_of}
+use Rattle.borsh_values.specs.Membership.{IsUndecided}
+use Rattle.borsh_values.specs.Nodes.{Opens, OpensElements, packed_size}
+use Rattle.borsh_values.specs.Walks.{IsReadTo, IsCounted, IsNodeOf, FindsNode, FindsAt, IsWalker}
+use Rattle.borsh_values.specs.declared.layout.Layout.{Layout}
+use Rattle.borsh_values.specs.declared.layout.Named.{Named}
+use Rattle.borsh_values.specs.declared.nodes.Node.{Node}
+use Rattle.borsh_values.specs.declared.walker.Walker.{Walker}
+use Rattle.borsh_json.specs.declared.definitions.Definitions.{Definitions}
+use Rattle.borsh_json.specs.declared.error.PartError.{PartError}
+use Rattle.borsh_json.specs.declared.error.PartError.TheVariants.{OutOfMemory as NoPartMemory, Refused as RefusedPart}
+use Rattle.borsh_json.specs.declared.error.Refusal.{Refusal}
+use Rattle.borsh_json.specs.declared.error.Refusal.TheVariants.{TooDeep, RepeatedName, EmptyElements, NotBool, NotUtf8, Zero, NotNumber, Descends, OtherNodes, Expected, MissingField, UnknownName, RepeatedKey, Undefined}
+use Rattle.borsh_json.specs.declared.error.WriteError.{WriteError}
+use Rattle.borsh_json.specs.declared.error.WriteError.TheVariants.{OutOfMemory, Refused, Element}
+use Rattle.borsh_json.specs.declared.kinds.Elements.{Elements as FoundElements}
+use Rattle.borsh_json.specs.declared.kinds.Kind.{Kind as Found}
+use Rattle.borsh_json.specs.declared.kinds.Kind.TheVariants.{Number, Bool as Truth, Text, Bytes, Float, ByteList, Numbers, List as ListKind, Map, Row as RowKind, Newtype as NewtypeKind, Object as ObjectKind, Optional, Choice, Repeated}
+use Rattle.borsh_json.specs.declared.kinds.Entries.{Entries as FoundEntries}
+use Rattle.borsh_json.specs.declared.kinds.KeyKind.{KeyKind}
+use Rattle.borsh_json.specs.declared.kinds.KeyKind.TheVariants.{Text as TextKeys, Number as NumberKeys}
+use Rattle.borsh_json.specs.declared.output.Output.{Output}
+use Rattle.borsh_json.specs.declared.position.Key.TheVariants.{Entry as EntryOf}
+use Rattle.borsh_json.specs.declared.position.Part.{Part as FoundPart}
+use Rattle.borsh_json.specs.declared.position.Parts.{Parts}
+use Rattle.borsh_json.specs.declared.position.Place.{Place}
+use Rattle.borsh_json.specs.declared.position.Position.{Position}
+use Rattle.borsh_json.specs.declared.sources.EntryKey.{EntryKey}
+use Rattle.borsh_json.specs.declared.writing.Writing.{Writing}
+use Rattle.borsh_json.specs.Errors.{error_of}
+use Rattle.borsh_json.specs.Forms.{Form, form_of, forms_in, shape_of_form, shapes, HasNoBytes}
+use Rattle.borsh_json.specs.Found.{forms_of, names_of}
+use Rattle.borsh_json.specs.Frames.{Wanted, IsWanted, GivesPart, IsKey, IsEntryKey, IsOf}
+use Rattle.borsh_json.specs.Leaves.{output_tokens, Adds, IsNoJson, IsOpenedAs, WritesLeaf, RefusesLeaf}
+use Rattle.borsh_json.specs.Places.{IsAt, AreKeysOf, lengths_of}
+use Rattle.borsh_json.specs.Reads.{SaysFirst}
+use Rattle.borsh_json.specs.Represents.{next_part}
+use Rattle.borsh_json.specs.Table.{Keys, no_bytes, utf8, HasKind, key_order, key_json}
+use Rattle.borsh_values.proofs.WalkedLaws.{read_product}
+use Rattle.borsh_json.specs.Writes.{IsAbove, IsLast, IsBegunOf, IsWhole, IsWrittenOn, ends_of, Rest, IsRest, WritesFront, names_of_rest, names_of_all, leaf_depth, IsBelow, IsHalved, IsWriting, IsAwaiting, RefusesOwn, RefusesValue, IsWrittenAs, HasNoJsonPart, RefusesBytes, Stops, IsWritingAt, IsAwaitingAt, IsFull, IsFullOrDescends, IsOfWrite}
+use Rattle.borsh_json.proofs.FormsLaws.{shape_is, shapes_are}
+use Rattle.borsh_json.proofs.WritingPlaces.{as_many, key_tokens, TakesPart, TakesEntry, takes_part, takes_entry, place_ends}
+use Rattle.borsh_json.proofs.FormKinds.{form_known}
+use Rattle.borsh_json.proofs.WholeLaws.{leaf_refused}
+use Rattle.borsh_json.proofs.WritingSteps.{only_in, not_in, halved_on, leaf_writes, front_writes, awaits, entry_halved, awaits_entry, end_writes, end_whole}
+
+-- ---- the parts of a definition are its references
+in_copies : (n : ℕ) (e y : List ℕ) → IsIn y (replicate n e) → e ≡ y
+in_copies zero e y i = absurd (not_in y i)
+in_copies (suc n) e y first = refl
+in_copies (suc n) e y (later i) = in_copies n e y i
+
+in_elements : (s : ℕ) (e : List ℕ) (k : ℕ) (own : List ℕ) (parts : List (List ℕ)) → OpensElements s e k own parts → (y : List ℕ) → IsIn y parts → IsIn y (e ∷ [])
+in_elements zero e k own parts o y i = subst (λ z. IsIn z (e ∷ [])) (in_copies k e y (subst (λ l. IsIn y l) o.1 i)) first
+in_elements (suc s) e k own parts o y i = absurd (not_in y (subst (λ l. IsIn y l) o.2 i))
+
+listed_in : (k : ℤ) (p : List ℕ) (vs : List (ℤ × List ℕ)) → IsListedVariant k p vs → IsIn p (variant_names vs)
+listed_in k p vs first_variant = first
+listed_in k p vs (later_variant l) = later (listed_in k p _ l)
+
+pub parts_in : (C : List ℕ → Option Shape) (d : Shape) (own : List ℕ) (parts : List (List ℕ)) → Opens C d own parts → (y : List ℕ) → IsIn y parts → IsIn y (references d)
+parts_in C (primitive n) own parts o y i = absurd (not_in y (subst (λ l. IsIn y l) o.2 i))
+parts_in C (sequence w lo hi e) own parts o y i = in_elements (packed_size (C e)) e o.0 o.1 parts o.5 y i
+parts_in C (product ps) own parts o y i = subst (λ l. IsIn y l) o.1 i
+parts_in C (choice w vs) own parts o y i = subst (λ z. IsIn z (variant_names vs)) (only_in y o.1 (subst (λ l. IsIn y l) o.4 i)) (listed_in o.0 o.1 vs o.2)
+
+-- ---- nodes
+module _ {A : Type 0} (m : BTreeMap (String A) Definition) (x : List ℕ) (old new : Walker) (n : Node) (k : IsNodeOf m x old new n) where
+  pub opened_as : IsOpenedAs (forms_in m) x (form_of n.definition.now) n.bytes.now k.parts
+  opened_as = (
+    ap (λ o. option_map form_of o) k.definition,
+    subst (λ C. Opens C (shape_of_form (form_of n.definition.now)) n.bytes.now k.parts) (sym (shapes_are m)) (subst (λ s. Opens (definitions_in m) s n.bytes.now k.parts) (sym (shape_is n.definition.now)) k.opens),
+    subst (λ s. IsCounted s) (sym (shape_is n.definition.now)) k.counted,
+  )
+
+  pub opened_on : (root done : List ℕ) (parts ps : List (List ℕ)) → Opens (shapes (forms_in m)) (shape_of_form (form_of n.definition.now)) n.bytes.now parts → IsReadTo (shapes (forms_in m)) root done (x ∷ ps) old.left.now → IsReadTo (shapes (forms_in m)) root (done ++ n.bytes.now) (parts ++ ps) new.left.now
+  opened_on root done parts ps =
+      subst (λ C. Opens C (shape_of_form (form_of n.definition.now)) n.bytes.now parts → IsReadTo C root done (x ∷ ps) old.left.now → IsReadTo C root (done ++ n.bytes.now) (parts ++ ps) new.left.now) (sym (shapes_are m))
+      (λ o r. k.onward root done parts ps (subst (λ s. Opens (definitions_in m) s n.bytes.now parts) (shape_is n.definition.now) o) r)
+
+module _ (d : Definitions) (old new : Walker) (at : ℕ) (x : List ℕ) (i : IsAt (names_of d) at x) (same : old.layout.now ≡ d.layout.now) where
+  -- the call looked for a node of the name at the place
+  pub finds_at : (found : Option Node) → FindsAt at old new found → FindsNode d.layout.now.map.now d.layout.now.root.now x old new found
+  finds_at found g = subst (λ (l : Layout). name_of l.names.items at ≡ Some x → FindsNode l.map.now l.root.now x old new found) same (g x) i
+
+  -- and found none
+  pub undecided : (name : Bor (List ℕ)) (bytes done : List ℕ) (names : List (List ℕ)) → name.now ≡ x → FindsAt at old new None → IsHalved (forms_of d) d.layout.now.root.now bytes done old.left.now (x ∷ names) → IsUndecided (shapes (forms_of d)) d.layout.now.root.now name.now
+  undecided name bytes done names e g h =
+      let F = forms_of d in
+      let m = d.layout.now.map.now in
+      let root = d.layout.now.root.now in
+      let u = finds_at None g names (subst (λ C. Members C (x ∷ names) old.left.now) (shapes_are m) h.read.1) in
+      subst (λ C. IsUndecided C root name.now) (sym (shapes_are m)) (subst (λ y. IsUndecided (definitions_in m) root y) (sym e) u)
+
+-- ---- refusals
+module _ (F : List ℕ → Option Form) (root bytes : List ℕ) where
+  pub refuses_bytes : (x own : List ℕ) (r : Refusal) → (IsNoJson F x own → HasNoJsonPart F root bytes) → RefusesOwn F x own r → RefusesBytes F root bytes r
+  refuses_bytes x own TooDeep g h = absurd h
+  refuses_bytes x own (RepeatedName name) g h = g h
+  refuses_bytes x own EmptyElements g h = g h
+  refuses_bytes x own NotBool g h = g h
+  refuses_bytes x own NotUtf8 g h = g h
+  refuses_bytes x own Zero g h = g h
+  refuses_bytes x own NotNumber g h = g h
+  refuses_bytes x own Descends g h = tt
+  refuses_bytes x own OtherNodes g h = absurd h
+  refuses_bytes x own (Expected wanted) g h = absurd h
+  refuses_bytes x own MissingField g h = absurd h
+  refuses_bytes x own (UnknownName name) g h = absurd h
+  refuses_bytes x own (RepeatedKey name) g h = absurd h
+  refuses_bytes x own (Undefined name) g h = absurd h
+
+  stops_as : (r : Refusal) (e : PartError) → IsOf r e → RefusesBytes F root bytes r → Stops F root bytes (error_of e)
+  stops_as r NoPartMemory i h = tt
+  stops_as r (RefusedPart path s) i h = subst (λ (r : Refusal). RefusesBytes F root bytes r) (sym i) h
+
+  pub stops_value : (x own : List ℕ) (w : WriteError) (e : PartError) → IsOfWrite w e → (IsNoJson F x own → HasNoJsonPart F root bytes) → RefusesValue F x own w → Stops F root bytes (error_of e)
+  stops_value x own OutOfMemory e i g h = subst (λ (e : PartError). Stops F root bytes (error_of e)) (sym i) tt
+  stops_value x own (Refused r) e i g h = stops_as r e i (refuses_bytes x own r g h)
+  stops_value x own (Element k r) e i g h = stops_as r e i (refuses_bytes x own r g h)
+
+  pub stops_descends : (e : PartError) → IsOf Descends e → Stops F root bytes (error_of e)
+  stops_descends e i = stops_as Descends e i tt
+
+  pub stops_full : (n m : ℕ) (x : List ℕ) (e : PartError) → n ≤ m → IsBelow F root m x → IsFull n e → Stops F root bytes (error_of e)
+  stops_full n m x NoPartMemory l b f = tt
+  stops_full n m x (RefusedPart path r) l b f = subst (λ (r : Refusal). RefusesBytes F root bytes r) (sym f.0) (m, x, (let a = f.1 in omega (arith, a, l)), b)
+
+  pub stops_either : (n m : ℕ) (x : List ℕ) (e : PartError) → n ≤ m → IsBelow F root m x → IsFullOrDescends n e → Stops F root bytes (error_of e)
+  stops_either n m x NoPartMemory l b f = tt
+  stops_either n m x (RefusedPart path r) l b (inl f) = stops_full n m x (RefusedPart path r) l b f
+  stops_either n m x (RefusedPart path r) l b (inr f) = stops_descends (RefusedPart path r) f
+
+  -- bytes that no JSON says
+  pub no_json_part : (x done own after left : List ℕ) (names : List (List ℕ)) → left ≡ own ++ after → IsHalved F root bytes done left (x ∷ names) → IsNoJson F x own → HasNoJsonPart F root bytes
+  no_json_part x done own after left names e h n = (done, own, after, x, names, h.joined ∙ ap (λ l. done ++ l) e, h.read.0, n)
+
+pub full_either : (n : ℕ) (e : PartError) → IsFull n e → IsFullOrDescends n e
+full_either n NoPartMemory f = tt
+full_either n (RefusedPart path r) f = inl f
+
+pub descends_either : (n : ℕ) (e : PartError) → IsOf Descends e → IsFullOrDescends n e
+descends_either n NoPartMemory f = tt
+descends_either n (RefusedPart path r) f = inr f
+
+pub descends_or_not : {T : Type 0} (n : ℕ) (r : Result T PartError) → IfErr r (λ e. IsOf Descends e) → IfErr r (IsFullOrDescends n)
+descends_or_not n (Ok t) f = tt
+descends_or_not n (Err e) f = descends_either n e f
+
+-- ---- room
+pub leaf_room : (kind : Found) (n l : ℕ) → n + l ≡ 128 → ((es : FoundElements) → kind ≡ Numbers es → l < 128) → leaf_depth kind ≤ n
+leaf_room (Number m) n l e g = omega arith
+leaf_room Truth n l e g = omega arith
+leaf_room Text n l e g = omega arith
+leaf_room (Bytes m) n l e g = omega arith
+leaf_room (Float m) n l e g = omega arith
+leaf_room (ByteList es) n l e g = omega arith
+leaf_room (Numbers es) n l e g = (let h = g es refl in omega (arith, e, h))
+leaf_room (ListKind es) n l e g = omega arith
+leaf_room (Map es order) n l e g = omega arith
+leaf_room (RowKind m) n l e g = omega arith
+leaf_room (NewtypeKind at) n l e g = omega arith
+leaf_room (ObjectKind fs) n l e g = omega arith
+leaf_room (Optional at) n l e g = omega arith
+leaf_room (Choice m vs) n l e g = omega arith
+leaf_room (Repeated name) n l e g = omega arith
+
+-- ---- a value was written
+module _ (d : Definitions) (w new : Writing) (x : List ℕ) (f : Form) (own : List ℕ) (a : IsAwaitingAt d w x) (same : new.bytes ≡ w.bytes) (layout : new.walk.layout.now ≡ d.layout.now) (walk : IsWalker new.walk)
+    (bytes : w.walk.left.now ≡ own ++ new.walk.left.now)
+    (onward : (done : List ℕ) (parts ps : List (List ℕ)) → Opens (shapes (forms_of d)) (shape_of_form f) own parts → IsReadTo (shapes (forms_of d)) d.layout.now.root.now done (x ∷ ps) w.walk.left.now → IsReadTo (shapes (forms_of d)) d.layout.now.root.now (done ++ own) (parts ++ ps) new.walk.left.now) where
+  -- the writer is in front of the next part of the place
+  pub leaf_begun : (m : ℕ) → m ≤ a.room → IsWrittenAs (forms_of d) (names_of d) m x f own w.out new.out None → new.position.place ≡ w.position.place → new.position.outer.items ≡ w.position.outer.items → IsWritingAt d new new.position.place
+  leaf_begun m l h p o =
+      let F = forms_of d in
+      let ns = names_of d in
+      let root = d.layout.now.root.now in
+      let s = a.state in
+      let k = halved_on F ns root w.bytes.now x (shape_of_form f) s.done w.walk.left.now own new.walk.left.now h.1 (names_of_all (s.inner ∷ s.around)) bytes (λ r. onward s.done h.1 (names_of_all (s.inner ∷ s.around)) h.2 r) s.halved in
+      let t = leaf_writes F ns root w.bytes.now x a.room w.position.place w.position.outer.items w.walk.left.now w.out s own new.walk.left.now new.out m h.1 l h.0 h.3 k in
+      record {
+        writer = record { layout = layout; walk = walk; fresh = h.0.adds.before ∙ a.writer.fresh };
+        state =
+            subst (λ (b : Bor (List ℕ)). IsWriting F ns root b.now new.position.place new.position.outer.items new.walk.left.now (output_tokens new.out)) (sym same)
+            (subst (λ (q : Place). IsWriting F ns root w.bytes.now q new.position.outer.items new.walk.left.now (output_tokens new.out)) (sym p)
+            (subst (λ (qs : List Place). IsWriting F ns root w.bytes.now w.position.place qs new.walk.left.now (output_tokens new.out)) (sym o) t));
+      }
+
+  -- or of the first part of another place
+  pub place_begun : (m : ℕ) (q : Place) → shapes (forms_of d) x ≡ Some (shape_of_form f) → length w.position.outer.items < 128 → IsWrittenAs (forms_of d) (names_of d) m x f own w.out new.out (Some q) → new.position.place ≡ q → new.position.outer.items ≡ w.position.outer.items ++ w.position.place ∷ [] → IsWritingAt d new new.position.place
+  place_begun m q c room h p o =
+      let F = forms_of d in
+      let ns = names_of d in
+      let root = d.layout.now.root.now in
+      let s = a.state in
+      let r = h.0 in
+      let k = halved_on F ns root w.bytes.now x (shape_of_form f) s.done w.walk.left.now own new.walk.left.now (names_of_rest r) (names_of_all (s.inner ∷ s.around)) bytes (λ t. onward s.done (names_of_rest r) (names_of_all (s.inner ∷ s.around)) h.3 t) s.halved in
+      let l = as_many F ns w.position.outer.items s.around s.there in
+      let t = front_writes F ns root w.bytes.now x a.room w.position.place w.position.outer.items w.walk.left.now w.out s own new.walk.left.now new.out (shape_of_form f) r q new.position.outer.items (omega (arith, l, room)) c (parts_in (shapes F) (shape_of_form f) own (names_of_rest r) h.3) h.1 h.2 o k in
+      record {
+        writer = record { layout = layout; walk = walk; fresh = h.2.adds.before ∙ a.writer.fresh };
+        state =
+            subst (λ (b : Bor (List ℕ)). IsWriting F ns root b.now new.position.place new.position.outer.items new.walk.left.now (output_tokens new.out)) (sym same)
+            (subst (λ (z : Place). IsWriting F ns root w.bytes.now z new.position.outer.items new.walk.left.now (output_tokens new.out)) (sym p) t);
+      }
+
+-- ---- a node was found of the name that is awaited
+some_form : (f g : Form) → Some f ≡ Some g → f ≡ g
+some_form f g e = cc
+
+module _ (d : Definitions) (w : Writing) (walk : Walker) (at : ℕ) (x : List ℕ) (layout : w.walk.layout.now ≡ d.layout.now) (i : IsAt (names_of d) at x) (found : Option Node) (n : Node) (is : found ≡ Some n) (g : FindsAt at w.walk walk found) where
+  pub node_is : IsNodeOf d.layout.now.map.now x w.walk walk n
+  node_is = finds_at d w.walk walk at x i layout (Some n) (subst (λ (o : Option Node). FindsAt at w.walk walk o) is g)
+
+  pub node_opened : IsOpenedAs (forms_of d) x (form_of n.definition.now) n.bytes.now node_is.parts
+  node_opened = opened_as d.layout.now.map.now x w.walk walk n node_is
+
+  pub node_form : (f : Form) → forms_of d x ≡ Some f → f ≡ form_of n.definition.now
+  node_form f e = some_form f (form_of n.definition.now) (sym e ∙ node_opened.0)
+
+  pub node_shape : shapes (forms_of d) x ≡ Some (shape_of_form (form_of n.definition.now))
+  node_shape = ap (λ o. option_map shape_of_form o) node_opened.0
+
+  pub node_on : (done : List ℕ) (parts ps : List (List ℕ)) → Opens (shapes (forms_of d)) (shape_of_form (form_of n.definition.now)) n.bytes.now parts → IsReadTo (shapes (forms_of d)) d.layout.now.root.now done (x ∷ ps) w.walk.left.now → IsReadTo (shapes (forms_of d)) d.layout.now.root.now (done ++ n.bytes.now) (parts ++ ps) walk.left.now
+  node_on done parts ps = opened_on d.layout.now.map.now x w.walk walk n node_is d.layout.now.root.now done parts ps
+
+-- ---- no room
+module _ (d : Definitions) (w : Writing) (x : List ℕ) (a : IsAwaitingAt d w x) where
+  pub outer_awaiting : length w.position.outer.items ≤ a.state.deep.0
+  outer_awaiting = let l = as_many (forms_of d) (names_of d) w.position.outer.items a.state.around a.state.there in let m = a.state.deep.1 in omega (arith, l, m)
+
+  pub room_awaiting : a.room + length w.position.outer.items ≡ 128
+  room_awaiting = let l = as_many (forms_of d) (names_of d) w.position.outer.items a.state.around a.state.there in let m = a.state.room in omega (arith, l, m)
+
+-- ---- a name whose values have no bytes, or none of their own
+undefined_first : (C : List ℕ → Option Shape) (x bs : List ℕ) → Member C x bs → C x ≡ None → ⊥
+undefined_first C x bs (of_primitive c a) e = let q : None ≡ Some _ = sym e ∙ c in cc
+undefined_first C x bs (of_sequence k c a b m) e = let q : None ≡ Some _ = sym e ∙ c in cc
+undefined_first C x bs (of_parts c m) e = let q : None ≡ Some _ = sym e ∙ c in cc
+undefined_first C x bs (of_choice c l m) e = let q : None ≡ Some _ = sym e ∙ c in cc
+
+pub undefined_next : (F : List ℕ → Option Form) (x bs : List ℕ) (ps : List (List ℕ)) → Members (shapes F) (x ∷ ps) bs → F x ≡ None → ⊥
+undefined_next F x bs ps (more_members m r) e = undefined_first (shapes F) x _ m (ap (λ o. option_map shape_of_form o) e)
+
+module _ (d : Definitions) (w new : Writing) (x : List ℕ) (a : IsAwaitingAt d w x) (walk : new.walk ≡ w.walk) (same : new.bytes ≡ w.bytes) where
+  -- `null` was written
+  pub zero_begun : HasNoBytes (forms_of d) x → Adds (Token.null ∷ []) w.out new.out → new.position.place ≡ w.position.place → new.position.outer.items ≡ w.position.outer.items → IsWritingAt d new new.position.place
+  zero_begun z t p o =
+      let F = forms_of d in
+      let ns = names_of d in
+      let root = d.layout.now.root.now in
+      let s = a.state in
+      let names = names_of_all (s.inner ∷ s.around) in
+      let leaf : WritesLeaf F 0 x [] w.out new.out = record { json = null; adds = t; numbers = tt; nests = omega arith; says = λ ps bs h. next_part no_bytes [] [] (inl (z, refl)) (refl, refl, refl) h } in
+      let h = subst (λ b. IsHalved F root w.bytes.now b w.walk.left.now (x ∷ names)) (sym (append-nil s.done)) s.halved in
+      let k = leaf_writes F ns root w.bytes.now x a.room w.position.place w.position.outer.items w.walk.left.now w.out s [] w.walk.left.now new.out 0 (x ∷ []) (omega arith) leaf (λ y i. subst (λ y. HasNoBytes F y) (only_in y x i) z) h in
+      record {
+        writer = record { layout = subst (λ (k : Walker). k.layout.now ≡ d.layout.now) (sym walk) a.writer.layout; walk = subst (λ (k : Walker). IsWalker k) (sym walk) a.writer.walk; fresh = t.before ∙ a.writer.fresh };
+        state =
+            subst (λ (b : Bor (List ℕ)). IsWriting F ns root b.now new.position.place new.position.outer.items new.walk.left.now (output_tokens new.out)) (sym same)
+            (subst (λ (k : Walker). IsWriting F ns root w.bytes.now new.position.place new.position.outer.items k.left.now (output_tokens new.out)) (sym walk)
+            (subst (λ (q : Place). IsWriting F ns root w.bytes.now q new.position.outer.items w.walk.left.now (output_tokens new.out)) (sym p)
+            (subst (λ (qs : List Place). IsWriting F ns root w.bytes.now w.position.place qs w.walk.left.now (output_tokens new.out)) (sym o) k)));
+      }
+
+struct_on : (C : List ℕ → Option Shape) (root x left : List ℕ) (names : List (List ℕ)) (s : Shape) → C x ≡ Some s → s ≡ product names → (done : List ℕ) (parts ps : List (List ℕ)) → Opens C s [] parts → IsReadTo C root done (x ∷ ps) left → IsReadTo C root (done ++ []) (parts ++ ps) left
+struct_on C root x left names s c e done parts ps o r =
+    let q = subst (λ s. Opens C s [] parts) e o in
+    subst (λ b. IsReadTo C root b (parts ++ ps) left) (sym (append-nil done)) (subst (λ l. IsReadTo C root done (l ++ ps) left) (sym q.1) (read_product C (c ∙ ap (λ s. Some s) e) r))
+
+module _ (d : Definitions) (w new : Writing) (x : List ℕ) (a : IsAwaitingAt d w x) (f : Form) (e : forms_of d x ≡ Some f) where
+  -- the beginning of a struct was written
+  pub struct_begun : (q : Place) → new.walk ≡ w.walk → new.bytes ≡ w.bytes → length w.position.outer.items < 128
+      → (r : Rest) → IsRest (forms_of d) (names_of d) q r → WritesFront (forms_of d) x [] r w.out new.out → shape_of_form f ≡ product (names_of_rest r)
+      → new.position.place ≡ q → new.position.outer.items ≡ w.position.outer.items ++ w.position.place ∷ [] → IsWritingAt d new new.position.place
+  struct_begun q walk same room r h t s p o =
+      let F = forms_of d in
+      let root = d.layout.now.root.now in
+      let c : shapes F x ≡ Some (shape_of_form f) = ap (λ o. option_map shape_of_form o) e in
+      let opens : Opens (shapes F) (shape_of_form f) [] (names_of_rest r) = subst (λ s. Opens (shapes F) s [] (names_of_rest r)) (sym s) (refl, refl) in
+      place_begun d w new x f [] a same (subst (λ (k : Walker). k.layout.now ≡ d.layout.now) (sym walk) a.writer.layout) (subst (λ (k : Walker). IsWalker k) (sym walk) a.writer.walk) (ap (λ (k : Walker). k.left.now) (sym walk))
+      (λ done parts ps n g. subst (λ (k : Walker). IsReadTo (shapes F) root (done ++ []) (parts ++ ps) k.left.now) (sym walk) (struct_on (shapes F) root x w.walk.left.now (names_of_rest r) (shape_of_form f) c s done parts ps n g)) 0 q c room (r, h, t, opens) p o
+
+-- ---- parts and their keys
+-- the key is above the last one
+pub first_above : (kind : KeyKind) (keys : Keys) (o : Option (List ℕ)) (s : List ℕ) → IsLast kind None o → IsAbove keys o s
+first_above kind keys o s e = subst (λ o. IsAbove keys o s) (sym e) tt
+
+pub next_above : (kind : KeyKind) (keys : Keys) (o : Option (List ℕ)) (s : List ℕ) (last : EntryKey) (b : Bool) → (l : IsLast kind (Some last) o) → Decides b (key_order keys (l.0, null) (s, null) ≡ Less) → b ≡ true → IsAbove keys o s
+next_above kind keys o s last b l d e = subst (λ o. IsAbove keys o s) (sym l.1) (d.0 e)
+
+-- the kind of keys, by the definition that their name has
+keys_of_form : (F : List ℕ → Option Form) (ns : List Named) (k : List ℕ) (g f : Form) (kind : KeyKind) (keys : Keys) → AreKeysOf F ns k g kind keys → F k ≡ Some f → AreKeysOf F ns k f kind keys
+keys_of_form F ns k g f TextKeys keys a c =
+    let l = lengths_of g in
+    let h = form_known F (utf8 l) f a.1 c (λ e. cc) in
+    (a.0, subst (λ l. HasKind F k (utf8 l)) (sym (ap lengths_of h.1)) a.1)
+keys_of_form F ns k g f (NumberKeys n) keys a c = a
+
+module _ (d : Definitions) (p q : Place) (part : FoundPart) (b : IsBegunOf d p q part) where
+  -- the first of what was wanted of the place
+  wanted_first : (ws : List Wanted) → IsWanted (forms_of d) (names_of d) p.parts p.begun ws → (w : Wanted) × (rest : List Wanted) × (ws ≡ w ∷ rest) × IsAt (names_of d) part.at w.1 × IsKey p.parts part.key w.0 × IsWanted (forms_of d) (names_of d) p.parts q.begun rest
+  wanted_first ws h = let g = b.0 ws h in (g.0, g.1, g.2, g.3, g.4, subst (λ (k : Parts). IsWanted (forms_of d) (names_of d) k q.begun g.1) b.1 g.5)
+
+  pub entry_of : (es : FoundEntries) (r : Rest) → part.key ≡ EntryOf es → IsRest (forms_of d) (names_of d) p r → TakesEntry (forms_of d) (names_of d) es p.parts q.begun p.last part r
+  entry_of es r k h = takes_entry (forms_of d) (names_of d) es p.parts p.begun q.begun p.last part r k h wanted_first
+
+  pub part_of : (r : Rest) → ((es : FoundEntries) → part.key ≡ EntryOf es → ⊥) → IsRest (forms_of d) (names_of d) p r → TakesPart (forms_of d) (names_of d) p.parts q.begun p.last part r
+  part_of r n h = takes_part (forms_of d) (names_of d) p.parts p.begun q.begun p.last part r n h wanted_first
+
+pub none_added : (out : Output) → Adds [] out out
+none_added out = record { before = refl; tokens = sym (append-nil (output_tokens out)) }
+
+-- a key that is no entry's was written, or none
+pub key_begun : (d : Definitions) (w new : Writing) (p : Place) (part : FoundPart) → IsWritingAt d w p → IsBegunOf d p w.position.place part → ((es : FoundEntries) → part.key ≡ EntryOf es → ⊥)
+    → Adds (key_tokens part.key) w.out new.out → new.walk ≡ w.walk → new.position ≡ w.position → new.bytes ≡ w.bytes → (x : List ℕ) × IsAt (names_of d) part.at x × IsAwaitingAt d new x
+key_begun d w new p part a b n t walk position bytes =
+    let F = forms_of d in
+    let ns = names_of d in
+    let root = d.layout.now.root.now in
+    let s = a.state in
+    let q = w.position.place in
+    let h = part_of d p q part b s.inner n s.here in
+    let r = awaits F ns root w.bytes.now p q w.position.outer.items w.walk.left.now (output_tokens w.out) (output_tokens new.out) s b.1 part b.2 h t.tokens in (
+      h.name,
+      h.named,
+      record {
+        writer = record { layout = subst (λ (k : Walker). k.layout.now ≡ d.layout.now) (sym walk) a.writer.layout; walk = subst (λ (k : Walker). IsWalker k) (sym walk) a.writer.walk; fresh = t.before ∙ a.writer.fresh };
+        room = 128 - length s.around;
+        state =
+            subst (λ (b : Bor (List ℕ)). IsAwaiting F ns root b.now h.name (128 - length s.around) new.position.place new.position.outer.items new.walk.left.now (output_tokens new.out)) (sym bytes)
+            (subst (λ (k : Walker). IsAwaiting F ns root w.bytes.now h.name (128 - length s.around) new.position.place new.position.outer.items k.left.now (output_tokens new.out)) (sym walk)
+            (subst (λ (k : Position). IsAwaiting F ns root w.bytes.now h.name (128 - length s.around) k.place k.outer.items w.walk.left.now (output_tokens new.out)) (sym position) r));
+      },
+    )
+
+module _ (d : Definitions) (w new : Writing) (p : Place) (part : FoundPart) (es : FoundEntries) (a : IsWritingAt d w p) (parts : new.position.place.parts ≡ p.parts)
+    (t : TakesEntry (forms_of d) (names_of d) es p.parts new.position.place.begun p.last part a.state.inner) where
+  pub entry_next : IsHalved (forms_of d) d.layout.now.root.now w.bytes.now a.state.done w.walk.left.now (t.key ∷ t.value ∷ (replicate t.count t.pair ++ names_of_all a.state.around))
+  entry_next = entry_halved (forms_of d) (names_of d) d.layout.now.root.now w.bytes.now p new.position.place w.position.outer.items w.walk.left.now (output_tokens w.out) (output_tokens new.out) a.state parts es part t
+
+  module _ (found : Option Node) (n : Node) (is : found ≡ Some n) (g : FindsAt es.key w.walk new.walk found) where
+    pub entry_opened : IsOpenedAs (forms_of d) t.key (form_of n.definition.now) n.bytes.now (node_is d w new.walk es.key t.key a.writer.layout t.key_named found n is g).parts
+    entry_opened = node_opened d w new.walk es.key t.key a.writer.layout t.key_named found n is g
+
+    pub entry_keys : AreKeysOf (forms_of d) (names_of d) t.key (form_of n.definition.now) es.key_kind t.keys
+    entry_keys = keys_of_form (forms_of d) (names_of d) t.key (form_of es.key_definition.now) (form_of n.definition.now) es.key_kind t.keys t.kind entry_opened.0
+
+    -- the key was written
+    pub entry_awaits : (key : EntryKey) (names : List (List ℕ)) (s : List ℕ) → new.walk.layout.now ≡ d.layout.now → IsWalker new.walk → new.bytes ≡ w.bytes → new.position.outer.items ≡ w.position.outer.items → new.position.place.last ≡ Some key
+        → Opens (shapes (forms_of d)) (shape_of_form (form_of n.definition.now)) n.bytes.now names → names ≡ [] → IsEntryKey es.key_kind key s → Adds (Token.key s ∷ []) w.out new.out → SaysFirst (forms_of d) t.key (key_json t.keys s) n.bytes.now [] → IsAbove t.keys t.before s
+        → (x : List ℕ) × IsAt (names_of d) part.at x × IsAwaitingAt d new x
+    entry_awaits key names s layout walk bytes outer last opens none k adds says above =
+        let F = forms_of d in
+        let ns = names_of d in
+        let root = d.layout.now.root.now in
+        let v = a.state in
+        let rest = t.value ∷ (replicate t.count t.pair ++ names_of_all v.around) in
+        let node = node_is d w new.walk es.key t.key a.writer.layout t.key_named found n is g in
+        let o = subst (λ l. Opens (shapes F) (shape_of_form (form_of n.definition.now)) n.bytes.now l) none opens in
+        let h = halved_on F ns root w.bytes.now t.key (shape_of_form (form_of n.definition.now)) v.done w.walk.left.now n.bytes.now new.walk.left.now [] rest node.bytes (λ r. node_on d w new.walk es.key t.key a.writer.layout t.key_named found n is g v.done [] rest o r) entry_next in
+        let r = awaits_entry F ns root w.bytes.now p new.position.place w.position.outer.items w.walk.left.now (output_tokens w.out) (output_tokens new.out) v parts es part t n.bytes.now new.walk.left.now key s last k says above h adds.tokens in (
+          t.value,
+          t.named,
+          record {
+            writer = record { layout = layout; walk = walk; fresh = adds.before ∙ a.writer.fresh };
+            room = 128 - length v.around;
+            state =
+                subst (λ (b : Bor (List ℕ)). IsAwaiting F ns root b.now t.value (128 - length v.around) new.position.place new.position.outer.items new.walk.left.now (output_tokens new.out)) (sym bytes)
+                (subst (λ (l : List Place). IsAwaiting F ns root w.bytes.now t.value (128 - length v.around) new.position.place l new.walk.left.now (output_tokens new.out)) (sym outer) r);
+          },
+        )
+
+    -- or is refused
+    pub entry_stops : (e : WriteError) (pe : PartError) → IsOfWrite e pe → RefusesLeaf (forms_of d) t.key n.bytes.now e → Stops (forms_of d) d.layout.now.root.now w.bytes.now (error_of pe)
+    entry_stops e pe i r =
+        let F = forms_of d in
+        let root = d.layout.now.root.now in
+        let node = node_is d w new.walk es.key t.key a.writer.layout t.key_named found n is g in
+        stops_value F root w.bytes.now t.key n.bytes.now e pe i (no_json_part F root w.bytes.now t.key a.state.done n.bytes.now new.walk.left.now w.walk.left.now (t.value ∷ (replicate t.count t.pair ++ names_of_all a.state.around)) node.bytes entry_next) (leaf_refused F t.key n.bytes.now e r)
+
+-- ---- the parts of a place have ended
+pub place_ended : (d : Definitions) (w new : Writing) (p : Place) → IsWritingAt d w p → ((ws : List Wanted) → IsWanted (forms_of d) (names_of d) p.parts p.begun ws → ws ≡ []) → Adds (ends_of p.parts) w.out new.out → new.walk ≡ w.walk → new.bytes ≡ w.bytes
+    → (b : Bool) → (b ≡ true → w.position.outer.items ≡ new.position.outer.items ++ new.position.place ∷ []) → (b ≡ false → w.position.outer.items ≡ []) → IsWrittenOn d new b
+place_ended d w new p a g t walk bytes true left all =
+    let F = forms_of d in
+    let ns = names_of d in
+    let root = d.layout.now.root.now in
+    let s = a.state in
+    let e = place_ends F ns p.parts p.begun (128 - length s.around) p.last s.inner s.here g in
+    let r = end_writes F ns root w.bytes.now p w.position.outer.items w.walk.left.now (output_tokens w.out) (output_tokens new.out) (ends_of p.parts) s e.0 e.1 t.tokens new.position.place new.position.outer.items (left refl) in
+    record {
+      writer = record { layout = subst (λ (k : Walker). k.layout.now ≡ d.layout.now) (sym walk) a.writer.layout; walk = subst (λ (k : Walker). IsWalker k) (sym walk) a.writer.walk; fresh = t.before ∙ a.writer.fresh };
+      state =
+          subst (λ (b : Bor (List ℕ)). IsWriting F ns root b.now new.position.place new.position.outer.items new.walk.left.now (output_tokens new.out)) (sym bytes)
+          (subst (λ (k : Walker). IsWriting F ns root w.bytes.now new.position.place new.position.outer.items k.left.now (output_tokens new.out)) (sym walk) r);
+    }
+place_ended d w new p a g t walk bytes false left all =
+    let F = forms_of d in
+    let ns = names_of d in
+    let root = d.layout.now.root.now in
+    let s = a.state in
+    let e = place_ends F ns p.parts p.begun (128 - length s.around) p.last s.inner s.here g in
+    let r = end_whole F ns root w.bytes.now p w.position.outer.items w.walk.left.now (output_tokens w.out) (output_tokens new.out) (ends_of p.parts) s e.0 e.1 t.tokens (all refl) in
+    record {
+      fresh = t.before ∙ a.writer.fresh;
+      whole = subst (λ (b : Bor (List ℕ)). IsWhole F root (output_tokens new.out) b.now) (sym bytes) r;
+    }
+
+-- the order of a place was looked at
+pub begun_still : (d : Definitions) (p q r : Place) (part : FoundPart) → GivesPart d p.parts p.begun q.parts q.begun (Some part) → q.parts ≡ p.parts → q.last ≡ p.last → r.parts ≡ q.parts → r.begun ≡ q.begun → r.last ≡ q.last → IsBegunOf d p r part
+begun_still d p q r part g e f a b l =
+    (subst (λ (k : Parts). GivesPart d p.parts p.begun k r.begun (Some part)) (sym a) (subst (λ (n : ℕ). GivesPart d p.parts p.begun q.parts n (Some part)) (sym b) g), a ∙ e, l ∙ f)

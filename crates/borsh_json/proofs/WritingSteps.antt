@@ -1,0 +1,183 @@
+-- Where the writer is after each step.
+use Rattle.std.proofs.Common.{◌≡◌, ℕ, suc, ◌+◌, ◌-◌, ◌<◌, ◌≤◌, List, [], ◌∷◌, ◌++◌, length, replicate, Option, Some, refl, sym, ◌∙◌, ap, subst, arith, append_assoc, append-nil}
+use Rattle.json.specs.Token.{Token}
+use Rattle.json.specs.Tree.{json_tokens}
+use Rattle.borsh_walks.specs.Container.{Shape, product, IsIn, first, later, references, Member}
+use Rattle.borsh_values.specs.Walks.{IsReadTo}
+use Rattle.borsh_values.specs.declared.layout.Named.{Named}
+use Rattle.borsh_values.proofs.WalkedLaws.{read_start, read_zero, read_product, read_end}
+use Rattle.borsh_json.specs.declared.kinds.Entries.{Entries as FoundEntries}
+use Rattle.borsh_json.specs.declared.output.Output.{Output}
+use Rattle.borsh_json.specs.declared.position.Part.{Part as FoundPart}
+use Rattle.borsh_json.specs.declared.position.Parts.{Parts}
+use Rattle.borsh_json.specs.declared.position.Parts.TheVariants.{Root}
+use Rattle.borsh_json.specs.declared.position.Place.{Place}
+use Rattle.borsh_json.specs.declared.sources.EntryKey.{EntryKey}
+use Rattle.borsh_json.specs.Forms.{Form, shapes, HasNoBytes}
+use Rattle.borsh_json.specs.Frames.{IsEntryKey}
+use Rattle.borsh_json.specs.Leaves.{output_tokens, WritesLeaf}
+use Rattle.borsh_json.specs.Places.{IsAt}
+use Rattle.borsh_json.specs.Reads.{SaysFirst}
+use Rattle.borsh_json.specs.Represents.{HaveBytes, next_part}
+use Rattle.borsh_json.specs.Table.{Part, key_json}
+use Rattle.borsh_json.specs.Writes.{Rest, value_rest, entries_rest, names_of_rest, names_of_all, IsAbove, MayFollow, MayFollowAll, IsLast, IsWhole, Begins, IsBelow, here, below, AreBelow, IsHalved, IsRestOf, IsRest, AreRests, IsWriting, IsAwaiting, WritesFront}
+use Rattle.borsh_json.proofs.WritingLaws.{begins, ends, key_written, leaf_written, front_written, end_written, entry_taken}
+use Rattle.borsh_json.proofs.WritingPlaces.{key_tokens, TakesPart, TakesEntry, rest_pushed, rest_popped}
+
+pub not_in : (x : List ℕ) → IsIn x [] → ⊥
+not_in x i = elim i [ ]
+
+pub only_in : (x y : List ℕ) → IsIn x (y ∷ []) → y ≡ x
+only_in x y first = refl
+only_in x y (later i) = absurd (not_in x i)
+
+module _ (F : List ℕ → Option Form) (root : List ℕ) where
+  begun_so : (P : List Token → List Part → Type 0) (a b : List Token) (d e : List ℕ) → b ≡ a → e ≡ d → Begins F root P a d → Begins F root P b e
+  begun_so P a b d e p q g = subst (λ b. Begins F root P b e) (sym p) (subst (λ e. Begins F root P a e) (sym q) g)
+
+  -- names without bytes are passed
+  pub passed : (zeros names : List (List ℕ)) (done left : List ℕ) → ((y : List ℕ) → IsIn y zeros → HasNoBytes F y) → IsReadTo (shapes F) root done (zeros ++ names) left → IsReadTo (shapes F) root done names left
+  passed [] names done left z r = r
+  passed (y ∷ zeros) names done left z r = passed zeros names done left (λ x i. z x (later i)) (read_zero (shapes F) (z y first) r)
+
+module _ (F : List ℕ → Option Form) (ns : List Named) (root bytes : List ℕ) where
+  -- in front of the root
+  pub writing_start : (p : Place) (ps : List Place) (written : List Token) → p.parts ≡ Root → p.begun ≡ 0 → ps ≡ [] → written ≡ [] → IsAt ns 0 root → Member (shapes F) root bytes → IsWriting F ns root bytes p ps bytes written
+  writing_start p ps written e f g t i m =
+      let inner = value_rest (root ∷ []) in
+      record {
+        inner = inner;
+        around = [];
+        done = [];
+        here = subst (λ (parts : Parts). IsRestOf F ns parts p.begun p.last inner) (sym e) (subst (λ (b : ℕ). IsRestOf F ns Root b p.last inner) (sym f) (([], root) ∷ [], (root, i, refl), refl));
+        there = subst (λ (ps : List Place). AreRests F ns ps []) (sym g) refl;
+        room = omega arith;
+        halved = record { joined = refl; read = read_start (shapes F) m };
+        chain = (λ x n. (0, omega arith, subst (λ x. IsBelow F root 0 x) (only_in x root n) here), tt);
+        begun = begun_so F root (MayFollowAll (inner ∷ [])) [] written [] [] t refl (begins F root);
+      }
+
+  module _ (p q : Place) (ps : List Place) (left : List ℕ) (written new : List Token) (w : IsWriting F ns root bytes p ps left written) (parts : q.parts ≡ p.parts) where
+    room_for : (128 - length w.around) + length w.around ≡ 128
+    room_for = let r = w.room in omega (arith, r)
+
+    -- a part comes next, whose key was written
+    pub awaits : (part : FoundPart) → q.last ≡ p.last → (t : TakesPart F ns p.parts q.begun p.last part w.inner) → new ≡ written ++ key_tokens part.key → IsAwaiting F ns root bytes t.name (128 - length w.around) q ps left new
+    awaits part last t e =
+        record {
+          inner = t.rest;
+          around = w.around;
+          done = w.done;
+          here = subst (λ (k : Parts). IsRestOf F ns k q.begun q.last t.rest) (sym parts) (subst (λ (l : Option EntryKey). IsRestOf F ns p.parts q.begun l t.rest) (sym last) t.here);
+          there = w.there;
+          room = room_for;
+          halved = subst (λ l. IsHalved F root bytes w.done left l) (ap (λ l. l ++ names_of_all w.around) t.names) w.halved;
+          chain = (λ y i. w.chain.0 y (subst (λ l. IsIn y l) (sym t.names) (later i)), w.chain.1);
+          deep = w.chain.0 t.name (subst (λ l. IsIn t.name l) (sym t.names) first);
+          begun = begun_so F root _ _ new _ w.done e (sym (append-nil w.done)) (key_written F root w.inner t.rest w.around t.name (key_tokens part.key) [] [] (128 - length w.around) written w.done room_for t.taken (λ ps bs h. h) w.begun);
+        }
+
+    module _ (es : FoundEntries) (part : FoundPart) (t : TakesEntry F ns es p.parts q.begun p.last part w.inner) where
+      names_there : names_of_rest w.inner ≡ t.pair ∷ replicate t.count t.pair
+      names_there = ap names_of_rest t.is
+
+      -- the key and the value of the next entry
+      pub entry_halved : IsHalved F root bytes w.done left (t.key ∷ t.value ∷ (replicate t.count t.pair ++ names_of_all w.around))
+      entry_halved =
+          let names = replicate t.count t.pair ++ names_of_all w.around in
+          let h = subst (λ l. IsHalved F root bytes w.done left l) (ap (λ l. l ++ names_of_all w.around) names_there) w.halved in
+          record { joined = h.joined; read = read_product (shapes F) t.defined h.read }
+
+      -- its key was written
+      pub awaits_entry : (own after : List ℕ) (key : EntryKey) (s : List ℕ) → q.last ≡ Some key → IsEntryKey es.key_kind key s → SaysFirst F t.key (key_json t.keys s) own [] → IsAbove t.keys t.before s
+          → IsHalved F root bytes (w.done ++ own) after (t.value ∷ (replicate t.count t.pair ++ names_of_all w.around)) → new ≡ written ++ Token.key s ∷ []
+          → IsAwaiting F ns root bytes t.value (128 - length w.around) q ps after new
+      awaits_entry own after key s last k says above halved e =
+          let rest = entries_rest t.keys t.key t.value t.pair t.count (Some s) in
+          let b = w.chain.0 t.pair (subst (λ l. IsIn t.pair l) (sym names_there) first) in
+          record {
+            inner = rest;
+            around = w.around;
+            done = w.done ++ own;
+            here = subst (λ (k : Parts). IsRestOf F ns k q.begun q.last rest) (sym parts) (t.here q.last (Some s) (subst (λ (l : Option EntryKey). IsLast es.key_kind l (Some s)) (sym last) (s, refl, k)));
+            there = w.there;
+            room = room_for;
+            halved = halved;
+            chain = (λ y i. w.chain.0 y (subst (λ l. IsIn y l) (sym names_there) (later i)), w.chain.1);
+            deep = (suc b.0, (let n = b.1 in omega (arith, n)), below (product (t.key ∷ t.value ∷ [])) b.2 t.defined (later first));
+            begun = begun_so F root _ _ new _ (w.done ++ own) e refl (key_written F root w.inner rest w.around t.value (Token.key s ∷ []) ((t.key, key_json t.keys s) ∷ []) own (128 - length w.around) written w.done room_for
+                (λ i j ts qs nj dj m. subst (λ r. MayFollow r i (Token.key s ∷ (json_tokens j ++ ts)) ((t.key, key_json t.keys s) ∷ (t.value, j) ∷ qs)) (sym t.is) (entry_taken t.keys t.key t.value t.pair t.count t.before s above i j ts qs nj dj m))
+                (λ ps bs h. next_part says.0 own [] says.1 says.2 h) w.begun);
+          }
+
+  -- own bytes of a name are taken
+  pub halved_on : (x : List ℕ) (d : Shape) (done left own after : List ℕ) (parts names : List (List ℕ)) → left ≡ own ++ after → (IsReadTo (shapes F) root done (x ∷ names) left → IsReadTo (shapes F) root (done ++ own) (parts ++ names) after) → IsHalved F root bytes done left (x ∷ names) → IsHalved F root bytes (done ++ own) after (parts ++ names)
+  halved_on x d done left own after parts names e f h = record {
+    joined = h.joined ∙ ap (λ l. done ++ l) e ∙ sym (append_assoc done own after);
+    read = f h.read;
+  }
+
+  module _ (x : List ℕ) (n : ℕ) (p : Place) (ps : List Place) (left : List ℕ) (old : Output) (a : IsAwaiting F ns root bytes x n p ps left (output_tokens old)) (own after : List ℕ) (new : Output) where
+    -- a value was written whole
+    pub leaf_writes : (m : ℕ) (zeros : List (List ℕ)) → m ≤ n → WritesLeaf F m x own old new → ((y : List ℕ) → IsIn y zeros → HasNoBytes F y) → IsHalved F root bytes (a.done ++ own) after (zeros ++ names_of_all (a.inner ∷ a.around)) → IsWriting F ns root bytes p ps after (output_tokens new)
+    leaf_writes m zeros l leaf z h =
+        record {
+          inner = a.inner;
+          around = a.around;
+          done = a.done ++ own;
+          here = a.here;
+          there = a.there;
+          room = (let r = a.room in omega (arith, r));
+          halved = record { joined = h.joined; read = passed F root zeros (names_of_all (a.inner ∷ a.around)) (a.done ++ own) after z h.read };
+          chain = a.chain;
+          begun = begun_so F root _ _ (output_tokens new) _ (a.done ++ own) leaf.adds.tokens refl (leaf_written F root (a.inner ∷ a.around) x n leaf.json own (output_tokens old) a.done leaf.numbers (let d = leaf.nests in omega (arith, d, l)) leaf.says a.begun);
+        }
+
+    -- or its beginning
+    pub front_writes : (d : Shape) (r : Rest) (q : Place) (qs : List Place) → length a.around < 128 → shapes F x ≡ Some d → ((y : List ℕ) → IsIn y (names_of_rest r) → IsIn y (references d)) → IsRest F ns q r → WritesFront F x own r old new → qs ≡ ps ++ p ∷ [] → IsHalved F root bytes (a.done ++ own) after (names_of_rest r ++ names_of_all (a.inner ∷ a.around)) → IsWriting F ns root bytes q qs after (output_tokens new)
+    front_writes d r q qs l c i k f e h =
+        let b = a.deep in
+        record {
+          inner = r;
+          around = a.inner ∷ a.around;
+          done = a.done ++ own;
+          here = k;
+          there = subst (λ (qs : List Place). AreRests F ns qs (a.inner ∷ a.around)) (sym e) (rest_pushed F ns ps a.around p a.inner a.there a.here);
+          room = omega (arith, l);
+          halved = h;
+          chain = (λ y j. (suc b.0, (let m = b.1 in omega (arith, m)), below d b.2 c (i y j)), a.chain);
+          begun = begun_so F root _ _ (output_tokens new) _ (a.done ++ own) f.adds.tokens refl (front_written F root r (a.inner ∷ a.around) x n f.front own (output_tokens old) a.done (let m = a.room in omega (arith, m)) f.whole a.begun);
+        }
+
+  module _ (p : Place) (ps : List Place) (left : List ℕ) (written new brackets : List Token) (w : IsWriting F ns root bytes p ps left written) (none : names_of_rest w.inner ≡ []) (last : MayFollow w.inner (128 - length w.around) brackets []) (e : new ≡ written ++ brackets) where
+    ended : Begins F root (MayFollowAll w.around) new w.done
+    ended = begun_so F root _ _ new _ w.done e (sym (append-nil w.done)) (end_written F root w.inner w.around (128 - length w.around) brackets written w.done (let r = w.room in omega (arith, r)) last w.begun)
+
+    after_end : IsHalved F root bytes w.done left (names_of_all w.around)
+    after_end = subst (λ l. IsHalved F root bytes w.done left l) (ap (λ l. l ++ names_of_all w.around) none) w.halved
+
+    -- the writer goes back to the place around
+    pub end_writes : (q : Place) (qs : List Place) → ps ≡ qs ++ q ∷ [] → IsWriting F ns root bytes q qs left new
+    end_writes q qs f =
+        let t = rest_popped F ns qs w.around q (subst (λ (ps : List Place). AreRests F ns ps w.around) f w.there) in
+        record {
+          inner = t.0;
+          around = t.1;
+          done = w.done;
+          here = t.2;
+          there = t.3;
+          room = (let l = ap (λ (l : List Rest). length l) t.4 in let r = w.room in omega (arith, l, r));
+          halved = subst (λ l. IsHalved F root bytes w.done left (names_of_all l)) t.4 after_end;
+          chain = subst (λ l. AreBelow F root l) t.4 w.chain.1;
+          begun = subst (λ l. Begins F root (MayFollowAll l) new w.done) t.4 ended;
+        }
+
+    -- or the value has ended
+    pub end_whole : ps ≡ [] → IsWhole F root new bytes
+    end_whole f =
+        let z : w.around ≡ [] = subst (λ (ps : List Place). AreRests F ns ps w.around) f w.there in
+        let h = subst (λ l. IsHalved F root bytes w.done left (names_of_all l)) z after_end in
+        let l = read_end (shapes F) h.read in
+        let b : bytes ≡ w.done = h.joined ∙ ap (λ l. w.done ++ l) l ∙ append-nil w.done in
+        let r = ends F root new w.done (subst (λ l. Begins F root (MayFollowAll l) new w.done) z ended) in
+        (r.0, r.1, r.2, r.3, subst (λ b. HaveBytes F ((root, r.0) ∷ []) b) (sym b) r.4)

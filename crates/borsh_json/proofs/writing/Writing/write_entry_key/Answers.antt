@@ -1,0 +1,55 @@
+use Rattle.std.proofs.Common.{◌∷◌, ◌++◌, replicate, Option, Some, refl, sym, ◌∙◌, ap, subst}
+use Rattle.borsh_values.specs.declared.nodes.Node.{Node}
+use Rattle.borsh_values.specs.Walks.{FindsAt}
+use Rattle.borsh_json.specs.declared.error.JsonError.{JsonError}
+use Rattle.borsh_json.specs.declared.sources.EntryKey.{EntryKey}
+use Rattle.borsh_json.specs.declared.writing.Writing.{Writing}
+use Rattle.borsh_json.specs.Forms.{form_of}
+use Rattle.borsh_json.specs.Found.{forms_of, names_of}
+use Rattle.borsh_json.specs.Writes.{names_of_all, IsLast, Stops}
+use Rattle.borsh_json.proofs.WriterLaws.{undecided, entry_of, entry_next, entry_opened, entry_keys, entry_awaits, entry_stops, node_is}
+use Rattle.borsh_json.proofs.writing.Writing.write_entry_key.Goals as goal
+
+pub returns-in_default-clause-key : goal.returns-in_default-clause-key
+returns-in_default-clause-key c k p part a e b =
+    let d = c.args.definitions.now in
+    let w = c.args.self.now in
+    let es = c.args.entries in
+    let t = entry_of d p w.position.place part b es a.state.inner e a.state.here in
+    let rest = t.value ∷ (replicate t.count t.pair ++ names_of_all a.state.around) in
+    undecided d w.walk c.open.new.self es.key t.key t.key_named a.writer.layout c.name.result w.bytes.now a.state.done rest (c.name.ensures k.known t.key t.key_named) (subst (λ (o : Option Node). FindsAt es.key w.walk c.open.new.self o) c.in_default.is c.in_ok-node.ensures.finds) (entry_next d w w p part es a b.1 t)
+
+pub returns-else-not-is_next-clause-key : goal.returns-else-not-is_next-clause-key
+returns-else-not-is_next-clause-key c k p part a e b =
+    let d = c.args.definitions.now in
+    let w = c.args.self.now in
+    let q = w.position.place in
+    let es = c.args.entries in
+    let n = c.in-Some.node in
+    let o = c.in_ok-node.field-0 in
+    let f = c.in_ok-node.ensures.finds in
+    let t = entry_of d p q part b es a.state.inner e a.state.here in
+    let new : Writing = record { walk = c.open.new.self; position = record { alloc = w.position.alloc; root = w.position.root; outer = w.position.outer; place = record { parts = q.parts; begun = q.begun; ascent = q.ascent; last = Some c.in-Ok.key } }; out = c.write_key.new.out; bytes = w.bytes; long_numbers = w.long_numbers } in
+    let h = node_is d w c.open.new.self es.key t.key a.writer.layout t.key_named o n c.in-Some.is f in
+    let op = entry_opened d w new p part es a b.1 t o n c.in-Some.is f in
+    let ks = entry_keys d w new p part es a b.1 t o n c.in-Some.is f in
+    let u = c.in-Ok.ensures (forms_of d) (names_of d) t.key t.keys h.parts op ks in
+    let v = u.1 in
+    let above = c.is_next.ensures (forms_of d) (names_of d) t.key (form_of n.definition.now) es.key_kind t.keys t.before v.0 ks (subst (λ (l : Option EntryKey). IsLast es.key_kind l t.before) (sym b.2) t.is_last) v.1 c.if-not-is_next.false in
+    entry_awaits d w new p part es a b.1 t o n c.in-Some.is f c.in-Ok.key h.parts v.0 (ap (λ l. l.now) c.in_ok-node.ensures.layout ∙ a.writer.layout) c.in_ok-node.ensures.walk refl refl refl op.1 u.0 v.1 v.2 v.3 above
+
+pub returns-in-Err-clause-key : goal.returns-in-Err-clause-key
+returns-in-Err-clause-key c k p part a e b =
+    let d = c.args.definitions.now in
+    let w = c.args.self.now in
+    let es = c.args.entries in
+    let n = c.in-Some.node in
+    let o = c.in_ok-node.field-0 in
+    let f = c.in_ok-node.ensures.finds in
+    let t = entry_of d p w.position.place part b es a.state.inner e a.state.here in
+    let new : Writing = record { walk = c.open.new.self; position = w.position; out = w.out; bytes = w.bytes; long_numbers = w.long_numbers } in
+    let h = node_is d w c.open.new.self es.key t.key a.writer.layout t.key_named o n c.in-Some.is f in
+    let op = entry_opened d w new p part es a b.1 t o n c.in-Some.is f in
+    let ks = entry_keys d w new p part es a b.1 t o n c.in-Some.is f in
+    let v = c.in-Err.ensures (forms_of d) (names_of d) t.key t.keys h.parts op ks in
+    subst (λ (e : JsonError). Stops (forms_of d) d.layout.now.root.now w.bytes.now e) (sym c.into-in-Err.ensures) (entry_stops d w new p part es a b.1 t o n c.in-Some.is f c.in-Err.error c.refused_key.result c.refused_key.ensures v.1)

@@ -1,0 +1,51 @@
+use Rattle.std.proofs.Common.{◌≡◌, List, ℕ, refl, sym, ◌∙◌, ap, subst, false, All}
+use Rattle.std.specs.Prelude.{Bool}
+use Rattle.json.specs.Print.{print}
+use Rattle.borsh_json.specs.Ascii.{IsInLine}
+use Rattle.borsh_json.specs.Found.{forms_of, names_of}
+use Rattle.borsh_json.specs.Leaves.{output_tokens}
+use Rattle.borsh_json.specs.Writes.{IsWhole, IsWriting, IsWrittenOn}
+use Rattle.borsh_json.proofs.LineLaws.{compact_line}
+use Rattle.borsh_json.proofs.WritingLaws.{whole_read}
+use Rattle.borsh_json.proofs.WritingSteps.{writing_start}
+use Rattle.borsh_json.proofs.writing.write_value.Goals as goal
+
+pub loop-init : goal.loop-init
+loop-init c =
+    let d = c.args.definitions.now in
+    let F = forms_of d in
+    let ns = names_of d in
+    let root = d.layout.now.root.now in
+    let p = c.new-position in
+    let o = c.new-out in
+    let s = writing_start F ns root c.args.bytes.now p.result.place p.result.outer.items (output_tokens o.result) p.ensures.place.0 p.ensures.place.1 p.ensures.outer o.ensures.1 c.requires.known.known.laid_out.first c.requires.member in (
+      record {
+        writer = record { layout = ap (λ l. l.now) c.new-walk.ensures.layout; walk = c.new-walk.ensures.walk; fresh = o.ensures.0 };
+        state = subst (λ (l : List ℕ). IsWriting F ns root c.args.bytes.now p.result.place p.result.outer.items l (output_tokens o.result)) (sym c.new-walk.ensures.left) s;
+      },
+      refl,
+    )
+
+pub returns-then-is_in-clause-says : goal.returns-then-is_in-clause-says
+returns-then-is_in-clause-says c =
+    let d = c.args.definitions.now in
+    let F = forms_of d in
+    let root = d.layout.now.root.now in
+    let new = c.write_next.new.self in
+    let t = c.if-not-more.true in
+    let e : c.in_ok-more.more ≡ false = cc in
+    let h = subst (λ (more : Bool). IsWrittenOn d new more) e c.in_ok-more.ensures.state in
+    let b = ap (λ b. b.now) c.in_ok-more.ensures.bytes in
+    let w = subst (λ (b : List ℕ). IsWhole F root (output_tokens new.out) b) (b ∙ c.loop.invariant.1) h.whole in
+    let r = whole_read F root c.into_bytes.result.items (output_tokens new.out) c.args.bytes.now (c.into_bytes.ensures.tokens h.fresh) w in
+    (r.0, r.1, r.2, c.requires.member)
+
+pub returns-then-is_in-clause-line : goal.returns-then-is_in-clause-line
+returns-then-is_in-clause-line c = λ q.
+    let new = c.write_next.new.self in
+    let t = c.if-not-more.true in
+    let e : c.in_ok-more.more ≡ false = cc in
+    let h = subst (λ (more : Bool). IsWrittenOn c.args.definitions.now new more) e c.in_ok-more.ensures.state in
+    let w = h.whole in
+    let p = c.into_bytes.ensures.compact (c.is_in.ensures q c.if-is_in.true) h.fresh in
+    subst (λ (l : List ℕ). All IsInLine l) (sym (p ∙ ap (λ ts. print ts) w.1)) (compact_line w.0 w.2)

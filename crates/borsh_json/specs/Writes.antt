@@ -1,0 +1,429 @@
+-- What was written of a value, and the JSON that may still follow: the invariant of the writer's loop.
+use Rattle.std.specs.Prelude.{◌≡◌, ◌⊎◌, ⊤, ℕ, suc, ◌+◌, ◌≤◌, List, [], ◌∷◌, ◌++◌, length, map, replicate, Bool, true, false, Option, Some, None, Result, MatchResult, MatchOption}
+use Rattle.std.specs.declared.cmp.Ordering.TheVariants.{Less}
+use Rattle.std.specs.Borrow.{Bor}
+use Rattle.json.specs.Token.{Token}
+use Rattle.json.specs.Json.{Json, null, Items, Members, no_members, member}
+use Rattle.json.specs.Tree.{json_tokens, items_tokens, members_tokens, depth, items_depth, members_depth, HasNumbers, ItemsHaveNumbers, MembersHaveNumbers}
+use Rattle.borsh_walks.specs.Container.{Shape, product, IsIn, references}
+use Rattle.borsh_values.specs.Nodes.{Reads, Opens}
+use Rattle.borsh_values.specs.Walks.{IsReadTo, IsWalker}
+use Rattle.borsh_values.specs.Membership.{IsUndecided}
+use Rattle.borsh_values.specs.declared.layout.Named.{Named}
+use Rattle.borsh_values.specs.declared.nodes.Node.{Node}
+use Rattle.borsh_json.specs.declared.definitions.Definitions.{Definitions}
+use Rattle.borsh_json.specs.declared.error.Refusal.{Refusal}
+use Rattle.borsh_json.specs.declared.error.Refusal.TheVariants.{TooDeep, RepeatedName, EmptyElements, NotBool, NotUtf8, Zero, NotNumber, Descends, OtherNodes, Expected, MissingField, UnknownName, RepeatedKey, Undefined}
+use Rattle.borsh_json.specs.declared.error.PartError.{PartError}
+use Rattle.borsh_json.specs.declared.error.PartError.TheVariants.{OutOfMemory as NoPartMemory, Refused as RefusedPart}
+use Rattle.borsh_json.specs.declared.error.JsonError.{JsonError}
+use Rattle.borsh_json.specs.declared.error.JsonError.TheVariants.{OutOfMemory as NoMemory, NoMember, NoValue, Ambiguous, NotJson, Refused as RefusedBytes}
+use Rattle.borsh_json.specs.declared.error.WriteError.{WriteError}
+use Rattle.borsh_json.specs.declared.error.WriteError.TheVariants.{OutOfMemory, Refused, Element}
+use Rattle.borsh_json.specs.declared.kinds.KeyKind.{KeyKind}
+use Rattle.borsh_json.specs.declared.kinds.Kind.{Kind as Found}
+use Rattle.borsh_json.specs.declared.kinds.Kind.TheVariants.{Number, Bool as Truth, Text, Bytes, Float, ByteList, Numbers, List as ListKind, Map, Row as RowKind, Newtype as NewtypeKind, Object as ObjectKind, Optional, Choice, Repeated}
+use Rattle.borsh_json.specs.declared.output.Output.{Output}
+use Rattle.borsh_json.specs.declared.position.Parts.{Parts}
+use Rattle.borsh_json.specs.declared.position.Parts.TheVariants.{Root, List as Elements, Row, Object, Entries as MapEntries, Newtype, Some as Present, Variant}
+use Rattle.borsh_json.specs.declared.position.Part.{Part as FoundPart}
+use Rattle.borsh_json.specs.declared.position.Place.{Place}
+use Rattle.borsh_json.specs.declared.sources.EntryKey.{EntryKey}
+use Rattle.borsh_json.specs.declared.writing.Writing.{Writing}
+use Rattle.borsh_json.specs.Forms.{Form, form_of, shape_of_form, shapes, HasNoBytes}
+use Rattle.borsh_json.specs.Frames.{Wanted, IsWanted, IsEntryKey, IsOf, GivesPart}
+use Rattle.borsh_json.specs.Found.{forms_of, names_of}
+use Rattle.borsh_json.specs.Places.{IsAt, AreKeysOf, IsKindOf}
+use Rattle.borsh_json.specs.Represents.{HaveBytes}
+use Rattle.borsh_json.specs.Leaves.{output_tokens, output_before, Adds, IsNoJson, IsOpenedAs, WritesLeaf}
+use Rattle.borsh_json.specs.Table.{Keys, Part, row_parts, Entry, entries_of, entry_parts, key_order}
+
+-- ---- what is left to be written of a place
+
+-- items of these types; members of these keys and types; one value or none; or so many entries of a map, whose elements have this name, with keys
+-- above the last one
+pub data Rest : Type 0 where
+  items_rest : List (List ℕ) → Rest
+  members_rest : List Wanted → Rest
+  value_rest : List (List ℕ) → Rest
+  entries_rest : Keys → List ℕ → List ℕ → List ℕ → ℕ → Option (List ℕ) → Rest
+
+-- the names of what is left, as they are read
+abbrev pub names_of_rest : Rest → List (List ℕ)
+names_of_rest (items_rest xs) = xs
+names_of_rest (members_rest ws) = map (λ w. w.1) ws
+names_of_rest (value_rest xs) = xs
+names_of_rest (entries_rest keys k v e n last) = replicate n e
+
+-- of all places, the innermost first
+abbrev pub names_of_all : List Rest → List (List ℕ)
+names_of_all [] = []
+names_of_all (r ∷ rs) = names_of_rest r ++ names_of_all rs
+
+-- these members in order, as parts
+abbrev pub AreMembers : List Wanted → Members → List Part → Type 0
+AreMembers [] ms ps = (ms ≡ no_members) × (ps ≡ [])
+AreMembers (w ∷ ws) ms ps = (j : Json) × (more : Members) × (qs : List Part) × (ms ≡ member w.0 j more) × (ps ≡ (w.1, j) ∷ qs) × AreMembers ws more qs
+
+-- the tokens are a value of each name, as a part
+abbrev pub AreValues : List (List ℕ) → ℕ → List Token → List Part → Type 0
+AreValues [] n ts ps = (ts ≡ []) × (ps ≡ [])
+AreValues (x ∷ xs) n ts ps = (j : Json) × (t : List Token) × (qs : List Part) × HasNumbers j × (depth j ≤ n) × (ts ≡ json_tokens j ++ t) × (ps ≡ (x, j) ∷ qs) × AreValues xs n t qs
+
+-- the last key of a map
+abbrev pub IsLast : KeyKind → Option EntryKey → Option (List ℕ) → Type 0
+IsLast kind None last = last ≡ None
+IsLast kind (Some key) last = (s : List ℕ) × (last ≡ Some s) × IsEntryKey kind key s
+
+-- the key is above the last one
+abbrev pub IsAbove : Keys → Option (List ℕ) → List ℕ → Type 0
+IsAbove keys None s = ⊤
+IsAbove keys (Some t) s = key_order keys (t, null) (s, null) ≡ Less
+
+-- each key is above the one before it
+abbrev pub AreAbove : Keys → Option (List ℕ) → List Entry → Type 0
+AreAbove keys last [] = ⊤
+AreAbove keys last (e ∷ es) = IsAbove keys last e.0 × AreAbove keys (Some e.0) es
+
+-- these tokens may be written of what is left, brackets at the end included: they nest at most so deep, and have these parts
+abbrev pub MayFollow : Rest → ℕ → List Token → List Part → Type 0
+MayFollow (items_rest xs) n ts ps = (js : Items) × (ts ≡ items_tokens js) × (row_parts xs js ≡ Some ps) × ItemsHaveNumbers js × (items_depth js ≤ n)
+MayFollow (members_rest ws) n ts ps = (ms : Members) × (ts ≡ members_tokens ms) × AreMembers ws ms ps × MembersHaveNumbers ms × (members_depth ms ≤ n)
+MayFollow (value_rest xs) n ts ps = AreValues xs n ts ps
+MayFollow (entries_rest keys k v e m last) n ts ps = (ms : Members) × (ts ≡ members_tokens ms) × (length (entries_of ms) ≡ m) × AreAbove keys last (entries_of ms) × (ps ≡ entry_parts keys k v (entries_of ms)) × MembersHaveNumbers ms × (members_depth ms ≤ n)
+
+-- the same of all places, the innermost first
+abbrev pub MayFollowAll : List Rest → List Token → List Part → Type 0
+MayFollowAll [] ts ps = (ts ≡ []) × (ps ≡ [])
+MayFollowAll (r ∷ rs) ts ps =
+    (n : ℕ) × (t : List Token) × (u : List Token) × (a : List Part) × (b : List Part)
+    × (n + length rs ≡ 128) × MayFollow r n t a × MayFollowAll rs u b × (ts ≡ t ++ u) × (ps ≡ a ++ b)
+
+-- the same of a value of this name, which nests at most so deep, and then of the places
+abbrev pub MayFollowFirst : List ℕ → ℕ → List Rest → List Token → List Part → Type 0
+MayFollowFirst x n rs ts ps =
+    (j : Json) × (u : List Token) × (b : List Part)
+    × HasNumbers j × (depth j ≤ n) × MayFollowAll rs u b × (ts ≡ json_tokens j ++ u) × (ps ≡ (x, j) ∷ b)
+
+-- ---- kinds
+
+-- the kinds of values that have own bytes
+abbrev pub HasNode : Found → Type 0
+HasNode (Number n) = ⊤
+HasNode Truth = ⊤
+HasNode Text = ⊤
+HasNode (Bytes n) = ⊤
+HasNode (Float n) = ⊤
+HasNode (ByteList es) = ⊤
+HasNode (Numbers es) = ⊤
+HasNode (ListKind es) = ⊤
+HasNode (Map es order) = ⊤
+HasNode (RowKind n) = ⊥
+HasNode (NewtypeKind at) = ⊥
+HasNode (ObjectKind fs) = ⊥
+HasNode (Optional at) = ⊤
+HasNode (Choice w vs) = ⊤
+HasNode (Repeated name) = ⊥
+
+-- how deep JSON of a kind nests that is written whole
+abbrev pub leaf_depth : Found → ℕ
+leaf_depth (Number n) = 0
+leaf_depth Truth = 0
+leaf_depth Text = 0
+leaf_depth (Bytes n) = 0
+leaf_depth (Float n) = 0
+leaf_depth (ByteList es) = 0
+leaf_depth (Numbers es) = 1
+leaf_depth (ListKind es) = 0
+leaf_depth (Map es order) = 0
+leaf_depth (RowKind n) = 0
+leaf_depth (NewtypeKind at) = 0
+leaf_depth (ObjectKind fs) = 0
+leaf_depth (Optional at) = 0
+leaf_depth (Choice w vs) = 0
+leaf_depth (Repeated name) = 0
+
+-- ---- the invariant
+
+module _ (F : List ℕ → Option Form) where
+  -- these tokens are JSON of the root that can be printed and read, and says these bytes
+  abbrev pub IsWhole : List ℕ → List Token → List ℕ → Type 0
+  IsWhole root ts bs = (j : Json) × (ts ≡ json_tokens j) × HasNumbers j × (depth j ≤ 128) × HaveBytes F ((root, j) ∷ []) bs
+
+  -- tokens were written of so many bytes, and with any that P holds of they are JSON of the root
+  abbrev pub Begins : List ℕ → (List Token → List Part → Type 0) → List Token → List ℕ → Type 0
+  Begins root P written done = (ts : List Token) (ps : List Part) (bs : List ℕ) → P ts ps → HaveBytes F ps bs → IsWhole root (written ++ ts) (done ++ bs)
+
+  -- a chain of so many references leads from the root to the name
+  pub data IsBelow (root : List ℕ) : ℕ → List ℕ → Type 0 where
+    here : IsBelow root 0 root
+    below : {n : ℕ} {y z : List ℕ} (d : Shape) → IsBelow root n y → shapes F y ≡ Some d → IsIn z (references d) → IsBelow root (suc n) z
+
+  -- at least as many as places are around lead to each name that is left
+  abbrev pub AreBelow : List ℕ → List Rest → Type 0
+  AreBelow root [] = ⊤
+  AreBelow root (r ∷ rs) = ((x : List ℕ) → IsIn x (names_of_rest r) → (n : ℕ) × (length rs ≤ n) × IsBelow root n x) × AreBelow root rs
+
+  -- the bytes are those read and those left, and these names come next
+  pub record IsHalved (root bytes done left : List ℕ) (names : List (List ℕ)) : Type 0 where
+    pub joined : bytes ≡ done ++ left
+    pub read : IsReadTo (shapes F) root done names left
+
+  -- ---- one value
+
+  -- the refusal is right of a value of x that begins with these bytes; of order it is left open
+  abbrev pub RefusesOwn : List ℕ → List ℕ → Refusal → Type 0
+  RefusesOwn x own TooDeep = ⊥
+  RefusesOwn x own (RepeatedName name) = IsNoJson F x own
+  RefusesOwn x own EmptyElements = IsNoJson F x own
+  RefusesOwn x own NotBool = IsNoJson F x own
+  RefusesOwn x own NotUtf8 = IsNoJson F x own
+  RefusesOwn x own Zero = IsNoJson F x own
+  RefusesOwn x own NotNumber = IsNoJson F x own
+  RefusesOwn x own Descends = ⊤
+  RefusesOwn x own OtherNodes = ⊥
+  RefusesOwn x own (Expected wanted) = ⊥
+  RefusesOwn x own MissingField = ⊥
+  RefusesOwn x own (UnknownName name) = ⊥
+  RefusesOwn x own (RepeatedKey name) = ⊥
+  RefusesOwn x own (Undefined name) = ⊥
+
+  abbrev pub RefusesValue : List ℕ → List ℕ → WriteError → Type 0
+  RefusesValue x own OutOfMemory = ⊤
+  RefusesValue x own (Refused refusal) = RefusesOwn x own refusal
+  RefusesValue x own (Element index refusal) = RefusesOwn x own refusal
+
+  -- behind these tokens whatever may follow of a place makes JSON of x that says these own bytes
+  abbrev pub IsFront : List ℕ → List ℕ → Rest → List Token → Type 0
+  IsFront x own r front =
+      (n : ℕ) (ts : List Token) (qs ps : List Part) (bs : List ℕ) → MayFollow r n ts qs → HaveBytes F (qs ++ ps) bs
+      → (j : Json) × (json_tokens j ≡ front ++ ts) × HasNumbers j × (depth j ≤ suc n) × HaveBytes F ((x, j) ∷ ps) (own ++ bs)
+
+  -- the beginning of JSON of x was written, and with what may follow of a place it says these own bytes
+  pub record WritesFront (x own : List ℕ) (r : Rest) (old new : Output) : Type 0 where
+    pub front : List Token
+    pub adds : Adds front old new
+    pub whole : IsFront x own r front
+
+  module _ (ns : List Named) where
+    -- what is left of a place
+    abbrev pub IsRestOf : Parts → ℕ → Option EntryKey → Rest → Type 0
+    IsRestOf Root i last r = (ws : List Wanted) × IsWanted F ns Root i ws × (r ≡ value_rest (map (λ w. w.1) ws))
+    IsRestOf (Elements at n) i last r = (ws : List Wanted) × IsWanted F ns (Elements at n) i ws × (r ≡ items_rest (map (λ w. w.1) ws))
+    IsRestOf (Row at n) i last r = (ws : List Wanted) × IsWanted F ns (Row at n) i ws × (r ≡ items_rest (map (λ w. w.1) ws))
+    IsRestOf (Object at fs) i last r = (ws : List Wanted) × IsWanted F ns (Object at fs) i ws × (r ≡ members_rest ws)
+    IsRestOf (MapEntries es n) i last r =
+        (k : List ℕ) × (v : List ℕ) × (e : List ℕ) × (keys : Keys) × (s : Option (List ℕ)) × (ws : List Wanted)
+        × IsAt ns es.key k × IsAt ns es.value v × (shapes F e ≡ Some (product (k ∷ v ∷ []))) × AreKeysOf F ns k (form_of es.key_definition.now) es.key_kind keys × IsLast es.key_kind last s
+        × IsWanted F ns (MapEntries es n) i ws × (r ≡ entries_rest keys k v e (length ws) s)
+    IsRestOf (Newtype at) i last r = (ws : List Wanted) × IsWanted F ns (Newtype at) i ws × (r ≡ value_rest (map (λ w. w.1) ws))
+    IsRestOf (Present at) i last r = (ws : List Wanted) × IsWanted F ns (Present at) i ws × (r ≡ value_rest (map (λ w. w.1) ws))
+    IsRestOf (Variant v at) i last r = (ws : List Wanted) × IsWanted F ns (Variant v at) i ws × (r ≡ members_rest (map (λ w. (v.now, w.1)) ws))
+
+    abbrev pub IsRest : Place → Rest → Type 0
+    IsRest p r = IsRestOf p.parts p.begun p.last r
+
+    -- of the places around, the outermost first; the rests the innermost first
+    abbrev pub AreRests : List Place → List Rest → Type 0
+    AreRests [] rs = rs ≡ []
+    AreRests (p ∷ ps) rs = (r : Rest) × (outer : List Rest) × IsRest p r × AreRests ps outer × (rs ≡ outer ++ r ∷ [])
+
+    -- in front of a part of a place: where the writer is
+    pub record IsWriting (root bytes : List ℕ) (p : Place) (ps : List Place) (left : List ℕ) (written : List Token) : Type 0 where
+      pub inner : Rest
+      pub around : List Rest
+      pub done : List ℕ
+      pub here : IsRest p inner
+      pub there : AreRests ps around
+      pub room : length around ≤ 128
+      pub halved : IsHalved root bytes done left (names_of_all (inner ∷ around))
+      pub chain : AreBelow root (inner ∷ around)
+      pub begun : Begins root (MayFollowAll (inner ∷ around)) written done
+
+    -- in front of a value of this name, which has room for this depth, and then of the rest of the place
+    pub record IsAwaiting (root bytes : List ℕ) (x : List ℕ) (n : ℕ) (p : Place) (ps : List Place) (left : List ℕ) (written : List Token) : Type 0 where
+      pub inner : Rest
+      pub around : List Rest
+      pub done : List ℕ
+      pub here : IsRest p inner
+      pub there : AreRests ps around
+      pub room : n + length around ≡ 128
+      pub halved : IsHalved root bytes done left (x ∷ names_of_all (inner ∷ around))
+      pub chain : AreBelow root (inner ∷ around)
+      pub deep : (m : ℕ) × (length around ≤ m) × IsBelow root m x
+      pub begun : Begins root (MayFollowFirst x n (inner ∷ around)) written done
+
+    -- of a value of x, whose definition opens these own bytes with these parts, JSON was written whole, and then its parts have no bytes; or it
+    -- was begun, and its parts are those of the place
+    abbrev pub IsWrittenAs : ℕ → List ℕ → Form → List ℕ → Output → Output → Option Place → Type 0
+    IsWrittenAs n x f own old new None = WritesLeaf F n x own old new × (parts : List (List ℕ)) × Opens (shapes F) (shape_of_form f) own parts × ((y : List ℕ) → IsIn y parts → HasNoBytes F y)
+    IsWrittenAs n x f own old new (Some p) = (r : Rest) × IsRest p r × WritesFront x own r old new × Opens (shapes F) (shape_of_form f) own (names_of_rest r)
+
+    -- a value of x was written whole or begun, or is refused; whole JSON nests at most so deep
+    abbrev pub WritesValue : ℕ → List ℕ → Form → List ℕ → Output → Output → Result (Option Place) WriteError → Type 0
+    WritesValue n x f own old new result = MatchResult result (λ found. IsWrittenAs n x f own old new found) (λ e. RefusesValue x own e)
+
+    -- the same of a value of a kind without own bytes; nothing is written of another
+    abbrev pub WritesStruct : List ℕ → Form → Found → Output → Output → Result (Option Place) WriteError → Type 0
+    WritesStruct x f kind old new result = MatchResult result
+        (λ found. MatchOption found (HasNode kind × (new ≡ old)) (λ p. (r : Rest) × IsRest p r × WritesFront x [] r old new × (shape_of_form f ≡ product (names_of_rest r))))
+        (λ e. RefusesValue x [] e)
+
+-- of the name at the place, that the code found this kind of, the value whose node this is was written or begun, or is refused
+abbrev pub WritesValueOf : (List ℕ → Option Form) → List Named → ℕ → Found → Node → Output → Output → Result (Option Place) WriteError → Type 0
+WritesValueOf F ns at kind n old new result =
+    (x : List ℕ) (parts : List (List ℕ)) → IsAt ns at x → IsOpenedAs F x (form_of n.definition.now) n.bytes.now parts → IsKindOf F ns x (form_of n.definition.now) kind
+    → WritesValue F ns (leaf_depth kind) x (form_of n.definition.now) n.bytes.now old new result
+
+-- the bracket in front of the parts of a place
+abbrev pub begins_of : Parts → List Token
+begins_of Root = []
+begins_of (Elements at n) = Token.begin_array ∷ []
+begins_of (Row at n) = Token.begin_array ∷ []
+begins_of (Object at fs) = Token.begin_object ∷ []
+begins_of (MapEntries es n) = Token.begin_object ∷ []
+begins_of (Newtype at) = []
+begins_of (Present at) = []
+begins_of (Variant v at) = Token.begin_object ∷ []
+
+-- the bracket was written, and none of the parts
+abbrev pub BeginsAt : Parts → Output → Output → Result (Option Place) WriteError → Type 0
+BeginsAt parts old new result = MatchResult result
+    (λ found. MatchOption found ⊥ (λ p. (p.parts ≡ parts) × (p.begun ≡ 0) × (p.last ≡ None) × Adds (begins_of parts) old new))
+    (λ e. e ≡ OutOfMemory)
+
+-- the parts of a value of a kind without own bytes, that has the name at the place
+abbrev pub ArePartsOf : ℕ → Found → Option Parts → Type 0
+ArePartsOf at kind None = HasNode kind ⊎ ((name : Bor (List ℕ)) × (kind ≡ Repeated name))
+ArePartsOf at kind (Some (Row i n)) = (i ≡ at) × (kind ≡ RowKind n)
+ArePartsOf at kind (Some (Newtype p)) = kind ≡ NewtypeKind p
+ArePartsOf at kind (Some (Object i fs)) = (i ≡ at) × (kind ≡ ObjectKind fs)
+ArePartsOf at kind (Some Root) = ⊥
+ArePartsOf at kind (Some (Elements i n)) = ⊥
+ArePartsOf at kind (Some (MapEntries es n)) = ⊥
+ArePartsOf at kind (Some (Present p)) = ⊥
+ArePartsOf at kind (Some (Variant v p)) = ⊥
+
+-- of the name at the place, that the code found this kind of, a value without own bytes was begun, or is refused
+abbrev pub BeginsStruct : ℕ → Found → Output → Output → Result (Option Place) WriteError → Type 0
+BeginsStruct at kind old new result = (F : List ℕ → Option Form) (ns : List Named) (x : List ℕ) (f : Form) → IsAt ns at x → F x ≡ Some f → IsKindOf F ns x f kind → WritesStruct F ns x f kind old new result
+
+-- ---- why a value has no JSON
+
+module _ (F : List ℕ → Option Form) (root bytes : List ℕ) where
+  -- the bytes are read up to a value of a name, and no JSON says that, whatever follows
+  abbrev pub HasNoJsonPart : Type 0
+  HasNoJsonPart =
+      (before : List ℕ) × (own : List ℕ) × (after : List ℕ) × (x : List ℕ) × (names : List (List ℕ))
+      × (bytes ≡ before ++ (own ++ after)) × Reads (shapes F) (root ∷ []) before (x ∷ names) × IsNoJson F x own
+
+  -- the refusal is a true reason why a member has no JSON
+  abbrev pub RefusesBytes : Refusal → Type 0
+  RefusesBytes TooDeep = (n : ℕ) × (x : List ℕ) × (128 ≤ n) × IsBelow F root n x
+  RefusesBytes (RepeatedName name) = HasNoJsonPart
+  RefusesBytes EmptyElements = HasNoJsonPart
+  RefusesBytes NotBool = HasNoJsonPart
+  RefusesBytes NotUtf8 = HasNoJsonPart
+  RefusesBytes Zero = HasNoJsonPart
+  RefusesBytes NotNumber = HasNoJsonPart
+  RefusesBytes Descends = ⊤
+  RefusesBytes OtherNodes = ⊥
+  RefusesBytes (Expected wanted) = ⊥
+  RefusesBytes MissingField = ⊥
+  RefusesBytes (UnknownName name) = ⊥
+  RefusesBytes (RepeatedKey name) = ⊥
+  RefusesBytes (Undefined name) = ⊥
+
+  -- the error is a true reason why the writer stopped at a member
+  abbrev pub Stops : JsonError → Type 0
+  Stops NoMemory = ⊤
+  Stops (NoMember f) = ⊥
+  Stops NoValue = ⊥
+  Stops (Ambiguous x) = IsUndecided (shapes F) root x.now
+  Stops (NotJson offset) = ⊥
+  Stops (RefusedBytes path refusal) = RefusesBytes refusal
+
+  -- and so is the refusal of a call for a member
+  abbrev pub ShowsNoJson : JsonError → Type 0
+  ShowsNoJson NoMemory = ⊤
+  ShowsNoJson (NoMember f) = ⊤
+  ShowsNoJson NoValue = ⊥
+  ShowsNoJson (Ambiguous x) = ⊤
+  ShowsNoJson (NotJson offset) = ⊥
+  ShowsNoJson (RefusedBytes path refusal) = RefusesBytes refusal
+
+-- ---- the writer
+
+module _ (d : Definitions) (w : Writing) where
+  -- the writer walks by these definitions, and its text is all its own
+  pub record IsWriterOf : Type 0 where
+    pub layout : w.walk.layout.now ≡ d.layout.now
+    pub walk : IsWalker w.walk
+    pub fresh : output_before w.out ≡ []
+
+  -- it is in front of a part of this place
+  pub record IsWritingAt (p : Place) : Type 0 where
+    pub writer : IsWriterOf
+    pub state : IsWriting (forms_of d) (names_of d) d.layout.now.root.now w.bytes.now p w.position.outer.items w.walk.left.now (output_tokens w.out)
+
+  -- or in front of a value of this name
+  pub record IsAwaitingAt (x : List ℕ) : Type 0 where
+    pub writer : IsWriterOf
+    pub room : ℕ
+    pub state : IsAwaiting (forms_of d) (names_of d) d.layout.now.root.now w.bytes.now x room w.position.place w.position.outer.items w.walk.left.now (output_tokens w.out)
+
+  -- or at the end
+  pub record HasWritten : Type 0 where
+    pub fresh : output_before w.out ≡ []
+    pub whole : IsWhole (forms_of d) d.layout.now.root.now (output_tokens w.out) w.bytes.now
+
+  abbrev pub IsWrittenOn : Bool → Type 0
+  IsWrittenOn true = IsWritingAt w.position.place
+  IsWrittenOn false = HasWritten
+
+-- an error of the writer of these definitions
+abbrev pub StopsBy : Definitions → List ℕ → JsonError → Type 0
+StopsBy d bytes e = Stops (forms_of d) d.layout.now.root.now bytes e
+
+-- the brackets at the end of a place
+abbrev pub ends_of : Parts → List Token
+ends_of Root = []
+ends_of (Elements at n) = Token.end_array ∷ []
+ends_of (Row at n) = Token.end_array ∷ []
+ends_of (Object at fs) = Token.end_object ∷ []
+ends_of (MapEntries es n) = Token.end_object ∷ []
+ends_of (Newtype at) = []
+ends_of (Present at) = []
+ends_of (Variant v at) = Token.end_object ∷ []
+
+-- the error has no memory, or the refusal of so many places around
+abbrev pub IsFull : ℕ → PartError → Type 0
+IsFull n NoPartMemory = ⊤
+IsFull n (RefusedPart path refusal) = (refusal ≡ TooDeep) × (128 ≤ n)
+
+-- the error of a part that was not written, with its path
+abbrev pub IsOfWrite : WriteError → PartError → Type 0
+IsOfWrite OutOfMemory e = e ≡ NoPartMemory
+IsOfWrite (Refused refusal) e = IsOf refusal e
+IsOfWrite (Element index refusal) e = IsOf refusal e
+
+-- so has the refusal of elements that don't ascend
+abbrev pub IsFullOrDescends : ℕ → PartError → Type 0
+IsFullOrDescends n NoPartMemory = ⊤
+IsFullOrDescends n (RefusedPart path refusal) = ((refusal ≡ TooDeep) × (128 ≤ n)) ⊎ (refusal ≡ Descends)
+
+-- the part is begun of the place p, which is q now
+abbrev pub IsBegunOf : Definitions → Place → Place → FoundPart → Type 0
+IsBegunOf d p q part = GivesPart d p.parts p.begun q.parts q.begun (Some part) × (q.parts ≡ p.parts) × (q.last ≡ p.last)
+
+-- a step of the writer: it is in front of another part, or at the end, or has stopped
+abbrev pub IsWrittenNext : Definitions → Writing → Writing → Result Bool JsonError → Type 0
+IsWrittenNext d old new result = MatchResult result (IsWrittenOn d new) (StopsBy d old.bytes.now)
+
+-- a part was written: it is in front of another one, or has stopped
+abbrev pub IsPartWritten : Definitions → Writing → Writing → Result (Unit {0}) JsonError → Type 0
+IsPartWritten d old new result = MatchResult result (λ _. IsWritingAt d new new.position.place) (StopsBy d old.bytes.now)
+
+-- the key of a part was written, the name of whose type is at this place: it is in front of the part's value, or has stopped
+abbrev pub IsKeyPut : Definitions → ℕ → Writing → Writing → Result (Unit {0}) JsonError → Type 0
+IsKeyPut d at old new result = MatchResult result (λ _. (x : List ℕ) × IsAt (names_of d) at x × IsAwaitingAt d new x) (StopsBy d old.bytes.now)
