@@ -1,6 +1,5 @@
 -- Rows of a value, and what they say.
-use Rattle.std.proofs.Common.{◌≡◌, ℕ, ◌+◌, ◌-◌, ◌^◌, ◌<◌, ◌≤◌, List, [], ◌∷◌, ◌++◌, length, min, take, inl, inr, refl, ap, sym, subst, ◌∙◌, arith, append-nil, append_assoc, length-append}
-use Rattle.std.proofs.Math.Nat.{min-eq_left}
+use Rattle.std.proofs.Common.{◌≡◌, ℕ, ◌+◌, List, [], ◌∷◌, ◌++◌, length, take, inl, inr, refl, ap, sym, subst, ◌∙◌, arith}
 use Rattle.std.specs.Prelude.{ℤ, String, Vec, Option, Some, None, Result, Ok, Err, IfOk, MatchOption, map, option_map, slice_get, string_bytes}
 use Rattle.std.specs.Global.{Global}
 use Rattle.std.proofs.lemmas.Option.{slice_get-map}
@@ -14,7 +13,7 @@ use Rattle.borsh_values.specs.declared.layout.Layout.{Layout}
 use Rattle.borsh_values.specs.Nodes.{AreElementsOf, IsCountOf, IsVariantOf, Opens}
 use Rattle.borsh_values.specs.Tags.{IsVariantIndex}
 use Rattle.borsh_values.specs.declared.nodes.Node.{Node}
-use Rattle.borsh_values.specs.Preorder.{GivesNode, bytes_left, layout_of, next_offset}
+use Rattle.borsh_values.specs.Preorder.{GivesNode, bytes_left, next_offset}
 use Rattle.borsh_json.specs.Forms.{Form, form_of}
 use Rattle.borsh_json.specs.Rows.{AreRows, IsNextRow, IsPrimitiveText, IsQuoted, IsText, IsValueText, counted, rows_layout}
 use Rattle.borsh_json.specs.Table.{primitive_kind}
