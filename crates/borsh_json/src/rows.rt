@@ -109,7 +109,8 @@ impl<'a, 'l, 'b> Rows<'a, 'l, 'b> {
     }
 }
 
-fn next_node<'a, 'b>(
+/// The next node of a member.
+pub(crate) fn next_node<'a, 'b>(
     nodes: &mut Preorder<'a, '_, 'b>,
 ) -> Result<Option<Node<'a, 'b>>, JsonError<'a>>
     requires { IsInValue nodes.old }

@@ -1,13 +1,14 @@
 // Whether a type takes a member, as far as names tell.
-ghost use Rattle.borsh_json.specs.Words.{IsNoJsonReason, IsPartError, IsUnwritable, Member, definitions_in};
+ghost use Rattle.borsh_json.specs.Words.{IsLaidOut, IsNoJsonReason, IsPartError, IsUnwritable, KnowsSizes, Member, definitions_in};
 ghost use Rattle.std.specs.Prelude.{IfErr, IfSome, OnOk};
 
 use crate::definitions::Definitions;
-use crate::error::{JsonError, PartError, Refusal};
+use crate::error::{JsonError, PartError, PartResult, Refusal};
 use crate::floats::is_nan;
 use crate::kinds::{Elements, Kind, kind_of_primitive};
 use crate::order::{Ascent, first_descent};
-use borsh_values::{Decoded, Layout, Node, PathStep, Paths, Unpacked, elements_of};
+use crate::rows::next_node;
+use borsh_values::{Layout, Membership, Node, Path, PathStep, Preorder, elements_of};
 use borsh_walks::Definition;
 use std::alloc::{AllocError, Global};
 use std::collections::BTreeMap;
@@ -37,51 +38,85 @@ pub fn check_strict<'a>(
     ensures reason { IfErr result (λ e. IsNoJsonReason (definitions_in map.now) root.now bytes.now e) }
 {
     let layout = Layout::new(alloc, root, map)?;
-    match layout.decode(alloc, bytes)? {
-        Decoded::Nodes(nodes) => Ok(check_nodes(alloc, &layout, bytes, nodes.as_slice())?),
-        Decoded::NoMember(fault) => Err(JsonError::NoMember(fault)),
-        Decoded::Ambiguous(name) => Err(JsonError::Ambiguous(name)),
+    match layout.is_member(alloc, bytes)? {
+        Membership::Member => check_member(alloc, &layout, bytes),
+        Membership::NoMember(fault) => Err(JsonError::NoMember(fault)),
+        Membership::Ambiguous(name) => Err(JsonError::Ambiguous(name)),
     }
 }
 
-fn check_nodes<'a>(
-    alloc: Global,
-    layout: &Layout<'a>,
-    bytes: &[u8],
-    nodes: &[Node<'a, '_>],
-) -> Result<(), PartError<'a>>
-    ensures { IfErr result (IsPartError IsUnwritable) }
+fn check_member<'a>(alloc: Global, layout: &Layout<'a>, bytes: &[u8]) -> Result<(), JsonError<'a>>
+    requires laid_out { IsLaidOut layout.now }
+    requires sizes { KnowsSizes layout.now }
+    requires member { Member (definitions_in layout.now.map.now) layout.now.root.now bytes.now }
+    ensures { let l = layout.now in
+        IfErr result (IsNoJsonReason (definitions_in l.map.now) l.root.now bytes.now) }
 {
     let definitions = Definitions::new(alloc, layout)?;
-    let mut paths = Paths::new(alloc, layout.root);
+    let mut nodes = Preorder::new(alloc, layout, bytes);
     // Of each node that the next one is in, where its elements have to ascend.
     let mut open: Vec<Option<Ascent>> = Vec::new(alloc);
-    let mut unpacked = Unpacked::new(alloc, layout, nodes);
     for _ in 0..u64::MAX {
-        let Some(node) = unpacked.next()? else {
-            break;
+        let Some(node) = next_node(&mut nodes)? else {
+            return Ok(());
         };
-        paths.enter(&node)?;
-        open.truncate(node.depth);
-        if let Some(Some(ascent)) = open.last_mut() {
-            ascent.begin(node.offset);
-            if !ascent.ascends(&definitions, bytes)? {
-                return Err(PartError::Refused(paths.path(alloc)?, Refusal::Descends));
-            }
-        }
-        let Some(kind) = definitions.kind_of_node(&node) else {
-            return Err(PartError::Refused(paths.path(alloc)?, Refusal::OtherNodes));
-        };
-        if let Some((index, refusal)) = wrong_in(&definitions, &node, kind) {
-            let mut path = paths.path(alloc)?;
-            if let Some(index) = index {
-                path.steps.push(PathStep::Element(index as u64))?;
-            }
-            return Err(PartError::Refused(path, refusal));
-        }
-        open.push(ascent_of(kind))?;
+        check_node(&definitions, &mut open, bytes, &node, nodes.path())?;
     }
+    Err(JsonError::OutOfMemory)
+}
+
+fn check_node<'a>(
+    definitions: &Definitions<'a, '_>,
+    open: &mut Vec<Option<Ascent>>,
+    bytes: &[u8],
+    node: &Node<'a, '_>,
+    path: &Path<'a>,
+) -> PartResult<'a, ()>
+    ensures { IfErr result (IsPartError IsUnwritable) }
+{
+    open.truncate(node.depth);
+    if let Some(Some(ascent)) = open.last_mut() {
+        ascent.begin(node.offset);
+        if !ascent.ascends(definitions, bytes)? {
+            return Err(refused(definitions.alloc, path, None, Refusal::Descends));
+        }
+    }
+    let Some(kind) = definitions.kind_of_node(node) else {
+        return Err(refused(definitions.alloc, path, None, Refusal::OtherNodes));
+    };
+    if let Some((index, refusal)) = wrong_in(definitions, node, kind) {
+        return Err(refused(definitions.alloc, path, index, refusal));
+    }
+    open.push(ascent_of(kind))?;
     Ok(())
+}
+
+/// The refusal of the node with this path, or of an element of it.
+fn refused<'a>(
+    alloc: Global,
+    path: &Path<'a>,
+    index: Option<usize>,
+    refusal: Refusal,
+) -> PartError<'a>
+    ensures { IsUnwritable refusal → IsPartError IsUnwritable result }
+{
+    match path_to(alloc, path, index) {
+        Ok(path) => PartError::Refused(path, refusal),
+        Err(_) => PartError::OutOfMemory,
+    }
+}
+
+fn path_to<'a>(
+    alloc: Global,
+    path: &Path<'a>,
+    index: Option<usize>,
+) -> Result<Path<'a>, AllocError> {
+    let root = path.root;
+    let mut steps = Vec::from_slice(alloc, path.steps.as_slice())?;
+    if let Some(index) = index {
+        steps.push(PathStep::Element(index as u64))?;
+    }
+    Ok(Path { root, steps })
 }
 
 /// Where the parts of a value of this kind have to ascend.
