@@ -3,10 +3,9 @@ use Rattle.std.specs.Prelude.{◌≡◌, ◌++◌, ⊤, ℕ, List, Option, None,
 use Rattle.std.specs.Borrow.{Bor}
 use Rattle.borsh_io.specs.declared.error.ErrorKind.{ErrorKind}
 use Rattle.borsh_io.specs.declared.error.ErrorKind.TheVariants.{OutOfMemory as NoRoom}
-use Rattle.borsh_walks.specs.Errors.{broken_rule}
+use Rattle.borsh_walks.specs.Errors.{broken_rule, size_reason}
 use Rattle.borsh_walks.specs.declared.error.SchemaContainerValidateError.{SchemaContainerValidateError}
 use Rattle.borsh_walks.specs.declared.error.SchemaMaxSerializedSizeError.{SchemaMaxSerializedSizeError}
-use Rattle.borsh_walks.specs.declared.error.SchemaMaxSerializedSizeError.TheVariants.{Overflow, Recursive, MissingDefinition, OutOfMemory as NoMemory, Redefinition}
 use Rattle.borsh_json.specs.declared.error.JsonError.{JsonError}
 use Rattle.borsh_json.specs.declared.error.JsonError.TheVariants.{OutOfMemory as NoJsonRoom, NoMember, NoValue, Ambiguous, NotJson, Refused}
 use Rattle.borsh_c.specs.Answers.{invalid_text, unclear_text}
@@ -21,13 +20,14 @@ TellsUnread kind text = (kind ≡ NoRoom → ⊥) × ((why : List ℕ) × (text 
 abbrev pub TellsBroken : SchemaContainerValidateError → List ℕ → Type 0
 TellsBroken e text = MatchOption (broken_rule e) ⊥ (λ p. text ≡ invalid_text p.0 p.1)
 
+-- a word, and a name, if there is one
+abbrev pub reason_text : List ℕ × Option (List ℕ) → List ℕ
+reason_text (word, None) = word
+reason_text (word, Some name) = word ++ (codes " " ++ name)
+
 -- why there is no size
 abbrev pub TellsNoSize : SchemaMaxSerializedSizeError → List ℕ → Type 0
-TellsNoSize Overflow text = text ≡ codes "overflow"
-TellsNoSize Recursive text = text ≡ codes "recursive"
-TellsNoSize (MissingDefinition m) text = text ≡ codes "missing " ++ string_bytes m
-TellsNoSize NoMemory text = ⊥
-TellsNoSize (Redefinition m) text = ⊥
+TellsNoSize e text = MatchOption (size_reason e) ⊥ (λ p. text ≡ reason_text p)
 
 -- the offset that an error has
 abbrev pub offset_in : JsonError → Option ℕ

@@ -154,15 +154,11 @@ fn size_of_root(
 fn no_size(alloc: Global, error: &SchemaMaxSerializedSizeError) -> Result<String, AllocError>
     ensures { IfOk result (λ text. TellsNoSize error.now (string_bytes text)) }
 {
-    match error {
-        SchemaMaxSerializedSizeError::Overflow => String::from_str(alloc, "overflow"),
-        SchemaMaxSerializedSizeError::Recursive => String::from_str(alloc, "recursive"),
-        SchemaMaxSerializedSizeError::MissingDefinition(name) => {
-            format!(in alloc; "missing {name}")
-        }
-        // The size of a container is never refused so.
-        SchemaMaxSerializedSizeError::Redefinition(_) => Err(AllocError),
-        SchemaMaxSerializedSizeError::OutOfMemory => Err(AllocError),
+    match error.reason() {
+        Some((word, None)) => String::from_str(alloc, word),
+        Some((word, Some(name))) => format!(in alloc; "{word} {name}"),
+        // The size of a container never has two definitions of one name: only that of a type has.
+        None => Err(AllocError),
     }
 }
 

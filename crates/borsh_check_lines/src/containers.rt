@@ -124,7 +124,7 @@ fn no_size(alloc: Global, error: &SchemaMaxSerializedSizeError) -> Result<Vec<u8
 /// A word, and a name as digits, if there is one.
 fn reason_line(alloc: Global, word: &str, name: Option<&str>) -> Result<Vec<u8>, AllocError>
     ensures { IfOk result
-        (λ out. out.items ≡ reason_text (word.now, option_map (λ name. name.now) name)) }
+        (λ out. out.items ≡ reason_text (word.now, option_map (λ name. name.now) name.entry)) }
 {
     let mut out = Vec::new(alloc);
     out.extend_from_slice(word.as_bytes())?;

@@ -34,6 +34,7 @@ pub mod KeyJson
 pub mod NumberTexts
 pub mod LaidLaws
 pub mod FieldLaws
+pub mod LineLaws
 pub mod LeafLaws
 pub mod ListLaws
 pub mod KeyLaws

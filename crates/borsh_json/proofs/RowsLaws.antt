@@ -1,91 +1,53 @@
--- Rows that grow, over the nodes of a value.
-use Rattle.std.proofs.Common.{◌≡◌, ℕ, ◌+◌, ◌-◌, ◌^◌, ◌<◌, ◌≤◌, List, [], ◌∷◌, ◌++◌, length, min, take, inl, inr, refl, ap, sym, subst, ◌∙◌, arith, append-nil, append_assoc, length-append}
-use Rattle.std.proofs.Math.Nat.{min-eq_left}
+-- Rows of a value, and what they say.
+use Rattle.std.proofs.Common.{◌≡◌, ℕ, ◌+◌, List, [], ◌∷◌, ◌++◌, length, take, inl, inr, refl, ap, sym, subst, ◌∙◌, arith}
 use Rattle.std.specs.Prelude.{ℤ, String, Vec, Option, Some, None, Result, Ok, Err, IfOk, MatchOption, map, option_map, slice_get, string_bytes}
 use Rattle.std.specs.Global.{Global}
 use Rattle.std.proofs.lemmas.Option.{slice_get-map}
 use Rattle.borsh_walks.specs.declared.definition.Definition.{Definition}
 use Rattle.borsh_walks.specs.declared.definition.Definition.TheVariants.{Primitive, Sequence, Enum}
 use Rattle.borsh_walks.specs.declared.definition.LengthRange.{LengthRange}
-use Rattle.borsh_walks.specs.Definitions.{shape_of}
-use Rattle.borsh_values.specs.Nodes.{AreElementsOf, IsCountOf, IsVariantOf}
+use Rattle.std.specs.Borrow.{Bor}
+use Rattle.std.specs.BTreeMap.{get_by_text}
+use Rattle.borsh_walks.specs.Definitions.{definitions_in, shape_of}
+use Rattle.borsh_values.specs.declared.layout.Layout.{Layout}
+use Rattle.borsh_values.specs.Nodes.{AreElementsOf, IsCountOf, IsVariantOf, Opens}
 use Rattle.borsh_values.specs.Tags.{IsVariantIndex}
 use Rattle.borsh_values.specs.declared.nodes.Node.{Node}
-use Rattle.borsh_values.specs.declared.unpacked.Unpacked.{Unpacked}
-use Rattle.borsh_values.specs.Unpacked.{GivesNext, next_offset, rest_of}
+use Rattle.borsh_values.specs.Preorder.{GivesNode, bytes_left, next_offset}
 use Rattle.borsh_json.specs.Forms.{Form, form_of}
-use Rattle.borsh_json.specs.Rows.{joined_rows, AreRowOffsets, AreRowsOf, IsPrimitiveText, IsQuoted, IsText, IsTold, IsValueText, TellBytes, counted}
+use Rattle.borsh_json.specs.Rows.{AreRows, IsNextRow, IsPrimitiveText, IsQuoted, IsText, IsValueText, counted, rows_layout}
 use Rattle.borsh_json.specs.Table.{primitive_kind}
-use Rattle.borsh_json.specs.declared.rows.Row.{Row}
+use Rattle.borsh_json.specs.declared.rows.Rows.{Rows}
 use Rattle.borsh_json.proofs.FormsLaws.{twice}
 
--- the bytes of one row more come last
-joined_more : (rs : List Row) (r : Row) → joined_rows (rs ++ r ∷ []) ≡ joined_rows rs ++ r.bytes.now
-joined_more [] r = append-nil r.bytes.now
-joined_more (q ∷ rs) r = ap (λ bs. q.bytes.now ++ bs) (joined_more rs r) ∙ sym (append_assoc q.bytes.now (joined_rows rs) r.bytes.now)
+-- so far no row is given
+pub record NoneYet (old now : Rows) : Type 0 where
+  pub rows : AreRows now
+  pub layout : rows_layout now ≡ rows_layout old
+  pub bytes : bytes_left now.nodes ≡ bytes_left old.nodes
+  pub offset : next_offset now.nodes ≡ next_offset old.nodes
 
--- and its offset is the number of bytes before
-offsets_more : (k : ℕ) (rs : List Row) (r : Row) → AreRowOffsets k rs → r.offset ≡ k + length (joined_rows rs) → AreRowOffsets k (rs ++ r ∷ [])
-offsets_more k [] r h e = (omega arith, tt)
-offsets_more k (q ∷ rs) r h e =
-    let l = length-append q.bytes.now (joined_rows rs) in
-    let f : r.offset ≡ k + length (q.bytes.now ++ joined_rows rs) = e in
-    (h.0, offsets_more (k + length q.bytes.now) rs r h.1 (omega (arith, l, f)))
-
--- the rows so far and the bytes of the nodes that follow are all bytes, and the next node is where the rows end
-abbrev pub AreBetween : List ℕ → List Row → Unpacked → Type 0
-AreBetween all rs u = (joined_rows rs ++ rest_of u ≡ all) × AreRowOffsets 0 rs × (next_offset u ≡ length (joined_rows rs))
-
--- where the next node begins
-after : (all : List ℕ) (rs : List Row) (u v : Unpacked) (n : Node) → length all < 2 ^ 64 → joined_rows rs ++ (n.bytes.now ++ rest_of v) ≡ all → next_offset u ≡ length (joined_rows rs) → next_offset v ≡ min (next_offset u + length n.bytes.now) (2 ^ 64 - 1) → next_offset v ≡ length (joined_rows rs) + length n.bytes.now
-after all rs u v n small e at h =
-    let a = ap (λ l. length l) e in
-    let b = length-append (joined_rows rs) (n.bytes.now ++ rest_of v) in
-    let c = length-append n.bytes.now (rest_of v) in
-    let low : next_offset u + length n.bytes.now ≤ 2 ^ 64 - 1 = omega (arith, a, b, c, at, small) in
-    h ∙ min-eq_left low ∙ ap (λ i. i + length n.bytes.now) at
-
--- a node with bytes gets a row
-pub pushed : (all : List ℕ) (rs : List Row) (u v : Unpacked) (n : Node) (r : Row) → length all < 2 ^ 64 → GivesNext u v n → r.bytes.now ≡ n.bytes.now → r.offset ≡ n.offset → AreBetween all rs u → AreBetween all (rs ++ r ∷ []) v
-pushed all rs u v n r small g same at b =
-    let j : joined_rows (rs ++ r ∷ []) ≡ joined_rows rs ++ n.bytes.now = joined_more rs r ∙ ap (λ bs. joined_rows rs ++ bs) same in
-    let e : joined_rows rs ++ (n.bytes.now ++ rest_of v) ≡ all = ap (λ bs. joined_rows rs ++ bs) (sym g.bytes) ∙ b.0 in
-    let l = length-append (joined_rows rs) n.bytes.now in (
-      ap (λ bs. bs ++ rest_of v) j ∙ append_assoc (joined_rows rs) n.bytes.now (rest_of v) ∙ e,
-      offsets_more 0 rs r b.1 (at ∙ g.offset ∙ b.2 ∙ omega arith),
-      after all rs u v n small e b.2 g.next ∙ sym (ap length j ∙ l),
-    )
-
-no_bytes : (bs : List ℕ) → length bs ≡ 0 → [] ≡ bs
+no_bytes : (bs : List ℕ) → length bs ≡ 0 → bs ≡ []
 no_bytes [] h = refl
 no_bytes (b ∷ bs) h = absurd (omega arith)
 
--- and one without has none
-pub skipped : (all : List ℕ) (rs : List Row) (u v : Unpacked) (n : Node) → length all < 2 ^ 64 → GivesNext u v n → length n.bytes.now ≡ 0 → AreBetween all rs u → AreBetween all rs v
-skipped all rs u v n small g none b =
-    let e : joined_rows rs ++ (n.bytes.now ++ rest_of v) ≡ all = ap (λ bs. joined_rows rs ++ bs) (sym g.bytes) ∙ b.0 in
-    (ap (λ bs. joined_rows rs ++ (bs ++ rest_of v)) (no_bytes n.bytes.now none) ∙ e, b.1, after all rs u v n small e b.2 g.next ∙ ap (λ i. length (joined_rows rs) + i) none ∙ omega arith)
+-- a node without bytes is passed
+pub passed : (old now new : Rows) (n : Node) → NoneYet old now → AreRows new → rows_layout new ≡ rows_layout now → GivesNode now.nodes new.nodes n → length n.bytes.now ≡ 0 → NoneYet old new
+passed old now new n h rows same g none =
+    let e : bytes_left now.nodes ≡ bytes_left new.nodes = g.bytes ∙ ap (λ l. l ++ bytes_left new.nodes) (no_bytes n.bytes.now none) in
+    record { rows = rows; layout = same ∙ h.layout; bytes = sym e ∙ h.bytes; offset = g.next ∙ ap (λ k. next_offset now.nodes + k) none ∙ omega arith ∙ h.offset }
 
--- all nodes are given
-pub ended : (F : List ℕ → Option Form) (all : List ℕ) (rs : List Row) (u : Unpacked) → rest_of u ≡ [] → AreBetween all rs u → TellBytes F rs → AreRowsOf F all rs
-ended F all rs u e b t = record { whole = sym b.0 ∙ ap (λ l. joined_rows rs ++ l) e ∙ append-nil (joined_rows rs); placed = b.1; told = t }
-
--- ---- what the rows say
-pub told_more : (F : List ℕ → Option Form) (rs : List Row) (r : Row) → TellBytes F rs → IsTold F r.name.now r.bytes.now (string_bytes r.value) → TellBytes F (rs ++ r ∷ [])
-told_more F [] r t v = (v, tt)
-told_more F (q ∷ rs) r t v = (t.0, told_more F rs r t.1 v)
-
--- the row of a node
-pub told_row : (F : List ℕ → Option Form) (n : Node) (r : Row) (v : String Global) → r.bytes.now ≡ n.bytes.now → r.name ≡ n.name → r.value ≡ v → IsTold F n.name.now n.bytes.now (string_bytes v) → IsTold F r.name.now r.bytes.now (string_bytes r.value)
-told_row F n r v bytes name value t =
-    let t1 = subst (λ (own : List ℕ). IsTold F n.name.now own (string_bytes v)) (sym bytes) t in
-    let t2 = subst (λ (x : List ℕ). IsTold F x r.bytes.now (string_bytes v)) (sym (ap (λ b. b.now) name)) t1 in
-    subst (λ (v : String Global). IsTold F r.name.now r.bytes.now (string_bytes v)) (sym value) t2
-
--- by a definition that was looked up
-pub told_by : {E : Type 0} (F : List ℕ → Option Form) (x own : List ℕ) (f : Form) → F x ≡ Some f → (r : Result (String Global) E) → IfOk r (λ v. IsValueText F x f own (string_bytes v)) → IfOk r (λ v. IsTold F x own (string_bytes v))
-told_by F x own f e (Ok v) h = (f, e, h)
-told_by F x own f e (Err z) h = tt
+-- one with bytes is a row
+pub given : (old now new : Rows) (n : Node) → NoneYet old now → GivesNode now.nodes new.nodes n → (length n.bytes.now ≡ 0 → ⊥) → IsNextRow old new n
+given old now new n h g some = record {
+  some = λ e. some (ap length e);
+  bytes = sym h.bytes ∙ g.bytes;
+  offset = g.offset ∙ h.offset;
+  next = g.next ∙ ap (λ k. k + length n.bytes.now) h.offset;
+  defined = subst (λ (l : Bor Layout). get_by_text l.now.map.now n.name.now ≡ Some n.definition.now) h.layout g.defined;
+  parts = g.parts;
+  opens = subst (λ (l : Bor Layout). Opens (definitions_in l.now.map.now) (shape_of n.definition.now) n.bytes.now g.parts) h.layout g.opens;
+}
 
 module _ {E : Type 0} (F : List ℕ → Option Form) (x own : List ℕ) (d : Definition) where
   pub primitive_value : (n : ℕ) → d ≡ Primitive n → (r : Result (String Global) E) → IfOk r (λ v. IsPrimitiveText (primitive_kind x n) own (string_bytes v)) → IfOk r (λ v. IsValueText F x (form_of d) own (string_bytes v))

@@ -37,6 +37,11 @@ abbrev pub output_before : Output → List ℕ
 output_before (Compact w) = w.before
 output_before (Pretty w) = []
 
+-- the text has no white space between its tokens
+abbrev pub IsCompact : Output → Type 0
+IsCompact (Compact w) = ⊤
+IsCompact (Pretty w) = ⊥
+
 -- these tokens were added
 pub record Adds (ts : List Token) (old new : Output) : Type 0 where
   pub before : output_before new ≡ output_before old

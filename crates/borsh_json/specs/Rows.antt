@@ -1,22 +1,53 @@
 -- The rows of a value, and what each says of its bytes.
-use Rattle.std.specs.Prelude.{◌≡◌, ◌⊎◌, ⊤, ℕ, ℤ, ◌+◌, ◌==◌, List, [], ◌∷◌, ◌++◌, length, map, take, drop, false, codes, if◌then◌else◌, Option, Some, MatchOption, slice_get, string_bytes, IsUtf8}
+use Rattle.std.specs.Prelude.{◌≡◌, ◌⊎◌, ⊤, ℕ, ℤ, ◌+◌, ◌==◌, List, [], ◌∷◌, ◌++◌, length, map, take, drop, false, codes, if◌then◌else◌, Option, Some, MatchOption, slice_get, IsUtf8}
+use Rattle.std.specs.Borrow.{Bor}
+use Rattle.std.specs.BTreeMap.{get_by_text}
 use Rattle.std.specs.Fmt.{decimal}
-use Rattle.borsh_walks.specs.Container.{sequence as counted_sequence}
-use Rattle.borsh_values.specs.Nodes.{IsCountOf}
+use Rattle.borsh_walks.specs.Container.{Member, sequence as counted_sequence}
+use Rattle.borsh_walks.specs.Definitions.{definitions_in, shape_of}
+use Rattle.borsh_values.specs.Nodes.{IsCountOf, Opens}
+use Rattle.borsh_values.specs.Preorder.{IsInValue, bytes_left, layout_of, next_offset}
 use Rattle.borsh_values.specs.Tags.{IsVariantIndex}
-use Rattle.borsh_json.specs.declared.rows.Row.{Row}
+use Rattle.borsh_values.specs.declared.layout.Layout.{Layout}
+use Rattle.borsh_values.specs.declared.nodes.Node.{Node}
+use Rattle.borsh_json.specs.declared.error.JsonError.{JsonError}
+use Rattle.borsh_json.specs.declared.rows.Rows.{Rows}
+use Rattle.borsh_json.specs.Errors.{IsNoRowsReason}
 use Rattle.borsh_json.specs.Forms.{Form, primitive, sequence, tuple, newtype, unnamed, named, choice, IsByte}
 use Rattle.borsh_json.specs.Table.{Kind, no_bytes, truth, whole, float, raw, utf8, byte_list, list, row, inner, fields, optional, variants, entries, primitive_kind, IsWhole}
 
--- the bytes of all rows, one after another
-abbrev pub joined_rows : List Row → List ℕ
-joined_rows [] = []
-joined_rows (r ∷ rs) = r.bytes.now ++ joined_rows rs
+-- the layout by which rows are given
+abbrev pub rows_layout : Rows → Bor Layout
+rows_layout r = layout_of r.nodes
 
--- each row says how many bytes come before its own, where k come before the first
-abbrev pub AreRowOffsets : ℕ → List Row → Type 0
-AreRowOffsets k [] = ⊤
-AreRowOffsets k (r ∷ rs) = (r.offset ≡ k) × AreRowOffsets (k + length r.bytes.now) rs
+-- the rows of a member, of which some are given
+abbrev pub AreRows : Rows → Type 0
+AreRows r = IsInValue r.nodes
+
+-- no row is given: all bytes are left
+pub record BeginsRows (l : Bor Layout) (all : List ℕ) (r : Rows) : Type 0 where
+  pub rows : AreRows r
+  pub layout : rows_layout r ≡ l
+  pub bytes : bytes_left r.nodes ≡ all
+  pub offset : next_offset r.nodes ≡ 0
+
+-- the row has the first of the bytes that are left, and says how many come before; they are what the definition of its name encodes before its parts
+pub record IsNextRow (old new : Rows) (n : Node) : Type 0 where
+  pub some : n.bytes.now ≡ [] → ⊥
+  pub bytes : bytes_left old.nodes ≡ n.bytes.now ++ bytes_left new.nodes
+  pub offset : n.offset ≡ next_offset old.nodes
+  pub next : next_offset new.nodes ≡ next_offset old.nodes + length n.bytes.now
+  pub defined : get_by_text (rows_layout old).now.map.now n.name.now ≡ Some n.definition.now
+  pub parts : List (List ℕ)
+  pub opens : Opens (definitions_in (rows_layout old).now.map.now) (shape_of n.definition.now) n.bytes.now parts
+
+-- none is given only where no bytes are left
+abbrev pub GivesRow : Rows → Rows → Option Node → Type 0
+GivesRow old new found = MatchOption found (bytes_left old.nodes ≡ []) (λ n. IsNextRow old new n)
+
+-- why there is no next row of any member of the root
+abbrev pub IsNoRow : Layout → JsonError → Type 0
+IsNoRow l e = (bytes : List ℕ) → Member (definitions_in l.map.now) l.root.now bytes → IsNoRowsReason (definitions_in l.map.now) l.root.now bytes e
 
 -- `false` or `true`
 abbrev pub IsTruthText : List ℕ → List ℕ → Type 0
@@ -66,18 +97,3 @@ module _ (F : List ℕ → Option Form) where
   IsValueText x (unnamed ps) own v = ⊤
   IsValueText x (named fs) own v = ⊤
   IsValueText x (choice w vs) own v = (variant : Option ℕ) × IsVariantIndex (map (λ v. (v.0, v.2)) vs) (take w own) variant × MatchOption variant (v ≡ []) (λ i. (k : ℤ) × (p : List ℕ) × (slice_get vs i ≡ Some (k, v, p)))
-
-  -- the text says the own bytes of a part of this name, by its definition
-  abbrev pub IsTold : List ℕ → List ℕ → List ℕ → Type 0
-  IsTold x own v = (f : Form) × (F x ≡ Some f) × IsValueText x f own v
-
-  -- each row says what its bytes say
-  abbrev pub TellBytes : List Row → Type 0
-  TellBytes [] = ⊤
-  TellBytes (r ∷ rs) = IsTold r.name.now r.bytes.now (string_bytes r.value) × TellBytes rs
-
-  -- the rows have all the bytes, each says where its own are, and what they say
-  pub record AreRowsOf (bytes : List ℕ) (rs : List Row) : Type 0 where
-    pub whole : bytes ≡ joined_rows rs
-    pub placed : AreRowOffsets 0 rs
-    pub told : TellBytes rs

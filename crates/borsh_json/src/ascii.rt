@@ -1,7 +1,7 @@
 // JSON in printable ASCII.
-ghost use Rattle.borsh_json.specs.Ascii.{IsPlain, is_plain};
+ghost use Rattle.borsh_json.specs.Ascii.{IsInLine, IsPlain, StaysInLine, is_plain};
 ghost use Rattle.std.specs.List.{list_all};
-ghost use Rattle.std.specs.Prelude.{◌≡◌, All, IfOk, ◌<◌};
+ghost use Rattle.std.specs.Prelude.{◌≡◌, ◌<◌, ◌≤◌, All, IfOk};
 
 use std::alloc::{AllocError, Global};
 
@@ -19,7 +19,8 @@ struct AsciiText {
 /// assert_eq!(rt; in_ascii(alloc, "\"h\u{e9}\"")?.as_slice(), b"\"h\\u00e9\"".as_slice());
 /// ```
 pub fn in_ascii(alloc: Global, json: &str) -> Result<Vec<u8>, AllocError>
-    ensures { IfOk result (λ text. All IsPlain text.items) }
+    ensures plain { IfOk result (λ text. All IsPlain text.items) }
+    ensures line { All IsInLine json.now → IfOk result (λ text. All IsInLine text.items) }
 {
     let mut out = AsciiText {
         text: Vec::with_capacity(alloc, json.len())?,
@@ -44,7 +45,9 @@ fn is_plain_byte(byte: u8) -> bool
 }
 
 impl AsciiText {
-    fn put_character(&mut self, character: char) -> Result<(), AllocError> {
+    fn put_character(&mut self, character: char) -> Result<(), AllocError>
+        ensures { 32 ≤ character → StaysInLine self.old.text.items self.new.text.items result }
+    {
         let number = u32::from(character);
         if number == 10 || (32 <= number && number < 127) {
             return self.put(number as u8);
@@ -57,7 +60,9 @@ impl AsciiText {
     }
 
     /// `\u` and four digits.
-    fn put_unit(&mut self, unit: u32) -> Result<(), AllocError> {
+    fn put_unit(&mut self, unit: u32) -> Result<(), AllocError>
+        ensures { StaysInLine self.old.text.items self.new.text.items result }
+    {
         self.put(b'\\')?;
         self.put(b'u')?;
         self.put(digit(unit / 4096 % 16))?;
@@ -68,6 +73,7 @@ impl AsciiText {
 
     fn put(&mut self, byte: u8) -> Result<(), AllocError>
         requires { IsPlain byte }
+        ensures { 32 ≤ byte → StaysInLine self.old.text.items self.new.text.items result }
     {
         Ok(self.text.push(byte)?)
     }
@@ -76,7 +82,8 @@ impl AsciiText {
 /// A hexadecimal digit.
 fn digit(number: u32) -> u8
     requires { number < 16 }
-    ensures { IsPlain result }
+    ensures plain { IsPlain result }
+    ensures line { 32 ≤ result }
 {
     if number < 10 {
         b'0' + number as u8

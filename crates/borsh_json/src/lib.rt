@@ -1,7 +1,7 @@
 //! Values as JSON, both ways, by their container alone.
 //!
 //! [`to_json`] writes the JSON text of the value that bytes are, and [`from_json`] gives the bytes of the value that a
-//! text says; [`rows_of`] says what each of the bytes is. Each takes any definitions, any bytes and any text, and none recurses.
+//! text says; [`Rows`] say what each of the bytes is. Each takes any definitions, any bytes and any text, and none recurses.
 #![tactic(auto)]
 
 mod ascii;
@@ -36,6 +36,6 @@ pub use error::{JsonError, Refusal};
 pub use laws::text_determines_bytes;
 pub use output::{Characters, Layout, LongNumbers, Style};
 pub use reading::from_json;
-pub use rows::{Row, rows_of};
+pub use rows::{Rows, value_of};
 pub use strict::check_strict;
 pub use writing::to_json;

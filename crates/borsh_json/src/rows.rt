@@ -1,16 +1,16 @@
 // What each of the bytes of a value is.
-ghost use Rattle.borsh_json.specs.Words.{IsNoRowsReason, IsPartError, IsPrimitiveKind, IsTooDeep, IsWhole, Member, definitions_in, form_of, forms_in, primitive_kind};
-ghost use Rattle.borsh_json.specs.Rows.{AreRowsOf, IsPrimitiveText, IsQuoted, IsText, IsTold, IsValueText, counted};
-ghost use Rattle.borsh_values.specs.Nodes.{joined_bytes, views};
-ghost use Rattle.std.specs.Prelude.{◌≡◌, ◌≤◌, ◌<◌, ◌^◌, [], false, ℕ, Decides, IfErr, IfOk, List, MatchOption, OnOk, length, string_bytes};
+ghost use Rattle.borsh_json.specs.Words.{IsLaidOut, IsNoRowsReason, IsWhole, KnowsSizes, Member, definitions_in, form_of, forms_in, IsPrimitiveKind, primitive_kind};
+ghost use Rattle.borsh_json.specs.Rows.{AreRows, BeginsRows, GivesRow, IsNoRow, IsPrimitiveText, IsQuoted, IsText, IsValueText, counted, rows_layout};
+ghost use Rattle.borsh_values.specs.Preorder.{GivesNext, IsInValue, layout_of};
+ghost use Rattle.std.specs.Prelude.{◌≡◌, ◌≤◌, [], false, ℕ, Decides, IfErr, IfOk, List, MatchOption, OnOk, string_bytes};
 
-use crate::error::{JsonError, PartError, Refusal};
+use crate::error::{JsonError, Refusal};
 use crate::floats::shortest;
 use crate::kinds::{Kind, kind_of_primitive};
 use crate::numbers::Number;
 use crate::opening::put_number;
 use borsh_values::{
-    Decoded, Layout, Node, Path, Paths, Unpacked, count_of, decode, elements_of, variant_of,
+    Layout, Membership, Node, Path, Preorder, PreorderError, count_of, elements_of, variant_of,
 };
 use borsh_walks::Definition;
 use itoa::Buffer;
@@ -19,122 +19,122 @@ use std::alloc::{AllocError, Global};
 use std::collections::BTreeMap;
 use std::str;
 
-/// What some of the bytes of a value are: the count of a list, with its elements if these are primitives; the tag of an
-/// enum; or a primitive.
-#[derive(Drop)]
-pub struct Row<'a, 'b> {
-    /// How many bytes of the value come before these.
-    pub offset: usize,
-    /// How many values the part is in: 0 for the whole value.
-    pub depth: usize,
-    pub bytes: &'b [u8],
-    pub path: Path<'a>,
-    /// The name of the type.
-    pub name: &'a str,
-    /// What the bytes say: a number, a text, a number of elements, the name of a variant.
-    pub value: String,
-}
-
-/// What each of `bytes` is, in order, in the value of `root` that they are by the definitions of `map` alone. Each byte is
-/// in one row. Values that nest more than 128 deep are refused.
+/// What each of the bytes of a value is, one row after another: a row is the node of the count of a list, with its elements if
+/// these are primitives; of the tag of an enum; or of a primitive. [`value_of`] says what its bytes say.
 ///
-/// Determined: after `Ok` the bytes are a member of the root, the bytes of the rows, one after another, are these, each row's
-/// offset is right, and so are the whole number, `bool`, text, number of elements or name of a variant that it says; the errors
-/// are as of [`to_json`](crate::to_json), with `TooDeep` as the only refusal. Left open: memory; `TooDeep` for any member; how the
-/// bytes are cut into rows; what a row says of a float, its depth and its path: tested.
+/// As much memory is taken as values are in one another, at most 128.
 ///
 /// ```
-/// for row in rows_of(alloc, "(u8, bool)", &definitions, &[7, 1])?.as_slice() {
-///     println!(rt; "{}: {} {}", row.offset, row.path, row.value)?;
+/// let layout = Layout::new(alloc, "(u8, bool)", &definitions)?;
+/// let mut rows = Rows::new(alloc, &layout, &[7, 1])?;
+/// while let Some(row) = rows.next()? {
+///     let value = value_of(alloc, &definitions, &row)?;
+///     println!(rt; "{}: {} {value}", row.offset, rows.path())?;
 /// }
 /// ```
-pub fn rows_of<'a, 'b>(
+#[derive(Drop)]
+pub struct Rows<'a, 'l, 'b> {
     alloc: Global,
-    root: &'a str,
-    map: &'a BTreeMap<String, Definition>,
-    bytes: &'b [u8],
-) -> Result<Vec<Row<'a, 'b>>, JsonError<'a>>
-    ensures member { OnOk result (Member (definitions_in map.now) root.now bytes.now) }
-    ensures rows { IfOk result (λ rows. AreRowsOf (forms_in map.now) bytes.now rows.items) }
-    ensures reason { IfErr result (λ e. IsNoRowsReason (definitions_in map.now) root.now bytes.now e) }
-{
-    match decode(alloc, root, map, bytes)? {
-        Decoded::Nodes(nodes) => Ok(list_rows(alloc, root, map, nodes.as_slice())?),
-        Decoded::NoMember(fault) => Err(JsonError::NoMember(fault)),
-        Decoded::Ambiguous(name) => Err(JsonError::Ambiguous(name)),
-    }
+    nodes: Preorder<'a, 'l, 'b>,
 }
 
-fn list_rows<'a, 'b>(
-    alloc: Global,
-    root: &'a str,
-    map: &'a BTreeMap<String, Definition>,
-    nodes: &[Node<'a, 'b>],
-) -> Result<Vec<Row<'a, 'b>>, PartError<'a>>
-    requires { length (joined_bytes (views nodes.now)) < 2 ^ 64 }
-    ensures rows { let bytes = joined_bytes (views nodes.now) in
-        IfOk result (λ rows. AreRowsOf (forms_in map.now) bytes rows.items) }
-    ensures refusal { IfErr result (IsPartError IsTooDeep) }
-{
-    let mut rows = Vec::new(alloc);
-    let mut paths = Paths::new(alloc, root);
-    let layout = Layout::new(alloc, root, map)?;
-    let mut unpacked = Unpacked::new(alloc, &layout, nodes);
-    'nodes: for _ in 0..u64::MAX {
-        let Some(node) = unpacked.next()? else {
-            return Ok(rows);
-        };
-        paths.enter(&node)?;
-        if node.depth > MAX_DEPTH {
-            return Err(PartError::Refused(paths.path(alloc)?, Refusal::TooDeep));
-        }
-        if !node.bytes.is_empty() {
-            let path = paths.path(alloc)?;
-            let value = value_of(alloc, map, &node)?;
-            rows.push(row_of(&node, path, value))?;
+impl<'a, 'l, 'b> Rows<'a, 'l, 'b> {
+    /// In front of the first row of the value of the layout's root that `bytes` are.
+    ///
+    /// The errors are as of [`to_json`](crate::to_json), without refusals. Left open: memory.
+    pub fn new(
+        alloc: Global,
+        layout: &'l Layout<'a>,
+        bytes: &'b [u8],
+    ) -> Result<Rows<'a, 'l, 'b>, JsonError<'a>>
+        requires laid_out { IsLaidOut layout.now }
+        requires sizes { KnowsSizes layout.now }
+        ensures member { OnOk result (Member (definitions_in layout.now.map.now) layout.now.root.now bytes.now) }
+        ensures rows { IfOk result (BeginsRows layout.entry bytes.now) }
+        ensures reason { IfErr result (IsNoRowsReason (definitions_in layout.now.map.now) layout.now.root.now bytes.now) }
+    {
+        match layout.is_member(alloc, bytes)? {
+            Membership::Member => Ok(Rows {
+                alloc,
+                nodes: Preorder::new(alloc, layout, bytes),
+            }),
+            Membership::NoMember(fault) => Err(JsonError::NoMember(fault)),
+            Membership::Ambiguous(name) => Err(JsonError::Ambiguous(name)),
         }
     }
-    Err(PartError::Refused(paths.path(alloc)?, Refusal::TooDeep))
-}
 
-/// The row of a node.
-fn row_of<'a, 'b>(node: &Node<'a, 'b>, path: Path<'a>, value: String) -> Row<'a, 'b>
-    ensures bytes { (result.bytes.now ≡ node.now.bytes.now) × (result.offset ≡ node.now.offset) }
-    ensures value { (result.name ≡ node.now.name) × (result.value ≡ value) }
-{
-    Row {
-        offset: node.offset,
-        depth: node.depth,
-        bytes: node.bytes,
-        path,
-        name: node.name,
-        value,
+    /// The next row; none where all bytes are in a row. After an error the rows are to be dropped.
+    ///
+    /// Determined: a row has the first of the bytes that are left, at least one, and its offset is the number of bytes before them;
+    /// they are those that the definition of its name, which is the one in the map, encodes before its parts. The only refusal is
+    /// `TooDeep`, of values that nest more than 128 deep. Left open: memory; `TooDeep` for any value; a row's depth: tested.
+    pub fn next(&mut self) -> Result<Option<Node<'a, 'b>>, JsonError<'a>>
+        requires { AreRows self.old }
+        ensures row { IfOk result (λ found. GivesRow self.old self.new found) }
+        ensures rows { OnOk result (AreRows self.new) }
+        ensures layout { rows_layout self.new ≡ rows_layout self.old }
+        ensures reason { IfErr result (IsNoRow (rows_layout self.old).now) }
+    {
+        for _ in 0..u64::MAX {
+            let Some(node) = next_node(&mut self.nodes)? else {
+                return Ok(None);
+            };
+            if node.depth > MAX_DEPTH {
+                return Err(self.too_deep());
+            }
+            if !node.bytes.is_empty() {
+                return Ok(Some(node));
+            }
+        }
+        Err(JsonError::OutOfMemory)
+    }
+
+    /// The path of the row that was given last. Left open: any path: tested.
+    pub fn path(&self) -> &Path<'a> {
+        self.nodes.path()
+    }
+
+    /// The refusal of the node that was given last.
+    fn too_deep(&self) -> JsonError<'a>
+        ensures { IsNoRow (rows_layout self.now).now result }
+    {
+        let path = self.nodes.path();
+        match Vec::from_slice(self.alloc, path.steps.as_slice()) {
+            Ok(steps) => {
+                let root = path.root;
+                JsonError::Refused(Path { root, steps }, Refusal::TooDeep)
+            }
+            Err(_) => JsonError::OutOfMemory,
+        }
     }
 }
 
-/// What the own bytes of a node say, by the definition of its name.
-fn value_of<'a>(
-    alloc: Global,
-    map: &'a BTreeMap<String, Definition>,
-    node: &Node<'a, '_>,
-) -> Result<String, AllocError>
-    ensures { IfOk result (λ v. IsTold (forms_in map.now) node.now.name.now node.now.bytes.now (string_bytes v)) }
+fn next_node<'a, 'b>(
+    nodes: &mut Preorder<'a, '_, 'b>,
+) -> Result<Option<Node<'a, 'b>>, JsonError<'a>>
+    requires { IsInValue nodes.old }
+    ensures gives { IfOk result (λ found. GivesNext nodes.old nodes.new found) }
+    ensures inside { OnOk result (IsInValue nodes.new) }
+    ensures layout { layout_of nodes.new ≡ layout_of nodes.old }
+    ensures reason { IfErr result (IsNoRow (layout_of nodes.old).now) }
 {
-    match map.get(node.name) {
-        Some(definition) => own_text(
-            alloc,
-            map,
-            &Node {
-                definition,
-                ..*node
-            },
-        ),
-        // The name of a node has a definition.
-        None => Err(AllocError),
+    match nodes.next() {
+        Ok(found) => Ok(found),
+        Err(PreorderError::OutOfMemory) => Err(JsonError::OutOfMemory),
+        Err(PreorderError::Ambiguous(name)) => Err(JsonError::Ambiguous(name)),
     }
 }
 
-fn own_text<'a>(
+/// What the own bytes of a node say, by its name and definition, where these are of the map: a whole number in decimal, a float, a
+/// `bool`, a text in quotation marks, the number of elements of a list, the name of a variant; nothing of other nodes.
+///
+/// The only error is that an allocation failed. Left open: memory; the text of a float: tested.
+///
+/// ```
+/// // the node of `bool`
+/// assert_eq!(rt; value_of(alloc, &definitions, &node)?.as_str(), "true");
+/// ```
+pub fn value_of<'a>(
     alloc: Global,
     map: &BTreeMap<String, Definition>,
     node: &Node<'a, '_>,

@@ -1,6 +1,7 @@
 // A value as JSON.
 ghost use Rattle.borsh_json.specs.Words.{Adds, AreKeysOf, EntryOf, Form, FoundElements, FoundKeyKind, FoundNumbers, FoundPart, HasKinds, HasNode, IsAbove, IsAt, IsAwaitingAt, IsBegunOf, IsEntryKey, IsFullOrDescends, IsKeyPut, IsKindOf, IsLast, IsNoJsonReason, IsPartError, IsPartWritten, IsUnwritable, IsWalker, IsWritingAt, IsWrittenNext, Keys, Member, NamedPlace, Place, SaysBy, ShowsNoJson, StopsBy, TextSays, definitions_in, ends_of, forms_in, forms_of, names_of, shapes};
-ghost use Rattle.borsh_json.specs.Ascii.{IsPlain};
+ghost use Rattle.borsh_json.specs.Ascii.{IsInLine, IsPlain};
+ghost use Rattle.borsh_json.specs.declared.output.Layout.TheVariants.{Compact};
 ghost use Rattle.borsh_json.specs.declared.output.Characters.TheVariants.{Any, Ascii};
 ghost use Rattle.std.specs.Prelude.{◌≡◌, ◌<◌, ℕ, All, IfErr, IfOk, IsUtf8, List, MatchResult, OnOk, Option, Some, length, string_bytes, true};
 
@@ -37,7 +38,8 @@ use std::collections::BTreeMap;
 /// whose keys have none, and values that nest more than 128 deep. The order of keys is known of numbers, `bool`, texts, and of
 /// tuples, arrays, lists, ordered sets and maps, and options of these, and not of structs and enums.
 ///
-/// Determined: after `Ok` the text is JSON that says these bytes, of the characters of the style. So no other bytes have this
+/// Determined: after `Ok` the text is JSON that says these bytes, of the characters of the style; without white space of its own
+/// it is one line, with no control characters. So no other bytes have this
 /// text, they are a member of the root ([`crate::text_determines_bytes`]), and they are what [`crate::from_json`] gives for it,
 /// if anything. After `NoMember` they are none; `NoMember` and `Ambiguous` are as of [`borsh_values::is_member`], and `NoValue`
 /// and `NotJson` aren't returned. After `Refused` they are one, and where the style allows any characters, it has a reason:
@@ -59,6 +61,7 @@ pub fn to_json<'a>(
     ensures says { let F = forms_in map.now in
         IfOk result (λ text. TextSays F root.now (string_bytes text) bytes.now) }
     ensures ascii { style.characters ≡ Ascii → IfOk result (λ text. All IsPlain (string_bytes text)) }
+    ensures line { style.layout ≡ Compact → IfOk result (λ text. All IsInLine (string_bytes text)) }
     ensures reason { IfErr result (λ e. IsNoJsonReason (definitions_in map.now) root.now bytes.now e) }
     ensures refused { style.characters ≡ Any →
         IfErr result (λ e. ShowsNoJson (forms_in map.now) root.now bytes.now e) }
@@ -74,6 +77,7 @@ impl<'a, 'l> Definitions<'a, 'l> {
         requires { HasKinds self.now }
         ensures says { IfOk result (λ text. SaysBy self.now (string_bytes text) bytes.now) }
         ensures ascii { style.characters ≡ Ascii → IfOk result (λ text. All IsPlain (string_bytes text)) }
+        ensures line { style.layout ≡ Compact → IfOk result (λ text. All IsInLine (string_bytes text)) }
         ensures reason { let l = self.now.layout.now in
             IfErr result (λ e. IsNoJsonReason (definitions_in l.map.now) l.root.now bytes.now e) }
         ensures refused { let l = self.now.layout.now in style.characters ≡ Any →
@@ -100,6 +104,7 @@ impl<'a, 'l> Definitions<'a, 'l> {
         ensures says { SaysBy self.now (string_bytes text) bytes.now →
             IfOk result (λ text. SaysBy self.now (string_bytes text) bytes.now) }
         ensures ascii { characters ≡ Ascii → IfOk result (λ text. All IsPlain (string_bytes text)) }
+        ensures line { All IsInLine (string_bytes text) → IfOk result (λ text. All IsInLine (string_bytes text)) }
         ensures any { characters ≡ Any → IfErr result (λ e. ⊥) }
         ensures refusal { IfErr result (IsPartError IsUnwritable) }
     {
@@ -166,6 +171,7 @@ fn write_value<'a>(
     requires member { Member (shapes (forms_of definitions.now)) definitions.now.layout.now.root.now bytes.now }
     ensures says { IfOk result (λ text. SaysBy definitions.now text.items bytes.now) }
     ensures utf8 { IfOk result (λ text. IsUtf8 text.items) }
+    ensures line { style.layout ≡ Compact → IfOk result (λ text. All IsInLine text.items) }
     ensures stops { IfErr result (StopsBy definitions.now bytes.now) }
 {
     let alloc = definitions.alloc;
@@ -183,7 +189,10 @@ fn write_value<'a>(
     for _ in 0..u64::MAX {
         let more = writing.write_next(definitions)?;
         if !more {
-            return Ok(writing.out.into_bytes());
+            if writing.out.is_in(style.layout) {
+                return Ok(writing.out.into_bytes());
+            }
+            break;
         }
     }
     Err(JsonError::OutOfMemory)

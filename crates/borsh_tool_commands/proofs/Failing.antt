@@ -1,6 +1,7 @@
 -- A failure, from the error that it stands for.
 use Rattle.std.proofs.Common.{◌≡◌, ℕ, ◌+◌, true, List, Some, Result, Ok, Err, IfErr, ap, sym, subst, arith, String}
 use Rattle.std.specs.Global.{Global}
+use Rattle.std.specs.Borrow.{Bor}
 use Rattle.std.specs.BTreeMap.{BTreeMap}
 use Rattle.borsh.specs.Stream.{CountedUp, slice_state}
 use Rattle.borsh.specs.Codec.{IsDecodable}
@@ -14,6 +15,11 @@ use Rattle.borsh_definitions.proofs.Laws.Own.{root_and_map-lawful}
 use Rattle.borsh_schema.specs.Codecs.{container}
 use Rattle.borsh_schema.specs.declared.container.BorshSchemaContainer.{BorshSchemaContainer}
 use Rattle.borsh_json.specs.declared.error.JsonError.{JsonError}
+use Rattle.borsh_json.specs.Errors.{IsNoRowsReason}
+use Rattle.borsh_json.specs.Rows.{IsNoRow}
+use Rattle.borsh_values.specs.declared.layout.Layout.{Layout}
+use Rattle.borsh_walks.specs.Container.{Member}
+use Rattle.borsh_walks.specs.Definitions.{definitions_in}
 use Rattle.borsh_json.specs.declared.error.JsonError.TheVariants.{OutOfMemory as NoMemory}
 use Rattle.borsh_walks.specs.declared.definition.Definition.{Definition}
 use Rattle.borsh_tool_commands.specs.declared.failure.Failure.{Failure}
@@ -95,3 +101,11 @@ not_in_front bytes left kind (reader_failed r n) other is = absurd (no_fault r)
 -- no container is in front of the bytes, where the error is no failed allocation
 pub none_in_front : (bytes left : List ℕ) (kind : ErrorKind) → NotDecoded (String Global × BTreeMap (String Global) Definition) root_and_map (slice_state bytes) (slice_state left) kind → (kind ≡ NoRoom → ⊥) → BeginsWithContainer bytes → ⊥
 none_in_front bytes left kind n other is = not_in_front bytes left kind n.refused.why other is
+
+-- why a member has no next row, by the layout for which it has some
+pub no_row : (l m : Layout) (bytes : List ℕ) (e : JsonError) → m ≡ l → IsNoRow m e → Member (definitions_in l.map.now) l.root.now bytes → IsNoRowsReason (definitions_in l.map.now) l.root.now bytes e
+no_row l m bytes e same n is = subst (λ (m : Layout). IsNoRow m e) same n bytes is
+
+-- what holds by a layout that was made of a name and a map
+pub by_layout : (P : List ℕ → BTreeMap (String Global) Definition → Type 0) (l : Layout) (root : Bor (List ℕ)) (map : Bor (BTreeMap (String Global) Definition)) {name : List ℕ} → l.root ≡ root → l.map ≡ map → root.now ≡ name → P l.root.now l.map.now → P name map.now
+by_layout P l root map f g e p = subst (λ x. P x map.now) e (subst (λ (m : Bor (BTreeMap (String Global) Definition)). P root.now m.now) g (subst (λ (r : Bor (List ℕ)). P r.now l.map.now) f p))

@@ -1,5 +1,10 @@
 -- What is added to a text in colours.
-use Rattle.std.proofs.Common.{◌≡◌, ℕ, Bool, true, false, List, [], ◌∷◌, ◌++◌, if◌then◌else◌}
+use Rattle.std.proofs.Common.{◌≡◌, ℕ, Bool, true, false, List, [], ◌∷◌, ◌++◌, if◌then◌else◌, inl, inr, refl, sym, ◌∙◌, ap, subst, append_assoc, append-nil, Result, Ok, Err}
+use Rattle.std.specs.Prelude.{OnOk, ◌⊎◌}
+use Rattle.borsh_io.specs.Sink.{WriterModel, WriterLaws}
+use Rattle.borsh_tool_commands.specs.Colored.{Paints}
+use Rattle.borsh_tool_commands.specs.Many.{Flushes, IsUnwritten}
+use Rattle.borsh_tool_commands.specs.declared.failure.Failure.{Failure}
 use Rattle.std.specs.List.{All, AllByRecursion}
 use Rattle.std.proofs.lemmas.List.Elements.{recursion_from_All}
 use Rattle.std.proofs.Math.Logic.{∥∥₁_elim, ∥∥₁_prop, ∥∥₁_map}
@@ -27,10 +32,41 @@ pub of_code : {b : Bool} (c : Color) → b ≡ true → IsPainted b (color_code 
 of_code c h = ∣ code c h nothing ∣₁
 
 -- two such texts are one
-joined : {b : Bool} {xs ys : List ℕ} → IsPainted b xs → IsPainted b ys → IsPainted b (xs ++ ys)
+pub joined : {b : Bool} {xs ys : List ℕ} → IsPainted b xs → IsPainted b ys → IsPainted b (xs ++ ys)
 joined p q = ∥∥₁_elim p ∥∥₁_prop (λ p. ∥∥₁_map q (λ q. both p q))
 
 -- a text to which another one was added, or nothing
 pub grown : {b : Bool} {old xs new : List ℕ} (added : Bool) → IsPainted b old → IsPainted b xs → new ≡ (if added then old ++ xs else old) → IsPainted b new
 grown true p q e = rw e (joined p q)
 grown false p q e = rw e p
+
+-- ---- what was written
+-- a text that has no codes but those of colours
+abbrev pub PaintedSoFar : {W : Type 0} → WriterModel W → Bool → W → W → Type 0
+PaintedSoFar w colored old new = (written : List ℕ) × w.wrote old new written × IsPainted colored written
+
+module _ {W : Type 0} {w : WriterModel W} (laws : WriterLaws W w) {colored : Bool} where
+  pub painted_start : (a : W) → PaintedSoFar w colored a a
+  painted_start a = ([], laws.none a, of_nothing colored)
+
+  -- nothing more is written, since there was an error
+  pub painted_stop : {A E : Type 0} {a b : W} (e : E) → PaintedSoFar w colored a b → Paints {A = A} w colored a b (Err e)
+  painted_stop e p = record { written = p.0; lost = []; wrote = p.1; painted = subst (λ l. IsPainted colored l) (sym (append-nil p.0)) p.2; whole = tt }
+
+  -- a text is written, of which some may be lost
+  pub painted_last : {A B : Type 0} {a b c : W} {made : List ℕ} (f : Result A Failure) (r : Result B Failure) → PaintedSoFar w colored a b → IsPainted colored made → Flushes w b c made [] f → (IsUnwritten f → IsUnwritten r) → Paints w colored a c r
+  painted_last {a = a} {b = b} {c = c} {made = made} f r p m x u =
+      let e : p.0 ++ made ≡ (p.0 ++ x.written) ++ x.lost = ap (λ l. p.0 ++ l) (x.split ∙ ap (λ l. x.written ++ l) (append-nil x.lost)) ∙ sym (append_assoc p.0 x.written x.lost) in
+      record { written = p.0 ++ x.written; lost = x.lost; wrote = laws.more a b c p.0 x.written p.1 x.wrote; painted = subst (λ l. IsPainted colored l) e (joined p.2 m); whole = ended r x.lost u x.whole }
+    where
+      ended : {B : Type 0} (r : Result B Failure) (lost : List ℕ) → (IsUnwritten f → IsUnwritten r) → ((lost ≡ []) ⊎ (IsUnwritten f × (◌≡◌ {A = List ℕ} [] []))) → OnOk r (lost ≡ [])
+      ended (Ok v) lost u (inl e) = e
+      ended (Ok v) lost u (inr h) = absurd (u h.0)
+      ended (Err z) lost u h = tt
+
+  -- and the run goes on
+  pub painted_on : {A : Type 0} {a b c : W} {made : List ℕ} (v : A) → PaintedSoFar w colored a b → IsPainted colored made → Flushes w b c made [] (Ok v) → PaintedSoFar w colored a c
+  painted_on {a = a} {b = b} {c = c} {made = made} v p m x =
+      let none : x.lost ≡ [] = elim x.whole [ inl e ↦ e | inr h ↦ absurd h.0 ] in
+      let e : made ≡ x.written = x.split ∙ ap (λ l. x.written ++ (l ++ [])) none ∙ append-nil x.written in
+      (p.0 ++ x.written, laws.more a b c p.0 x.written p.1 x.wrote, joined p.2 (subst (λ l. IsPainted colored l) e m))

@@ -4,14 +4,14 @@ use Rattle.std.specs.Prelude.{codes}
 use Rattle.std.proofs.lemmas.Fmt.{decimal_by_steps}
 use Rattle.std.proofs.lemmas.Grind.{flat_map-append}
 use Rattle.borsh_walks.specs.Container.{Shape, Member, zst_sequence, tag_too_wide, tag_too_narrow, tag_not_power_of_two, missing_definition, empty_length_range}
-use Rattle.borsh_walks.specs.Errors.{broken_rule}
+use Rattle.borsh_walks.specs.Errors.{broken_rule, size_reason}
 use Rattle.borsh_walks.specs.RulesAnswer.{RulesFault}
 use Rattle.borsh_walks.specs.SizeAnswer.{SizeFault}
 use Rattle.borsh_walks.specs.declared.error.SchemaContainerValidateError.{SchemaContainerValidateError}
 use Rattle.borsh_walks.specs.declared.error.SchemaContainerValidateError.TheVariants.{ZSTSequence, TagTooWide, TagTooNarrow, TagNotPowerOfTwo, MissingDefinition, EmptyLengthRange, OutOfMemory}
 use Rattle.borsh_walks.specs.declared.error.SchemaMaxSerializedSizeError.{SchemaMaxSerializedSizeError}
 use Rattle.borsh_walks.specs.declared.error.SchemaMaxSerializedSizeError.TheVariants.{Overflow, Recursive, MissingDefinition as Missing, OutOfMemory as NoMemory, Redefinition}
-use Rattle.borsh_tool_commands.specs.Answers.{AnswersCheck, AnswersMember, AnswersSize, TellsRule, TellsSize, broken_text, line_of}
+use Rattle.borsh_tool_commands.specs.Answers.{AnswersCheck, AnswersMember, AnswersSize, TellsRule, TellsSize, broken_text, reason_text, line_of}
 use Rattle.borsh_tool_commands.specs.Answers.AnswersMember.{no_member, not_canonical}
 use Rattle.borsh_tool_commands.specs.Answers.AnswersCheck.{invalid}
 use Rattle.borsh_tool_commands.specs.Answers.AnswersSize.{overflows, recurs, misses}
@@ -29,6 +29,10 @@ rules_told (TagNotPowerOfTwo m) f t = invalid (string_bytes m) tag_not_power_of_
 rules_told (MissingDefinition m) f t = invalid (string_bytes m) missing_definition f.0 f.1 refl t
 rules_told (EmptyLengthRange m) f t = invalid (string_bytes m) empty_length_range f.0 f.1 refl t
 rules_told OutOfMemory f t = absurd t
+
+-- what is said of a size's error, by the table of the reasons
+pub reason_told : (e : SchemaMaxSerializedSizeError) {out : List ℕ} {p : List ℕ × Option (List ℕ)} → Some p ≡ size_reason e → out ≡ reason_text p → TellsSize e out
+reason_told e {out = out} says t = subst (λ o. MatchOption o ⊥ (λ p. out ≡ reason_text p)) says t
 
 pub size_told : {C : List ℕ → Option Shape} {root out : List ℕ} (e : SchemaMaxSerializedSizeError) → SizeFault C root e → TellsSize e out → AnswersSize C root false out
 size_told Overflow f t = overflows f.0 f.1 f.2 refl t

@@ -1,10 +1,9 @@
 -- What the commands answer.
-use Rattle.std.specs.Prelude.{◌≡◌, ℕ, ◌^◌, ◌<◌, ◌≤◌, Bool, true, false, List, [], ◌∷◌, ◌++◌, Option, None, MatchOption, codes, decimal, flat_map, string_bytes}
+use Rattle.std.specs.Prelude.{◌≡◌, ℕ, ◌^◌, ◌<◌, ◌≤◌, Bool, true, false, List, [], ◌∷◌, ◌++◌, Option, None, Some, MatchOption, codes, decimal, flat_map}
 use Rattle.borsh_walks.specs.Container.{Shape, Member, Rule, Breaks, IsValid, Reached, SizeReaches, IsRecursive, MaxSize, PartialSize}
-use Rattle.borsh_walks.specs.Errors.{broken_rule, rule_name}
+use Rattle.borsh_walks.specs.Errors.{broken_rule, rule_name, size_reason}
 use Rattle.borsh_walks.specs.declared.error.SchemaContainerValidateError.{SchemaContainerValidateError}
 use Rattle.borsh_walks.specs.declared.error.SchemaMaxSerializedSizeError.{SchemaMaxSerializedSizeError}
-use Rattle.borsh_walks.specs.declared.error.SchemaMaxSerializedSizeError.TheVariants.{Overflow, Recursive, MissingDefinition as Missing, OutOfMemory as NoMemory, Redefinition}
 use Rattle.borsh_tool_commands.specs.Plain.{escaped, name_text}
 
 -- a text as a line
@@ -39,13 +38,14 @@ pub data AnswersSize (C : List ℕ → Option Shape) (root : List ℕ) (yes : Bo
   recurs : IsRecursive C root → yes ≡ false → out ≡ line_of (codes "recursive") → AnswersSize C root yes out
   misses : (x : List ℕ) → SizeReaches C root x → C x ≡ None → yes ≡ false → out ≡ missing_text x → AnswersSize C root yes out
 
+-- a word, and a name, if there is one
+abbrev pub reason_text : List ℕ × Option (List ℕ) → List ℕ
+reason_text (word, None) = line_of (flat_map escaped word)
+reason_text (word, Some name) = line_of (flat_map escaped word ++ (codes " " ++ name_text name))
+
 -- what is printed of an error
 abbrev pub TellsSize : SchemaMaxSerializedSizeError → List ℕ → Type 0
-TellsSize Overflow out = out ≡ line_of (codes "overflow")
-TellsSize Recursive out = out ≡ line_of (codes "recursive")
-TellsSize (Missing m) out = out ≡ missing_text (string_bytes m)
-TellsSize NoMemory out = ⊥
-TellsSize (Redefinition m) out = ⊥
+TellsSize e out = MatchOption (size_reason e) ⊥ (λ p. out ≡ reason_text p)
 
 -- ---- `member`
 

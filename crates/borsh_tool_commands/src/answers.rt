@@ -1,10 +1,10 @@
 // What is asked of a container, and the answer.
-ghost use Rattle.std.specs.Prelude.{◌≡◌, IfOk, IfErr, Some, true, decimal, flat_map};
+ghost use Rattle.std.specs.Prelude.{◌≡◌, IfOk, IfErr, Some, true, decimal, flat_map, option_map};
 ghost use Rattle.borsh.specs.Errors.{error_kind};
 ghost use Rattle.borsh.specs.Reading.{WhyNotDecoded};
 ghost use Rattle.borsh_schema.specs.Codecs.{container as container_codec};
 ghost use Rattle.borsh_schema.specs.Containers.{language_of, root_of};
-ghost use Rattle.borsh_tool_commands.specs.Answers.{AnswersCheck, AnswersSize, TellsRule, TellsSize, broken_text, missing_text, line_of};
+ghost use Rattle.borsh_tool_commands.specs.Answers.{AnswersCheck, AnswersSize, TellsRule, TellsSize, broken_text, reason_text, line_of};
 ghost use Rattle.borsh_tool_commands.specs.Plain.{escaped};
 ghost use Rattle.borsh_tool_commands.specs.Printed.{printed};
 ghost use Rattle.borsh_tool_commands.specs.Questions.{AnswersQuestion};
@@ -123,22 +123,25 @@ pub fn size(alloc: Global, container: &BorshSchemaContainer) -> Result<Answer, A
 fn no_size(alloc: Global, error: &SchemaMaxSerializedSizeError) -> Result<PlainText, AllocError>
     ensures { IfOk result (λ t. TellsSize error.now (printed t)) }
 {
-    match error {
-        SchemaMaxSerializedSizeError::Overflow => line(alloc, "overflow"),
-        SchemaMaxSerializedSizeError::Recursive => line(alloc, "recursive"),
-        SchemaMaxSerializedSizeError::MissingDefinition(name) => missing(alloc, name),
-        // The size of a container is never refused so.
-        SchemaMaxSerializedSizeError::Redefinition(_) => Err(AllocError),
-        SchemaMaxSerializedSizeError::OutOfMemory => Err(AllocError),
+    match error.reason() {
+        Some((word, name)) => reason_line(alloc, word, name),
+        // The size of a container never has two definitions of one name: only that of a type has.
+        None => Err(AllocError),
     }
 }
 
-/// `missing` and the name, as a line.
-fn missing(alloc: Global, name: &str) -> Result<PlainText, AllocError>
-    ensures { IfOk result (λ t. printed t ≡ missing_text name.now) }
+/// A word, and a name, if there is one, as a line.
+fn reason_line(alloc: Global, word: &str, name: Option<&str>) -> Result<PlainText, AllocError>
+    ensures { IfOk result
+        (λ t. printed t ≡ reason_text (word.now, option_map (λ name. name.now) name.entry)) }
 {
     let mut out = PlainText::new(alloc);
-    out.push("missing ")?;
+    out.push(word)?;
+    let Some(name) = name else {
+        out.end_line()?;
+        return Ok(out);
+    };
+    out.push(" ")?;
     out.push_name(name)?;
     out.end_line()?;
     Ok(out)

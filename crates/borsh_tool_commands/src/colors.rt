@@ -38,11 +38,18 @@ impl ColoredText {
     }
 
     /// The text, with the codes of its colours.
-    pub fn into_bytes(self) -> Vec<u8>
-        ensures is { result.items ≡ self.text.items }
-        ensures painted { IsPainted self.is_colored result.items }
+    pub fn as_bytes(&self) -> &[u8]
+        ensures { result.now ≡ self.now.text.items }
     {
-        self.text
+        self.text.as_slice()
+    }
+
+    /// Takes all of the text away, and keeps its room.
+    pub fn clear(&mut self)
+        ensures colored { self.new.is_colored ≡ self.old.is_colored }
+        ensures none { self.new.text.items ≡ [] }
+    {
+        self.text.clear();
     }
 
     /// Adds a text in the terminal's own colour. If an allocation fails, nothing is added.

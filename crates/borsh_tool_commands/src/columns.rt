@@ -1,10 +1,20 @@
 // What each byte of a value is, as lines whose columns are aligned.
-ghost use Rattle.std.specs.Prelude.{◌≡◌, IfOk};
-ghost use Rattle.borsh_tool_commands.specs.Colored.{has_colors};
+ghost use Rattle.borsh_json.specs.Errors.{IsNoRowsReason};
+ghost use Rattle.borsh_tool_commands.specs.Colored.{IsShowFailure, Paints, has_colors, printed_colors};
+ghost use Rattle.borsh_tool_commands.specs.Many.{Flushes, IsUnwritten};
+ghost use Rattle.borsh_values.specs.Free.{KnowsSizes};
+ghost use Rattle.borsh_values.specs.Layouts.{IsLaidOut};
+ghost use Rattle.borsh_walks.specs.Container.{Member};
+ghost use Rattle.borsh_walks.specs.Definitions.{definitions_in};
+ghost use Rattle.std.specs.Prelude.{◌≡◌, [], IfErr, OnErr, OnOk};
 
 use super::colors::{Color, ColoredText};
+use super::failure::Failure;
 use super::plain_text::{Added, PlainText};
-use borsh_json::Row;
+use super::values::no_value;
+use borsh::io::Write as WriteBytes;
+use borsh_json::{JsonError, Rows, value_of};
+use borsh_values::{Layout, Node, Path};
 use std::alloc::{AllocError, Global};
 use std::fmt::Write;
 
@@ -14,6 +24,9 @@ const WIDEST: usize = 64;
 /// How many bytes of a row are shown.
 const SHOWN_BYTES: usize = 16;
 
+/// How many bytes of lines are kept until they are written.
+const ROOM: usize = 65536;
+
 /// The widths of the columns that have another one behind them.
 #[derive(Clone, Copy)]
 struct Widths {
@@ -22,42 +35,108 @@ struct Widths {
     name: usize,
 }
 
-/// A line for each row.
-pub(crate) fn text_of_rows(
+/// Writes a line for each row of the value of the layout's root that the bytes are. The rows are gone over twice.
+pub(crate) fn write_rows<'a, W: WriteBytes>(
     alloc: Global,
-    rows: &[Row<'_, '_>],
+    layout: &Layout<'_>,
+    path: &'a str,
+    bytes: &[u8],
     is_colored: bool,
-) -> Result<ColoredText, AllocError>
-    ensures { IfOk result (λ t. has_colors t ≡ is_colored) }
+    out: &mut W,
+) -> Result<(), Failure<'a>>
+    requires laid_out { IsLaidOut layout.now }
+    requires sizes { KnowsSizes layout.now }
+    ensures member { OnOk result (Member (definitions_in layout.now.map.now) layout.now.root.now bytes.now) }
+    ensures painted { Paints W.writing is_colored out.old out.new result }
+    ensures err { IfErr result (IsShowFailure (definitions_in layout.now.map.now) layout.now.root.now path.now bytes.now) }
 {
+    let widths = match widths_of(alloc, layout, bytes) {
+        Ok(widths) => widths,
+        Err(error) => return Err(no_value(alloc, path, error)),
+    };
+    let mut rows = match Rows::new(alloc, layout, bytes) {
+        Ok(rows) => rows,
+        Err(error) => return Err(no_value(alloc, path, error)),
+    };
     let mut text = PlainText::new(alloc);
-    let widths = widths_of(rows, &mut text)?;
-    let mut out = ColoredText::new(alloc, is_colored);
-    for row in rows {
-        push_row(row, widths, &mut text, &mut out)?;
+    let mut made = ColoredText::new(alloc, is_colored);
+    for _ in 0..u64::MAX {
+        match rows.next() {
+            Ok(Some(row)) => {
+                push_row(&row, rows.path(), widths, &mut text, &mut made)?;
+                let value = value_of(alloc, layout.map, &row)?;
+                push_value(value.as_str(), widths, &mut text, &mut made)?;
+                if made.as_bytes().len() >= ROOM {
+                    write_made(&mut made, out)?;
+                }
+            }
+            Ok(None) => return write_made(&mut made, out),
+            Err(error) => return Err(no_value(alloc, path, error)),
+        }
     }
-    Ok(out)
+    Err(Failure::OutOfMemory)
 }
 
-/// `text` is room for the texts of the columns.
-fn widths_of(rows: &[Row<'_, '_>], text: &mut PlainText) -> Result<Widths, AllocError> {
+/// Writes the lines that were made.
+fn write_made<'a, W: WriteBytes>(made: &mut ColoredText, out: &mut W) -> Result<(), Failure<'a>>
+    ensures colored { has_colors made.new ≡ has_colors made.old }
+    ensures none { printed_colors made.new ≡ [] }
+    ensures unwritten { OnErr result (IsUnwritten result) }
+    ensures flushes { Flushes W.writing out.old out.new (printed_colors made.old) (printed_colors made.new) result }
+{
+    let outcome = out.write_all(made.as_bytes());
+    made.clear();
+    match outcome {
+        Ok(()) => Ok(()),
+        Err(error) => Err(Failure::Unwritten(error)),
+    }
+}
+
+/// How wide the columns of the rows are.
+fn widths_of<'a>(
+    alloc: Global,
+    layout: &Layout<'a>,
+    bytes: &[u8],
+) -> Result<Widths, JsonError<'a>>
+    requires laid_out { IsLaidOut layout.now }
+    requires sizes { KnowsSizes layout.now }
+    ensures { IfErr result (IsNoRowsReason (definitions_in layout.now.map.now) layout.now.root.now bytes.now) }
+{
+    let mut rows = Rows::new(alloc, layout, bytes)?;
+    let mut text = PlainText::new(alloc);
     let mut widths = Widths {
         bytes: 0,
         path: 0,
         name: 0,
     };
-    for row in rows {
+    for _ in 0..u64::MAX {
+        let Some(row) = rows.next()? else {
+            return Ok(widths);
+        };
+        widths.widen(&row, rows.path(), &mut text)?;
+    }
+    Err(JsonError::OutOfMemory)
+}
+
+impl Widths {
+    /// Makes room for a row. `text` is room for the texts of the columns.
+    fn widen(
+        &mut self,
+        row: &Node<'_, '_>,
+        path: &Path<'_>,
+        text: &mut PlainText,
+    ) -> Result<(), AllocError> {
         text.clear();
-        push_bytes(row, text)?;
-        widths.bytes = wider(widths.bytes, text);
+        push_bytes(row.bytes, text)?;
+        self.bytes = wider(self.bytes, text);
         text.clear();
-        push_path(row, text)?;
-        widths.path = wider(widths.path, text);
+        push_path(path, text)?;
+        self.path = wider(self.path, text);
         text.clear();
         text.push_name(row.name)?;
-        widths.name = wider(widths.name, text);
+        self.name = wider(self.name, text);
+        Ok(())
     }
-    Ok(widths)
 }
 
 /// The width of a column that takes another text.
@@ -65,9 +144,10 @@ fn wider(width: usize, text: &PlainText) -> usize {
     width.max(text.as_bytes().len().min(WIDEST))
 }
 
-/// Adds the offset, the first bytes, the path, the type and the value, as a line.
+/// Adds the offset, the first bytes, the path and the type, which is left in `text`.
 fn push_row(
-    row: &Row<'_, '_>,
+    row: &Node<'_, '_>,
+    path: &Path<'_>,
     widths: Widths,
     text: &mut PlainText,
     out: &mut ColoredText,
@@ -75,26 +155,37 @@ fn push_row(
     ensures { has_colors out.new ≡ has_colors out.old }
 {
     text.clear();
-    push_offset(row, text)?;
+    push_offset(row.offset, text)?;
     out.push(text)?;
     text.clear();
-    push_bytes(row, text)?;
+    push_bytes(row.bytes, text)?;
     out.push_in(Color::Yellow, text)?;
     push_gap(text, widths.bytes)?;
     out.push(text)?;
     text.clear();
-    push_path(row, text)?;
+    push_path(path, text)?;
     out.push(text)?;
     push_gap(text, widths.path)?;
     out.push(text)?;
     text.clear();
     text.push_name(row.name)?;
-    out.push_in(Color::Cyan, text)?;
-    if !row.value.is_empty() {
+    out.push_in(Color::Cyan, text)
+}
+
+/// Adds what a row says, behind the type, which is in `text`, and ends the line.
+fn push_value(
+    value: &str,
+    widths: Widths,
+    text: &mut PlainText,
+    out: &mut ColoredText,
+) -> Result<(), AllocError>
+    ensures { has_colors out.new ≡ has_colors out.old }
+{
+    if !value.is_empty() {
         push_gap(text, widths.name)?;
         out.push(text)?;
         text.clear();
-        text.push(row.value.as_str())?;
+        text.push(value)?;
         out.push_in(Color::Green, text)?;
     }
     text.clear();
@@ -102,8 +193,7 @@ fn push_row(
     out.push(text)
 }
 
-fn push_offset(row: &Row<'_, '_>, text: &mut PlainText) -> Added {
-    let offset = row.offset;
+fn push_offset(offset: usize, text: &mut PlainText) -> Added {
     match write!(text, "{offset:>8}  ") {
         Ok(()) => Ok(()),
         Err(_) => Err(AllocError),
@@ -111,17 +201,16 @@ fn push_offset(row: &Row<'_, '_>, text: &mut PlainText) -> Added {
 }
 
 /// Adds the first bytes as digits, and two dots where there are more.
-fn push_bytes(row: &Row<'_, '_>, text: &mut PlainText) -> Added {
-    let shown = row.bytes.len().min(SHOWN_BYTES);
-    text.push_digits(&row.bytes[..shown])?;
-    if row.bytes.len() > shown {
+fn push_bytes(bytes: &[u8], text: &mut PlainText) -> Added {
+    let shown = bytes.len().min(SHOWN_BYTES);
+    text.push_digits(&bytes[..shown])?;
+    if bytes.len() > shown {
         text.push("..")?;
     }
     Ok(())
 }
 
-fn push_path(row: &Row<'_, '_>, text: &mut PlainText) -> Added {
-    let path = &row.path;
+fn push_path(path: &Path<'_>, text: &mut PlainText) -> Added {
     match write!(text, "{path}") {
         Ok(()) => Ok(()),
         Err(_) => Err(AllocError),

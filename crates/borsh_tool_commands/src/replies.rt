@@ -5,7 +5,7 @@ ghost use Rattle.borsh_tool_commands.specs.Replies.{IsNoReply, Replies};
 use super::answers::Answer;
 use super::command::{Action, ValueRequest};
 use super::failure::Failure;
-use super::values::{Schema, encoded, hex_line, json_text, member, shown, strict_member};
+use super::values::{Schema, encoded, hex_line, json_text, member, strict_member};
 use borsh_json::{Layout, LongNumbers, Style};
 use std::alloc::Global;
 
@@ -16,17 +16,16 @@ pub struct Reply {
     pub output: Vec<u8>,
 }
 
-/// What is replied to a request about a value, whose bytes or, for `encode`, whose JSON are given; `show` has colours if
-/// `is_colored` is true. Errors have the path that the request has for it.
+/// What is replied to a request about a value, whose bytes or, for `encode`, whose JSON are given; `show`, which writes as it goes,
+/// is [`super::values::show`]. Errors have the path that the request has for it.
 ///
 /// Determined: of `decode` JSON of the bytes as a line; of `encode` the bytes that the JSON is of, behind their container if that
 /// is asked for, or their digits as a line; of `member` yes exactly for a member, but for one that `--strict` says isn't canonical,
-/// and the line up to where and why; of `show` that the bytes are a member, and text with no codes but those of colours;
-/// `NotValue` and `NotText` only for a reason. Left open: memory; which members aren't canonical; which text `show` has, and where and why:
-/// tested; as of [`borsh_json`].
+/// and the line up to where and why; `NotValue` and `NotText` only for a reason; `NoCommand` only of `show`. Left open: memory; which
+/// members aren't canonical, and where and why: tested; as of [`borsh_json`].
 ///
 /// ```
-/// let reply = reply_to(alloc, &request, &schema, bytes.as_slice(), false)?;
+/// let reply = reply_to(alloc, &request, &schema, bytes.as_slice())?;
 /// assert!(rt; reply.is_yes);
 /// ```
 pub fn reply_to<'a>(
@@ -34,10 +33,9 @@ pub fn reply_to<'a>(
     request: &ValueRequest<'a>,
     schema: &Schema,
     value: &[u8],
-    is_colored: bool,
 ) -> Result<Reply, Failure<'a>>
     ensures ok { IfOk result (λ r. Replies request.now.action request.now schema.now value.now
-        is_colored r.is_yes r.output.items) }
+        r.is_yes r.output.items) }
     ensures err { IfErr result (IsNoReply request.now.action schema.now request.now.value.now value.now) }
 {
     let path = request.value;
@@ -65,10 +63,7 @@ pub fn reply_to<'a>(
                 output: text.into_bytes(),
             })
         }
-        Action::Show => {
-            let text = shown(alloc, schema, path, value, is_colored)?;
-            Ok(yes(text.into_bytes()))
-        }
+        Action::Show => Err(Failure::NoCommand),
     }
 }
 

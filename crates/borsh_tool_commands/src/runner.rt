@@ -12,7 +12,9 @@ use super::failure::{Failure, failure_line, usage_line};
 use super::many::{Many, answer_many};
 use super::progress::Progress;
 use super::replies::{Reply, reply_to, style_of};
-use super::values::{Schema, no_container, own_schema, schema_from, schema_in_front, schema_json};
+use super::values::{
+    Schema, no_container, own_schema, schema_from, schema_in_front, schema_json, show,
+};
 use borsh::io::{StdReader, Write};
 use borsh_json::{Characters, Json, Layout, Style};
 use clap::ArgMatches;
@@ -101,7 +103,7 @@ fn perform<'a, R: Files + Env + Input + Print + Eprint + AllocGlobal + Drop, W: 
         if let Some(form) = request.form {
             return perform_on_many(rt, &request, form, is_watched, out);
         }
-        return perform_on_value(rt, &request, is_terminal);
+        return perform_on_value(rt, &request, is_terminal, out);
     }
     let Some(request) = request_from(matches) else {
         return Err(Failure::NoCommand);
@@ -118,15 +120,16 @@ fn perform<'a, R: Files + Env + Input + Print + Eprint + AllocGlobal + Drop, W: 
 }
 
 /// Does a request about a value.
-fn perform_on_value<'a, R: Files + Env + Input + Print + AllocGlobal>(
+fn perform_on_value<'a, R: Files + Env + Input + Print + AllocGlobal, W: Write>(
     rt: &R,
     request: &ValueRequest<'a>,
     is_terminal: bool,
+    out: &mut W,
 ) -> Result<bool, Failure<'a>> {
     let Some(path) = request.schema else {
         let bytes = input(rt, request.value, request.is_hex)?;
         let (schema, value) = schema_in_front(rt.alloc(), request.value, bytes.as_slice())?;
-        return answer_value(rt, request, &schema, value, is_terminal);
+        return answer_value(rt, request, &schema, value, is_terminal, out);
     };
     if path == "-" && request.value == "-" {
         return Err(Failure::TwoInputs);
@@ -137,7 +140,14 @@ fn perform_on_value<'a, R: Files + Env + Input + Print + AllocGlobal>(
     } else {
         input(rt, request.value, request.is_hex)?
     };
-    answer_value(rt, request, &schema, value.as_slice(), is_terminal)
+    answer_value(
+        rt,
+        request,
+        &schema,
+        value.as_slice(),
+        is_terminal,
+        out,
+    )
 }
 
 /// Refuses to print raw bytes on a terminal.
@@ -222,15 +232,21 @@ fn schema_at<'a, R: Files + Input + AllocGlobal>(
 }
 
 /// Prints what is asked of a value, its bytes or its JSON, and returns whether the answer is yes.
-fn answer_value<'a, R: Env + Print + AllocGlobal>(
+fn answer_value<'a, R: Env + Print + AllocGlobal, W: Write>(
     rt: &R,
     request: &ValueRequest<'a>,
     schema: &Schema,
     value: &[u8],
     is_terminal: bool,
+    out: &mut W,
 ) -> Result<bool, Failure<'a>> {
-    let is_colored = is_terminal && !request.is_plain && !refuses_color(rt);
-    let Reply { is_yes, output } = reply_to(rt.alloc(), request, schema, value, is_colored)?;
+    let alloc = rt.alloc();
+    if request.action == Action::Show {
+        let is_colored = is_terminal && !request.is_plain && !refuses_color(rt);
+        show(alloc, schema, request.value, value, is_colored, out)?;
+        return Ok(true);
+    }
+    let Reply { is_yes, output } = reply_to(alloc, request, schema, value)?;
     print_bytes(rt, output.as_slice())?;
     Ok(is_yes)
 }

@@ -2,9 +2,8 @@
 ghost use Rattle.std.specs.Prelude.{◌≡◌, ◌++◌, IfErr, IfOk, OnOk, Some, codes, false, flat_map, string_bytes, true};
 ghost use Rattle.borsh.specs.Errors.{error_kind};
 ghost use Rattle.borsh_tool_commands.specs.Answers.{AnswersMember, line_of};
-ghost use Rattle.borsh_tool_commands.specs.Colors.{IsPainted};
-ghost use Rattle.borsh_tool_commands.specs.Colored.{printed_colors};
-ghost use Rattle.borsh_tool_commands.specs.Failures.{IsFailure, IsNoAnswer, IsNoContainer, IsNoContainerInFront, IsNoContainerJson, IsNoJson, IsNoMemory, IsNotShown, IsNoValue};
+ghost use Rattle.borsh_tool_commands.specs.Colored.{IsShowFailure, Paints};
+ghost use Rattle.borsh_tool_commands.specs.Failures.{IsFailure, IsNoAnswer, IsNoContainer, IsNoContainerInFront, IsNoContainerJson, IsNoJson, IsNoMemory, IsNoValue};
 ghost use Rattle.borsh_tool_commands.specs.Plain.{digits, escaped};
 ghost use Rattle.borsh_tool_commands.specs.Printed.{printed};
 ghost use Rattle.borsh_tool_commands.specs.Json.{IsJson, IsJsonLine};
@@ -15,16 +14,15 @@ ghost use Rattle.borsh_walks.specs.Container.{Member};
 ghost use Rattle.borsh_walks.specs.Definitions.{definitions_in};
 
 use super::answers::{Answer, line};
-use super::colors::ColoredText;
-use super::columns::text_of_rows;
+use super::columns::write_rows;
 use super::failure::Failure;
 use super::plain_text::PlainText;
-use borsh::io::{Error, ErrorKind};
+use borsh::io::{Error, ErrorKind, Write};
 use borsh::schema::{BorshSchemaContainer, Definition};
 use borsh::ser::write_two;
 use borsh::{BorshDeserialize, from_slice, schema_container_of, to_vec};
-use borsh_json::{Characters, JsonError, Style, check_strict, from_json, rows_of, to_json};
-use borsh_values::{Membership, is_member};
+use borsh_json::{Characters, JsonError, Style, check_strict, from_json, to_json};
+use borsh_values::{Layout, Membership, is_member};
 use std::alloc::{AllocError, Global};
 use std::collections::BTreeMap;
 use std::str;
@@ -263,24 +261,31 @@ pub(crate) fn no(alloc: Global, answer: &str, why: &str) -> Result<Answer, Alloc
     })
 }
 
-/// What each byte of the value is, one line for each number, text, count and tag; in colours if `is_colored` is true.
-pub fn shown<'a>(
+/// Writes what each byte of the value is, one line for each number, text, count and tag; in colours if `is_colored` is true.
+///
+/// Determined: after `Ok` the bytes are a member of the root; what was written begins a text that has no codes but those of colours,
+/// and is one after `Ok`; `NotValue`, with the path, only for a reason. After an error some lines may have been written. Left open:
+/// memory; which text it is: tested.
+///
+/// ```
+/// show(alloc, &schema, "value", b"\x07".as_slice(), false, &mut out)?;
+/// ```
+pub fn show<'a, W: Write>(
     alloc: Global,
     schema: &Schema,
     path: &'a str,
     bytes: &[u8],
     is_colored: bool,
-) -> Result<ColoredText, Failure<'a>>
+    out: &mut W,
+) -> Result<(), Failure<'a>>
     ensures member { OnOk result (Member (definitions_in schema.now.definitions)
         (string_bytes schema.now.root) bytes.now) }
-    ensures colors { IfOk result (λ t. IsPainted is_colored (printed_colors t)) }
-    ensures err { IfErr result (IsNotShown (definitions_in schema.now.definitions)
+    ensures painted { Paints W.writing is_colored out.old out.new result }
+    ensures err { IfErr result (IsShowFailure (definitions_in schema.now.definitions)
         (string_bytes schema.now.root) path.now bytes.now) }
 {
-    match rows_of(alloc, schema.root.as_str(), &schema.definitions, bytes) {
-        Ok(rows) => Ok(text_of_rows(alloc, rows.as_slice(), is_colored)?),
-        Err(error) => Err(no_value(alloc, path, error)),
-    }
+    let layout = Layout::new(alloc, schema.root.as_str(), &schema.definitions)?;
+    write_rows(alloc, &layout, path, bytes, is_colored, out)
 }
 
 /// Bytes as hexadecimal digits, and a line feed.

@@ -26,6 +26,7 @@ pub mod ZeroLaws
 pub mod FreeLaws
 pub mod SizesLaws
 pub mod Packing
+pub mod PassingLaws
 pub mod ReadsLaws
 pub mod FrontLaws
 pub mod NextLaws
@@ -33,3 +34,5 @@ pub mod RecordLaws
 pub mod FreeWalk
 pub mod OnlyLaws
 pub mod WalkedLaws
+pub mod KeptLaws
+pub mod PreorderLaws

@@ -1,6 +1,6 @@
 -- Members that are the only ones where bytes begin so.
-use Rattle.std.proofs.Common.{◌≡◌, ℕ, suc, zero, ◌+◌, ◌-◌, ◌<◌, ◌≤◌, List, [], ◌∷◌, ◌++◌, length, take, drop, replicate, Some, None, refl, sym, ◌∙◌, ap, subst, arith, add-one, append_assoc, append-nil, length-append, length-drop, length-take-le, take-add, take-append-drop}
-use Rattle.std.specs.Prelude.{Option, All, IfSome, slice_get, ℤ}
+use Rattle.std.proofs.Common.{◌≡◌, ℕ, suc, zero, ◌+◌, ◌-◌, ◌^◌, ◌<◌, ◌≤◌, List, [], ◌∷◌, ◌++◌, length, take, drop, replicate, Some, None, refl, sym, ◌∙◌, ap, subst, arith, add-one, append_assoc, append-nil, length-append, length-drop, length-take-le, take-add, take-append-drop}
+use Rattle.std.specs.Prelude.{Option, All, IfSome, MatchOption, slice_get, ℤ}
 use Rattle.std.proofs.lemmas.List.Elements.{All-take, All-drop}
 use Rattle.borsh_walks.specs.Container.{Shape, product, choice, Members, no_members}
 use Rattle.borsh_walks.specs.Container.{variant_names}
@@ -8,15 +8,19 @@ use Rattle.borsh_values.specs.declared.layout.Named.{Named}
 use Rattle.borsh_values.specs.declared.frames.Rest.TheVariants.{Copies}
 use Rattle.borsh_values.specs.declared.tags.Found.TheVariants.{One}
 use Rattle.borsh_values.specs.Faults.{BeginsWith}
-use Rattle.borsh_values.specs.Nodes.{Opens}
+use Rattle.borsh_values.specs.Nodes.{Opens, NodeView, Nodes, nodes_zero, nodes_packed, nodes_more}
+use Rattle.borsh_values.specs.Sizes.{fitting, together, known_size, known_sizes}
 use Rattle.borsh_values.specs.Steps.{OpensOnce, Takes, FoundAs, step_count}
-use Rattle.borsh_values.specs.Free.{FreeSize, FreeSizes, AreOnly, AreFirst, IsTagLength, IsRun, IsFreeFront, Passes}
+use Rattle.borsh_values.specs.Free.{FreeSizes, AreOnly, AreFirst, HasOneNode, IsPayload, IsTagLength, IsRun, IsFreeFront, Passes}
 use Rattle.borsh_values.specs.Layouts.{name_at}
 use Rattle.borsh_values.specs.declared.free.Passed.{Passed}
 use Rattle.borsh_values.specs.declared.runs.Run.{Run}
 use Rattle.borsh_values.proofs.PrefixFree.{same_front}
 use Rattle.borsh_values.proofs.Packed.{no_more}
-use Rattle.borsh_values.proofs.NodesLaws.{opens_member}
+use Rattle.borsh_values.proofs.NodesLaws.{opens_member, opened_zero}
+use Rattle.borsh_values.proofs.SizesLaws.{fits_small}
+use Rattle.borsh_walks.proofs.Laws.{one_definition}
+use Rattle.borsh_walks.specs.Container.{IsZeroSize}
 use Rattle.borsh_values.proofs.Required.{whole, unwhole, joined, parted}
 use Rattle.borsh_values.proofs.FreeLaws.{free_one}
 use Rattle.borsh_values.proofs.FrontLaws.{member_opens, opens_once}
@@ -99,11 +103,35 @@ module _ (C : List ℕ → Option Shape) where
       copies_end zero = refl
       copies_end (suc k) = ap (λ l. x ∷ l) (copies_end k)
 
-  -- an enum whose tag is a byte, and whose variant is of a free size
-  pub tag_length : {x : List ℕ} (t i n : ℕ) (p : List ℕ) (vs : List (ℤ × List ℕ)) → C x ≡ Some (choice 1 vs) → FoundAs vs (t ∷ []) (One i) → slice_get (variant_names vs) i ≡ Some p → FreeSize C p n → IsTagLength C x t (n + 1)
-  tag_length {x} t i n p vs c found at f = λ bs small low.
+  -- an enum whose tag is a byte, and whose variant is of a known size
+  one_together : (n : ℕ) → n < 2 ^ 64 → together (n ∷ []) ≡ n
+  one_together zero h = refl
+  one_together (suc n) h = ap (λ i. fitting i) {x = suc n + 0} {y = suc n} (omega arith) ∙ fits_small (suc n) h
+
+  one_part : (p : List ℕ) (n : ℕ) → n ≡ known_size C p → n < 2 ^ 64 → n ≡ known_sizes C (p ∷ [])
+  one_part p n e h = sym (one_together n h) ∙ ap (λ i. together (i ∷ [])) e
+
+  tag_off : {x : List ℕ} (t : ℕ) (p bs : List ℕ) (vs : List (ℤ × List ℕ)) → C x ≡ Some (choice 1 vs) → Opens C (choice 1 vs) (take 1 (t ∷ bs)) (p ∷ []) → IsZeroSize C x → ⊥
+  tag_off t p bs vs c o z = let e = (opened_zero C (choice 1 vs) (take 1 (t ∷ bs)) (p ∷ []) c z o).0 in cc
+
+  tag_node : {x : List ℕ} (t n : ℕ) (p bs : List ℕ) (vs : List (ℤ × List ℕ)) → C x ≡ Some (choice 1 vs) → Opens C (choice 1 vs) (take 1 (t ∷ bs)) (p ∷ []) → IsPayload C p n → n < 2 ^ 64 → n ≤ length bs → All (λ b. b < 256) bs → (qs : List (List ℕ)) (cs : List ℕ) (es : List NodeView) → Nodes C qs cs es → Nodes C (x ∷ qs) (take (suc n) (t ∷ bs) ++ cs) ((x, choice 1 vs, take (suc n) (t ∷ bs)) ∷ es)
+  tag_node t zero p bs vs c o f h low small qs cs es m =
+      let z = f.none refl in
+      nodes_more (choice 1 vs) (p ∷ []) (tag_off t p bs vs c o) c o (sym (one_part p zero f.known h)) (nodes_zero z.1 z.0 m)
+  tag_node t (suc n) p bs vs c o f h low small qs cs es m =
+      let k = one_part p (suc n) f.known h in
+      nodes_packed (choice 1 vs) (take 1 (t ∷ bs)) (take (suc n) bs) (p ∷ []) (tag_off t p bs vs c o) c o (subst (λ i. 0 < i) k (omega arith)) (length-take-le (suc n) bs low ∙ k) (All-take (λ b. b < 256) (suc n) bs small) m
+
+  pub tag_length : {x : List ℕ} (t i n : ℕ) (p : List ℕ) (vs : List (ℤ × List ℕ)) → C x ≡ Some (choice 1 vs) → FoundAs vs (t ∷ []) (One i) → slice_get (variant_names vs) i ≡ Some p → IsPayload C p n → n < 2 ^ 64 → IsTagLength C x t (n + 1)
+  tag_length {x} t i n p vs c found at f h = λ bs small low.
       let o = found_choice C 1 1 i p (t ∷ bs) vs refl (omega arith) found at in
-      subst (λ k. AreOnly C (x ∷ []) (take k (t ∷ bs))) {x = suc n} {y = n + 1} (sym (add-one n)) (only_open (choice 1 vs) (p ∷ []) c o.opens o.once (first_free bs n (free_one C n f) (omega arith) small).1)
+      let within : n ≤ length bs = omega arith in (
+        subst (λ k. AreOnly C (x ∷ []) (take k (t ∷ bs))) {x = suc n} {y = n + 1} (sym (add-one n)) (only_open (choice 1 vs) (p ∷ []) c o.opens o.once (first_free bs n (free_one C n f.free) within small).1),
+        λ d e qs cs es m.
+            let same : choice 1 vs ≡ d = one_definition c e in
+            subst (λ k. Nodes C (x ∷ qs) (take k (t ∷ bs) ++ cs) ((x, d, take k (t ∷ bs)) ∷ es)) {x = suc n} {y = n + 1} (sym (add-one n))
+            (subst (λ s. Nodes C (x ∷ qs) (take (suc n) (t ∷ bs) ++ cs) ((x, s, take (suc n) (t ∷ bs)) ∷ es)) same (tag_node t n p bs vs c o.opens f h within small qs cs es m)),
+      )
 
 -- ---- copies of a name
 pub copies_split : (x : List ℕ) (k j : ℕ) → j ≤ k → replicate k x ≡ replicate j x ++ replicate (k - j) x
@@ -118,7 +146,7 @@ fewer_copies ns at (suc k) zero h = omega arith
 fewer_copies ns at (suc k) (suc j) h = omega arith
 
 -- a run is passed
-pub run_passes : (C : List ℕ → Option Shape) (ns : List Named) (at count : ℕ) (left : List ℕ) (r : Run) → at < length ns → IsRun C (name_at ns at) left count r → (o : Option Passed) → IfSome o (λ p. Passes at count r p) → IfSome o (λ p. IsFreeFront C ns (Copies at count) left p)
+pub run_passes : (C : List ℕ → Option Shape) (ns : List Named) (at count : ℕ) (left : List ℕ) (r : Run) → at < length ns → IsRun C (name_at ns at) left count r → (o : Option Passed) → MatchOption o (r.taken ≡ 0) (λ p. Passes at count r p) → IfSome o (λ p. IsFreeFront C ns (Copies at count) left p)
 run_passes C ns at count left r low g None h = tt
 run_passes C ns at count left r low g (Some p) h = subst (λ p. IsFreeFront C ns (Copies at count) left p) (sym h.1) (record {
   names = replicate r.values (name_at ns at);
@@ -139,7 +167,14 @@ pub first_by_tag : (C : List ℕ → Option Shape) (x bytes : List ℕ) (t n : �
 first_by_tag C x bytes t n f e low small =
     let h = head_is bytes t e in
     let l = ap (λ l. length l) h in
-    (low, subst (λ b. AreOnly C (x ∷ []) (take n b)) (sym h) (f (drop 1 bytes) (All-drop (λ b. b < 256) 1 bytes small) (omega (arith, l, low))))
+    (low, subst (λ b. AreOnly C (x ∷ []) (take n b)) (sym h) (f (drop 1 bytes) (All-drop (λ b. b < 256) 1 bytes small) (omega (arith, l, low))).0)
+
+-- and its node
+pub node_by_tag : (C : List ℕ → Option Shape) (x bytes : List ℕ) (t n : ℕ) → IsTagLength C x t n → slice_get bytes 0 ≡ Some t → n ≤ length bytes → All (λ b. b < 256) bytes → HasOneNode C x (take n bytes)
+node_by_tag C x bytes t n f e low small =
+    let h = head_is bytes t e in
+    let l = ap (λ l. length l) h in
+    subst (λ b. HasOneNode C x (take n b)) (sym h) (f (drop 1 bytes) (All-drop (λ b. b < 256) 1 bytes small) (omega (arith, l, low))).1
 
 pub no_first : (xs : List (List ℕ)) → slice_get xs 0 ≡ None → [] ≡ xs
 no_first [] e = refl

@@ -19,3 +19,4 @@ pub mod Next
 pub mod Records
 pub mod Unpacked
 pub mod Walks
+pub mod Preorder

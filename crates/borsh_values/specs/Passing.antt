@@ -1,17 +1,50 @@
 -- Names of free size that are passed at once.
-use Rattle.std.specs.Prelude.{◌≡◌, ◌⊎◌, ℕ, ◌+◌, ◌<◌, ◌≤◌, List, [], All, length, drop, Bool, true, false, Option}
+use Rattle.std.specs.Prelude.{◌≡◌, ◌⊎◌, ⊤, ℕ, ◌+◌, ◌<◌, ◌≤◌, List, [], ◌∷◌, ◌++◌, All, length, take, drop, replicate, Bool, true, false, Option, String}
+use Rattle.std.specs.BTreeMap.{BTreeMap}
+use Rattle.borsh_walks.specs.declared.definition.Definition.{Definition}
 use Rattle.borsh_walks.specs.Container.{Shape}
 use Rattle.borsh_values.specs.declared.layout.Named.{Named}
 use Rattle.borsh_values.specs.declared.frames.Rest.{Rest}
 use Rattle.borsh_values.specs.declared.free.Passed.{Passed}
 use Rattle.borsh_values.specs.declared.members.Behind.{Behind}
+use Rattle.borsh_values.specs.declared.nodes.Node.{Node}
+use Rattle.borsh_values.specs.Nodes.{AreOffsets, HaveDefinitions, NodeView, Nodes, joined_bytes, views}
 use Rattle.borsh_values.specs.Free.{IsFreeFront}
 use Rattle.borsh_values.specs.Sizes.{known_sizes}
 use Rattle.borsh_values.specs.Steps.{remaining}
 
+-- all nodes have the name and the definition of the first one
+abbrev pub AllLike : Node → List Node → Type 0
+AllLike n [] = ⊤
+AllLike n (m ∷ ms) = (m.name ≡ n.name) × (m.definition ≡ n.definition) × AllLike n ms
+
+-- nodes were added, which the first of the bytes have, so many values of a name, each one node
+pub record ListsRun (C : List ℕ → Option Shape) (first : Node) (taken values : ℕ) (old new : List Node) : Type 0 where
+  pub added : List Node
+  pub all : new ≡ old ++ added
+  pub nodes : (qs : List (List ℕ)) (cs : List ℕ) (es : List NodeView) → Nodes C qs cs es → Nodes C (replicate values first.name.now ++ qs) (take taken first.bytes.now ++ cs) (views added ++ es)
+  pub like : AllLike first added
+  pub placed : AreOffsets first.offset added
+  pub long : length (joined_bytes (views added)) ≡ taken
+  pub few : length added ≤ taken
+
+-- nodes were added, which the bytes that are passed have
+pub record ListsPassed {A : Type 0} (C : List ℕ → Option Shape) (m : BTreeMap (String A) Definition) (ns : List Named) (r : Rest) (bytes : List ℕ) (offset : ℕ) (old new : List Node) (p : Passed) : Type 0 where
+  pub added : List Node
+  pub all : new ≡ old ++ added
+  pub nodes : (qs : List (List ℕ)) (cs : List ℕ) (es : List NodeView) → Nodes C (remaining ns p.rest ++ qs) cs es → Nodes C (remaining ns r ++ qs) (take p.taken bytes ++ cs) (views added ++ es)
+  pub definitions : HaveDefinitions m added
+  pub placed : AreOffsets offset added
+  pub long : length (joined_bytes (views added)) ≡ p.taken
+  pub few : length added ≤ p.taken
+
 -- no nodes are wanted, the next names have a free size together, and b is what follows them and as many bytes
 abbrev pub PassesFree : (List ℕ → Option Shape) → List Named → Bool → Rest → List ℕ → Behind → Type 0
 PassesFree C ns wanted r bytes b = (p : Passed) × (wanted ≡ false) × IsFreeFront C ns r bytes p × (b.rest ≡ p.rest) × (b.left.now ≡ drop p.taken bytes)
+
+-- values of the next names are passed and listed, and b is what follows them and their bytes; or nothing is passed
+abbrev pub ListsFront : {A : Type 0} → (List ℕ → Option Shape) → BTreeMap (String A) Definition → List Named → Rest → List ℕ → ℕ → List Node → List Node → Behind → Type 0
+ListsFront C m ns r bytes offset old new b = ((b.rest ≡ r) × (b.left.now ≡ bytes) × (new ≡ old)) ⊎ ((p : Passed) × IsFreeFront C ns r bytes p × (b.rest ≡ p.rest) × (b.left.now ≡ drop p.taken bytes) × ListsPassed C m ns r bytes offset old new p)
 
 module _ (C : List ℕ → Option Shape) (ns : List Named) where
   -- the parts r that follow n bytes are still to be read: if nodes are wanted, the size of one isn't known, or there are too few bytes

@@ -1,16 +1,18 @@
 -- Values that are walked part by part.
-use Rattle.std.specs.Prelude.{◌≡◌, ◌⊎◌, ⊤, ℕ, ◌+◌, ◌^◌, ◌<◌, ◌≤◌, List, [], ◌∷◌, ◌++◌, length, Option, Some, MatchOption, String}
+use Rattle.std.specs.Prelude.{◌≡◌, ◌⊎◌, ⊤, ℕ, ◌+◌, ◌^◌, ◌<◌, ◌≤◌, List, [], ◌∷◌, ◌++◌, length, Option, Some, MatchOption, IfSome, option_map, String}
 use Rattle.std.specs.BTreeMap.{BTreeMap, get_by_text}
 use Rattle.borsh_walks.specs.declared.definition.Definition.{Definition}
 use Rattle.borsh_walks.specs.Container.{Shape, primitive, sequence, product, choice, Members}
 use Rattle.borsh_walks.specs.Definitions.{definitions_in, shape_of}
 use Rattle.borsh_values.specs.declared.frames.Opened.{Opened}
 use Rattle.borsh_values.specs.declared.frames.Opened.TheVariants.{Undecided, Refused, Taken}
+use Rattle.borsh_values.specs.declared.frames.Rest.{Rest}
 use Rattle.borsh_values.specs.declared.nodes.Node.{Node}
 use Rattle.borsh_values.specs.declared.walker.Walker.{Walker}
 use Rattle.borsh_values.specs.Layouts.{IsLaidOut, name_of}
 use Rattle.borsh_values.specs.Membership.{IsUndecided}
 use Rattle.borsh_values.specs.Nodes.{Opens, Reads}
+use Rattle.borsh_values.specs.Steps.{Fits, remaining}
 use Rattle.borsh_values.specs.TagTables.{AreTagTables}
 
 -- of a member of the root the bytes `done` are read, these names come next, and the bytes `left` are members of them
@@ -61,3 +63,7 @@ module _ {A : Type 0} (m : BTreeMap (String A) Definition) where
 -- so it is of the name at the place
 abbrev pub FindsAt : ℕ → Walker → Walker → Option Node → Type 0
 FindsAt at old new found = (x : List ℕ) → name_of old.layout.now.names.items at ≡ Some x → FindsNode old.layout.now.map.now old.layout.now.root.now x old new found
+
+-- and with the names that are to be read of its value
+abbrev pub TakesAt : ℕ → Walker → Walker → Option (Node × Rest) → Type 0
+TakesAt at old new found = FindsAt at old new (option_map (λ t. t.0) found) × IfSome found (λ t. Fits old.layout.now.names.items t.1 × Opens (definitions_in old.layout.now.map.now) (shape_of t.0.definition.now) t.0.bytes.now (remaining old.layout.now.names.items t.1))

@@ -3,14 +3,14 @@ ghost use Rattle.borsh_values.specs.Membership.{AnswersMembership, IsAnswer, mos
 ghost use Rattle.borsh_values.specs.Fronts.{AreNodesOf, IsFrontAnswer};
 ghost use Rattle.borsh_values.specs.declared.fronts.Front.TheVariants.{Value};
 ghost use Rattle.borsh_values.specs.Free.{KnowsSizes};
-ghost use Rattle.borsh_values.specs.Passing.{PassesFree};
+ghost use Rattle.borsh_values.specs.Passing.{ListsFront, PassesFree};
 ghost use Rattle.borsh_values.specs.Layouts.{IsLaidOut};
 ghost use Rattle.borsh_values.specs.Steps.{Fits, KnownAs};
 ghost use Rattle.borsh_walks.specs.Definitions.{definitions_in};
 ghost use Rattle.borsh_values.specs.Nodes.{AreOffsets, HaveDefinitions};
 ghost use Rattle.borsh_values.specs.Decoding.{DecodesValue, HasAtMost, HasDefinitions};
 ghost use Rattle.borsh_values.specs.declared.members.Membership.TheVariants.{Member as IsMember};
-ghost use Rattle.std.specs.Prelude.{IfOk, IfSome, None, Some, ◌+◌, ◌-◌, ◌<◌, ◌≤◌, ◌≡◌, ◌∷◌, [], get_or, length, drop, replicate, slice_set, take, true};
+ghost use Rattle.std.specs.Prelude.{IfOk, IfSome, None, Some, ◌+◌, ◌-◌, ◌^◌, ◌<◌, ◌≤◌, ◌≡◌, ◌∷◌, [], get_or, length, drop, replicate, slice_set, take, true};
 
 use crate::faults::{Fault, Path, Reason, no_member};
 use crate::frames::{Frame, Opened, Rest, after_copies, has_parts, next_part};
@@ -19,6 +19,7 @@ use crate::fronts::Front;
 use crate::layout::{Layout, name_of};
 use crate::nodes::{Node, list_node};
 use crate::opening::{definition_at, open_definition};
+use crate::runs::list_run;
 use crate::tag_tables::AtKey;
 use borsh_walks::Definition;
 use std::alloc::{AllocError, Global};
@@ -132,6 +133,38 @@ fn pass_free<'a>(
             left: after(left, passed.taken),
         }),
         None => None,
+    }
+}
+
+// Passes values of an enum at the front of a list that was begun, and lists their nodes, if nodes are wanted.
+fn list_front<'a, 'b>(
+    layout: &Layout<'a>,
+    wanted: bool,
+    rest: Rest,
+    left: &'b [u8],
+    offset: usize,
+    depth: usize,
+    nodes: &mut Vec<Node<'a, 'b>>,
+) -> Result<Behind<'b>, AllocError>
+    requires laid_out { IsLaidOut layout.now }
+    requires sizes { KnowsSizes layout.now }
+    requires fits { Fits layout.now.names.items rest }
+    requires room { offset + length left.now < 2 ^ 64 }
+    ensures { let m = layout.now.map.now in
+        let C = definitions_in m in
+        let ns = layout.now.names.items in
+        let old = nodes.old.items in
+        IfOk result (λ b. ListsFront C m ns rest left.now offset old nodes.new.items b) }
+{
+    if !wanted {
+        return Ok(Behind { rest, left });
+    }
+    match list_run(layout, rest, left, offset, depth, nodes)? {
+        Some(passed) => Ok(Behind {
+            rest: passed.rest,
+            left: after(left, passed.taken),
+        }),
+        None => Ok(Behind { rest, left }),
     }
 }
 
@@ -460,10 +493,16 @@ pub fn decide<'a, 'b>(
                                 left = after(left, taken);
                                 if has_parts(layout, rest) {
                                     stack.push(frame)?;
+                                    let next = offset_of(bytes, left);
+                                    let inner = stack.len();
+                                    let listed = list_front(
+                                        layout, wanted, rest, left, next, inner, nodes,
+                                    )?;
+                                    left = listed.left;
                                     frame = Frame {
                                         at: step.at,
                                         start,
-                                        rest,
+                                        rest: listed.rest,
                                     };
                                 }
                             }

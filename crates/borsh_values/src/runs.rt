@@ -1,18 +1,22 @@
 // Values one after another that are passed without a frame for each.
-ghost use Rattle.borsh_values.specs.Free.{AreFirst, FreeSize, IsFreeFront, IsRight, IsRun, IsTagLength, KnowsSizes, Passes};
+ghost use Rattle.borsh_values.specs.Free.{AreFirst, IsFreeFront, IsPayload, IsRight, IsRun, IsTagLength, KnowsSizes, Passes};
 ghost use Rattle.borsh_values.specs.Layouts.{IsLaidOut, name_at, parts_in, shape_at};
 ghost use Rattle.borsh_values.specs.declared.frames.Rest.TheVariants.{Copies};
 ghost use Rattle.borsh_walks.specs.Container.{choice, product};
-ghost use Rattle.borsh_walks.specs.Definitions.{definitions_in};
-ghost use Rattle.std.specs.Prelude.{IfSome, Some, [], ◌∷◌, ◌≡◌, ◌<◌, ◌≤◌, ◌⊎◌, length, map, string_bytes};
+ghost use Rattle.borsh_values.specs.Passing.{ListsPassed, ListsRun};
+ghost use Rattle.borsh_values.specs.Steps.{Fits};
+ghost use Rattle.borsh_walks.specs.Definitions.{definitions_in, shape_of};
+ghost use Rattle.std.specs.Prelude.{All, IfOk, IfSome, MatchOption, Some, [], ◌∷◌, ◌+◌, ◌^◌, ◌≡◌, ◌<◌, ◌≤◌, ◌⊎◌, length, map, string_bytes, take};
 
 use crate::frames::{Opened, Rest, part_at};
 use crate::free::{Passed, size_at};
-use crate::layout::Layout;
-use crate::members::after;
+use crate::layout::{Layout, name_of};
+use crate::members::{after, front};
+use crate::nodes::Node;
 use crate::opening::{definition_at, open_sequence};
 use crate::tags::{Found, find_variant};
 use borsh_walks::{Declaration, Definition, DiscriminantValue, VariantName};
+use std::alloc::AllocError;
 
 type Variants = Vec<(DiscriminantValue, VariantName, Declaration)>;
 
@@ -36,7 +40,7 @@ fn payload_size(layout: &Layout<'_>, part: usize) -> Option<u64>
     requires sizes { KnowsSizes layout.now }
     requires within { part < length layout.now.names.items }
     ensures { let name = name_at layout.now.names.items part in
-        IfSome result (λ n. FreeSize (definitions_in layout.now.map.now) name n) }
+        IfSome result (λ n. IsPayload (definitions_in layout.now.map.now) name n) }
 {
     let size = size_at(&layout.sizes, part);
     if size > 0 {
@@ -152,6 +156,179 @@ fn run_of_enums(layout: &Layout<'_>, at: usize, variants: &Variants, count: u64,
         }
     }
     Run { taken, values }
+}
+
+// At most so many values lie in the bytes, each of some of them.
+fn most_values(count: u64, left: &[u8]) -> usize
+    ensures { result ≤ count }
+{
+    if count < left.len() as u64 {
+        count as usize
+    } else {
+        left.len()
+    }
+}
+
+// Lists the nodes of values of the enum at a place, at most so many; the first has the name, the definition and all bytes.
+fn list_enums<'a, 'b>(
+    layout: &Layout<'a>,
+    at: usize,
+    variants: &Variants,
+    count: u64,
+    first: Node<'a, 'b>,
+    nodes: &mut Vec<Node<'a, 'b>>,
+) -> Result<Run, AllocError>
+    requires laid_out { IsLaidOut layout.now }
+    requires sizes { KnowsSizes layout.now }
+    requires within { at < length layout.now.names.items }
+    requires shape { let vs = map (λ v. (v.0, string_bytes v.2)) variants.now.items in
+        shape_at layout.now.names.items at ≡ Some (choice 1 vs) }
+    requires name { first.name.now ≡ name_at layout.now.names.items at }
+    requires definition { shape_at layout.now.names.items at ≡ Some (shape_of first.definition.now) }
+    requires room { first.offset + length first.bytes.now < 2 ^ 64 }
+    requires small { All (λ b. b < 256) first.bytes.now }
+    ensures run { let name = name_at layout.now.names.items at in
+        IfOk result (λ r. IsRun (definitions_in layout.now.map.now) name first.entry.bytes.now count r) }
+    ensures listed { let C = definitions_in layout.now.map.now in
+        IfOk result (λ r. ListsRun C first.entry r.taken r.values nodes.old.items nodes.new.items) }
+{
+    let start = nodes.len();
+    let room = most_values(count, first.bytes);
+    let Some(end) = start.checked_add(room) else {
+        return Ok(Run {
+            taken: 0,
+            values: 0,
+        });
+    };
+    // A node that is passed to `push` would be copied twice.
+    nodes.resize(end, first)?;
+    let run = put_enums(layout, at, variants, room, first, start, nodes);
+    nodes.truncate(start + run.values as usize);
+    Ok(run)
+}
+
+// Puts such nodes, at most so many, in the places from `start` on.
+fn put_enums<'a, 'b>(
+    layout: &Layout<'a>,
+    at: usize,
+    variants: &Variants,
+    room: usize,
+    first: Node<'a, 'b>,
+    start: usize,
+    nodes: &mut Vec<Node<'a, 'b>>,
+) -> Run
+    requires laid_out { IsLaidOut layout.now }
+    requires sizes { KnowsSizes layout.now }
+    requires within { at < length layout.now.names.items }
+    requires shape { let vs = map (λ v. (v.0, string_bytes v.2)) variants.now.items in
+        shape_at layout.now.names.items at ≡ Some (choice 1 vs) }
+    requires name { first.name.now ≡ name_at layout.now.names.items at }
+    requires definition { shape_at layout.now.names.items at ≡ Some (shape_of first.definition.now) }
+    requires bytes { first.offset + length first.bytes.now < 2 ^ 64 }
+    requires small { All (λ b. b < 256) first.bytes.now }
+    requires places { start + room ≤ length nodes.old.items }
+    ensures run { let name = name_at layout.now.names.items at in
+        IsRun (definitions_in layout.now.map.now) name first.entry.bytes.now room result }
+    ensures listed { let C = definitions_in layout.now.map.now in
+        let old = take start nodes.old.items in
+        ListsRun C first.entry result.taken result.values old (take (start + result.values) nodes.new.items) }
+{
+    let left = first.bytes;
+    let length = length_by_tag(layout, at, variants, 0);
+    let mut last = TagLength { tag: 0, length };
+    let mut other = last;
+    let mut taken: usize = 0;
+    let mut values: usize = 0;
+    while values < room {
+        let next = after(left, taken);
+        let Some(tag) = next.first() else {
+            return run_of(taken, values);
+        };
+        let known = length_of(layout, at, variants, *tag, last, other);
+        other = kept(known, last, other);
+        last = known;
+        let Some(length) = known.length else {
+            return run_of(taken, values);
+        };
+        if length == 0 {
+            return run_of(taken, values);
+        }
+        if length > next.len() as u64 {
+            return run_of(taken, values);
+        }
+        nodes[start + values] = Node {
+            name: first.name,
+            definition: first.definition,
+            bytes: front(next, length as usize),
+            offset: first.offset + taken,
+            depth: first.depth,
+        };
+        taken += length as usize;
+        values += 1;
+    }
+    run_of(taken, values)
+}
+
+fn run_of(taken: usize, values: usize) -> Run
+    ensures { (result.taken ≡ taken) × (result.values ≡ values) }
+{
+    Run {
+        taken,
+        values: values as u64,
+    }
+}
+
+/// Passes the next values of an enum, and lists their nodes, where what each variant has is of a free size.
+pub fn list_run<'a, 'b>(
+    layout: &Layout<'a>,
+    rest: Rest,
+    left: &'b [u8],
+    offset: usize,
+    depth: usize,
+    nodes: &mut Vec<Node<'a, 'b>>,
+) -> Result<Option<Passed>, AllocError>
+    requires laid_out { IsLaidOut layout.now }
+    requires sizes { KnowsSizes layout.now }
+    requires fits { Fits layout.now.names.items rest }
+    requires room { offset + length left.now < 2 ^ 64 }
+    ensures passes { let C = definitions_in layout.now.map.now in
+        let ns = layout.now.names.items in
+        IfOk result (λ o. IfSome o (λ p. IsFreeFront C ns rest left.now p)) }
+    ensures listed { let C = definitions_in layout.now.map.now in
+        let m = layout.now.map.now in
+        let ns = layout.now.names.items in
+        let old = nodes.old.items in
+        let new = nodes.new.items in
+        IfOk result (λ o. MatchOption o (new ≡ old) (λ p. ListsPassed C m ns rest left.now offset old new p)) }
+{
+    let Rest::Copies(at, count) = rest else {
+        return Ok(None);
+    };
+    let Some(definition) = definition_at(&layout.names, at) else {
+        return Ok(None);
+    };
+    let Definition::Enum {
+        tag_width,
+        variants,
+    } = definition
+    else {
+        return Ok(None);
+    };
+    if *tag_width != 1 {
+        return Ok(None);
+    }
+    if !has_free_parts(layout, at) {
+        return Ok(None);
+    }
+    let first = Node {
+        name: name_of(&layout.names, at),
+        definition,
+        bytes: left,
+        offset,
+        depth,
+    };
+    let run = list_enums(layout, at, variants, count, first, nodes)?;
+    Ok(passed(at, count, run))
 }
 
 // How many of the first bytes are a value of the name at a place, where its size or count tells that.
@@ -301,7 +478,7 @@ pub fn pass_run(layout: &Layout<'_>, at: usize, count: u64, left: &[u8]) -> Opti
 // What is passed of so many values, if there are any.
 fn passed(at: usize, count: u64, run: Run) -> Option<Passed>
     requires { run.values ≤ count }
-    ensures { IfSome result (λ p. Passes at count run p) }
+    ensures { MatchOption result (run.taken ≡ 0) (λ p. Passes at count run p) }
 {
     if run.taken == 0 {
         return None;

@@ -1,9 +1,9 @@
 // A value that is walked part by part.
 ghost use Rattle.borsh_values.specs.Layouts.{IsLaidOut};
-ghost use Rattle.borsh_values.specs.Walks.{FindsAt, IsWalker};
+ghost use Rattle.borsh_values.specs.Walks.{FindsAt, IsWalker, TakesAt};
 ghost use Rattle.std.specs.Prelude.{IfOk, IfSome, OnOk, ◌≡◌};
 
-use crate::frames::Opened;
+use crate::frames::{Opened, Rest};
 use crate::layout::{Layout, name_of};
 use crate::members::{after, front};
 use crate::nodes::Node;
@@ -69,6 +69,24 @@ impl<'a, 'l, 'b> Walker<'a, 'l, 'b> {
         ensures layout { self.new.layout ≡ self.old.layout }
         ensures depth { IfOk result (λ found. IfSome found (λ n. n.depth ≡ depth)) }
     {
+        match self.take(at, depth)? {
+            Some((node, _)) => Ok(Some(node)),
+            None => Ok(None),
+        }
+    }
+
+    /// As [`Walker::open`], with the names that are to be read of the value.
+    pub(crate) fn take(
+        &mut self,
+        at: usize,
+        depth: usize,
+    ) -> Result<Option<(Node<'a, 'b>, Rest)>, AllocError>
+        requires { IsWalker self.old }
+        ensures finds { IfOk result (λ found. TakesAt at self.old self.new found) }
+        ensures walk { OnOk result (IsWalker self.new) }
+        ensures layout { self.new.layout ≡ self.old.layout }
+        ensures depth { IfOk result (λ found. IfSome found (λ t. t.0.depth ≡ depth)) }
+    {
         let layout = self.layout;
         let Some(definition) = definition_at(&layout.names, at) else {
             return Ok(None);
@@ -83,7 +101,7 @@ impl<'a, 'l, 'b> Walker<'a, 'l, 'b> {
             definition,
             self.left,
         )? {
-            Opened::Taken(taken, _) => {
+            Opened::Taken(taken, rest) => {
                 let node = Node {
                     name,
                     definition,
@@ -93,7 +111,7 @@ impl<'a, 'l, 'b> Walker<'a, 'l, 'b> {
                 };
                 self.left = after(self.left, taken);
                 self.offset += taken;
-                Ok(Some(node))
+                Ok(Some((node, rest)))
             }
             Opened::Undecided | Opened::Refused(_) => Ok(None),
         }

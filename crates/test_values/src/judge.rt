@@ -4,10 +4,10 @@ ghost use Rattle.borsh_values.specs.Layouts.{IsLaidOut};
 
 use super::definitions::{Definitions, text};
 use super::wrong::{Wrong, check, expect};
-use borsh_json::{JsonError, LongNumbers, Style, check_strict, from_json, rows_of, to_json};
+use borsh_json::{JsonError, LongNumbers, Rows, Style, check_strict, from_json, to_json, value_of};
 use borsh_values::{
-    Decoded, DecodedFront, Front, Layout, Membership, Next, Node, Paths, RecordError, Records,
-    Unpacked, count_of, decode, elements_of, encode, encode_value, is_member, variant_of,
+    Decoded, DecodedFront, Front, Layout, Membership, Next, Node, Preorder, RecordError, Records,
+    count_of, decode, elements_of, encode, encode_value, is_member, variant_of,
 };
 use std::alloc::Global;
 use test_devices::{Course, TestReader, courses};
@@ -46,9 +46,10 @@ impl<'a> Root<'a> {
         let is_front = wanted.ends_with("too few bytes are left") == (front.as_str() == "short");
         check(alloc, is_front, "front", front.as_str())?;
         self.expect_answers(bytes, wanted, wanted)?;
-        match rows_of(alloc, self.name, self.map, bytes) {
-            Ok(_) => check(alloc, false, "rows_of", "rows"),
-            Err(error) => expect(alloc, "rows_of", told(alloc, &error)?.as_str(), wanted),
+        let layout = Layout::new(alloc, self.name, self.map)?;
+        match Rows::new(alloc, &layout, bytes) {
+            Ok(_) => check(alloc, false, "rows", "rows"),
+            Err(error) => expect(alloc, "rows", told(alloc, &error)?.as_str(), wanted),
         }
     }
 
@@ -206,19 +207,28 @@ impl<'a> Root<'a> {
         }
     }
 
-    /// That each of the bytes is in one row of what `rows_of` says.
+    /// That each of the bytes is in one row.
     pub fn judge_rows(&self, bytes: &[u8]) -> Result<(), Wrong> {
         let alloc = self.alloc;
-        let mut joined = Vec::new(alloc);
-        match rows_of(alloc, self.name, self.map, bytes) {
-            Ok(rows) => {
-                for row in rows.as_slice() {
-                    joined.extend_from_slice(row.bytes)?;
-                }
-                check(alloc, joined.as_slice() == bytes, "rows_of", "other bytes")
-            }
-            Err(error) => check(alloc, false, "rows_of", told(alloc, &error)?.as_str()),
+        match self.joined_rows(bytes) {
+            Ok(joined) => check(alloc, joined.as_slice() == bytes, "rows", "other bytes"),
+            Err(error) => check(alloc, false, "rows", told(alloc, &error)?.as_str()),
         }
+    }
+
+    /// The bytes of all rows.
+    fn joined_rows(&self, bytes: &[u8]) -> Result<Vec<u8>, JsonError<'a>> {
+        let layout = Layout::new(self.alloc, self.name, self.map)?;
+        let mut rows = Rows::new(self.alloc, &layout, bytes)?;
+        let mut joined = Vec::new(self.alloc);
+        for _ in 0..u64::MAX {
+            let Some(row) = rows.next()? else {
+                break;
+            };
+            joined.extend_from_slice(row.bytes)?;
+            let _value = value_of(self.alloc, self.map, &row)?;
+        }
+        Ok(joined)
     }
 
     /// The JSON of the bytes, or why there is none.
@@ -252,25 +262,23 @@ impl<'a> Root<'a> {
     pub fn judge_nodes(&self, bytes: &[u8], wanted: &[&str]) -> Result<(), Wrong> {
         let alloc = self.alloc;
         self.judge_member(bytes)?;
-        let Decoded::Nodes(nodes) = decode(alloc, self.name, self.map, bytes)? else {
-            return check(alloc, false, "decode", "no nodes");
-        };
         let layout = Layout::new(alloc, self.name, self.map)?;
-        let mut unpacked = Unpacked::new(alloc, &layout, nodes.as_slice());
-        let mut paths = Paths::new(alloc, self.name);
+        let Membership::Member = layout.is_member(alloc, bytes)? else {
+            return check(alloc, false, "is_member", "no member");
+        };
+        let mut nodes = Preorder::new(alloc, &layout, bytes);
         for wanted in wanted {
-            let Some(node) = unpacked.next()? else {
+            let Ok(Some(node)) = nodes.next() else {
                 return check(alloc, false, "nodes", "too few");
             };
-            paths.enter(&node)?;
-            let path = paths.path(alloc)?;
-            let (depth, offset, name) = (node.depth, node.offset, node.name);
+            let (depth, offset, path) = (node.depth, node.offset, nodes.path());
+            let name = node.name;
             let own = digits_of(alloc, node.bytes)?;
             let detail = detail(alloc, &node)?;
             let line = format!(in alloc; "{depth} {offset} {path}: {name} {own}{detail}")?;
             expect(alloc, "a node", line.as_str(), wanted)?;
         }
-        check(alloc, unpacked.next()?.is_none(), "nodes", "too many")
+        check(alloc, matches!(nodes.next(), Ok(None)), "nodes", "too many")
     }
 }
 

@@ -1,8 +1,45 @@
-use Rattle.std.proofs.Common.{ap, sym}
-use Rattle.std.specs.Prelude.{option_map}
+use Rattle.std.proofs.Common.{◌∙◌, sym, ap, subst, Some, None, string_bytes}
 use Rattle.borsh_json.specs.Forms.{form_of, forms_in}
-use Rattle.borsh_json.proofs.RowsLaws.{told_by}
+use Rattle.borsh_json.specs.Rows.{IsText, IsValueText}
+use Rattle.borsh_json.proofs.FoundLaws.{got, got_at}
+use Rattle.std.specs.Option.{option_copied}
+use Rattle.borsh_json.proofs.RowsLaws.{primitive_value, text_value, count_value, variant_value, variant_there, if_same}
 use Rattle.borsh_json.proofs.rows.value_of.Goals as goal
 
-pub returns-in-Some : goal.returns-in-Some
-returns-in-Some c = told_by (forms_in c.args.map.now) c.args.node.now.name.now c.args.node.now.bytes.now (form_of c.in-Some.definition.now) (ap (λ o. option_map form_of o) (sym c.in-Some.ensures.value)) c.own_text.result c.own_text.ensures
+pub returns-in-Primitive : goal.returns-in-Primitive
+returns-in-Primitive c =
+    let n = c.args.node.now in
+    primitive_value (forms_in c.args.map.now) n.name.now n.bytes.now n.definition.now c.in-Primitive.size c.in-Primitive.is c.primitive_text.result (c.primitive_text.ensures n.name.now c.in-Primitive.size c.kind_of_primitive.ensures)
+
+pub returns-then-is_text : goal.returns-then-is_text
+returns-then-is_text c =
+    let n = c.args.node.now in
+    let F = forms_in c.args.map.now in
+    let t = c.is_text.ensures.0 c.if-is_text.true in
+    text_value F n.name.now n.bytes.now n.definition.now _ _ _ c.in-Sequence.is (subst (λ e. IsText F n.name.now e) c.as_str.ensures.value t) c.elements_of.result.now c.elements_of.ensures c.quoted.result c.quoted.ensures
+
+pub returns-else-is_text : goal.returns-else-is_text
+returns-else-is_text c =
+    let n = c.args.node.now in
+    let F = forms_in c.args.map.now in
+    count_value F n.name.now n.bytes.now n.definition.now _ _ _ c.in-Sequence.is (λ t. let q = c.is_text.ensures.1 (subst (λ e. IsText F n.name.now e) (sym c.as_str.ensures.value) t) in let f = c.if-is_text.false in cc) c.count_of.result c.count_of.ensures c.counted_text.result c.counted_text.ensures
+
+pub returns-in_default-variant_of : goal.returns-in_default-variant_of
+returns-in_default-variant_of c =
+    let n = c.args.node.now in
+    variant_value (forms_in c.args.map.now) n.name.now n.bytes.now n.definition.now _ _ c.in-Enum.is None c.in_default-variant_of.ensures (string_bytes c.new.result) c.new.ensures.bytes
+
+pub returns-in-Some-get : goal.returns-in-Some-get
+returns-in-Some-get c =
+    let n = c.args.node.now in
+    let F = forms_in c.args.map.now in
+    let u = c.in-Some-get.field-0.now in
+    let g = got_at c.in-Enum.variants.items c.deref.result.now c.in-Some.index c.get.result c.in-Some-get.field-0 c.deref.ensures.value c.get.ensures.lookup.3 c.in-Some-get.is in
+    let t = c.as_str-in-Some-get.result.now in
+    if_same (λ t. IsValueText F n.name.now (form_of n.definition.now) n.bytes.now t) c.from_str.result t c.from_str.ensures.ok (variant_value F n.name.now n.bytes.now n.definition.now _ _ c.in-Enum.is (Some c.in-Some.index) c.in-Some.ensures t (u, g, c.as_str-in-Some-get.ensures.value))
+
+pub returns-in-None : goal.returns-in-None
+returns-in-None c =
+    let n = c.args.node.now in
+    let g = sym (got c.in-Enum.variants.items c.deref.result.now c.in-Some.index c.get.result c.deref.ensures.value c.get.ensures.lookup.3) ∙ ap (λ o. option_copied o) c.in-None.is in
+    absurd (variant_there (forms_in c.args.map.now) n.name.now n.bytes.now n.definition.now _ _ c.in-Enum.is c.in-Some.index c.in-Some.ensures g)

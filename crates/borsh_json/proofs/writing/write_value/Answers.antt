@@ -1,8 +1,11 @@
-use Rattle.std.proofs.Common.{◌≡◌, List, ℕ, refl, sym, ◌∙◌, ap, subst, false}
+use Rattle.std.proofs.Common.{◌≡◌, List, ℕ, refl, sym, ◌∙◌, ap, subst, false, All}
 use Rattle.std.specs.Prelude.{Bool}
+use Rattle.json.specs.Print.{print}
+use Rattle.borsh_json.specs.Ascii.{IsInLine}
 use Rattle.borsh_json.specs.Found.{forms_of, names_of}
 use Rattle.borsh_json.specs.Leaves.{output_tokens}
 use Rattle.borsh_json.specs.Writes.{IsWhole, IsWriting, IsWrittenOn}
+use Rattle.borsh_json.proofs.LineLaws.{compact_line}
 use Rattle.borsh_json.proofs.WritingLaws.{whole_read}
 use Rattle.borsh_json.proofs.WritingSteps.{writing_start}
 use Rattle.borsh_json.proofs.writing.write_value.Goals as goal
@@ -23,8 +26,8 @@ loop-init c =
       refl,
     )
 
-pub returns-then-not-more-clause-says : goal.returns-then-not-more-clause-says
-returns-then-not-more-clause-says c =
+pub returns-then-is_in-clause-says : goal.returns-then-is_in-clause-says
+returns-then-is_in-clause-says c =
     let d = c.args.definitions.now in
     let F = forms_of d in
     let root = d.layout.now.root.now in
@@ -36,3 +39,13 @@ returns-then-not-more-clause-says c =
     let w = subst (λ (b : List ℕ). IsWhole F root (output_tokens new.out) b) (b ∙ c.loop.invariant.1) h.whole in
     let r = whole_read F root c.into_bytes.result.items (output_tokens new.out) c.args.bytes.now (c.into_bytes.ensures.tokens h.fresh) w in
     (r.0, r.1, r.2, c.requires.member)
+
+pub returns-then-is_in-clause-line : goal.returns-then-is_in-clause-line
+returns-then-is_in-clause-line c = λ q.
+    let new = c.write_next.new.self in
+    let t = c.if-not-more.true in
+    let e : c.in_ok-more.more ≡ false = cc in
+    let h = subst (λ (more : Bool). IsWrittenOn c.args.definitions.now new more) e c.in_ok-more.ensures.state in
+    let w = h.whole in
+    let p = c.into_bytes.ensures.compact (c.is_in.ensures q c.if-is_in.true) h.fresh in
+    subst (λ (l : List ℕ). All IsInLine l) (sym (p ∙ ap (λ ts. print ts) w.1)) (compact_line w.0 w.2)

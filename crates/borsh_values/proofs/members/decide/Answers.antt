@@ -16,6 +16,7 @@ use Rattle.borsh_values.specs.Steps.{NoneBegins, OpensAs, pending, remaining}
 use Rattle.borsh_values.proofs.Packing.{untaken, parts_left, as_opened, still_left}
 use Rattle.borsh_values.proofs.Answers.{before, before_whole, before_start, suffix_start, suffix_on, refused_why, answers_no, is_front}
 use Rattle.borsh_values.proofs.Going.{Going, Listed, defined_in, going_start, skip_listed, going_skip, less_skip, going_reached, going_back, going_leads, going_next, going_denied, going_missing, room, going_new, going_on, going_past, less_new, less_on, less_past, listed_on, going_pass, fewer_pass, less_pass, packed_front, listed_packed, parts_unknown, going_up, going_up_empty, up_listed, less_up, going_end}
+use Rattle.borsh_values.proofs.KeptLaws.{Kept, kept_on, kept_less}
 use Rattle.borsh_values.proofs.Listing.{all_views, definitions_more}
 use Rattle.borsh_values.proofs.NodesLaws.{nodes_bytes}
 use Rattle.borsh_values.proofs.Offsets.{total, placed_more}
@@ -60,6 +61,9 @@ loop-behind-smaller-in-Some c =
     let rest = c.loop-behind.left.now in
     subst (λ b. left l.map.now ns (length b) 0 (with_rest c.loop-behind.frame c.in-Some.behind.rest ∷ fs) < left l.map.now ns (length rest) c.loop-behind.idle (c.loop-behind.frame ∷ fs)) (sym p.4)
     (subst (λ r. left l.map.now ns (length (drop p.0.taken rest)) 0 (with_rest c.loop-behind.frame r ∷ fs) < left l.map.now ns (length rest) c.loop-behind.idle (c.loop-behind.frame ∷ fs)) (sym p.3) (less_pass l i.going p.0 p.2))
+
+most_less : (a b c : ℕ) → a ≤ b → b < c → a < c
+most_less a b c h k = omega (arith, h, k)
 
 none_taken : (n : ℕ) (xs ys : List ℕ) → n ≡ 0 → before xs ys ++ take n ys ≡ before xs ys
 none_taken n xs ys z = ap (λ i. before xs ys ++ take i ys) z ∙ append-nil (before xs ys)
@@ -281,8 +285,14 @@ loop-behind-smaller-then-has_parts c =
     let f : Frame = record { at = s.at; start = length c.loop-behind.left.now; rest = r } in
     let back = last_first c.loop-behind.stack.items c.push-then-has_parts.new.self.items (with_rest c.loop-behind.frame s.others) c.in_ok-push-in-Taken.ensures.items in
     let more = positive n c.if-taken-eq0.false in
+    let stacked = reverse c.push-then-has_parts.new.self.items in
+    let behind = c.in_ok-listed-in-Taken.listed in
+    let going : Going l (before c.args.bytes.now bytes ++ take n bytes) c.loop-behind.marks.items stacked f c.after-left.result.now 0 = subst (λ b. Going l (before c.args.bytes.now bytes ++ take n bytes) c.loop-behind.marks.items stacked f b 0) (sym c.after-left.ensures) (subst (λ v. Going l (before c.args.bytes.now bytes ++ take n bytes) c.loop-behind.marks.items v f (drop n bytes) 0) (sym back) (going_on l i.going s g d sh n r o more)) in
+    let most = kept_less l c.args.bytes.now c.args.wanted c.args.opened.now c.count_one-else-taken-eq0.new.count c.offset_of-next.result behind going c.in_ok-listed-in-Taken.ensures in
+    let one : left l.map.now ns (length c.after-left.result.now) 0 (f ∷ stacked) < left l.map.now ns (length bytes) c.loop-behind.idle (c.loop-behind.frame ∷ fs) =
     subst (λ b. left l.map.now ns (length b) 0 (f ∷ reverse c.push-then-has_parts.new.self.items) < left l.map.now ns (length c.loop-behind.left.now) c.loop-behind.idle (c.loop-behind.frame ∷ fs)) (sym c.after-left.ensures)
-    (subst (λ q. left l.map.now ns (length (drop n c.loop-behind.left.now)) 0 (f ∷ q) < left l.map.now ns (length c.loop-behind.left.now) c.loop-behind.idle (c.loop-behind.frame ∷ fs)) (sym back) (less_on l i.going s g d sh n r o more))
+    (subst (λ q. left l.map.now ns (length (drop n c.loop-behind.left.now)) 0 (f ∷ q) < left l.map.now ns (length c.loop-behind.left.now) c.loop-behind.idle (c.loop-behind.frame ∷ fs)) (sym back) (less_on l i.going s g d sh n r o more)) in
+    most_less (left l.map.now ns (length behind.left.now) 0 (with_rest f behind.rest ∷ stacked)) (left l.map.now ns (length c.after-left.result.now) 0 (f ∷ stacked)) (left l.map.now ns (length bytes) c.loop-behind.idle (c.loop-behind.frame ∷ fs)) most one
 
 pub loop-behind-smaller-else-has_parts : goal.loop-behind-smaller-else-has_parts
 loop-behind-smaller-else-has_parts c =
@@ -340,17 +350,29 @@ loop-behind-preserved-then-has_parts c =
     let new = c.list_node-else-taken-eq0.new.nodes.items in
     let f : Frame = record { at = s.at; start = length c.loop-behind.left.now; rest = r } in
     let back = last_first c.loop-behind.stack.items c.push-then-has_parts.new.self.items (with_rest c.loop-behind.frame s.others) c.in_ok-push-in-Taken.ensures.items in
-    record {
+    let stacked = reverse c.push-then-has_parts.new.self.items in
+    let kept : Kept l c.args.bytes.now c.args.wanted c.args.opened.now c.count_one-else-taken-eq0.new.count c.loop-behind.marks.items stacked f c.after-left.result.now new = record {
       going = subst (λ d. Going l d c.loop-behind.marks.items (reverse c.push-then-has_parts.new.self.items) f c.after-left.result.now 0) ends.2 (subst (λ b. Going l read c.loop-behind.marks.items (reverse c.push-then-has_parts.new.self.items) f b 0) (sym c.after-left.ensures) (subst (λ v. Going l read c.loop-behind.marks.items v f (drop n c.loop-behind.left.now) 0) (sym back) (going_on l i.going s g d sh n r o more)));
       within = ends.0;
       suffix = ends.1;
-      risen = omega (arith, i.risen, c.count_one-else-taken-eq0.ensures.risen);
       opened = opened_on D all c.args.opened.now c.loop-behind.opened c.count_one-else-taken-eq0.new.count (length c.after-left.result.now) (length c.loop-behind.left.now) c.loop-behind.idle fewer i.opened c.count_one-else-taken-eq0.ensures.by_one;
       few = λ w. few_on D all (length old) (length new) (length c.after-left.result.now) (length c.loop-behind.left.now) c.loop-behind.idle fewer (i.few w) (listed_more C node old new (c.in_ok-list_node-in-Taken.ensures w));
       placed = λ w. placed_more C node old new n all c.loop-behind.left.now c.after-left.result.now c.offset_of-offset.ensures c.front.ensures c.after-left.ensures (c.in_ok-list_node-in-Taken.ensures w) (i.placed w);
       definitions = λ w. definitions_more l.map.now C node old new (ap (λ x. get_by_text l.map.now x) c.name_of-name.ensures ∙ (looked_up_at l.map.now l.root.now ns l.parts.items i.going.laid s.at g.within ∙ sym c.in-Some-definition_at.ensures.definition)) (c.in_ok-list_node-in-Taken.ensures w) (i.definitions w);
-      tags = c.in_ok-open_definition-in-Some-next_part.ensures.tables;
       listed = λ w m. subst (λ b. Listed l b (pending ns (f ∷ reverse c.push-then-has_parts.new.self.items)) new) ends.2 (subst (λ q. Listed l read (remaining ns r ++ pending ns q) new) (sym back) (listed_on l i.going s g d sh n r o node old new c.name_of-name.ensures refl c.front.ensures (parts_unknown l i.going s g d sh n r o c.args.bytes.now (before_whole c.args.bytes.now bytes i.suffix) m (still_left C ns c.args.wanted own parts bytes p leaves w)) (c.in_ok-list_node-in-Taken.ensures w) (i.listed w m)));
+    } in
+    let on = kept_on l c.args.bytes.now c.args.wanted c.args.opened.now c.count_one-else-taken-eq0.new.count c.offset_of-next.result c.in_ok-listed-in-Taken.listed kept c.in_ok-listed-in-Taken.ensures c.offset_of-next.ensures in
+    record {
+      going = on.going;
+      within = on.within;
+      suffix = on.suffix;
+      risen = omega (arith, i.risen, c.count_one-else-taken-eq0.ensures.risen);
+      opened = on.opened;
+      few = on.few;
+      placed = on.placed;
+      definitions = on.definitions;
+      tags = c.in_ok-open_definition-in-Some-next_part.ensures.tables;
+      listed = on.listed;
     }
 
 pub loop-behind-preserved-else-has_parts : goal.loop-behind-preserved-else-has_parts

@@ -23,4 +23,4 @@ returns-in-Some-checked_add c =
     let found = subst (λ b. FoundAs vs b (One i)) c.as_slice.ensures (subst (λ f. FoundAs vs c.as_slice.result.now f) c.in-One.is c.find_variant.ensures) in
     let at = ap (λ s. slice_get (parts_in s) i) (sym c.requires.shape) ∙ c.in-Some.ensures.place.1 in
     let sum = c.in-Some-checked_add.ensures in
-    subst (λ n. IsTagLength C x c.args.tag n) {x = size + 1} {y = c.in-Some-checked_add.length} (omega (arith, sum)) (tag_length C c.args.tag i size p vs (defined_in l c.requires.laid_out c.args.at c.requires.within ∙ c.requires.shape) found at c.in-Some-payload_size.ensures)
+    subst (λ n. IsTagLength C x c.args.tag n) {x = size + 1} {y = c.in-Some-checked_add.length} (omega (arith, sum)) (tag_length C c.args.tag i size p vs (defined_in l c.requires.laid_out c.args.at c.requires.within ∙ c.requires.shape) found at c.in-Some-payload_size.ensures (omega (arith, sum)))

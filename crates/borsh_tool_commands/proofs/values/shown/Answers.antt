@@ -1,8 +1,0 @@
-use Rattle.borsh_json.specs.Errors.{IsNoRowsReason}
-use Rattle.borsh_walks.specs.Definitions.{definitions_in}
-use Rattle.borsh_tool_commands.proofs.Failing.{led, reasoned}
-use Rattle.borsh_tool_commands.proofs.values.shown.Goals as goal
-
-pub returns-in-Err-clause-err : goal.returns-in-Err-clause-err
-returns-in-Err-clause-err c =
-    led _ (λ h. h) (reasoned (λ r. IsNoRowsReason (definitions_in c.args.schema.now.definitions) r c.args.bytes.now) c.in-Err.error c.as_str.ensures.value c.in-Err.ensures.reason) (λ h. h) c.no_value.result c.no_value.ensures
