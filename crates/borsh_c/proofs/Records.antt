@@ -93,5 +93,5 @@ module _ {schema : List ℕ} (c : String Global × Definitions) (encoded : root_
   -- why the first value has no line
   pub line_refused : (values lengths : List ℕ) (count : ℕ) (e : JsonError) → count ≤ 0 → IsNoLine c.1 root lengths values count (Some e) → (t : Refusal) → TellsNoValue e t → IsRefused schema (HasNoLine values lengths) IsUnclear t
   line_refused values [] count e h n t told = absurd (omega (arith, n.0))
-  line_refused values (k ∷ ks) zero e h n t told = bytes_refused c encoded root named (take k values) e n.1 t told
+  line_refused values (k ∷ ks) zero e h n t told = bytes_refused c encoded root named (take k values) e n.1 n.2 t told
   line_refused values (k ∷ ks) (suc i) e h n t told = absurd (omega (arith, h))

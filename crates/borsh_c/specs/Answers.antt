@@ -5,6 +5,8 @@ use Rattle.std.specs.BTreeMap.{BTreeMap}
 use Rattle.json.specs.Json.{document}
 use Rattle.borsh_json.specs.Forms.{forms_in}
 use Rattle.borsh_json.specs.Represents.{TextSays}
+use Rattle.borsh_json.specs.Writes.{RefusesBytes}
+use Rattle.borsh_json.specs.declared.error.Refusal.{Refusal as JsonRefusal}
 use Rattle.borsh_codec.specs.Codec.{IsDecodable}
 use Rattle.borsh_definitions.specs.Codecs.{root_and_map}
 use Rattle.borsh_walks.specs.Container.{Shape, Rule, Breaks, Member, MaxSize, PartialSize, IsRecursive, IsValid, Reached, SizeReaches}
@@ -129,9 +131,9 @@ IsJsonOf value text m root = TextSays (forms_in m) root text value
 abbrev pub AreBytesOf : List ℕ → List ℕ → Saying
 AreBytesOf json value = IsJsonOf value json
 
--- an offset is told only where the bytes are no member of the root, and is then that of a fault
+-- an offset is told only where the bytes are no member of the root, and is then that of a fault; without one they are a member, and there is a reason why it has no JSON
 abbrev pub HasNoJson : List ℕ → Option ℕ → List ℕ → Saying
-HasNoJson value None text m root = ⊤
+HasNoJson value None text m root = Member (definitions_in m) root value × ((r : JsonRefusal) × RefusesBytes (forms_in m) root value r)
 HasNoJson value (Some offset) text m root = IsNoMember value (Some offset) text m root
 
 -- an offset is told only where the text isn't JSON

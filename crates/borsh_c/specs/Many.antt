@@ -8,6 +8,8 @@ use Rattle.borsh_values.specs.Membership.{IsUndecided}
 use Rattle.borsh_values.specs.Unambiguous.{IsUnambiguous}
 use Rattle.borsh_values.specs.declared.faults.Fault.{Fault}
 use Rattle.borsh_json.specs.Errors.{IsNoJsonReason}
+use Rattle.borsh_json.specs.Forms.{forms_in}
+use Rattle.borsh_json.specs.Writes.{ShowsNoJson}
 use Rattle.borsh_json.specs.declared.error.JsonError.{JsonError}
 use Rattle.borsh_c.specs.Answers.{Alone, Answers, About, Definitions, Saying, HasNoJson, IsJsonOf, IsUnclear, Never}
 use Rattle.borsh_c.specs.declared.many.Stop.{Stop}
@@ -60,7 +62,10 @@ module _ (m : Definitions) (root : List ℕ) where
   -- why the value behind so many others has no line, if there is one
   abbrev pub IsNoLine : List ℕ → List ℕ → ℕ → Option JsonError → Type 0
   IsNoLine lengths values count None = count ≡ length lengths
-  IsNoLine lengths values count (Some e) = (count < length lengths) × IsNoJsonReason (definitions_in m) root (take (slice_index lengths count) (behind (take count lengths) values)) e
+  IsNoLine lengths values count (Some e) =
+      (count < length lengths)
+      × IsNoJsonReason (definitions_in m) root (take (slice_index lengths count) (behind (take count lengths) values)) e
+      × ShowsNoJson (forms_in m) root (take (slice_index lengths count) (behind (take count lengths) values)) e
 
 -- the first values have lines, and at least one has
 pub record AreLines (values lengths : List ℕ) (count : ℕ) (text : List ℕ) (m : Definitions) (root : List ℕ) : Type 0 where

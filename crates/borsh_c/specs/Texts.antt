@@ -38,9 +38,18 @@ offset_in (Ambiguous name) = None
 offset_in (NotJson offset) = Some offset
 offset_in (Refused path refusal) = None
 
+-- the error is no want of memory, and no name is undecided
+abbrev pub IsNo : JsonError → Type 0
+IsNo NoJsonRoom = ⊥
+IsNo (NoMember f) = ⊤
+IsNo NoValue = ⊤
+IsNo (Ambiguous name) = ⊥
+IsNo (NotJson offset) = ⊤
+IsNo (Refused path refusal) = ⊤
+
 -- no, with the error's offset, or undecided where a name is undecided
 abbrev pub TellsNoValue : JsonError → Refusal → Type 0
-TellsNoValue e (No t) = t.offset ≡ offset_in e
+TellsNoValue e (No t) = (t.offset ≡ offset_in e) × IsNo e
 TellsNoValue e (Malformed t) = ⊥
 TellsNoValue e OutOfMemory = ⊤
 TellsNoValue e (Undecided t) = (name : Bor (List ℕ)) × (e ≡ Ambiguous name) × (string_bytes t ≡ unclear_text name.now)

@@ -3,6 +3,7 @@ ghost use Rattle.std.specs.Prelude.{[], ◌≡◌, IfErr, IfOk, None, OnOk, Some
 ghost use Rattle.borsh_c.specs.Answers.{About, Alone, AreBytesOf, HasNoJson, HasNoSize, IsInvalid, IsJsonOf, IsNoMember, IsNoText, IsRefused, IsUnclear, Never, Tells, unclear_text, wherever};
 ghost use Rattle.borsh_c.specs.Texts.{TellsBroken, TellsNoSize, TellsNoValue, TellsUnread};
 ghost use Rattle.borsh_definitions.specs.Codecs.{root_and_map};
+ghost use Rattle.borsh_json.specs.declared.output.Characters.TheVariants.{Any};
 ghost use Rattle.borsh_io.specs.Errors.{error_kind};
 ghost use Rattle.borsh_walks.specs.Container.{IsValid, MaxSize, Member};
 ghost use Rattle.borsh_walks.specs.Definitions.{definitions_in};
@@ -183,6 +184,7 @@ pub fn unclear(alloc: Global, name: &str) -> Result<String, AllocError>
 
 /// The JSON of the value that the bytes are.
 pub fn json_of(alloc: Global, schema: &[u8], value: &[u8], style: Style) -> Result<String, Refusal>
+    requires { style.characters ≡ Any }
     ensures ok { IfOk result (λ text. About schema.now (IsJsonOf value.now (string_bytes text))) }
     ensures err { IfErr result (λ e. IsRefused schema.now (HasNoJson value.now) IsUnclear e) }
 {

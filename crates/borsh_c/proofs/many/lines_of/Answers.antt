@@ -7,8 +7,8 @@ use Rattle.borsh_c.proofs.Records.{by_json, by_layout, line_refused}
 use Rattle.borsh_c.proofs.Told.{about_told}
 use Rattle.borsh_c.proofs.many.lines_of.Goals as goal
 
-pub write_lines-requires : goal.write_lines-requires
-write_lines-requires c =
+pub write_lines-requires-clause-kinds : goal.write_lines-requires-clause-kinds
+write_lines-requires-clause-kinds c =
     let l = c.in_ok-layout.ensures in
     c.in_ok-json.ensures.known (laid_by c.in_ok-layout.layout c.as_str.result c.in_ok-layout.layout.map l.same.0 refl (subst (λ map. IsLayout map c.as_str.result.now c.in_ok-layout.layout.names.items c.in_ok-layout.layout.parts.items) (ap (λ b. b.now) (sym l.same.1)) l.layout)) l.sizes
 
