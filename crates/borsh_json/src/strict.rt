@@ -3,10 +3,11 @@ ghost use Rattle.borsh_json.specs.Words.{IsLaidOut, IsNoJsonReason, IsPartError,
 ghost use Rattle.std.specs.Prelude.{IfErr, IfSome, OnOk};
 
 use crate::definitions::Definitions;
-use crate::error::{JsonError, PartError, PartResult, Refusal};
+use crate::error::{JsonError, PartResult, Refusal};
 use crate::floats::is_nan;
 use crate::kinds::{Elements, Kind, kind_of_primitive};
 use crate::order::{Ascent, first_descent};
+use crate::position::refused_at;
 use crate::rows::next_node;
 use borsh_values::{Layout, Membership, Node, Path, PathStep, Preorder, elements_of};
 use borsh_walks::Definition;
@@ -18,8 +19,7 @@ use std::str;
 /// nor 1, a `String` that isn't UTF-8, a non-zero number of 0, an `f32` or `f64` that is a NaN, a set or map whose keys don't
 /// ascend or have no bytes, and a list with a length whose elements have no bytes.
 ///
-/// The order of keys is known of numbers, `bool`, texts, and of tuples, arrays, lists, ordered sets and maps, and options of
-/// these. Keys of other types, as structs and enums, are taken in any order.
+/// The order of keys is known as for [`to_json`](crate::to_json); other keys are taken in any order.
 ///
 /// Determined: after `Ok` the bytes are a member of the root; the errors are as of [`to_json`](crate::to_json). Left open:
 /// memory; `Ok` for any member, and `Refused` for any: tested.
@@ -78,35 +78,21 @@ fn check_node<'a>(
     if let Some(Some(ascent)) = open.last_mut() {
         ascent.begin(node.offset);
         if !ascent.ascends(definitions, bytes)? {
-            return Err(refused(definitions.alloc, path, None, Refusal::Descends));
+            return Err(refused_at(path_to(definitions.alloc, path, None), Refusal::Descends));
         }
     }
     let Some(kind) = definitions.kind_of_node(node) else {
-        return Err(refused(definitions.alloc, path, None, Refusal::OtherNodes));
+        return Err(refused_at(path_to(definitions.alloc, path, None), Refusal::OtherNodes));
     };
     if let Some((index, refusal)) = wrong_in(definitions, node, kind) {
-        return Err(refused(definitions.alloc, path, index, refusal));
+        return Err(refused_at(path_to(definitions.alloc, path, index), refusal));
     }
     open.push(ascent_of(kind))?;
     Ok(())
 }
 
-/// The refusal of the node with this path, or of an element of it.
-fn refused<'a>(
-    alloc: Global,
-    path: &Path<'a>,
-    index: Option<usize>,
-    refusal: Refusal,
-) -> PartError<'a>
-    ensures { IsUnwritable refusal → IsPartError IsUnwritable result }
-{
-    match path_to(alloc, path, index) {
-        Ok(path) => PartError::Refused(path, refusal),
-        Err(_) => PartError::OutOfMemory,
-    }
-}
-
-fn path_to<'a>(
+/// The path, or that to an element.
+pub fn path_to<'a>(
     alloc: Global,
     path: &Path<'a>,
     index: Option<usize>,
