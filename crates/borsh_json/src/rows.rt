@@ -93,7 +93,6 @@ impl<'a, 'l, 'b> Rows<'a, 'l, 'b> {
         self.nodes.path()
     }
 
-    /// The refusal of the node that was given last.
     fn too_deep(&self) -> JsonError<'a>
         ensures { IsNoRow (rows_layout self.now).now result }
     {

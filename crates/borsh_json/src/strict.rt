@@ -136,7 +136,6 @@ fn wrong_in(definitions: &Definitions<'_, '_>, node: &Node<'_, '_>, kind: Kind<'
     }
 }
 
-/// What is wrong with a primitive of this kind.
 fn wrong_number(kind: Kind<'_>, bytes: &[u8], index: Option<usize>) -> Option<Wrong>
     ensures { IfSome result (λ w. IsUnwritable w.1) }
 {
