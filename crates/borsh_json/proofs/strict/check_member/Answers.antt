@@ -1,8 +1,8 @@
-use Rattle.std.proofs.Common.{◌≡◌, ap, ◌∙◌, subst, Bor, IfErr}
+use Rattle.std.proofs.Common.{ap, ◌∙◌, subst, Bor}
 use Rattle.std.proofs.lemmas.Result.{err_from_is_err_and}
 use Rattle.borsh_values.specs.declared.layout.Layout.{Layout}
 use Rattle.borsh_json.specs.Rows.{IsNoRow}
-use Rattle.borsh_json.specs.Words.{IsNoJsonReason, definitions_in}
+use Rattle.borsh_json.specs.Words.{definitions_in}
 use Rattle.borsh_json.proofs.RowsLaws.{no_json}
 use Rattle.borsh_json.proofs.strict.check_member.Goals as goal
 
