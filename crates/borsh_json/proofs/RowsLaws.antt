@@ -14,11 +14,43 @@ use Rattle.borsh_values.specs.Nodes.{AreElementsOf, IsCountOf, IsVariantOf, Open
 use Rattle.borsh_values.specs.Tags.{IsVariantIndex}
 use Rattle.borsh_values.specs.declared.nodes.Node.{Node}
 use Rattle.borsh_values.specs.Preorder.{GivesNode, bytes_left, next_offset}
+use Rattle.borsh_walks.specs.Container.{Shape}
+use Rattle.borsh_json.specs.declared.error.JsonError.{JsonError}
+use Rattle.borsh_json.specs.declared.error.JsonError.TheVariants.{OutOfMemory, NoMember, NoValue, Ambiguous, NotJson, Refused}
+use Rattle.borsh_json.specs.declared.error.Refusal.{Refusal}
+use Rattle.borsh_json.specs.declared.error.Refusal.TheVariants.{TooDeep, RepeatedName, EmptyElements, NotBool, NotUtf8, Zero, NotNumber, Descends, OtherNodes, Expected, MissingField, UnknownName, RepeatedKey, Undefined}
+use Rattle.borsh_json.specs.Errors.{IsNoJsonReason, IsNoRowsReason, IsTooDeep, IsUnwritable}
 use Rattle.borsh_json.specs.Forms.{Form, form_of}
 use Rattle.borsh_json.specs.Rows.{AreRows, IsNextRow, IsPrimitiveText, IsQuoted, IsText, IsValueText, counted, rows_layout}
 use Rattle.borsh_json.specs.Table.{primitive_kind}
 use Rattle.borsh_json.specs.declared.rows.Rows.{Rows}
 use Rattle.borsh_json.proofs.FormsLaws.{twice}
+
+-- a refusal for depth is one for which a member has no JSON
+deep_reason : (r : Refusal) → IsTooDeep r → IsUnwritable r
+deep_reason TooDeep h = tt
+deep_reason (RepeatedName n) h = absurd h
+deep_reason EmptyElements h = absurd h
+deep_reason NotBool h = absurd h
+deep_reason NotUtf8 h = absurd h
+deep_reason Zero h = absurd h
+deep_reason NotNumber h = absurd h
+deep_reason Descends h = absurd h
+deep_reason OtherNodes h = absurd h
+deep_reason (Expected w) h = absurd h
+deep_reason MissingField h = absurd h
+deep_reason (UnknownName n) h = absurd h
+deep_reason (RepeatedKey n) h = absurd h
+deep_reason (Undefined n) h = absurd h
+
+-- why there are no rows is why there is no JSON
+pub no_json : (C : List ℕ → Option Shape) (root bytes : List ℕ) (e : JsonError) → IsNoRowsReason C root bytes e → IsNoJsonReason C root bytes e
+no_json C root bytes OutOfMemory h = tt
+no_json C root bytes (NoMember f) h = h
+no_json C root bytes NoValue h = absurd h
+no_json C root bytes (Ambiguous x) h = h
+no_json C root bytes (NotJson i) h = absurd h
+no_json C root bytes (Refused p r) h = (h.0, deep_reason r h.1)
 
 -- so far no row is given
 pub record NoneYet (old now : Rows) : Type 0 where

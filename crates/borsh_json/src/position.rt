@@ -1,5 +1,5 @@
 // Where in a value the reader or writer is.
-ghost use Rattle.borsh_json.specs.Words.{GivesPart, IsFull, IsKnown, IsOf, IsOfRead, IsOfWrite, IsPartError, IsReadRefusal, IsUnreadable, Root, TooDeep};
+ghost use Rattle.borsh_json.specs.Words.{GivesPart, IsFull, IsKnown, IsOf, IsOfRead, IsOfWrite, IsPartError, IsReadRefusal, IsUnreadable, IsUnwritable, Root, TooDeep};
 ghost use Rattle.borsh_json.specs.declared.error.Refusal.TheVariants.{Descends};
 ghost use Rattle.std.specs.Prelude.{◌≡◌, ◌+◌, ◌^◌, ◌<◌, ◌≤◌, ◌∷◌, ◌++◌, [], true, false, ℕ, List, None, length, IfErr, IfSome, MatchOption, OnOk};
 
@@ -322,9 +322,10 @@ impl<'a, 'k> Position<'a, 'k> {
     }
 }
 
-fn refused_at<'a>(path: Result<Path<'a>, AllocError>, refusal: Refusal) -> PartError<'a>
+pub fn refused_at<'a>(path: Result<Path<'a>, AllocError>, refusal: Refusal) -> PartError<'a>
     ensures same { IsOf refusal result }
     ensures reading { IsUnreadable refusal → IsPartError IsUnreadable result }
+    ensures writing { IsUnwritable refusal → IsPartError IsUnwritable result }
 {
     match path {
         Ok(path) => PartError::Refused(path, refusal),

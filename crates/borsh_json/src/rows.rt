@@ -8,7 +8,7 @@ use crate::error::{JsonError, Refusal};
 use crate::floats::shortest;
 use crate::kinds::{Kind, kind_of_primitive};
 use crate::numbers::Number;
-use crate::opening::put_number;
+use crate::strict::path_to;
 use borsh_values::{
     Layout, Membership, Node, Path, Preorder, PreorderError, count_of, elements_of, variant_of,
 };
@@ -20,9 +20,8 @@ use std::collections::BTreeMap;
 use std::str;
 
 /// What each of the bytes of a value is, one row after another: a row is the node of the count of a list, with its elements if
-/// these are primitives; of the tag of an enum; or of a primitive. [`value_of`] says what its bytes say.
-///
-/// As much memory is taken as values are in one another, at most 128.
+/// these are primitives; of the tag of an enum; or of a primitive. [`value_of`] says what its bytes say. As much memory is taken
+/// as values are in one another, at most 128.
 ///
 /// ```
 /// let layout = Layout::new(alloc, "(u8, bool)", &definitions)?;
@@ -94,22 +93,18 @@ impl<'a, 'l, 'b> Rows<'a, 'l, 'b> {
         self.nodes.path()
     }
 
-    /// The refusal of the node that was given last.
     fn too_deep(&self) -> JsonError<'a>
         ensures { IsNoRow (rows_layout self.now).now result }
     {
-        let path = self.nodes.path();
-        match Vec::from_slice(self.alloc, path.steps.as_slice()) {
-            Ok(steps) => {
-                let root = path.root;
-                JsonError::Refused(Path { root, steps }, Refusal::TooDeep)
-            }
+        match path_to(self.alloc, self.nodes.path(), None) {
+            Ok(path) => JsonError::Refused(path, Refusal::TooDeep),
             Err(_) => JsonError::OutOfMemory,
         }
     }
 }
 
-fn next_node<'a, 'b>(
+/// The next node of a member.
+pub(crate) fn next_node<'a, 'b>(
     nodes: &mut Preorder<'a, '_, 'b>,
 ) -> Result<Option<Node<'a, 'b>>, JsonError<'a>>
     requires { IsInValue nodes.old }
@@ -196,22 +191,11 @@ fn number_text(alloc: Global, number: Number, bytes: &[u8]) -> Result<String, Al
     ensures { number.size ≤ 16 →
         IfOk result (λ v. IsWhole number.size number.is_signed false (string_bytes v) bytes.now) }
 {
-    let mut buffer = Buffer::new();
-    let text = number.decimal(&mut buffer, bytes);
-    let with_zero = Number {
-        is_non_zero: false,
-        ..number
-    };
-    let mut read = Vec::new(alloc);
-    if let Some(found) = with_zero.bytes(text) {
-        put_number(with_zero, found, &mut read)?;
-        let is_same = read.as_slice() == bytes;
-        if is_same {
-            return String::from_str(alloc, text);
-        }
+    if bytes.len() != usize::from(number.size) {
+        return Err(AllocError);
     }
-    // The text reads as these bytes.
-    Err(AllocError)
+    let mut buffer = Buffer::new();
+    String::from_str(alloc, number.decimal(&mut buffer, bytes))
 }
 
 fn quoted(alloc: Global, bytes: &[u8]) -> Result<String, AllocError>

@@ -1,13 +1,15 @@
 // Whether a type takes a member, as far as names tell.
-ghost use Rattle.borsh_json.specs.Words.{IsNoJsonReason, IsPartError, IsUnwritable, Member, definitions_in};
+ghost use Rattle.borsh_json.specs.Words.{IsLaidOut, IsNoJsonReason, IsPartError, IsUnwritable, KnowsSizes, Member, definitions_in};
 ghost use Rattle.std.specs.Prelude.{IfErr, IfSome, OnOk};
 
 use crate::definitions::Definitions;
-use crate::error::{JsonError, PartError, Refusal};
+use crate::error::{JsonError, PartResult, Refusal};
 use crate::floats::is_nan;
 use crate::kinds::{Elements, Kind, kind_of_primitive};
 use crate::order::{Ascent, first_descent};
-use borsh_values::{Decoded, Layout, Node, PathStep, Paths, Unpacked, elements_of};
+use crate::position::refused_at;
+use crate::rows::next_node;
+use borsh_values::{Layout, Membership, Node, Path, PathStep, Preorder, elements_of};
 use borsh_walks::Definition;
 use std::alloc::{AllocError, Global};
 use std::collections::BTreeMap;
@@ -17,8 +19,7 @@ use std::str;
 /// nor 1, a `String` that isn't UTF-8, a non-zero number of 0, an `f32` or `f64` that is a NaN, a set or map whose keys don't
 /// ascend or have no bytes, and a list with a length whose elements have no bytes.
 ///
-/// The order of keys is known of numbers, `bool`, texts, and of tuples, arrays, lists, ordered sets and maps, and options of
-/// these. Keys of other types, as structs and enums, are taken in any order.
+/// The order of keys is known as for [`to_json`](crate::to_json); other keys are taken in any order.
 ///
 /// Determined: after `Ok` the bytes are a member of the root; the errors are as of [`to_json`](crate::to_json). Left open:
 /// memory; `Ok` for any member, and `Refused` for any: tested.
@@ -37,51 +38,71 @@ pub fn check_strict<'a>(
     ensures reason { IfErr result (λ e. IsNoJsonReason (definitions_in map.now) root.now bytes.now e) }
 {
     let layout = Layout::new(alloc, root, map)?;
-    match layout.decode(alloc, bytes)? {
-        Decoded::Nodes(nodes) => Ok(check_nodes(alloc, &layout, bytes, nodes.as_slice())?),
-        Decoded::NoMember(fault) => Err(JsonError::NoMember(fault)),
-        Decoded::Ambiguous(name) => Err(JsonError::Ambiguous(name)),
+    match layout.is_member(alloc, bytes)? {
+        Membership::Member => check_member(alloc, &layout, bytes),
+        Membership::NoMember(fault) => Err(JsonError::NoMember(fault)),
+        Membership::Ambiguous(name) => Err(JsonError::Ambiguous(name)),
     }
 }
 
-fn check_nodes<'a>(
-    alloc: Global,
-    layout: &Layout<'a>,
-    bytes: &[u8],
-    nodes: &[Node<'a, '_>],
-) -> Result<(), PartError<'a>>
-    ensures { IfErr result (IsPartError IsUnwritable) }
+fn check_member<'a>(alloc: Global, layout: &Layout<'a>, bytes: &[u8]) -> Result<(), JsonError<'a>>
+    requires laid_out { IsLaidOut layout.now }
+    requires sizes { KnowsSizes layout.now }
+    requires member { Member (definitions_in layout.now.map.now) layout.now.root.now bytes.now }
+    ensures { let l = layout.now in
+        IfErr result (IsNoJsonReason (definitions_in l.map.now) l.root.now bytes.now) }
 {
     let definitions = Definitions::new(alloc, layout)?;
-    let mut paths = Paths::new(alloc, layout.root);
+    let mut nodes = Preorder::new(alloc, layout, bytes);
     // Of each node that the next one is in, where its elements have to ascend.
     let mut open: Vec<Option<Ascent>> = Vec::new(alloc);
-    let mut unpacked = Unpacked::new(alloc, layout, nodes);
     for _ in 0..u64::MAX {
-        let Some(node) = unpacked.next()? else {
-            break;
+        let Some(node) = next_node(&mut nodes)? else {
+            return Ok(());
         };
-        paths.enter(&node)?;
-        open.truncate(node.depth);
-        if let Some(Some(ascent)) = open.last_mut() {
-            ascent.begin(node.offset);
-            if !ascent.ascends(&definitions, bytes)? {
-                return Err(PartError::Refused(paths.path(alloc)?, Refusal::Descends));
-            }
-        }
-        let Some(kind) = definitions.kind_of_node(&node) else {
-            return Err(PartError::Refused(paths.path(alloc)?, Refusal::OtherNodes));
-        };
-        if let Some((index, refusal)) = wrong_in(&definitions, &node, kind) {
-            let mut path = paths.path(alloc)?;
-            if let Some(index) = index {
-                path.steps.push(PathStep::Element(index as u64))?;
-            }
-            return Err(PartError::Refused(path, refusal));
-        }
-        open.push(ascent_of(kind))?;
+        check_node(&definitions, &mut open, bytes, &node, nodes.path())?;
     }
+    Err(JsonError::OutOfMemory)
+}
+
+fn check_node<'a>(
+    definitions: &Definitions<'a, '_>,
+    open: &mut Vec<Option<Ascent>>,
+    bytes: &[u8],
+    node: &Node<'a, '_>,
+    path: &Path<'a>,
+) -> PartResult<'a, ()>
+    ensures { IfErr result (IsPartError IsUnwritable) }
+{
+    open.truncate(node.depth);
+    if let Some(Some(ascent)) = open.last_mut() {
+        ascent.begin(node.offset);
+        if !ascent.ascends(definitions, bytes)? {
+            return Err(refused_at(path_to(definitions.alloc, path, None), Refusal::Descends));
+        }
+    }
+    let Some(kind) = definitions.kind_of_node(node) else {
+        return Err(refused_at(path_to(definitions.alloc, path, None), Refusal::OtherNodes));
+    };
+    if let Some((index, refusal)) = wrong_in(definitions, node, kind) {
+        return Err(refused_at(path_to(definitions.alloc, path, index), refusal));
+    }
+    open.push(ascent_of(kind))?;
     Ok(())
+}
+
+/// The path, or that to an element.
+pub fn path_to<'a>(
+    alloc: Global,
+    path: &Path<'a>,
+    index: Option<usize>,
+) -> Result<Path<'a>, AllocError> {
+    let root = path.root;
+    let mut steps = Vec::from_slice(alloc, path.steps.as_slice())?;
+    if let Some(index) = index {
+        steps.push(PathStep::Element(index as u64))?;
+    }
+    Ok(Path { root, steps })
 }
 
 /// Where the parts of a value of this kind have to ascend.
@@ -115,7 +136,6 @@ fn wrong_in(definitions: &Definitions<'_, '_>, node: &Node<'_, '_>, kind: Kind<'
     }
 }
 
-/// What is wrong with a primitive of this kind.
 fn wrong_number(kind: Kind<'_>, bytes: &[u8], index: Option<usize>) -> Option<Wrong>
     ensures { IfSome result (λ w. IsUnwritable w.1) }
 {

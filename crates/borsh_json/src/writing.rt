@@ -32,20 +32,17 @@ use std::collections::BTreeMap;
 /// - a `BTreeMap` or `HashMap` whose keys are texts or numbers is an object, another one an array of pairs
 /// - lists of `u8` and other primitives are hexadecimal strings, `"0x0a1f"`; a value without bytes is `null`
 ///
-/// The text is JSON, and [`crate::from_json`] gives the bytes again. Refused with their path are bytes that the type
-/// itself would refuse (a `bool` of 2, a `String` that isn't UTF-8, a non-zero number of 0, a NaN, a set or map whose keys
-/// don't ascend), definitions with two fields or two variants of one name, lists with a length whose elements have no bytes, maps
-/// whose keys have none, and values that nest more than 128 deep. The order of keys is known of numbers, `bool`, texts, and of
-/// tuples, arrays, lists, ordered sets and maps, and options of these, and not of structs and enums.
+/// Refused with their path are bytes that the type itself would refuse (a `bool` of 2, a `String` that isn't UTF-8, a non-zero
+/// number of 0, a NaN, a set or map whose keys don't ascend), two fields or variants of one name, lists with a length whose
+/// elements and maps whose keys have no bytes, and values that nest more than 128 deep. The order of keys is known of numbers,
+/// `bool`, texts, and of tuples, arrays, lists, ordered sets and maps, and options of these, and not of structs and enums.
 ///
-/// Determined: after `Ok` the text is JSON that says these bytes, of the characters of the style; without white space of its own
-/// it is one line, with no control characters. So no other bytes have this
-/// text, they are a member of the root ([`crate::text_determines_bytes`]), and they are what [`crate::from_json`] gives for it,
-/// if anything. After `NoMember` they are none; `NoMember` and `Ambiguous` are as of [`borsh_values::is_member`], and `NoValue`
-/// and `NotJson` aren't returned. After `Refused` they are one, and where the style allows any characters, it has a reason:
-/// `TooDeep`, that a chain of 128 references leads from the root to a name; another, that the bytes reach a value of a name of
-/// which no JSON says these bytes. Left open: memory; the reason of `Descends`, and of refusals in ASCII; which of the texts that
-/// say the bytes: tested.
+/// Determined: after `Ok` the text is JSON that says these bytes, of the characters of the style; a compact one is one line, without
+/// control characters. So no other bytes have it, they are a member of the root ([`crate::text_determines_bytes`]), and
+/// [`crate::from_json`] gives them, if anything. `NoMember` and `Ambiguous` are as of [`borsh_values::is_member`], and `NoValue` and
+/// `NotJson` aren't returned. After `Refused` they are a member, and where the style allows any characters it has a reason:
+/// `TooDeep`, that 128 references lead from the root to a name; others, that they reach a part of which no JSON says these bytes.
+/// Left open: memory; the reason of `Descends`, and of refusals in ASCII; which of the texts that say the bytes: tested.
 ///
 /// ```
 /// let text = to_json(alloc, "(u8, bool)", &definitions, &[7, 1], Style::COMPACT)?;

@@ -1,8 +1,9 @@
 -- What is added to a text in colours.
-use Rattle.std.proofs.Common.{◌≡◌, ℕ, Bool, true, false, List, [], ◌∷◌, ◌++◌, if◌then◌else◌, inl, inr, refl, sym, ◌∙◌, ap, subst, append_assoc, append-nil, Result, Ok, Err}
-use Rattle.std.specs.Prelude.{OnOk, ◌⊎◌}
+use Rattle.std.proofs.Common.{◌≡◌, ℕ, Bool, true, false, List, [], ◌∷◌, ◌++◌, if◌then◌else◌, inl, inr, sym, ◌∙◌, ap, subst, append_assoc, append-nil, Result, Ok, Err}
+use Rattle.std.specs.Prelude.{Option, OnOk, OnErr, IfErr, ◌⊎◌}
+use Rattle.borsh_walks.specs.Container.{Shape}
 use Rattle.borsh_io.specs.Sink.{WriterModel, WriterLaws}
-use Rattle.borsh_tool_commands.specs.Colored.{Paints}
+use Rattle.borsh_tool_commands.specs.Colored.{IsShowFailure, Paints}
 use Rattle.borsh_tool_commands.specs.Many.{Flushes, IsUnwritten}
 use Rattle.borsh_tool_commands.specs.declared.failure.Failure.{Failure}
 use Rattle.std.specs.List.{All, AllByRecursion}
@@ -45,13 +46,18 @@ grown false p q e = rw e p
 abbrev pub PaintedSoFar : {W : Type 0} → WriterModel W → Bool → W → W → Type 0
 PaintedSoFar w colored old new = (written : List ℕ) × w.wrote old new written × IsPainted colored written
 
+-- nothing more is written, since there was an error
+pub painted_stop : {W A E : Type 0} {w : WriterModel W} {colored : Bool} {a b : W} (r : Result A E) (e : E) → r ≡ Err e → PaintedSoFar w colored a b → Paints w colored a b r
+painted_stop {w = w} {colored = colored} {a = a} {b = b} r e q p = subst (λ r. Paints w colored a b r) (sym q) (record { written = p.0; lost = []; wrote = p.1; painted = subst (λ l. IsPainted colored l) (sym (append-nil p.0)) p.2; whole = tt })
+
+-- lines that can't be written
+pub unwritten_shown : {A : Type 0} (C : List ℕ → Option Shape) (root path bytes : List ℕ) (r : Result A Failure) → OnErr r (IsUnwritten r) → IfErr r (IsShowFailure C root path bytes)
+unwritten_shown C root path bytes (Ok v) h = tt
+unwritten_shown C root path bytes (Err f) h = λ n. absurd (n h)
+
 module _ {W : Type 0} {w : WriterModel W} (laws : WriterLaws W w) {colored : Bool} where
   pub painted_start : (a : W) → PaintedSoFar w colored a a
   painted_start a = ([], laws.none a, of_nothing colored)
-
-  -- nothing more is written, since there was an error
-  pub painted_stop : {A E : Type 0} {a b : W} (e : E) → PaintedSoFar w colored a b → Paints {A = A} w colored a b (Err e)
-  painted_stop e p = record { written = p.0; lost = []; wrote = p.1; painted = subst (λ l. IsPainted colored l) (sym (append-nil p.0)) p.2; whole = tt }
 
   -- a text is written, of which some may be lost
   pub painted_last : {A B : Type 0} {a b c : W} {made : List ℕ} (f : Result A Failure) (r : Result B Failure) → PaintedSoFar w colored a b → IsPainted colored made → Flushes w b c made [] f → (IsUnwritten f → IsUnwritten r) → Paints w colored a c r

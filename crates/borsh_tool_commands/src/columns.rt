@@ -63,9 +63,8 @@ pub(crate) fn write_rows<'a, W: WriteBytes>(
     for _ in 0..u64::MAX {
         match rows.next() {
             Ok(Some(row)) => {
-                push_row(&row, rows.path(), widths, &mut text, &mut made)?;
-                let value = value_of(alloc, layout.map, &row)?;
-                push_value(value.as_str(), widths, &mut text, &mut made)?;
+                let value = value_of(alloc, layout.map, &row);
+                push_row(&row, rows.path(), value, widths, &mut text, &mut made)?;
                 if made.as_bytes().len() >= ROOM {
                     write_made(&mut made, out)?;
                 }
@@ -93,11 +92,7 @@ fn write_made<'a, W: WriteBytes>(made: &mut ColoredText, out: &mut W) -> Result<
 }
 
 /// How wide the columns of the rows are.
-fn widths_of<'a>(
-    alloc: Global,
-    layout: &Layout<'a>,
-    bytes: &[u8],
-) -> Result<Widths, JsonError<'a>>
+fn widths_of<'a>(alloc: Global, layout: &Layout<'a>, bytes: &[u8]) -> Result<Widths, JsonError<'a>>
     requires laid_out { IsLaidOut layout.now }
     requires sizes { KnowsSizes layout.now }
     ensures { IfErr result (IsNoRowsReason (definitions_in layout.now.map.now) layout.now.root.now bytes.now) }
@@ -144,10 +139,11 @@ fn wider(width: usize, text: &PlainText) -> usize {
     width.max(text.as_bytes().len().min(WIDEST))
 }
 
-/// Adds the offset, the first bytes, the path and the type, which is left in `text`.
+/// Adds the offset, the first bytes, the path, the type and the value, as a line.
 fn push_row(
     row: &Node<'_, '_>,
     path: &Path<'_>,
+    value: Result<String, AllocError>,
     widths: Widths,
     text: &mut PlainText,
     out: &mut ColoredText,
@@ -169,23 +165,13 @@ fn push_row(
     out.push(text)?;
     text.clear();
     text.push_name(row.name)?;
-    out.push_in(Color::Cyan, text)
-}
-
-/// Adds what a row says, behind the type, which is in `text`, and ends the line.
-fn push_value(
-    value: &str,
-    widths: Widths,
-    text: &mut PlainText,
-    out: &mut ColoredText,
-) -> Result<(), AllocError>
-    ensures { has_colors out.new ≡ has_colors out.old }
-{
+    out.push_in(Color::Cyan, text)?;
+    let value = value?;
     if !value.is_empty() {
         push_gap(text, widths.name)?;
         out.push(text)?;
         text.clear();
-        text.push(value)?;
+        text.push(value.as_str())?;
         out.push_in(Color::Green, text)?;
     }
     text.clear();

@@ -140,14 +140,7 @@ fn perform_on_value<'a, R: Files + Env + Input + Print + AllocGlobal, W: Write>(
     } else {
         input(rt, request.value, request.is_hex)?
     };
-    answer_value(
-        rt,
-        request,
-        &schema,
-        value.as_slice(),
-        is_terminal,
-        out,
-    )
+    answer_value(rt, request, &schema, value.as_slice(), is_terminal, out)
 }
 
 /// Refuses to print raw bytes on a terminal.

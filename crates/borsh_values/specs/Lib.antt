@@ -17,6 +17,5 @@ pub mod Passing
 pub mod Fronts
 pub mod Next
 pub mod Records
-pub mod Unpacked
 pub mod Walks
 pub mod Preorder

@@ -8,9 +8,8 @@ use crate::fronts::Front;
 use crate::layout::{Layout, name_of};
 use crate::numbers::number;
 use crate::opening::definition_at;
-use crate::paths::field_step;
 use crate::tags::variant_at;
-use borsh_walks::Definition;
+use borsh_walks::{Definition, Fields};
 use std::alloc::{AllocError, Global};
 use std::fmt;
 
@@ -198,4 +197,16 @@ pub fn no_member<'a>(
         Reason::TooShort => Ok(Front::TooShort(fault)),
         _ => Ok(Front::NoMember(fault)),
     }
+}
+
+/// The step to the part at `index` of a struct or tuple.
+pub fn field_step<'a>(definition: &'a Definition, index: usize) -> PathStep<'a> {
+    if let Definition::Struct {
+        fields: Fields::NamedFields(fields),
+    } = definition
+        && let Some((name, _)) = fields.get(index)
+    {
+        return PathStep::Field(name.as_str());
+    }
+    PathStep::Place(index)
 }

@@ -15,10 +15,10 @@ use std::alloc::{AllocError, Global};
 /// A part of a value, or the value itself, with the bytes that it encodes before its own parts: a primitive all
 /// its bytes, a sequence its count, an enum its tag, a struct and a tuple none. The bytes of parts of known sizes follow
 /// these in the same node: of primitives of some bytes, and of structs, tuples and arrays of these, up to 8 within one
-/// another. [`crate::Unpacked`] gives such parts nodes of their own.
+/// another. [`crate::Preorder`] gives such parts nodes of their own.
 ///
-/// [`variant_of`] gives the variant of an enum, [`count_of`] the number of elements of a sequence, [`elements_of`] their
-/// bytes where these are in its node, and [`crate::Paths`] the path of each node in turn.
+/// [`variant_of`] gives the variant of an enum, [`count_of`] the number of elements of a sequence, and [`elements_of`] their
+/// bytes where these are in its node.
 #[derive(Clone, Copy)]
 pub struct Node<'a, 'b> {
     pub name: &'a str,

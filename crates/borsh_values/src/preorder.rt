@@ -8,11 +8,10 @@ ghost use Rattle.borsh_walks.specs.Container.{Member};
 ghost use Rattle.borsh_walks.specs.Definitions.{definitions_in};
 ghost use Rattle.std.specs.Prelude.{IfErr, IfOk, OnOk, ◌≡◌, ◌++◌};
 
-use crate::faults::{Path, PathStep};
+use crate::faults::{Path, PathStep, field_step};
 use crate::frames::{Rest, Step, after_copies, has_parts, next_part};
 use crate::layout::{Layout, name_of};
 use crate::nodes::{Node, variant_of};
-use crate::paths::field_step;
 use crate::walker::Walker;
 use crate::zeros::is_zero_at;
 use borsh_walks::Definition;
