@@ -87,7 +87,7 @@ enum Leads<'a> {
 }
 
 impl<'a, 'l, 'b> Preorder<'a, 'l, 'b> {
-    /// In front of the first node of a value of the layout's root. Nothing is allocated.
+    /// In front of the first node of a value of the layout's root. Nothing is allocated. Left open: none.
     pub fn new(alloc: Global, layout: &'l Layout<'a>, bytes: &'b [u8]) -> Preorder<'a, 'l, 'b>
         requires laid_out { IsLaidOut layout.now }
         requires sizes { KnowsSizes layout.now }

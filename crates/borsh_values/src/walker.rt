@@ -34,7 +34,7 @@ pub struct Walker<'a, 'l, 'b> {
 }
 
 impl<'a, 'l, 'b> Walker<'a, 'l, 'b> {
-    /// At the beginning of the bytes of a value. Nothing is allocated.
+    /// At the beginning of the bytes of a value. Nothing is allocated. Left open: none.
     pub fn new(alloc: Global, layout: &'l Layout<'a>, bytes: &'b [u8]) -> Walker<'a, 'l, 'b>
         requires { IsLaidOut layout.now }
         ensures walk { IsWalker result }
