@@ -22,3 +22,6 @@ pub mod KeyJson
 pub mod NumberTexts
 pub mod LaidLaws
 pub mod FieldLaws
+pub mod OrderLaws
+pub mod OrderNumbers
+pub mod PendingLaws

@@ -4,10 +4,12 @@ pub mod Forms
 pub mod Table
 pub mod Ranks
 pub mod Places
+pub mod Ordered
 pub mod InOrder
 pub mod Represents
 pub mod Known
 pub mod Found
+pub mod Orders
 pub mod Reads
 pub mod Frames
 pub mod Rows

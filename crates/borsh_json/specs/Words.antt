@@ -4,11 +4,15 @@ pub use Rattle.borsh_json.specs.Forms.{Form, HasNoBytes, IsByte, IsMap, IsOption
 pub use Rattle.borsh_json.specs.Found.{AreEntries, HasForm, IsAlike, IsCollection, IsMapName, IsNamed, IsPrimitiveKind, IsRefusedList, IsRepeated, IsSetName, TellsKind, forms_of, joined, names_of}
 pub use Rattle.borsh_json.specs.Frames.{AddsList, AreKeyed, AreSorted, DeniesPart, DeniesRead, GivesPart, HasEntries, HasFields, HasItems, HasLeft, HasRead, HaveLeft, HaveNumbers, HaveOneEach, IsArrayOf, IsEntryKey, IsExpected, IsKey, IsNext, IsNextEntry, IsOf, IsOfRead, IsOpened, IsRank, IsText, IsVariantAt, IsWanted, NamesVariant, NoneLeft, Opens, ReadsOn, SaysArray, Wanted}
 pub use Rattle.borsh_json.specs.Known.{HasKinds, IsKnown, SaysBy}
+pub use Rattle.borsh_json.specs.Ordered.{is_below_zero}
+pub use Rattle.borsh_json.specs.Orders.{FrontCompares, HasFound, HasOrders, IsNextValue, OrderedBy, PendingCompares, ValueCompares, ValuesCompare}
 pub use Rattle.borsh_json.specs.Places.{AreKeysOf, IsAt, IsInfinity, IsKindAt, IsKindOf, IsListOf, lengths_of}
 pub use Rattle.borsh_json.specs.Ranks.{HasRank, IsLeading, IsPlain, magnitude, number_found, rank_of}
 pub use Rattle.borsh_json.specs.Reads.{AreRead, Left, PartsOfAll, SaysFirst, SaysSome, entries_left}
 pub use Rattle.borsh_json.specs.Represents.{HaveBytes, TextSays}
 pub use Rattle.borsh_json.specs.Table.{AreKeys, Entry, HasKind, InRange, IsHex, IsNoNan, IsNullable, IsNumber, IsPrefixed, IsWhole, Keys, Kind as TableKind, Lengths, MayBeNull, Part as JsonPart, byte_list, entries as map_entries, entries_of, float, key_json, list_parts, no_bytes, number_kind, number_types, optional, primitive_kind, raw, texts, truth, utf8, variants as spec_variants, whole}
+pub use Rattle.borsh_json.specs.declared.definitions.Known.{Known as KnownAt}
+pub use Rattle.borsh_json.specs.declared.definitions.Known.TheVariants.{Order as KnownOrder}
 pub use Rattle.borsh_json.specs.declared.error.ReadError.TheVariants.{OutOfMemory}
 pub use Rattle.borsh_json.specs.declared.error.Refusal.TheVariants.{TooDeep}
 pub use Rattle.borsh_json.specs.declared.kinds.KeyKind.{KeyKind as FoundKeyKind}
@@ -22,14 +26,17 @@ pub use Rattle.borsh_json.specs.declared.sources.Source.TheVariants.{One as OneS
 pub use Rattle.borsh_values.specs.Free.{KnowsSizes}
 pub use Rattle.borsh_values.specs.Layouts.{IsLaidOut}
 pub use Rattle.borsh_values.specs.declared.layout.Named.{Named as NamedPlace}
-pub use Rattle.borsh_walks.specs.Container.{Member, references, tag}
+pub use Rattle.borsh_walks.specs.Container.{Member, low_bytes, references, tag}
 pub use Rattle.borsh_walks.specs.Definitions.{definitions_in}
 pub use Rattle.borsh_walks.specs.Tables.{mark_of}
 pub use Rattle.json.specs.Find.{BeginsWith, Finds, InItems, InMembers, as_array, get_member}
 pub use Rattle.json.specs.Json.{Items as JsonItems, Json, Members as JsonMembers, array, document, item, no_items, object, string}
+pub use Rattle.std.specs.Cmp.Lexicographic.{slice_cmp}
 pub use Rattle.std.specs.Fmt.{decimal, signed_decimal}
+pub use Rattle.std.specs.declared.cmp.Ordering.{Ordering as Comparison}
 pub use Rattle.std.specs.Int.{w128}
 pub use Rattle.std.specs.Int.RustNames.{FitsSigned}
 pub use Rattle.std.specs.List.{IsDistinct}
 pub use Rattle.std.specs.List.Sorted.{IsPermutation}
+pub use Rattle.std.specs.Ordering.{int_cmp, nat_cmp}
 pub use Rattle.std.specs.Str.{bytes_eq}

@@ -1,5 +1,5 @@
 // A layout, and what was found out about its names. Names are known by their places.
-ghost use Rattle.borsh_json.specs.Words.{Form, HasKinds, HasNoBytes, IsAlike, IsAt, IsKindAt, IsKnown, IsLaidOut, KnowsSizes, form_of, forms_in, references, shape_of_form};
+ghost use Rattle.borsh_json.specs.Words.{Form, FoundOrder, HasKinds, HasNoBytes, IsAlike, IsAt, IsKindAt, IsKnown, IsLaidOut, KnownAt, KnownOrder, KnowsSizes, form_of, forms_in, references, shape_of_form};
 ghost use Rattle.std.specs.Prelude.{◌≡◌, ℕ, List, Decides, IfOk, OnOk, Some, option_map, slice_get};
 
 use crate::kinds::{Kind, kind_of};
@@ -152,14 +152,19 @@ impl<'a, 'l> Definitions<'a, 'l> {
     }
 
     /// How the values of the name are ordered, where [`Definitions::order_of`] found that for it or for a name that needs it.
-    pub(crate) fn known_order(&self, at: usize) -> Option<Ordered> {
+    pub(crate) fn known_order(&self, at: usize) -> Option<Ordered>
+        ensures { (found : FoundOrder) → slice_get self.now.orders.items at ≡ Some (KnownOrder (Some found)) →
+            result ≡ Some found }
+    {
         match self.known_at(at) {
             Known::Order(order) => order,
             Known::Nothing => None,
         }
     }
 
-    fn known_at(&self, at: usize) -> Known {
+    fn known_at(&self, at: usize) -> Known
+        ensures { (known : KnownAt) → slice_get self.now.orders.items at ≡ Some known → result ≡ known }
+    {
         self.orders
             .as_slice()
             .get(at)

@@ -394,8 +394,7 @@ fn is_text(definitions: &Definitions<'_, '_>, at: usize, definition: &Definition
 fn order_of_keys(kind: KeyKind) -> Ordered {
     match kind {
         KeyKind::Text => Ordered::Text,
-        KeyKind::Number(number) if number.is_signed => Ordered::Signed(number.size),
-        KeyKind::Number(number) => Ordered::Unsigned(number.size),
+        KeyKind::Number(number) => Ordered::Number(number.size, number.is_signed),
     }
 }
 
