@@ -110,6 +110,14 @@ module _ (F : List ℕ → Option Form) (ns : List Named) (orders : List Known) 
   pub pends_for : (ps qs : List Pending) (L R : List ℕ) (r : Ordering) → Pends ps L R r → qs ≡ ps → Pends qs L R r
   pends_for ps qs L R r p e = subst (λ (ps : List Pending). Pends ps L R r) (sym e) p
 
+  pub values_for : (x : List ℕ) (ps qs : List Pending) (L R : List ℕ) (r : Ordering) → Values x ps L R r → qs ≡ ps → Values x qs L R r
+  values_for x ps qs L R r v e = subst (λ (ps : List Pending). Values x ps L R r) (sym e) v
+
+  pub decided_front : (ps : List Pending) (L R : List ℕ) (r o : Ordering) → (o ≡ Equal → ⊥) → Fronts ps L R r o → o ≡ r
+  decided_front ps L R r Less n f = sym f
+  decided_front ps L R r Equal n f = absurd (n refl)
+  decided_front ps L R r Greater n f = sym f
+
   -- ---- what comes next
   module _ (all ps : List Pending) (L R : List ℕ) (r : Ordering) where
     -- the next elements of two lists
@@ -184,9 +192,6 @@ module _ (F : List ℕ → Option Form) (ns : List Named) (orders : List Known) 
         let d : map (λ p. a_value p) (drop i k.1) ≡ [] = ap (λ (l : List (List ℕ)). map (λ p. a_value p) l) (past i k.1 (omega (arith, l, k.4))) in
         (p.2, p.3, p.5, subst (λ (us : List Ranked). Compare F p.2 us L R r) (ap (λ (ws : List Ranked). ws ++ p.3) (k.7 ∙ d)) (subst (λ (ts : List Ranked). Compare F ts (p.1 ++ p.3) L R r) (ap (λ (vs : List Ranked). vs ++ p.2) (k.6 ∙ d)) p.6))
 
-  pub nothing_pends : (L R : List ℕ) (r : Ordering) → Pends [] L R r → Equal ≡ r
-  nothing_pends L R r h = all_compared F L R r (subst (λ (us : List Ranked). Compare F [] us L R r) h.2.1 (subst (λ (ts : List Ranked). Compare F ts h.1 L R r) h.2.0 h.3))
-
-  -- nothing is pending yet
-  pub pends_alone : (x : List ℕ) (L R : List ℕ) (r : Ordering) → Compare F (a_value x ∷ []) (a_value x ∷ []) L R r → Values x [] L R r
-  pends_alone x L R r c = ([], [], (refl, refl), c)
+  pub nothing_pends : (ps : List Pending) (L R : List ℕ) (r : Ordering) → length ps ≡ 0 → Pends ps L R r → Equal ≡ r
+  nothing_pends (p ∷ ps) L R r e h = absurd (omega (arith, e))
+  nothing_pends [] L R r e h = all_compared F L R r (subst (λ (us : List Ranked). Compare F [] us L R r) h.2.1 (subst (λ (ts : List Ranked). Compare F ts h.1 L R r) h.2.0 h.3))

@@ -261,12 +261,12 @@ pub fn compare(
     let mut order = order;
     for _ in 0..u64::MAX {
         let front = compare_front(definitions, order, &mut pair, &mut pending)?;
-        if front != Ordering::Equal {
-            return Ok(front);
-        }
-        match next_value(definitions, &mut pending)? {
-            Next::Value(next) => order = next,
-            Next::Decided(ordering) => return Ok(ordering),
+        match front {
+            Ordering::Equal => match next_value(definitions, &mut pending)? {
+                Next::Value(next) => order = next,
+                Next::Decided(ordering) => return Ok(ordering),
+            },
+            decided => return Ok(decided),
         }
     }
     Err(AllocError)
