@@ -25,11 +25,11 @@ one_sign k n s t (inr a) (inr b) = let e : whole n s a.0 ≡ whole n t b.0 = sym
 
 module _ (F : List ℕ → Option Form) where
   named_list : (x e : List ℕ) → IsListName F x e → x ≡ codes "String" → ⊥
-  named_list x e (inl n) t = let q : codes "String" ≡ codes "Vec<" ++ e ++ codes ">" = sym t ∙ n in let h : 83 ≡ 86 = ap (λ l. get_or l 0 0) q in omega (arith, h)
-  named_list x e (inr (inl n)) t = let q : codes "String" ≡ codes "VecDeque<" ++ e ++ codes ">" = sym t ∙ n in let h : 83 ≡ 86 = ap (λ l. get_or l 0 0) q in omega (arith, h)
-  named_list x e (inr (inr (inl n))) t = let q : codes "String" ≡ codes "LinkedList<" ++ e ++ codes ">" = sym t ∙ n in let h : 83 ≡ 76 = ap (λ l. get_or l 0 0) q in omega (arith, h)
-  named_list x e (inr (inr (inr (inl n)))) t = let q : codes "String" ≡ codes "BTreeSet<" ++ e ++ codes ">" = sym t ∙ n in let h : 83 ≡ 66 = ap (λ l. get_or l 0 0) q in omega (arith, h)
-  named_list x e (inr (inr (inr (inr n)))) t = let q : codes "String" ≡ codes "BTreeMap<" ++ n.0 ++ codes ", " ++ n.1 ++ codes ">" = sym t ∙ n.3 in let h : 83 ≡ 66 = ap (λ l. get_or l 0 0) q in omega (arith, h)
+  named_list x e (inl (inl n)) t = let q : codes "String" ≡ codes "Vec<" ++ e ++ codes ">" = sym t ∙ n in let h : 83 ≡ 86 = ap (λ l. get_or l 0 0) q in omega (arith, h)
+  named_list x e (inl (inr (inl n))) t = let q : codes "String" ≡ codes "VecDeque<" ++ e ++ codes ">" = sym t ∙ n in let h : 83 ≡ 86 = ap (λ l. get_or l 0 0) q in omega (arith, h)
+  named_list x e (inl (inr (inr (inl n)))) t = let q : codes "String" ≡ codes "LinkedList<" ++ e ++ codes ">" = sym t ∙ n in let h : 83 ≡ 76 = ap (λ l. get_or l 0 0) q in omega (arith, h)
+  named_list x e (inl (inr (inr (inr n)))) t = let q : codes "String" ≡ codes "BTreeSet<" ++ e ++ codes ">" = sym t ∙ n in let h : 83 ≡ 66 = ap (λ l. get_or l 0 0) q in omega (arith, h)
+  named_list x e (inr n) t = let q : codes "String" ≡ codes "BTreeMap<" ++ n.0 ++ codes ", " ++ n.1 ++ codes ">" = sym t ∙ n.3 in let h : 83 ≡ 66 = ap (λ l. get_or l 0 0) q in omega (arith, h)
 
   bytes_one : (x : List ℕ) (o q : Order) → OrdersBytes F x o → OrdersBytes F x q → o ≡ q
   bytes_one x single q a b = absurd a

@@ -1,7 +1,6 @@
 -- How the values of a name are ordered, where names and definitions tell it: by numbers, the first that differs of which decides.
 use Rattle.std.specs.Prelude.{◌≡◌, ◌⊎◌, ℕ, suc, zero, ◌<◌, ◌^◌, ℤ, pos, negsuc, List, [], ◌∷◌, ◌++◌, length, map, Bool, true, false, codes, Option, Some}
 use Rattle.std.specs.Fmt.{decimal}
-use Rattle.std.specs.List.{join_by}
 use Rattle.std.specs.Ordering.{int_cmp, MatchOrdering}
 use Rattle.std.specs.Cmp.Lexicographic.{slice_cmp}
 use Rattle.std.specs.declared.cmp.Ordering.{Ordering}
@@ -28,11 +27,28 @@ needs (array n e) = e ∷ []
 needs (list w e) = e ∷ []
 needs (parts ps) = ps
 
+-- the names, each behind a comma
+abbrev pub listed : List (List ℕ) → List ℕ
+listed [] = []
+listed (p ∷ ps) = codes ", " ++ p ++ listed ps
+
 -- the name of a tuple of these parts: `(A, B)`, and `(A,)` of one
 abbrev pub tuple_name : List (List ℕ) → List ℕ
 tuple_name [] = codes "()"
 tuple_name (p ∷ []) = codes "(" ++ p ++ codes ",)"
-tuple_name (p ∷ q ∷ ps) = codes "(" ++ join_by (λ x. x) (codes ", ") (p ∷ q ∷ ps) ++ codes ")"
+tuple_name (p ∷ q ∷ ps) = codes "(" ++ p ++ listed (q ∷ ps) ++ codes ")"
+
+-- `Vec<T>`, `VecDeque<T>`, `LinkedList<T>` or `BTreeSet<T>`, where e is T
+abbrev pub IsSequenceName : List ℕ → List ℕ → Type 0
+IsSequenceName x e =
+    (x ≡ codes "Vec<" ++ e ++ codes ">")
+    ⊎ (x ≡ codes "VecDeque<" ++ e ++ codes ">")
+    ⊎ (x ≡ codes "LinkedList<" ++ e ++ codes ">")
+    ⊎ (x ≡ codes "BTreeSet<" ++ e ++ codes ">")
+
+-- `BTreeMap<K, V>`, where k is K and v is V
+abbrev pub IsTreeMapName : List ℕ → List ℕ → List ℕ → Type 0
+IsTreeMapName x k v = x ≡ codes "BTreeMap<" ++ k ++ codes ", " ++ v ++ codes ">"
 
 abbrev pub is_below_zero : ℤ → Bool
 is_below_zero (pos m) = false
@@ -43,15 +59,10 @@ abbrev pub AreNumbers : Kind → ℕ → Bool → Type 0
 AreNumbers kind n signed = ((kind ≡ truth) × (signed ≡ false)) ⊎ ((non_zero : Bool) × (kind ≡ whole n signed non_zero))
 
 module _ (F : List ℕ → Option Form) where
-  -- `Vec<T>`, `VecDeque<T>`, `LinkedList<T>`, `BTreeSet<T>` or `BTreeMap<K, V>`, where e is T, or the tuple of K and V. The types of hash sets and
-  -- hash maps have no order of their own, so they aren't among these, though their elements and keys ascend in the bytes
+  -- a list, an ordered set, or an ordered map, where e is the tuple of key and value. The types of hash sets and hash maps have no order of their
+  -- own, so they aren't among these, though their elements and keys ascend in the bytes
   abbrev pub IsListName : List ℕ → List ℕ → Type 0
-  IsListName x e =
-      (x ≡ codes "Vec<" ++ e ++ codes ">")
-      ⊎ (x ≡ codes "VecDeque<" ++ e ++ codes ">")
-      ⊎ (x ≡ codes "LinkedList<" ++ e ++ codes ">")
-      ⊎ (x ≡ codes "BTreeSet<" ++ e ++ codes ">")
-      ⊎ ((k : List ℕ) × (v : List ℕ) × (F e ≡ Some (tuple (k ∷ v ∷ []))) × (x ≡ codes "BTreeMap<" ++ k ++ codes ", " ++ v ++ codes ">"))
+  IsListName x e = IsSequenceName x e ⊎ ((k : List ℕ) × (v : List ℕ) × (F e ≡ Some (tuple (k ∷ v ∷ []))) × IsTreeMapName x k v)
 
   -- a name whose values have bytes
   abbrev pub OrdersBytes : List ℕ → Order → Type 0

@@ -17,7 +17,7 @@ use Rattle.borsh_json.specs.declared.order.Pending.TheVariants.{Elements, Parts}
 use Rattle.borsh_json.specs.Forms.{Form, tuple}
 use Rattle.borsh_json.specs.Found.{forms_of, names_of}
 use Rattle.borsh_json.specs.Known.{IsKnown}
-use Rattle.borsh_json.specs.Ordered.{Order, single, numbers, text, array, list, parts, needs, HasOrder, IsOrdered, Ranked, a_value, elements, Compare}
+use Rattle.borsh_json.specs.Ordered.{Order, single, numbers, text, array, list, parts, needs, OrdersBytes, HasOrder, IsOrdered, Ranked, a_value, elements, Compare}
 use Rattle.borsh_json.specs.Places.{IsAt}
 
 module _ (F : List ℕ → Option Form) (ns : List Named) where
@@ -33,6 +33,14 @@ module _ (F : List ℕ → Option Form) (ns : List Named) where
   -- the values of the name are ordered as was found, if those of its parts are
   abbrev pub FindsOrder : List ℕ → Ordered → Type 0
   FindsOrder x found = (o : Order) × HasOrder F x o × IsOrderOf x found o
+
+  -- so are those of a name whose values have bytes
+  abbrev pub FindsBytes : List ℕ → Ordered → Type 0
+  FindsBytes x found = (o : Order) × OrdersBytes F x o × IsOrderOf x found o
+
+-- the place of the name of an index, if there is one
+abbrev pub IsNeeded : List Named → List (List ℕ) → ℕ → Option ℕ → Type 0
+IsNeeded ns ps i found = MatchOption found (length ps ≤ i) (λ k. (p : List ℕ) × (slice_get ps i ≡ Some p) × IsAt ns k p)
 
 -- an order was found of the name at the place
 abbrev pub HasFound : List Known → ℕ → Type 0

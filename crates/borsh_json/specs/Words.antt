@@ -4,8 +4,8 @@ pub use Rattle.borsh_json.specs.Forms.{Form, HasNoBytes, IsByte, IsMap, IsOption
 pub use Rattle.borsh_json.specs.Found.{AreEntries, HasForm, IsAlike, IsCollection, IsMapName, IsNamed, IsPrimitiveKind, IsRefusedList, IsRepeated, IsSetName, TellsKind, forms_of, joined, names_of}
 pub use Rattle.borsh_json.specs.Frames.{AddsList, AreKeyed, AreSorted, DeniesPart, DeniesRead, GivesPart, HasEntries, HasFields, HasItems, HasLeft, HasRead, HaveLeft, HaveNumbers, HaveOneEach, IsArrayOf, IsEntryKey, IsExpected, IsKey, IsNext, IsNextEntry, IsOf, IsOfRead, IsOpened, IsRank, IsText, IsVariantAt, IsWanted, NamesVariant, NoneLeft, Opens, ReadsOn, SaysArray, Wanted}
 pub use Rattle.borsh_json.specs.Known.{HasKinds, IsKnown, SaysBy}
-pub use Rattle.borsh_json.specs.Ordered.{is_below_zero}
-pub use Rattle.borsh_json.specs.Orders.{FrontCompares, HasFound, HasOrders, IsNextValue, OrderedBy, PendingCompares, ValueCompares, ValuesCompare}
+pub use Rattle.borsh_json.specs.Ordered.{AreNumbers, IsSequenceName, IsTreeMapName, Order, is_below_zero, listed, needs, tuple_name}
+pub use Rattle.borsh_json.specs.Orders.{FindsBytes, FrontCompares, HasFound, HasOrders, IsNeeded, IsNextValue, IsOrderOf, OrderedBy, PendingCompares, ValueCompares, ValuesCompare}
 pub use Rattle.borsh_json.specs.Places.{AreKeysOf, IsAt, IsInfinity, IsKindAt, IsKindOf, IsListOf, lengths_of}
 pub use Rattle.borsh_json.specs.Ranks.{HasRank, IsLeading, IsPlain, magnitude, number_found, rank_of}
 pub use Rattle.borsh_json.specs.Reads.{AreRead, Left, PartsOfAll, SaysFirst, SaysSome, entries_left}
@@ -20,6 +20,7 @@ pub use Rattle.borsh_json.specs.declared.kinds.KeyKind.TheVariants.{Text as Text
 pub use Rattle.borsh_json.specs.declared.kinds.Kind.{Kind as Found}
 pub use Rattle.borsh_json.specs.declared.kinds.Kind.TheVariants.{Map as FoundMap, Object as FoundObject, Row as FoundRow}
 pub use Rattle.borsh_json.specs.declared.order.Ordered.{Ordered as FoundOrder}
+pub use Rattle.borsh_json.specs.declared.order.Ordered.TheVariants.{Number as NumberOrder}
 pub use Rattle.borsh_json.specs.declared.parts.Next.TheVariants.{Missing as NextMissing, Part as NextPart}
 pub use Rattle.borsh_json.specs.declared.position.Parts.TheVariants.{Root}
 pub use Rattle.borsh_json.specs.declared.sources.Source.TheVariants.{One as OneSource}
@@ -34,6 +35,7 @@ pub use Rattle.json.specs.Json.{Items as JsonItems, Json, Members as JsonMembers
 pub use Rattle.std.specs.Cmp.Lexicographic.{slice_cmp}
 pub use Rattle.std.specs.Fmt.{decimal, signed_decimal}
 pub use Rattle.std.specs.declared.cmp.Ordering.{Ordering as Comparison}
+pub use Rattle.std.specs.declared.cmp.Ordering.TheVariants.{Less}
 pub use Rattle.std.specs.Int.{w128}
 pub use Rattle.std.specs.Int.RustNames.{FitsSigned}
 pub use Rattle.std.specs.List.{IsDistinct}

@@ -380,7 +380,7 @@ fn kind_of_key(
 }
 
 /// Whether the name at a place is `String`, with its definition.
-fn is_text(definitions: &Definitions<'_, '_>, at: usize, definition: &Definition) -> bool
+pub fn is_text(definitions: &Definitions<'_, '_>, at: usize, definition: &Definition) -> bool
     ensures { (x : List ℕ) → HasForm definitions.now at (form_of definition.now) x →
         Decides result (AreKeys (forms_of definitions.now) x texts) }
 {

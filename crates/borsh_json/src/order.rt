@@ -1,11 +1,11 @@
 // The order of the keys of maps and sets, where names and definitions tell it.
-ghost use Rattle.borsh_json.specs.Words.{Comparison, FrontCompares, HasFound, HasOrders, InRange, IsAt, IsNextValue, OrderedBy, PendingCompares, ValueCompares, ValuesCompare, int_cmp, is_below_zero, low_bytes, nat_cmp, slice_cmp, tag};
-ghost use Rattle.std.specs.Prelude.{◌≡◌, ◌⊎◌, ◌++◌, ◌<◌, ◌^◌, ℕ, ℤ, List, IfOk, length, pos, true};
+ghost use Rattle.borsh_json.specs.Words.{AreNumbers, Comparison, FindsBytes, FrontCompares, HasForm, HasFound, HasOrders, InRange, IsAt, IsKnown, IsNeeded, IsNextValue, IsOrderOf, IsSequenceName, IsTreeMapName, Less, NumberOrder, Order, OrderedBy, PendingCompares, ValueCompares, ValuesCompare, decimal, form_of, forms_of, int_cmp, is_below_zero, listed, low_bytes, names_of, nat_cmp, needs, primitive_kind, sequence, slice_cmp, tag, tuple, tuple_name};
+ghost use Rattle.std.specs.Prelude.{◌≡◌, ◌⊎◌, ◌+◌, ◌++◌, ◌∷◌, [], ◌<◌, ◌^◌, ℕ, ℤ, Bool, List, Decides, IfOk, IfSome, Some, codes, drop, length, map, option_map, pos, string_bytes, true};
 
 use crate::definitions::Definitions;
 use crate::formats::{behind, is_composed, is_list, option_part};
-use crate::kinds::is_byte;
-use crate::numbers::Number;
+use itoa::Buffer;
+use crate::kinds::{Kind, is_text, kind_of_primitive};
 use borsh_walks::{Declaration, Definition};
 use std::alloc::AllocError;
 use std::cmp::Ordering;
@@ -31,7 +31,12 @@ pub enum Ordered {
 
 impl Ordered {
     /// The place of a name whose order has to be known too; none if there is no such index.
-    pub fn part(&self, definitions: &Definitions<'_, '_>, index: usize) -> Option<usize> {
+    pub fn part(&self, definitions: &Definitions<'_, '_>, index: usize) -> Option<usize>
+        ensures part { IsKnown definitions.now → (x : List ℕ) (o : Order) →
+            IsOrderOf (forms_of definitions.now) (names_of definitions.now) x self.now o →
+            IsNeeded (names_of definitions.now) (needs o) index result }
+        ensures more { IfSome result (λ _. index + 1 < 2 ^ 64) }
+    {
         match self {
             Ordered::Tuple(at, count) => {
                 if index < *count {
@@ -54,25 +59,25 @@ pub fn ordered_as(
     definitions: &Definitions<'_, '_>,
     at: usize,
     definition: &Definition,
-) -> Option<Ordered> {
+) -> Option<Ordered>
+    ensures { (x : List ℕ) → HasForm definitions.now at (form_of definition.now) x →
+        IfSome result (FindsBytes (forms_of definitions.now) (names_of definitions.now) x) }
+{
     let name = definitions.name(at);
     match definition {
         Definition::Primitive(size) => number_as(name, *size),
+        Definition::Sequence { elements, .. } if is_list(definition) => {
+            list_as(definitions, at, definition, elements.as_str())
+        }
         Definition::Sequence {
-            length_width: 0,
+            length_width,
             length_range,
             elements,
         } => {
-            let (start, end) = (length_range.start, length_range.end);
-            if start == end && is_array_name(name, elements.as_str(), start) {
+            let start = length_range.start;
+            let is_fixed = *length_width == 0 && start == length_range.end;
+            if is_fixed && is_array_name(name, elements.as_str(), start) {
                 Some(Ordered::Array(start, definitions.part(at, 0)))
-            } else {
-                None
-            }
-        }
-        Definition::Sequence { elements, .. } => {
-            if is_list(definition) {
-                list_as(definitions, at, elements.as_str())
             } else {
                 None
             }
@@ -92,75 +97,116 @@ pub fn ordered_as(
     }
 }
 
-fn number_as(name: &str, size: u8) -> Option<Ordered> {
-    if name == "bool" && size == 1 {
-        return Some(Ordered::Number(1, false));
-    }
-    let number = Number::named(name, size)?;
-    Some(Ordered::Number(size, number.is_signed))
-}
-
-fn list_as(definitions: &Definitions<'_, '_>, at: usize, element: &str) -> Option<Ordered> {
-    let name = definitions.name(at);
-    let part = definitions.part(at, 0);
-    if name == "String" {
-        return if is_byte(definitions, part) {
-            Some(Ordered::Text)
-        } else {
-            None
-        };
-    }
-    for list in ["Vec<", "VecDeque<", "LinkedList<", "BTreeSet<"] {
-        if is_composed(name, &[list, element, ">"]) {
-            return Some(Ordered::List(4, part));
-        }
-    }
-    let Some(Definition::Tuple { elements: parts }) = definitions.get(part) else {
-        return None;
-    };
-    match parts.as_slice() {
-        [key, value] if is_composed(name, &["BTreeMap<", key, ", ", value, ">"]) => {
-            Some(Ordered::List(4, part))
-        }
+fn number_as(name: &str, size: u8) -> Option<Ordered>
+    ensures { IfSome result (λ found. (signed : Bool) × (found ≡ NumberOrder size signed) ×
+        AreNumbers (primitive_kind name.now size) size signed) }
+{
+    match kind_of_primitive(name, size) {
+        Kind::Bool => Some(Ordered::Number(size, false)),
+        Kind::Number(number) => Some(Ordered::Number(size, number.is_signed)),
         _ => None,
     }
 }
 
+fn list_as(
+    definitions: &Definitions<'_, '_>,
+    at: usize,
+    definition: &Definition,
+    element: &str,
+) -> Option<Ordered>
+    ensures { (x e : List ℕ) → HasForm definitions.now at (form_of definition.now) x →
+        form_of definition.now ≡ sequence 4 0 4294967295 e → element.now ≡ e →
+        IfSome result (FindsBytes (forms_of definitions.now) (names_of definitions.now) x) }
+{
+    if is_text(definitions, at, definition) {
+        return Some(Ordered::Text);
+    }
+    let name = definitions.name(at);
+    let part = definitions.part(at, 0);
+    if is_list_name(name, element) {
+        return Some(Ordered::List(4, part));
+    }
+    if is_tree_map(name, definitions.get(part)) {
+        return Some(Ordered::List(4, part));
+    }
+    None
+}
+
+/// Whether a name is that of a list or an ordered set of these elements.
+fn is_list_name(name: &str, element: &str) -> bool
+    ensures { Decides result (IsSequenceName name.now element.now) }
+{
+    if is_composed(name, &["Vec<", element, ">"]) {
+        return true;
+    }
+    if is_composed(name, &["VecDeque<", element, ">"]) {
+        return true;
+    }
+    if is_composed(name, &["LinkedList<", element, ">"]) {
+        return true;
+    }
+    is_composed(name, &["BTreeSet<", element, ">"])
+}
+
+/// Whether a name is that of an ordered map, of whose entries this is the definition.
+fn is_tree_map(name: &str, definition: Option<&Definition>) -> bool
+    ensures { result ≡ true → (k v : List ℕ) ×
+        (option_map (λ d. form_of d.now) definition.entry ≡ Some (tuple (k ∷ v ∷ []))) × IsTreeMapName name.now k v }
+{
+    match definition {
+        Some(Definition::Tuple { elements }) => is_tree_map_name(name, elements.as_slice()),
+        _ => false,
+    }
+}
+
+fn is_tree_map_name(name: &str, parts: &[Declaration]) -> bool
+    ensures { result ≡ true → (k v : List ℕ) × (map (λ p. string_bytes p) parts.now ≡ k ∷ v ∷ []) ×
+        IsTreeMapName name.now k v }
+{
+    if parts.len() != 2 {
+        return false;
+    }
+    let (key, value) = (parts[0].as_str(), parts[1].as_str());
+    is_composed(name, &["BTreeMap<", key, ", ", value, ">"])
+}
+
 /// Whether a name is `[element; count]`.
-fn is_array_name(name: &str, element: &str, count: u64) -> bool {
-    let Some(rest) = behind(name, &["[", element, "; "]) else {
+fn is_array_name(name: &str, element: &str, count: u64) -> bool
+    ensures { Decides result (name.now ≡ codes "[" ++ element.now ++ codes "; " ++ decimal count ++ codes "]") }
+{
+    let mut digits = Buffer::new();
+    is_composed(name, &["[", element, "; ", digits.format(count), "]"])
+}
+
+/// Whether a name is that of the tuple of these parts: `(A, B)`, and `(A,)` of one.
+fn is_tuple_name(name: &str, parts: &[Declaration]) -> bool
+    ensures { result ≡ true → name.now ≡ tuple_name (map (λ p. string_bytes p) parts.now) }
+{
+    if parts.is_empty() {
+        return name == "()";
+    }
+    let first = parts[0].as_str();
+    if parts.len() == 1 {
+        return is_composed(name, &["(", first, ",)"]);
+    }
+    let Some(rest) = behind(name, &["(", first]) else {
         return false;
     };
-    match rest.strip_suffix("]") {
-        Some(digits) => {
-            !digits.starts_with("+")
-                && (digits == "0" || !digits.starts_with("0"))
-                && digits.parse::<u64>() == Ok(count)
-        }
+    match behind_parts(rest, &parts[1..]) {
+        Some(rest) => rest == ")",
         None => false,
     }
 }
 
-/// Whether a name is that of the tuple of these parts: `(A, B)`, and `(A,)` of one.
-fn is_tuple_name(name: &str, parts: &[Declaration]) -> bool {
-    let Some(mut rest) = name.strip_prefix("(") else {
-        return false;
-    };
-    let mut is_first = true;
+/// What of a text comes behind these parts, each behind a comma.
+fn behind_parts<'n>(text: &'n str, parts: &[Declaration]) -> Option<&'n str>
+    ensures { IfSome result (λ rest. text.now ≡ listed (map (λ p. string_bytes p) parts.now) ++ rest.now) }
+{
+    let mut rest = text;
     for part in parts {
-        if !is_first {
-            match rest.strip_prefix(", ") {
-                Some(after) => rest = after,
-                None => return false,
-            }
-        }
-        is_first = false;
-        match rest.strip_prefix(part.as_str()) {
-            Some(after) => rest = after,
-            None => return false,
-        }
+        rest = behind(rest, &[", ", part.as_str()])?;
     }
-    rest == if parts.len() == 1 { ",)" } else { ")" }
+    Some(rest)
 }
 
 /// What is still to be compared.
@@ -400,7 +446,9 @@ pub struct Ascent {
 }
 
 impl Ascent {
-    pub fn new(order: Ordered) -> Ascent {
+    pub fn new(order: Ordered) -> Ascent
+        ensures order { result.order ≡ order }
+    {
         Ascent {
             order,
             earlier: None,
@@ -409,7 +457,11 @@ impl Ascent {
     }
 
     /// That the next element begins at `start`; or, at the end of the collection, that it would.
-    pub fn begin(&mut self, start: usize) {
+    pub fn begin(&mut self, start: usize)
+        ensures order { self.new.order ≡ self.old.order }
+        ensures earlier { self.new.earlier ≡ self.old.last }
+        ensures last { self.new.last ≡ Some start }
+    {
         self.earlier = mem::replace(&mut self.last, Some(start));
     }
 
@@ -418,17 +470,28 @@ impl Ascent {
         &self,
         definitions: &Definitions<'_, '_>,
         bytes: &[u8],
-    ) -> Result<bool, AllocError> {
-        let (Some(earlier), Some(last)) = (self.earlier, self.last) else {
+    ) -> Result<bool, AllocError>
+        ensures { HasOrders definitions.now → (x : List ℕ) → OrderedBy definitions.now x self.now.order →
+            (i j : ℕ) → self.now.earlier ≡ Some i → self.now.last ≡ Some j → (r : Comparison) →
+            ValuesCompare definitions.now x (drop i bytes.now) (drop j bytes.now) r →
+            IfOk result (λ ascends. Decides ascends (r ≡ Less)) }
+    {
+        let Some(earlier) = self.earlier else {
+            return Ok(true);
+        };
+        let Some(last) = self.last else {
             return Ok(true);
         };
         let left = from(bytes, earlier);
         let right = from(bytes, last);
-        Ok(compare(definitions, self.order, left, right)? == Ordering::Less)
+        let ordering = compare(definitions, self.order, left, right)?;
+        Ok(ordering.is_lt())
     }
 }
 
-fn from(bytes: &[u8], start: usize) -> &[u8] {
+fn from(bytes: &[u8], start: usize) -> &[u8]
+    ensures { result.now ≡ drop start bytes.now }
+{
     &bytes[start.min(bytes.len())..]
 }
 
