@@ -25,3 +25,4 @@ pub mod FieldLaws
 pub mod OrderLaws
 pub mod OrderNumbers
 pub mod PendingLaws
+pub mod OrderedLaws

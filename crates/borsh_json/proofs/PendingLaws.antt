@@ -22,6 +22,27 @@ use Rattle.borsh_json.specs.Orders.{HasFound, AreFound, IsOrderOf, IsOrderIn, Is
 use Rattle.borsh_json.specs.Places.{IsAt}
 use Rattle.borsh_json.proofs.OrderLaws.{single_step, numbers_step, text_step, array_step, list_step, parts_step, end_step, element_step, empty_step, all_compared}
 
+drop_get : (i : ℕ) (qs : List (List ℕ)) (p : List ℕ) → slice_get qs i ≡ Some p → drop i qs ≡ p ∷ drop (suc i) qs
+drop_get i [] p e = cc
+drop_get zero (q ∷ qs) p e = let g : q ≡ p = cc in ap (λ p. p ∷ qs) g
+drop_get (suc i) (q ∷ qs) p e = drop_get i qs p e
+
+pub in_list : (i : ℕ) (qs : List (List ℕ)) (p : List ℕ) → slice_get qs i ≡ Some p → IsIn p qs
+in_list i [] p e = cc
+in_list zero (q ∷ qs) p e = let g : q ≡ p = cc in subst (λ q. IsIn p (q ∷ qs)) (sym g) first
+in_list (suc i) (q ∷ qs) p e = later (in_list i qs p e)
+
+pub short_get : (i : ℕ) (qs : List (List ℕ)) → i < length qs → (p : List ℕ) × (slice_get qs i ≡ Some p)
+short_get i [] h = absurd (omega (arith, h))
+short_get zero (q ∷ qs) h = (q, refl)
+short_get (suc i) (q ∷ qs) h = short_get i qs (omega (arith, h))
+
+past : (i : ℕ) (qs : List (List ℕ)) → length qs ≤ i → drop i qs ≡ []
+past zero [] h = refl
+past (suc i) [] h = refl
+past zero (q ∷ qs) h = absurd (omega (arith, h))
+past (suc i) (q ∷ qs) h = past i qs (omega (arith, h))
+
 module _ (F : List ℕ → Option Form) (ns : List Named) (orders : List Known) where
   abbrev Pends : List Pending → List ℕ → List ℕ → Ordering → Type 0
   Pends ps L R r = (ts : List Ranked) × (us : List Ranked) × ArePending F ns orders (reverse ps) ts us × Compare F ts us L R r
@@ -151,27 +172,6 @@ module _ (F : List ℕ → Option Form) (ns : List Named) (orders : List Known) 
         decided Equal k f = absurd (d (subst (λ o. MatchOrdering o (n < m) (n ≡ m) (m < n)) k (Rattle.std.proofs.lemmas.Cmp.ranked n m (nat_cmp n m) refl)))
         decided Greater k f = sym f
 
-    drop_get : (i : ℕ) (qs : List (List ℕ)) (p : List ℕ) → slice_get qs i ≡ Some p → drop i qs ≡ p ∷ drop (suc i) qs
-    drop_get i [] p e = cc
-    drop_get zero (q ∷ qs) p e = let g : q ≡ p = cc in ap (λ p. p ∷ qs) g
-    drop_get (suc i) (q ∷ qs) p e = drop_get i qs p e
-
-    listed : (i : ℕ) (qs : List (List ℕ)) (p : List ℕ) → slice_get qs i ≡ Some p → IsIn p qs
-    listed i [] p e = cc
-    listed zero (q ∷ qs) p e = let g : q ≡ p = cc in subst (λ q. IsIn p (q ∷ qs)) (sym g) first
-    listed (suc i) (q ∷ qs) p e = later (listed i qs p e)
-
-    short_get : (i : ℕ) (qs : List (List ℕ)) → i < length qs → (p : List ℕ) × (slice_get qs i ≡ Some p)
-    short_get i [] h = absurd (omega (arith, h))
-    short_get zero (q ∷ qs) h = (q, refl)
-    short_get (suc i) (q ∷ qs) h = short_get i qs (omega (arith, h))
-
-    past : (i : ℕ) (qs : List (List ℕ)) → length qs ≤ i → drop i qs ≡ []
-    past zero [] h = refl
-    past (suc i) [] h = refl
-    past zero (q ∷ qs) h = absurd (omega (arith, h))
-    past (suc i) (q ∷ qs) h = past i qs (omega (arith, h))
-
     -- the next part of two tuples
     pub next_part : (at n i : ℕ) → all ≡ ps ++ Parts at n i ∷ [] → i < n → Pends all L R r → (x : List ℕ) × (qs : List (List ℕ)) × (p : List ℕ) × IsAt ns at x × (F x ≡ Some (tuple qs)) × (slice_get qs i ≡ Some p) × ((k : ℕ) → IsAt ns k p → HasFound orders k) × Values p (ps ++ Parts at n (i + 1) ∷ []) L R r
     next_part at n i q l h =
@@ -183,7 +183,7 @@ module _ (F : List ℕ → Option Form) (ns : List Named) (orders : List Known) 
         let vs = map (λ p. a_value p) (drop (i + 1) qs) in
         let d : map (λ p. a_value p) (drop i qs) ≡ a_value g.0 ∷ vs = ap (λ (l : List (List ℕ)). map (λ p. a_value p) l) (drop_get i qs g.0 g.1 ∙ ap (λ j. g.0 ∷ drop j qs) s) in
         let c : Compare F (a_value g.0 ∷ vs ++ p.2) (a_value g.0 ∷ vs ++ p.3) L R r = subst (λ (us : List Ranked). Compare F (a_value g.0 ∷ vs ++ p.2) us L R r) (ap (λ (ws : List Ranked). ws ++ p.3) (k.7 ∙ d)) (subst (λ (ts : List Ranked). Compare F ts (p.1 ++ p.3) L R r) (ap (λ (vs : List Ranked). vs ++ p.2) (k.6 ∙ d)) p.6) in
-        (k.0, qs, g.0, k.2, k.3, g.1, (λ j a. k.5 g.0 j (listed i qs g.0 g.1) a), (vs ++ p.2, vs ++ p.3, pushed ps (Parts at n (i + 1)) p.2 p.3 vs vs (k.0, qs, k.2, k.3, k.4, k.5, refl, refl) p.5, c))
+        (k.0, qs, g.0, k.2, k.3, g.1, (λ j a. k.5 g.0 j (in_list i qs g.0 g.1) a), (vs ++ p.2, vs ++ p.3, pushed ps (Parts at n (i + 1)) p.2 p.3 vs vs (k.0, qs, k.2, k.3, k.4, k.5, refl, refl) p.5, c))
 
     pub end_parts : (at n i : ℕ) → all ≡ ps ++ Parts at n i ∷ [] → n ≤ i → Pends all L R r → Pends ps L R r
     end_parts at n i q l h =

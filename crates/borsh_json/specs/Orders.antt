@@ -1,5 +1,5 @@
 -- What the code finds of the orders of names, and what is still to be compared.
-use Rattle.std.specs.Prelude.{◌≡◌, ℕ, ◌<◌, ◌≤◌, ◌^◌, List, [], ◌∷◌, ◌++◌, length, map, drop, reverse, Option, Some, slice_get, MatchOption}
+use Rattle.std.specs.Prelude.{◌≡◌, ⊤, ℕ, ◌<◌, ◌≤◌, ◌^◌, List, [], ◌∷◌, ◌++◌, length, map, drop, reverse, Option, Some, slice_get, MatchOption}
 use Rattle.std.specs.Ordering.{MatchOrdering}
 use Rattle.std.specs.declared.cmp.Ordering.{Ordering}
 use Rattle.std.specs.declared.cmp.Ordering.TheVariants.{Less, Greater}
@@ -100,3 +100,37 @@ IsNextValue d pending left right r (Decided o) = o ≡ r
 -- two byte strings begin with values of the name, which compare so
 abbrev pub ValuesCompare : Definitions → List ℕ → List ℕ → List ℕ → Ordering → Type 0
 ValuesCompare d x left right r = Compare (forms_of d) (a_value x ∷ []) (a_value x ∷ []) left right r
+
+-- ---- orders that are being found
+
+-- a name whose order is known if those of its parts are: its place, the order, and how many of its parts were gone through
+abbrev pub Open : Type 0
+Open = ℕ × Ordered × ℕ
+
+module _ (F : List ℕ → Option Form) (ns : List Named) where
+  -- the orders of the parts that were gone through are known
+  abbrev pub IsOpen : List Known → Open → Type 0
+  IsOpen orders e =
+      (x : List ℕ) × (o : Order) × IsAt ns e.0 x × (e.0 < length orders) × HasOrder F x o × IsOrderOf F ns x e.1 o
+      × ((j : ℕ) (p : List ℕ) → j < e.2 → slice_get (needs o) j ≡ Some p → (k : ℕ) × IsAt ns k p × HasFound orders k)
+
+  -- the last name first: each other waits for the order of the one before it
+  abbrev pub AreOpen : List Known → List Open → Type 0
+  AreOpen orders [] = ⊤
+  AreOpen orders (e ∷ es) = IsOpen orders e × ((later : List Known) → KeepsOrders orders later → length later ≡ length orders → HasFound later e.0 → AreOpen later es)
+
+-- the same of the definitions' names
+abbrev pub AreOpenIn : Definitions → List Known → List Open → Type 0
+AreOpenIn d orders es = AreOpen (forms_of d) (names_of d) orders (reverse es)
+
+-- all wait for the order of the name at the place
+abbrev pub AwaitsOrder : Definitions → List Known → List Open → ℕ → Type 0
+AwaitsOrder d orders es k = ((x : List ℕ) × IsAt (names_of d) k x) × ((later : List Known) → KeepsOrders orders later → length later ≡ length orders → HasFound later k → AreOpenIn d later es)
+
+-- the orders are right, and those that were known are still known
+abbrev pub KnowsMore : Definitions → List Known → Type 0
+KnowsMore d orders = AreOrders (forms_of d) (names_of d) orders × KeepsOrders d.orders.items orders
+
+-- the order of the name
+abbrev pub TellsOrder : Definitions → List Known → List ℕ → Ordered → Type 0
+TellsOrder d orders x found = IsOrderIn (forms_of d) (names_of d) orders x found × IsOrdered (forms_of d) x

@@ -5,7 +5,7 @@ pub use Rattle.borsh_json.specs.Found.{AreEntries, HasForm, IsAlike, IsCollectio
 pub use Rattle.borsh_json.specs.Frames.{AddsList, AreKeyed, AreSorted, DeniesPart, DeniesRead, GivesPart, HasEntries, HasFields, HasItems, HasLeft, HasRead, HaveLeft, HaveNumbers, HaveOneEach, IsArrayOf, IsEntryKey, IsExpected, IsKey, IsNext, IsNextEntry, IsOf, IsOfRead, IsOpened, IsRank, IsText, IsVariantAt, IsWanted, NamesVariant, NoneLeft, Opens, ReadsOn, SaysArray, Wanted}
 pub use Rattle.borsh_json.specs.Known.{HasKinds, IsKnown, SaysBy}
 pub use Rattle.borsh_json.specs.Ordered.{AreNumbers, IsSequenceName, IsTreeMapName, Order, is_below_zero, listed, needs, tuple_name}
-pub use Rattle.borsh_json.specs.Orders.{FindsBytes, FrontCompares, HasFound, HasOrders, IsNeeded, IsNextValue, IsOrderOf, OrderedBy, PendingCompares, ValueCompares, ValuesCompare}
+pub use Rattle.borsh_json.specs.Orders.{AreOpenIn, AwaitsOrder, FindsBytes, FindsOrder, FrontCompares, HasFound, HasOrders, IsNeeded, IsNextValue, IsOrderOf, KnowsMore, OrderedBy, PendingCompares, TellsOrder, ValueCompares, ValuesCompare}
 pub use Rattle.borsh_json.specs.Places.{AreKeysOf, IsAt, IsInfinity, IsKindAt, IsKindOf, IsListOf, lengths_of}
 pub use Rattle.borsh_json.specs.Ranks.{HasRank, IsLeading, IsPlain, magnitude, number_found, rank_of}
 pub use Rattle.borsh_json.specs.Reads.{AreRead, Left, PartsOfAll, SaysFirst, SaysSome, entries_left}

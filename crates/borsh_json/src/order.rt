@@ -74,13 +74,8 @@ pub fn ordered_as(
             length_range,
             elements,
         } => {
-            let start = length_range.start;
-            let is_fixed = *length_width == 0 && start == length_range.end;
-            if is_fixed && is_array_name(name, elements.as_str(), start) {
-                Some(Ordered::Array(start, definitions.part(at, 0)))
-            } else {
-                None
-            }
+            let (start, end) = (length_range.start, length_range.end);
+            array_as(definitions, at, elements.as_str(), *length_width, start, end)
         }
         Definition::Tuple { elements } => {
             if is_tuple_name(name, elements.as_slice()) {
@@ -130,6 +125,28 @@ fn list_as(
         return Some(Ordered::List(4, part));
     }
     None
+}
+
+/// How the values of a sequence without a length prefix are ordered.
+fn array_as(
+    definitions: &Definitions<'_, '_>,
+    at: usize,
+    element: &str,
+    width: u8,
+    start: u64,
+    end: u64,
+) -> Option<Ordered>
+    ensures { (x e : List ℕ) → HasForm definitions.now at (sequence width start end e) x → element.now ≡ e →
+        IfSome result (FindsBytes (forms_of definitions.now) (names_of definitions.now) x) }
+{
+    if width != 0 || start != end {
+        return None;
+    }
+    if is_array_name(definitions.name(at), element, start) {
+        Some(Ordered::Array(start, definitions.part(at, 0)))
+    } else {
+        None
+    }
 }
 
 /// Whether a name is that of a list or an ordered set of these elements.
@@ -182,17 +199,17 @@ fn is_array_name(name: &str, element: &str, count: u64) -> bool
 fn is_tuple_name(name: &str, parts: &[Declaration]) -> bool
     ensures { result ≡ true → name.now ≡ tuple_name (map (λ p. string_bytes p) parts.now) }
 {
-    if parts.is_empty() {
+    let Some((first, others)) = parts.split_first() else {
         return name == "()";
-    }
-    let first = parts[0].as_str();
-    if parts.len() == 1 {
+    };
+    let first = first.as_str();
+    if others.is_empty() {
         return is_composed(name, &["(", first, ",)"]);
     }
     let Some(rest) = behind(name, &["(", first]) else {
         return false;
     };
-    match behind_parts(rest, &parts[1..]) {
+    match behind_parts(rest, others) {
         Some(rest) => rest == ")",
         None => false,
     }
