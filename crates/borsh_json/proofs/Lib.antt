@@ -26,3 +26,4 @@ pub mod OrderLaws
 pub mod OrderNumbers
 pub mod PendingLaws
 pub mod OrderedLaws
+pub mod WaitingLaws

@@ -48,16 +48,20 @@ listed_more ps i p text rest last g e q = e ∙ ap (λ r. listed (take i ps) ++ 
         ap (λ q. 44 ∷ 32 ∷ (q ++ last)) (nil p ∙ sym k ∙ sym (nil q))
     more (q ∷ qs) (suc i) p last g = ap (λ l. 44 ∷ 32 ∷ l) (append_assoc q (listed (take i qs)) (44 ∷ 32 ∷ ((p ++ []) ++ last)) ∙ ap (λ l. q ++ l) (more qs i p last g) ∙ sym (append_assoc q (listed (take (suc i) qs)) last))
 
+pub same_count : (ps : List (String Global)) → length (map (λ p. string_bytes p) ps) ≡ length ps
+same_count [] = refl
+same_count (p ∷ ps) = ap (λ n. suc n) (same_count ps)
+
 pub no_parts : (ps : List (String Global)) (name : List ℕ) → length ps ≡ 0 → name ≡ codes "()" → name ≡ tuple_name (map (λ p. string_bytes p) ps)
 no_parts [] name e n = n
 no_parts (p ∷ ps) name e n = absurd (omega (arith, e))
 
-pub tuple_named : (ps others : List (String Global)) (p : String Global) (first name rest last : List ℕ) → ps ≡ p ∷ others → (length others == 0) ≡ false → first ≡ string_bytes p → name ≡ 40 ∷ ((first ++ []) ++ rest) → rest ≡ listed (map (λ p. string_bytes p) others) ++ last → last ≡ codes ")" → name ≡ tuple_name (map (λ p. string_bytes p) ps)
-tuple_named ps [] p first name rest last e t f n r l = let g : (0 == 0) ≡ true = refl in cc
-tuple_named ps (q ∷ others) p first name rest last e t f n r l =
+pub tuple_named : (ps others : List (String Global)) (p : String Global) (head name rest last : List ℕ) → ps ≡ p ∷ others → (length others == 0) ≡ false → head ≡ string_bytes p → name ≡ 40 ∷ ((head ++ []) ++ rest) → rest ≡ listed (map (λ p. string_bytes p) others) ++ last → last ≡ codes ")" → name ≡ tuple_name (map (λ p. string_bytes p) ps)
+tuple_named ps [] p head name rest last e t f n r l = let g : (0 == 0) ≡ true = refl in cc
+tuple_named ps (q ∷ others) p head name rest last e t f n r l =
     let names = map (λ p. string_bytes p) (q ∷ others) in
-    n ∙ ap (λ rest. 40 ∷ ((first ++ []) ++ rest)) (r ∙ ap (λ last. listed names ++ last) l)
-    ∙ ap (λ l. 40 ∷ l) (ap (λ f. f ++ (listed names ++ 41 ∷ [])) (nil first ∙ f) ∙ sym (append_assoc (string_bytes p) (listed names) (41 ∷ [])))
+    n ∙ ap (λ rest. 40 ∷ ((head ++ []) ++ rest)) (r ∙ ap (λ last. listed names ++ last) l)
+    ∙ ap (λ l. 40 ∷ l) (ap (λ f. f ++ (listed names ++ 41 ∷ [])) (nil head ∙ f) ∙ sym (append_assoc (string_bytes p) (listed names) (41 ∷ [])))
     ∙ ap (λ ps. tuple_name (map (λ p. string_bytes p) ps)) (sym e)
   where
     nil : (p : List ℕ) → p ++ [] ≡ p
@@ -83,6 +87,7 @@ in_range (x ∷ xs) zero v e = omega arith
 in_range (x ∷ xs) (suc i) v e = let h = in_range xs i v e in omega (arith, h)
 
 place_of : (qs : List (List ℕ)) (p : List ℕ) → IsIn p qs → (j : ℕ) × (j < length qs) × (slice_get qs j ≡ Some p)
+place_of [] p i = elim i [ ]
 place_of (q ∷ qs) p first = (0, omega arith, refl)
 place_of (q ∷ qs) p (later i) = let r = place_of qs p i in (suc r.0, omega (arith, r.1), r.2)
 
@@ -138,15 +143,15 @@ module _ (F : List ℕ → Option Form) (ns : List Named) where
       ]), found_kept, (found, get_same orders at (KnownOrder (Some found)) entry.3))
 
   -- the last of the open names, and those that wait for it
-  pub last_open : (orders : List Known) (all es : List Open) (e : Open) → all ≡ es ++ e ∷ [] → AreOpen F ns orders (reverse all) → IsOpen F ns orders e × ((later : List Known) → KeepsOrders orders later → length later ≡ length orders → HasFound later e.0 → AreOpen F ns later (reverse es))
+  pub last_open : (orders : List Known) (all es : List Open) (e : Open) → all ≡ es ++ e ∷ [] → AreOpen F ns orders (reverse all) → IsOpen F ns orders e × ((after : List Known) → KeepsOrders orders after → length after ≡ length orders → HasFound after e.0 → AreOpen F ns after (reverse es))
   last_open orders all es e q h = subst (λ (l : List Open). AreOpen F ns orders l) (ap (λ (l : List Open). reverse l) q ∙ reverse-append es (e ∷ [])) h
 
-  pub more_open : (orders : List Known) (all es : List Open) (e : Open) → all ≡ es ++ e ∷ [] → IsOpen F ns orders e → ((later : List Known) → KeepsOrders orders later → length later ≡ length orders → HasFound later e.0 → AreOpen F ns later (reverse es)) → AreOpen F ns orders (reverse all)
+  pub more_open : (orders : List Known) (all es : List Open) (e : Open) → all ≡ es ++ e ∷ [] → IsOpen F ns orders e → ((after : List Known) → KeepsOrders orders after → length after ≡ length orders → HasFound after e.0 → AreOpen F ns after (reverse es)) → AreOpen F ns orders (reverse all)
   more_open orders all es e q o w = subst (λ (l : List Open). AreOpen F ns orders l) (sym (ap (λ (l : List Open). reverse l) q ∙ reverse-append es (e ∷ []))) (o, w)
 
   -- one part more was gone through
-  pub part_open : (orders later : List Known) (at index k : ℕ) (found : Ordered) (p : List ℕ) (h : IsOpen F ns orders (at, found, index)) → slice_get (needs h.1) index ≡ Some p → IsAt ns k p → KeepsOrders orders later → length later ≡ length orders → HasFound later k → IsOpen F ns later (at, found, index + 1)
-  part_open orders later at index k found p h g a keep len f = (h.0, h.1, h.2, (let l = h.3 in omega (arith, l, len)), h.4, h.5, (λ j q l s. elim (cases_eq j index) [
+  pub part_open : (orders after : List Known) (at index k : ℕ) (found : Ordered) (p : List ℕ) (h : IsOpen F ns orders (at, found, index)) → slice_get (needs h.1) index ≡ Some p → IsAt ns k p → KeepsOrders orders after → length after ≡ length orders → HasFound after k → IsOpen F ns after (at, found, index + 1)
+  part_open orders after at index k found p h g a keep len f = (h.0, h.1, h.2, (let l = h.3 in omega (arith, l, len)), h.4, h.5, (λ j q l s. elim (cases_eq j index) [
     | inl e ↦ (let t : Some p ≡ Some q = sym g ∙ ap (λ j. slice_get (needs h.1) j) (sym e) ∙ s in
         let u : p ≡ q = cc in
         (k, subst (λ p. IsAt ns k p) u a, f))

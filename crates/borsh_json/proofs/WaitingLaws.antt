@@ -69,3 +69,7 @@ module _ (d : Definitions) (orders : List Known) where
 -- no name waits yet
 pub none_waits : (d : Definitions) (orders : List Known) (es : List Open) (at : ℕ) (x : List ℕ) → es ≡ [] → IsAt (names_of d) at x → AwaitsOrder d orders es at
 none_waits d orders es at x e a = ((x, a), λ later k l f. subst (λ (es : List Open). AreOpenIn d later es) (sym e) tt)
+
+-- what holds of the names of one layout holds of those of the same
+pub part_for : (d e : Definitions) (index : ℕ) (found : Ordered) (result : Option ℕ) → e.layout ≡ d.layout → ((x : List ℕ) (o : Order) → IsOrderOf (forms_of e) (names_of e) x found o → IsNeeded (names_of e) (needs o) index result) → (x : List ℕ) (o : Order) → IsOrderOf (forms_of d) (names_of d) x found o → IsNeeded (names_of d) (needs o) index result
+part_for d e index found result q p = subst (λ (l : Bor Layout). (x : List ℕ) (o : Order) → IsOrderOf (forms_in l.now.map.now) l.now.names.items x found o → IsNeeded l.now.names.items (needs o) index result) q p

@@ -4,9 +4,9 @@ ghost use Rattle.std.specs.Prelude.{◌≡◌, ◌⊎◌, ◌+◌, ◌++◌, ◌
 
 use crate::definitions::Definitions;
 use crate::formats::{behind, is_composed, is_list, option_part};
-use itoa::Buffer;
 use crate::kinds::{Kind, is_text, kind_of_primitive};
 use borsh_walks::{Declaration, Definition};
+use itoa::Buffer;
 use std::alloc::AllocError;
 use std::cmp::Ordering;
 use std::mem;
@@ -75,7 +75,14 @@ pub fn ordered_as(
             elements,
         } => {
             let (start, end) = (length_range.start, length_range.end);
-            array_as(definitions, at, elements.as_str(), *length_width, start, end)
+            array_as(
+                definitions,
+                at,
+                elements.as_str(),
+                *length_width,
+                start,
+                end,
+            )
         }
         Definition::Tuple { elements } => {
             if is_tuple_name(name, elements.as_slice()) {
