@@ -38,3 +38,8 @@ pub mod LineLaws
 pub mod LeafLaws
 pub mod ListLaws
 pub mod KeyLaws
+pub mod OrderLaws
+pub mod OrderNumbers
+pub mod PendingLaws
+pub mod OrderedLaws
+pub mod WaitingLaws

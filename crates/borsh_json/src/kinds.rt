@@ -383,7 +383,7 @@ fn kind_of_key(
 }
 
 /// Whether the name at a place is `String`, with its definition.
-fn is_text(definitions: &Definitions<'_, '_>, at: usize, definition: &Definition) -> bool
+pub fn is_text(definitions: &Definitions<'_, '_>, at: usize, definition: &Definition) -> bool
     ensures { (x : List ℕ) → HasForm definitions.now at (form_of definition.now) x →
         Decides result (AreKeys (forms_of definitions.now) x texts) }
 {
@@ -397,8 +397,7 @@ fn is_text(definitions: &Definitions<'_, '_>, at: usize, definition: &Definition
 fn order_of_keys(kind: KeyKind) -> Ordered {
     match kind {
         KeyKind::Text => Ordered::Text,
-        KeyKind::Number(number) if number.is_signed => Ordered::Signed(number.size),
-        KeyKind::Number(number) => Ordered::Unsigned(number.size),
+        KeyKind::Number(number) => Ordered::Number(number.size, number.is_signed),
     }
 }
 
