@@ -43,3 +43,7 @@ pub mod OrderNumbers
 pub mod PendingLaws
 pub mod OrderedLaws
 pub mod WaitingLaws
+pub mod KindOrders
+pub mod RankLaws
+pub mod DescentLaws
+pub mod KeyRanks

@@ -14,7 +14,7 @@ use Rattle.borsh_json.specs.Table.{Kind, truth, whole, primitive_kind, InRange}
 use Rattle.borsh_json.proofs.RepresentsLaws.{option_one}
 use Rattle.borsh_json.specs.Ordered.{IsListName, Order, single, numbers, text, array, list, parts, AreNumbers, OrdersBytes, HasOrder, Ranked, a_value, elements, OwnRank, RankFirst, Rank, no_rank, more_rank, Compare, Continues}
 
-clash : {A : Type 0} (o : Option A) {f g : A} → o ≡ Some f → o ≡ Some g → (f ≡ g → ⊥) → ⊥
+pub clash : {A : Type 0} (o : Option A) {f g : A} → o ≡ Some f → o ≡ Some g → (f ≡ g → ⊥) → ⊥
 clash o {f = f} {g = g} a b n = let e : Some f ≡ Some g = sym a ∙ b in n cc
 
 one_sign : (k : Kind) (n : ℕ) (s t : Bool) → AreNumbers k n s → AreNumbers k n t → s ≡ t
@@ -145,7 +145,7 @@ module _ (F : List ℕ → Option Form) where
       (f.0, g.0, f.1, g.1, f.3, g.3, f.4, g.4, decide (int_cmp f.0 g.0) ts us f.1 g.1 f.2 g.2 r f.6 g.6 (ap (λ a. slice_cmp int_cmp a (g.0 ∷ g.2)) (sym f.5) ∙ ap (λ b. slice_cmp int_cmp c.0 b) (sym g.5) ∙ c.4))
 
   -- ---- texts
-  abbrev marked : List ℕ → List ℤ
+  abbrev pub marked : List ℕ → List ℤ
   marked s = map (λ b. pos (suc b)) s ++ pos 0 ∷ []
 
   next_cmp : (b c : ℕ) → int_cmp (pos (suc b)) (pos (suc c)) ≡ nat_cmp b c
@@ -157,7 +157,7 @@ module _ (F : List ℕ → Option Form) where
   end_greater : (c : ℕ) → int_cmp (pos (suc c)) (pos 0) ≡ Greater
   end_greater c = sym (int_cmp_is (pos (suc c)) (pos 0) Greater (omega (arith, ints)))
 
-  marked_cmp : (s t : List ℕ) (a b : List ℤ) → slice_cmp int_cmp (marked s ++ a) (marked t ++ b) ≡ ordering_then (slice_cmp nat_cmp s t) (slice_cmp int_cmp a b)
+  pub marked_cmp : (s t : List ℕ) (a b : List ℤ) → slice_cmp int_cmp (marked s ++ a) (marked t ++ b) ≡ ordering_then (slice_cmp nat_cmp s t) (slice_cmp int_cmp a b)
   marked_cmp [] [] a b = refl
   marked_cmp [] (c ∷ t) a b = ap (λ o. ordering_then o (slice_cmp int_cmp a (marked t ++ b))) (end_less c)
   marked_cmp (c ∷ s) [] a b = ap (λ o. ordering_then o (slice_cmp int_cmp (marked s ++ a) b)) (end_greater c)

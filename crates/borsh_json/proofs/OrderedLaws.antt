@@ -101,7 +101,7 @@ module _ (F : List ℕ → Option Form) (ns : List Named) where
   finds_number x name n (Some g) e f h = (numbers n h.0, (f, subst (λ y. AreNumbers (primitive_kind y n) n h.0) e h.2), subst (λ (g : Ordered). IsOrderOf F ns x g (numbers n h.0)) (sym h.1) refl)
 
   -- ---- orders that are being found
-  still : (x : List ℕ) (f : Ordered) (old new : List Known) → KeepsOrders old new → IsOrderIn F ns old x f → IsOrderIn F ns new x f
+  pub still : (x : List ℕ) (f : Ordered) (old new : List Known) → KeepsOrders old new → IsOrderIn F ns old x f → IsOrderIn F ns new x f
   still x f old new k o = (o.0, o.1, o.2, λ p i q a. k i (o.3 p i q a))
 
   module _ (orders : List Known) (known : AreOrders F ns orders) (at : ℕ) where

@@ -10,6 +10,7 @@ pub mod InOrder
 pub mod Represents
 pub mod Known
 pub mod Found
+pub mod Descents
 pub mod Orders
 pub mod Reads
 pub mod Frames

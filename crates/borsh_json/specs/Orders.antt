@@ -1,13 +1,18 @@
 -- What the code finds of the orders of names, and what is still to be compared.
-use Rattle.std.specs.Prelude.{◌≡◌, ⊤, ℕ, ◌<◌, ◌≤◌, ◌^◌, List, [], ◌∷◌, ◌++◌, length, map, drop, reverse, Option, Some, slice_get, MatchOption}
+use Rattle.std.specs.Prelude.{◌≡◌, ⊤, ℕ, ◌<◌, ◌≤◌, ◌^◌, List, [], ◌∷◌, ◌++◌, length, map, drop, reverse, Option, Some, Result, IfOk, IfSome, slice_get, MatchOption}
+use Rattle.std.specs.Borrow.{Bor}
 use Rattle.std.specs.Ordering.{MatchOrdering}
 use Rattle.std.specs.declared.cmp.Ordering.{Ordering}
 use Rattle.std.specs.declared.cmp.Ordering.TheVariants.{Less, Greater}
 use Rattle.borsh_walks.specs.Container.{IsIn}
+use Rattle.borsh_walks.specs.declared.definition.Definition.{Definition}
 use Rattle.borsh_values.specs.declared.layout.Named.{Named}
 use Rattle.borsh_json.specs.declared.definitions.Definitions.{Definitions}
 use Rattle.borsh_json.specs.declared.definitions.Known.{Known}
 use Rattle.borsh_json.specs.declared.definitions.Known.TheVariants.{Order as KnownOrder}
+use Rattle.borsh_json.specs.declared.kinds.KeyKind.{KeyKind}
+use Rattle.borsh_json.specs.declared.kinds.Kind.{Kind}
+use Rattle.borsh_json.specs.declared.kinds.Kind.TheVariants.{Number as NumberKind, Bool, Text as TextKind, Bytes, Float, ByteList, Numbers, List as ListKind, Map, Row, Newtype, Object, Optional, Choice, Repeated}
 use Rattle.borsh_json.specs.declared.order.Next.{Next}
 use Rattle.borsh_json.specs.declared.order.Next.TheVariants.{Value, Decided}
 use Rattle.borsh_json.specs.declared.order.Ordered.{Ordered}
@@ -15,10 +20,12 @@ use Rattle.borsh_json.specs.declared.order.Ordered.TheVariants.{Single, Number, 
 use Rattle.borsh_json.specs.declared.order.Pending.{Pending}
 use Rattle.borsh_json.specs.declared.order.Pending.TheVariants.{Elements, Parts}
 use Rattle.borsh_json.specs.Forms.{Form, tuple}
-use Rattle.borsh_json.specs.Found.{forms_of, names_of}
+use Rattle.borsh_json.specs.Descents.{HasKeys}
+use Rattle.borsh_json.specs.Found.{HasForm, forms_of, names_of}
 use Rattle.borsh_json.specs.Known.{IsKnown}
 use Rattle.borsh_json.specs.Ordered.{Order, single, numbers, text, array, list, parts, needs, OrdersBytes, HasOrder, IsOrdered, Ranked, a_value, elements, Compare}
-use Rattle.borsh_json.specs.Places.{IsAt}
+use Rattle.borsh_json.specs.Places.{AreKeysOf, IsAt}
+use Rattle.borsh_json.specs.Table.{AreKeys, Keys}
 
 module _ (F : List ℕ → Option Form) (ns : List Named) where
   -- what was found of the name is its order
@@ -80,6 +87,40 @@ HasOrders d = IsKnown d × AreOrders (forms_of d) (names_of d) d.orders.items
 abbrev pub OrderedBy : Definitions → List ℕ → Ordered → Type 0
 OrderedBy d x found = IsOrderIn (forms_of d) (names_of d) d.orders.items x found
 
+module _ (F : List ℕ → Option Form) (ns : List Named) (orders : List Known) where
+  -- the keys of the set or map x ascend so, which is their order
+  abbrev pub KeysAscend : List ℕ → Ordered → Type 0
+  KeysAscend x found = (e : List ℕ) × (k : List ℕ) × HasKeys F x e k × IsOrderIn F ns orders k found × IsOrdered F k
+
+  -- an order that a kind of x has is that of its keys
+  abbrev pub KindHasOrder : List ℕ → Kind → Type 0
+  KindHasOrder x (NumberKind n) = ⊤
+  KindHasOrder x Bool = ⊤
+  KindHasOrder x TextKind = ⊤
+  KindHasOrder x (Bytes n) = ⊤
+  KindHasOrder x (Float n) = ⊤
+  KindHasOrder x (ByteList es) = IfSome es.order (λ found. KeysAscend x found)
+  KindHasOrder x (Numbers es) = IfSome es.order (λ found. KeysAscend x found)
+  KindHasOrder x (ListKind es) = IfSome es.order (λ found. KeysAscend x found)
+  KindHasOrder x (Map es found) = KeysAscend x found
+  KindHasOrder x (Row n) = ⊤
+  KindHasOrder x (Newtype at) = ⊤
+  KindHasOrder x (Object fs) = ⊤
+  KindHasOrder x (Optional at) = ⊤
+  KindHasOrder x (Choice w vs) = ⊤
+  KindHasOrder x (Repeated name) = ⊤
+
+  -- and so are those of all kinds that were found
+  abbrev pub KindsHaveOrders : List (Option (Bor Definition × Kind)) → Type 0
+  KindsHaveOrders kinds = (i : ℕ) (x : List ℕ) (r : Bor Definition × Kind) → slice_get kinds i ≡ Some (Some r) → IsAt ns i x → KindHasOrder x r.1
+
+-- what is known is right, with the kinds of all names
+pub record HasKinds (d : Definitions) : Type 0 where
+  pub known : IsKnown d
+  pub whole : length d.kinds.items ≡ length d.layout.now.names.items
+  pub orders : AreOrders (forms_of d) (names_of d) d.orders.items
+  pub ascending : KindsHaveOrders (forms_of d) (names_of d) d.orders.items d.kinds.items
+
 -- what is pending of these bytes compares so
 abbrev pub PendingCompares : Definitions → List Pending → List ℕ → List ℕ → Ordering → Type 0
 PendingCompares d pending left right r = (ts : List Ranked) × (us : List Ranked) × ArePending (forms_of d) (names_of d) d.orders.items (reverse pending) ts us × Compare (forms_of d) ts us left right r
@@ -134,3 +175,15 @@ KnowsMore d orders = AreOrders (forms_of d) (names_of d) orders × KeepsOrders d
 -- the order of the name
 abbrev pub TellsOrder : Definitions → List Known → List ℕ → Ordered → Type 0
 TellsOrder d orders x found = IsOrderIn (forms_of d) (names_of d) orders x found × IsOrdered (forms_of d) x
+
+-- an order was found of a set's elements or a map's keys, if it is known
+abbrev pub FindsKeys : Definitions → List Known → List ℕ → Option Ordered → Type 0
+FindsKeys d orders x found = KnowsMore d orders × IfSome found (λ o. KeysAscend (forms_of d) (names_of d) orders x o)
+
+-- a kind was found, and its order, if it has one
+abbrev pub FindsKind : {E : Type 0} → Definitions → List Known → ℕ → Form → Result Kind E → Type 0
+FindsKind d orders at f result = HasOrders d → (x : List ℕ) → HasForm d at f x → IfOk result (λ kind. KnowsMore d orders × KindHasOrder (forms_of d) (names_of d) orders x kind)
+
+-- the keys of an object are ordered so
+abbrev pub OrdersKeys : Ordered → KeyKind → Type 0
+OrdersKeys found kind = (F : List ℕ → Option Form) (ns : List Named) (orders : List Known) (k : List ℕ) (f : Form) (keys : Keys) → AreKeys F k keys → AreKeysOf F ns k f kind keys → IsOrderIn F ns orders k found × IsOrdered F k

@@ -1,5 +1,5 @@
 // A layout, and what was found out about its names. Names are known by their places.
-ghost use Rattle.borsh_json.specs.Words.{AreOpenIn, AwaitsOrder, FindsOrder, Form, FoundOrder, HasOrders, IsNamed, KnowsMore, TellsOrder, forms_of, names_of, HasKinds, HasNoBytes, IsAlike, IsAt, IsKindAt, IsKnown, IsLaidOut, KnownAt, KnownOrder, KnowsSizes, form_of, forms_in, references, shape_of_form};
+ghost use Rattle.borsh_json.specs.Words.{AreOpenIn, AwaitsOrder, FindsOrder, Form, FoundOrder, HasOrders, IsNamed, KindHasOrder, KnowsMore, TellsOrder, forms_of, names_of, HasKinds, HasNoBytes, IsAlike, IsAt, IsKindAt, IsKnown, IsLaidOut, KnownAt, KnownOrder, KnowsSizes, form_of, forms_in, references, shape_of_form};
 ghost use Rattle.std.specs.Prelude.{◌≡◌, ℕ, List, Decides, IfOk, IfSome, None, OnOk, Some, option_map, slice_get, slice_set, true};
 
 use crate::kinds::{Kind, kind_of};
@@ -63,6 +63,9 @@ impl<'a, 'l> Definitions<'a, 'l> {
         ensures kind { let ns = self.old.layout.now.names.items in let F = forms_in self.old.layout.now.map.now in
             IsKnown self.old → IfOk result (λ kind. IsKindAt F ns at kind) }
         ensures same { OnOk result (IsAlike self.old self.new) }
+        ensures orders { let ns = names_of self.old in let F = forms_of self.old in let os = self.new.orders.items in
+            HasOrders self.old → (x : List ℕ) → IsAt ns at x → IfOk result (λ found.
+            KnowsMore self.old os × IfSome found (λ r. KindHasOrder F ns os x r.1)) }
     {
         match self.get(at) {
             Some(definition) => {
@@ -129,8 +132,10 @@ impl<'a, 'l> Definitions<'a, 'l> {
 
     /// The definition of the name at a place, if it has one, and how its values are written.
     pub(crate) fn kind(&self, at: usize) -> Option<(&'a Definition, Kind<'a>)>
-        ensures { let ns = self.now.layout.now.names.items in let F = forms_in self.now.layout.now.map.now in
+        ensures kind { let ns = self.now.layout.now.names.items in let F = forms_in self.now.layout.now.map.now in
             HasKinds self.now → IsKindAt F ns at result }
+        ensures order { let d = self.now in HasKinds d → (x : List ℕ) → IsAt (names_of d) at x →
+            IfSome result (λ r. KindHasOrder (forms_of d) (names_of d) d.orders.items x r.1) }
     {
         match self.kinds.as_slice().get(at).copied() {
             Some(found) => found,
@@ -142,17 +147,22 @@ impl<'a, 'l> Definitions<'a, 'l> {
     pub(crate) fn order_of(&mut self, at: usize) -> Result<Option<Ordered>, AllocError>
         ensures same { OnOk result (IsAlike self.old self.new) }
         ensures orders { HasOrders self.old → (x : List ℕ) → IsAt (names_of self.old) at x →
-            OnOk result (KnowsMore self.old self.new.orders.items) }
-        ensures order { HasOrders self.old → (x : List ℕ) → IsAt (names_of self.old) at x →
-            IfOk result (λ found. IfSome found (TellsOrder self.old self.new.orders.items x)) }
+            IfOk result (λ found. KnowsMore self.old self.new.orders.items ×
+            IfSome found (TellsOrder self.old self.new.orders.items x)) }
+    {
+        self.begin_orders()?;
+        self.find_order(at)?;
+        Ok(self.known_order(at))
+    }
+
+    fn begin_orders(&mut self) -> Result<(), AllocError>
+        ensures same { OnOk result (IsAlike self.old self.new) }
+        ensures orders { HasOrders self.old → OnOk result (KnowsMore self.old self.new.orders.items) }
     {
         if self.orders.is_empty() {
             self.orders = vec![in self.alloc; Known::Nothing; self.layout.names.len()]?;
         }
-        if matches!(self.known_at(at), Known::Nothing) {
-            self.find_order(at)?;
-        }
-        Ok(self.known_order(at))
+        Ok(())
     }
 
     /// How the values of the name are ordered, where [`Definitions::order_of`] found that for it or for a name that needs it.
