@@ -19,7 +19,7 @@ use Rattle.borsh_json.specs.Forms.{Form, primitive, sequence, HasNoBytes, IsList
 use Rattle.borsh_json.specs.Found.{IsCollection, IsSetName, forms_of, names_of}
 use Rattle.borsh_json.specs.Known.{IsKnown}
 use Rattle.borsh_json.specs.Ordered.{numbers, text, HasOrder, IsOrdered, ordered}
-use Rattle.borsh_json.specs.Orders.{HasFound, KeepsOrders, IsOrderIn, AreOrders, HasOrders, KnowsMore, KeysAscend, KindHasOrder, KindsHaveOrders}
+use Rattle.borsh_json.specs.Orders.{HasFound, KeepsOrders, IsOrderIn, AreOrders, HasOrders, KnowsMore, KeysAscend, HasKeyOrder, KindHasOrder, KindsHaveOrders}
 use Rattle.borsh_json.specs.Places.{AreKeysOf, IsAt}
 use Rattle.borsh_json.specs.Table.{Keys, AreKeys, Kind as TableKind, no_bytes, whole, primitive_kind, HasKind, DefinedKind, texts, numbers as number_keys}
 use Rattle.borsh_json.proofs.FoundLaws.{full_list}
@@ -55,25 +55,28 @@ module _ (F : List ℕ → Option Form) (ns : List Named) where
       ((numbers n.size n.is_signed, h, refl, λ p i q b. elim i [ ]), ordered (numbers n.size n.is_signed) h (λ p i. elim i [ ]))
 
   -- ---- sets and maps
-  pub set_found : (x e : List ℕ) (w lo hi : ℕ) (orders : List Known) (found : Option Ordered) → IsCollection F ns x Set → F x ≡ Some (sequence w lo hi e) → IfSome found (λ f. IsOrderIn F ns orders e f × IsOrdered F e) → IfSome found (λ f. KeysAscend F ns orders x f)
+  pub set_found : (x e : List ℕ) (w lo hi : ℕ) (orders : List Known) (found : Option Ordered) → IsCollection F ns x Set → F x ≡ Some (sequence w lo hi e) → IfSome found (λ f. IsOrderIn F ns orders e f × IsOrdered F e) → HasKeyOrder F ns orders x found
   set_found x e w lo hi orders None c f h = tt
   set_found x e w lo hi orders (Some found) c f h =
       let s = c.0 in
       let g : Some (sequence w lo hi e) ≡ Some (sequence 4 0 4294967295 s.0) = sym f ∙ s.1.0 in
       let q : s.0 ≡ e = cc in
-      (e, e, (subst (λ e. IsList F x e) q s.1.0, inl (subst (λ e. IsSetName x e) q s.1.1, refl)), h.0, h.1)
+      (e, (e, (subst (λ e. IsList F x e) q s.1.0, inl (subst (λ e. IsSetName x e) q s.1.1, refl)), h.0, h.1))
 
-  pub map_found : (x k v : List ℕ) (orders : List Known) (found : Option Ordered) → IsMap F x k v → IfSome found (λ f. IsOrderIn F ns orders k f × IsOrdered F k) → IfSome found (λ f. KeysAscend F ns orders x f)
+  pub key_found : (x k v : List ℕ) (orders : List Known) (found : Ordered) → IsMap F x k v → IsOrderIn F ns orders k found → IsOrdered F k → KeysAscend F ns orders x k found
+  key_found x k v orders found m o h = (m.0, (m.1, inr (v, m.2, m.3)), o, h)
+
+  pub map_found : (x k v : List ℕ) (orders : List Known) (found : Option Ordered) → IsMap F x k v → IfSome found (λ f. IsOrderIn F ns orders k f × IsOrdered F k) → HasKeyOrder F ns orders x found
   map_found x k v orders None m h = tt
-  map_found x k v orders (Some found) m h = (m.0, k, (m.1, inr (v, m.2, m.3)), h.0, h.1)
+  map_found x k v orders (Some found) m h = (k, key_found x k v orders found m h.0 h.1)
 
   -- ---- orders that are found later
-  kept : (old new : List Known) → KeepsOrders old new → (x : List ℕ) (found : Ordered) → KeysAscend F ns old x found → KeysAscend F ns new x found
-  kept old new k x found a = (a.0, a.1, a.2, still F ns a.1 found old new k a.3, a.4)
+  kept : (old new : List Known) → KeepsOrders old new → (x k : List ℕ) (found : Ordered) → KeysAscend F ns old x k found → KeysAscend F ns new x k found
+  kept old new keep x k found a = (a.0, a.1, still F ns k found old new keep a.2, a.3)
 
-  kept_some : (old new : List Known) → KeepsOrders old new → (x : List ℕ) (o : Option Ordered) → IfSome o (λ f. KeysAscend F ns old x f) → IfSome o (λ f. KeysAscend F ns new x f)
-  kept_some old new k x None h = tt
-  kept_some old new k x (Some f) h = kept old new k x f h
+  kept_some : (old new : List Known) → KeepsOrders old new → (x : List ℕ) (o : Option Ordered) → HasKeyOrder F ns old x o → HasKeyOrder F ns new x o
+  kept_some old new keep x None h = tt
+  kept_some old new keep x (Some f) h = (h.0, kept old new keep x h.0 f h.1)
 
   kind_kept : (old new : List Known) → KeepsOrders old new → (x : List ℕ) (kind : Kind) → KindHasOrder F ns old x kind → KindHasOrder F ns new x kind
   kind_kept old new k x (Number n) h = tt
@@ -84,7 +87,7 @@ module _ (F : List ℕ → Option Form) (ns : List Named) where
   kind_kept old new k x (ByteList es) h = kept_some old new k x es.order h
   kind_kept old new k x (Numbers es) h = kept_some old new k x es.order h
   kind_kept old new k x (ListKind es) h = kept_some old new k x es.order h
-  kind_kept old new k x (Map es found) h = kept old new k x found h
+  kind_kept old new k x (Map es found) h = (h.0, h.1, kept old new k x h.0 found h.2)
   kind_kept old new k x (Row n) h = tt
   kind_kept old new k x (Newtype at) h = tt
   kind_kept old new k x (Object fs) h = tt

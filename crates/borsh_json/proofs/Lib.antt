@@ -47,3 +47,4 @@ pub mod KindOrders
 pub mod RankLaws
 pub mod DescentLaws
 pub mod KeyRanks
+pub mod PackedDescent

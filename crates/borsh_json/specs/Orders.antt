@@ -1,5 +1,5 @@
 -- What the code finds of the orders of names, and what is still to be compared.
-use Rattle.std.specs.Prelude.{◌≡◌, ⊤, ℕ, ◌<◌, ◌≤◌, ◌^◌, List, [], ◌∷◌, ◌++◌, length, map, drop, reverse, Option, Some, Result, IfOk, IfSome, slice_get, MatchOption}
+use Rattle.std.specs.Prelude.{◌≡◌, ⊤, ℕ, ◌*◌, ◌<◌, ◌≤◌, ◌^◌, All, Bool, List, [], ◌∷◌, ◌++◌, length, map, drop, reverse, Option, Some, Result, IfOk, IfSome, slice_get, MatchOption}
 use Rattle.std.specs.Borrow.{Bor}
 use Rattle.std.specs.Ordering.{MatchOrdering}
 use Rattle.std.specs.declared.cmp.Ordering.{Ordering}
@@ -10,9 +10,11 @@ use Rattle.borsh_values.specs.declared.layout.Named.{Named}
 use Rattle.borsh_json.specs.declared.definitions.Definitions.{Definitions}
 use Rattle.borsh_json.specs.declared.definitions.Known.{Known}
 use Rattle.borsh_json.specs.declared.definitions.Known.TheVariants.{Order as KnownOrder}
+use Rattle.borsh_json.specs.declared.error.PartError.{PartError}
+use Rattle.borsh_json.specs.declared.error.PartError.TheVariants.{OutOfMemory as NoMemory, Refused as RefusedPart}
 use Rattle.borsh_json.specs.declared.kinds.KeyKind.{KeyKind}
 use Rattle.borsh_json.specs.declared.kinds.Kind.{Kind}
-use Rattle.borsh_json.specs.declared.kinds.Kind.TheVariants.{Number as NumberKind, Bool, Text as TextKind, Bytes, Float, ByteList, Numbers, List as ListKind, Map, Row, Newtype, Object, Optional, Choice, Repeated}
+use Rattle.borsh_json.specs.declared.kinds.Kind.TheVariants.{Number as NumberKind, Bool as Truth, Text as TextKind, Bytes, Float, ByteList, Numbers, List as ListKind, Map, Row, Newtype, Object, Optional, Choice, Repeated}
 use Rattle.borsh_json.specs.declared.order.Next.{Next}
 use Rattle.borsh_json.specs.declared.order.Next.TheVariants.{Value, Decided}
 use Rattle.borsh_json.specs.declared.order.Ordered.{Ordered}
@@ -20,7 +22,7 @@ use Rattle.borsh_json.specs.declared.order.Ordered.TheVariants.{Single, Number, 
 use Rattle.borsh_json.specs.declared.order.Pending.{Pending}
 use Rattle.borsh_json.specs.declared.order.Pending.TheVariants.{Elements, Parts}
 use Rattle.borsh_json.specs.Forms.{Form, tuple}
-use Rattle.borsh_json.specs.Descents.{HasKeys}
+use Rattle.borsh_json.specs.Descents.{HasKeys, NumbersDescend}
 use Rattle.borsh_json.specs.Found.{HasForm, forms_of, names_of}
 use Rattle.borsh_json.specs.Known.{IsKnown}
 use Rattle.borsh_json.specs.Ordered.{Order, single, numbers, text, array, list, parts, needs, OrdersBytes, HasOrder, IsOrdered, Ranked, a_value, elements, Compare}
@@ -88,21 +90,24 @@ abbrev pub OrderedBy : Definitions → List ℕ → Ordered → Type 0
 OrderedBy d x found = IsOrderIn (forms_of d) (names_of d) d.orders.items x found
 
 module _ (F : List ℕ → Option Form) (ns : List Named) (orders : List Known) where
-  -- the keys of the set or map x ascend so, which is their order
-  abbrev pub KeysAscend : List ℕ → Ordered → Type 0
-  KeysAscend x found = (e : List ℕ) × (k : List ℕ) × HasKeys F x e k × IsOrderIn F ns orders k found × IsOrdered F k
+  -- the keys k of the set or map x ascend so, which is their order
+  abbrev pub KeysAscend : List ℕ → List ℕ → Ordered → Type 0
+  KeysAscend x k found = (e : List ℕ) × HasKeys F x e k × IsOrderIn F ns orders k found × IsOrdered F k
+
+  abbrev pub HasKeyOrder : List ℕ → Option Ordered → Type 0
+  HasKeyOrder x order = IfSome order (λ found. (k : List ℕ) × KeysAscend x k found)
 
   -- an order that a kind of x has is that of its keys
   abbrev pub KindHasOrder : List ℕ → Kind → Type 0
   KindHasOrder x (NumberKind n) = ⊤
-  KindHasOrder x Bool = ⊤
+  KindHasOrder x Truth = ⊤
   KindHasOrder x TextKind = ⊤
   KindHasOrder x (Bytes n) = ⊤
   KindHasOrder x (Float n) = ⊤
-  KindHasOrder x (ByteList es) = IfSome es.order (λ found. KeysAscend x found)
-  KindHasOrder x (Numbers es) = IfSome es.order (λ found. KeysAscend x found)
-  KindHasOrder x (ListKind es) = IfSome es.order (λ found. KeysAscend x found)
-  KindHasOrder x (Map es found) = KeysAscend x found
+  KindHasOrder x (ByteList es) = HasKeyOrder x es.order
+  KindHasOrder x (Numbers es) = HasKeyOrder x es.order
+  KindHasOrder x (ListKind es) = HasKeyOrder x es.order
+  KindHasOrder x (Map es found) = (k : List ℕ) × IsAt ns es.key k × KeysAscend x k found
   KindHasOrder x (Row n) = ⊤
   KindHasOrder x (Newtype at) = ⊤
   KindHasOrder x (Object fs) = ⊤
@@ -178,7 +183,7 @@ TellsOrder d orders x found = IsOrderIn (forms_of d) (names_of d) orders x found
 
 -- an order was found of a set's elements or a map's keys, if it is known
 abbrev pub FindsKeys : Definitions → List Known → List ℕ → Option Ordered → Type 0
-FindsKeys d orders x found = KnowsMore d orders × IfSome found (λ o. KeysAscend (forms_of d) (names_of d) orders x o)
+FindsKeys d orders x found = KnowsMore d orders × HasKeyOrder (forms_of d) (names_of d) orders x found
 
 -- a kind was found, and its order, if it has one
 abbrev pub FindsKind : {E : Type 0} → Definitions → List Known → ℕ → Form → Result Kind E → Type 0
@@ -187,3 +192,14 @@ FindsKind d orders at f result = HasOrders d → (x : List ℕ) → HasForm d at
 -- the keys of an object are ordered so
 abbrev pub OrdersKeys : Ordered → KeyKind → Type 0
 OrdersKeys found kind = (F : List ℕ → Option Form) (ns : List Named) (orders : List Known) (k : List ℕ) (f : Form) (keys : Keys) → AreKeys F k keys → AreKeysOf F ns k f kind keys → IsOrderIn F ns orders k found × IsOrdered F k
+
+-- ---- primitives in a row
+
+-- the bytes are so many each, and ordered as numbers
+abbrev pub AreOrderedNumbers : Ordered → ℕ → Bool → List ℕ → Type 0
+AreOrderedNumbers order n signed bytes = (order ≡ Number n signed) × (0 < n) × ((c : ℕ) × (length bytes ≡ c * n)) × All (λ b. b < 256) bytes
+
+-- the refusal is right of such bytes
+abbrev pub IsFallOf : ℕ → Bool → List ℕ → PartError → Type 0
+IsFallOf n signed bytes NoMemory = ⊤
+IsFallOf n signed bytes (RefusedPart path refusal) = (i : ℕ) × NumbersDescend n signed bytes i

@@ -1,6 +1,6 @@
 // The order of the keys of maps and sets, where names and definitions tell it.
-ghost use Rattle.borsh_json.specs.Words.{AreNumbers, Comparison, FindsBytes, FrontCompares, HasForm, HasFound, HasOrders, InRange, IsAt, IsKnown, IsNeeded, IsNextValue, IsOrderOf, IsSequenceName, IsTreeMapName, Less, NumberOrder, Order, OrderedBy, PendingCompares, ValueCompares, ValuesCompare, decimal, form_of, forms_of, int_cmp, is_below_zero, listed, low_bytes, names_of, nat_cmp, needs, primitive_kind, sequence, slice_cmp, tag, tuple, tuple_name};
-ghost use Rattle.std.specs.Prelude.{◌≡◌, ◌⊎◌, ◌+◌, ◌++◌, ◌∷◌, [], ◌<◌, ◌^◌, ℕ, ℤ, Bool, List, Decides, IfOk, IfSome, Some, codes, drop, length, map, option_map, pos, string_bytes, true};
+ghost use Rattle.borsh_json.specs.Words.{AreNumbers, AreOrderedNumbers, Comparison, FindsBytes, FrontCompares, HasForm, HasFound, HasOrders, InRange, IsAt, IsKnown, IsNeeded, IsNextValue, IsOrderOf, IsSequenceName, IsTreeMapName, Less, NumberOrder, NumbersDescend, Order, OrderedBy, PendingCompares, ValueCompares, ValuesCompare, decimal, form_of, forms_of, int_cmp, is_below_zero, listed, low_bytes, names_of, nat_cmp, needs, primitive_kind, sequence, slice_cmp, tag, tuple, tuple_name};
+ghost use Rattle.std.specs.Prelude.{◌≡◌, ◌⊎◌, ◌+◌, ◌++◌, ◌∷◌, [], ◌<◌, ◌^◌, ℕ, ℤ, Bool, List, Decides, IfOk, IfSome, None, Some, codes, drop, length, map, option_map, pos, string_bytes, true};
 
 use crate::definitions::Definitions;
 use crate::formats::{behind, is_composed, is_list, option_part};
@@ -472,6 +472,7 @@ pub struct Ascent {
 impl Ascent {
     pub fn new(order: Ordered) -> Ascent
         ensures order { result.order ≡ order }
+        ensures none { (result.earlier ≡ None) × (result.last ≡ None) }
     {
         Ascent {
             order,
@@ -520,21 +521,30 @@ fn from(bytes: &[u8], start: usize) -> &[u8]
 }
 
 /// The first element of a list of primitives of so many bytes that isn't above the one before it.
-pub fn first_descent(order: Ordered, size: usize, bytes: &[u8]) -> Option<usize> {
-    let is_signed = matches!(order, Ordered::Number(_, true));
-    let mut earlier: Option<&[u8]> = None;
-    let mut index: usize = 0;
-    if size == 0 {
-        return None;
-    }
-    for element in bytes.chunks_exact(size) {
-        if let Some(before) = earlier
-            && compare_numbers(before, element, is_signed) != Ordering::Less
-        {
+pub fn first_descent(order: Ordered, size: usize, bytes: &[u8]) -> Option<usize>
+    ensures { (signed : Bool) → AreOrderedNumbers order size signed bytes.now →
+        IfSome result (NumbersDescend size signed bytes.now) }
+{
+    let is_signed = is_signed(order);
+    let mut rest = bytes;
+    let mut index: usize = 1;
+    while size > 0 && rest.len() > size {
+        let (element, after) = rest.split_at(size);
+        let next = &after[..size.min(after.len())];
+        if compare_numbers(element, next, is_signed) != Ordering::Less {
             return Some(index);
         }
-        earlier = Some(element);
+        rest = after;
         index = index.saturating_add(1);
     }
     None
+}
+
+fn is_signed(order: Ordered) -> bool
+    ensures { (n : ℕ) (signed : Bool) → order ≡ NumberOrder n signed → result ≡ signed }
+{
+    match order {
+        Ordered::Number(_, is_signed) => is_signed,
+        _ => false,
+    }
 }
