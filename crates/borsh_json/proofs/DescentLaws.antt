@@ -1,11 +1,11 @@
 -- Neighbours of a set or a map that don't ascend.
-use Rattle.std.proofs.Common.{◌≡◌, ◌⊎◌, inl, inr, ℕ, suc, zero, ◌+◌, ◌-◌, ◌*◌, ◌<◌, ◌≤◌, ◌^◌, List, [], ◌∷◌, ◌++◌, length, map, drop, replicate, Bool, Option, Some, refl, sym, ◌∙◌, ap, subst, arith, append_assoc, append-nil, length-append}
+use Rattle.std.proofs.Common.{◌≡◌, ◌⊎◌, inl, inr, ℕ, suc, zero, ◌+◌, ◌-◌, ◌*◌, ◌<◌, ◌≤◌, ◌^◌, List, [], ◌∷◌, ◌++◌, length, map, take, drop, replicate, Bool, Option, Some, refl, sym, ◌∙◌, ap, subst, arith, append_assoc, append-nil, length-append, length-drop, length-take-le, take-append-drop}
 use Rattle.std.specs.Prelude.{ℤ, pos, All, codes}
 use Rattle.std.specs.Ordering.{nat_cmp, int_cmp, ordering_then}
 use Rattle.std.specs.Cmp.Lexicographic.{slice_cmp}
 use Rattle.std.specs.declared.cmp.Ordering.{Ordering}
 use Rattle.std.specs.declared.cmp.Ordering.TheVariants.{Less, Equal, Greater}
-use Rattle.std.proofs.Math.Nat.{suc-mul}
+use Rattle.std.proofs.Math.Nat.{suc-mul, zero-mul}
 use Rattle.borsh_walks.specs.Container.{Member, of_primitive, Members, tag}
 use Rattle.borsh_walks.specs.Container as shape
 use Rattle.borsh_values.proofs.Packed.{copies_of}
@@ -13,6 +13,7 @@ use Rattle.borsh_json.specs.Descents.{NumbersDescend, HasKeys, HasDescent}
 use Rattle.borsh_json.specs.Forms.{Form, primitive, tuple, sequence, shapes}
 use Rattle.borsh_json.specs.Table.{InRange}
 use Rattle.borsh_json.specs.Ordered.{Order, numbers, text, HasOrder, IsOrdered, Ranked, a_value, Rank, no_rank, more_rank, Compare}
+use Rattle.borsh_json.proofs.IntegerLaws.{number_there}
 use Rattle.borsh_json.proofs.OrderLaws.{clash, marked, marked_cmp}
 use Rattle.borsh_json.proofs.OrderNumbers.{long_tag}
 use Rattle.borsh_json.proofs.RankLaws.{shaped}
@@ -33,10 +34,10 @@ all_right P (x ∷ xs) ys h = all_right P xs ys (λ j e m. h (suc j) e (omega (a
 
 -- elements of so many bytes have room for two behind p
 two_more : (p c n r : ℕ) → p * suc n + (suc n + (suc n + r)) ≡ c * suc n → suc (suc p) ≤ c
-two_more zero zero n r e = absurd (let z : 0 * suc n ≡ 0 = refl in omega (arith, e, z))
-two_more zero (suc zero) n r e = absurd (let z : 0 * suc n ≡ 0 = refl in let k = suc-mul 0 (suc n) in omega (arith, e, z, k))
+two_more zero zero n r e = absurd (let z = zero-mul (suc n) in omega (arith, e, z))
+two_more zero (suc zero) n r e = absurd (let z = zero-mul (suc n) in let k = suc-mul 0 (suc n) in omega (arith, e, z, k))
 two_more zero (suc (suc c)) n r e = omega arith
-two_more (suc p) zero n r e = absurd (let z : 0 * suc n ≡ 0 = refl in omega (arith, e, z))
+two_more (suc p) zero n r e = absurd (let z = zero-mul (suc n) in omega (arith, e, z))
 two_more (suc p) (suc c) n r e =
     let j = suc-mul p (suc n) in
     let k = suc-mul c (suc n) in
@@ -94,3 +95,54 @@ module _ (F : List ℕ → Option Form) where
         compares = numbers_compare k (suc n) signed d.y d.z (second ++ (d.after ++ rest)) (d.after ++ rest) r d.first d.second;
         falls = d.falls;
       }
+
+-- ---- primitives in a row
+two_left : (m n l : ℕ) → 0 < n → l ≡ m * n → n < l → n + n ≤ l
+two_left zero n l h e g = absurd (let z = zero-mul n in omega (arith, e, z, g))
+two_left (suc zero) n l h e g = absurd (let z = zero-mul n in let k = suc-mul 0 n in omega (arith, e, z, k, g))
+two_left (suc (suc m)) n l h e g = let j = suc-mul (suc m) n in let k = suc-mul m n in omega (arith, e, j, k)
+
+-- a front of as many bytes as there are
+pub front_of : (n : ℕ) (l : List ℕ) → n ≤ length l → (l ≡ take n l ++ drop n l) × (length (take n l) ≡ n)
+front_of n l h = (sym (take-append-drop n l), length-take-le n l h)
+
+-- one element was passed
+pub one_passed : (bytes rest after before : List ℕ) (n m index : ℕ) → 0 < n → 1 ≤ index → bytes ≡ before ++ rest → length before ≡ (index - 1) * n → length rest ≡ m * n → n < length rest → after ≡ drop n rest → (more : List ℕ) × (k : ℕ) × (bytes ≡ more ++ after) × (length more ≡ (index + 1 - 1) * n) × (length after ≡ k * n)
+one_passed bytes rest after before n zero index h g e b r l a = absurd (let z = zero-mul n in omega (arith, r, z, l))
+one_passed bytes rest after before n (suc m) index h g e b r l a =
+    let f = front_of n rest (omega (arith, l)) in
+    let j = length-append before (take n rest) in
+    let s = suc-mul (index - 1) n in
+    let t = suc-mul m n in
+    let d = length-drop n rest in
+    let q : suc (index - 1) ≡ index + 1 - 1 = omega (arith, g) in
+    let x : length (before ++ take n rest) ≡ suc (index - 1) * n = (let p = f.1 in omega (arith, j, p, b, s)) in
+    (before ++ take n rest, m, e ∙ ap (λ r. before ++ r) f.0 ∙ sym (append_assoc before (take n rest) (drop n rest)) ∙ ap (λ a. (before ++ take n rest) ++ a) (sym a), x ∙ ap (λ i. i * n) q, ap (λ a. length a) a ∙ (let p = t in omega (arith, d, r, p)))
+
+pub falls_at : (signed : Bool) (bytes rest element after next before : List ℕ) (n m index : ℕ) → 0 < n → 1 ≤ index → bytes ≡ before ++ rest → length before ≡ (index - 1) * n → length rest ≡ m * n → n < length rest → ((xs bs : List ℕ) → rest ≡ xs ++ bs → length xs ≡ n → (element ≡ xs) × (after ≡ bs)) → ((xs bs : List ℕ) → after ≡ xs ++ bs → length xs ≡ n → next ≡ xs) → All (λ b. b < 256) bytes → ((y z : ℤ) → InRange n signed y → InRange n signed z → element ≡ tag n y → next ≡ tag n z → int_cmp y z ≡ Less → ⊥) → 0 < index → NumbersDescend n signed bytes index
+falls_at signed bytes rest element after next before n m index h g e b r l cut again small falls some =
+    let f = front_of n rest (omega (arith, l)) in
+    let s = cut (take n rest) (drop n rest) f.0 f.1 in
+    let two = two_left m n (length rest) h r l in
+    let d = ap (λ a. length a) s.1 ∙ length-drop n rest in
+    let v = front_of n after (omega (arith, two, d)) in
+    let u = again (take n after) (drop n after) v.0 v.1 in
+    let P : ℕ → Type 0 = λ b. b < 256 in
+    let all = all_right P before rest (subst (λ l. All P l) e small) in
+    let parts : rest ≡ element ++ after = f.0 ∙ ap (λ l. l ++ drop n rest) (sym s.0) ∙ ap (λ l. element ++ l) (sym s.1) in
+    let back : after ≡ next ++ drop n after = v.0 ∙ ap (λ l. l ++ drop n after) (sym u) in
+    let fine = subst (λ l. All P l) parts all in
+    let y = number_there signed n element (ap (λ l. length l) s.0 ∙ f.1) (all_left P element after fine) in
+    let z = number_there signed n next (ap (λ l. length l) u ∙ v.1) (all_left P next (drop n after) (subst (λ l. All P l) back (all_right P element after fine))) in
+    record {
+      before = before;
+      after = drop n after;
+      y = y.0;
+      z = z.0;
+      some = some;
+      passed = b;
+      bytes_are = e ∙ ap (λ l. before ++ l) (parts ∙ ap (λ a. element ++ a) (back ∙ ap (λ l. l ++ drop n after) z.1.0) ∙ ap (λ l. l ++ (tag n z.0 ++ drop n after)) y.1.0);
+      first = y.1.1;
+      second = z.1.1;
+      falls = falls y.0 z.0 y.1.1 z.1.1 y.1.0 z.1.0;
+    }

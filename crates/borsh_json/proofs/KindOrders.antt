@@ -1,6 +1,7 @@
 -- The orders of sets and maps, as they are found with kinds.
 use Rattle.std.proofs.Common.{◌≡◌, inl, inr, ℕ, List, [], ◌∷◌, ◌++◌, length, Option, Some, None, IfSome, refl, sym, ◌∙◌, ap, subst}
-use Rattle.std.specs.Prelude.{Bool, slice_get}
+use mathlib.Core.Bool.{not}
+use Rattle.std.specs.Prelude.{Bool, true, false, reverse, slice_get}
 use Rattle.std.specs.Borrow.{Bor}
 use Rattle.borsh_walks.specs.declared.definition.Definition.{Definition}
 use Rattle.borsh_values.specs.declared.layout.Layout.{Layout}
@@ -19,7 +20,7 @@ use Rattle.borsh_json.specs.Forms.{Form, primitive, sequence, HasNoBytes, IsList
 use Rattle.borsh_json.specs.Found.{IsCollection, IsSetName, forms_of, names_of}
 use Rattle.borsh_json.specs.Known.{IsKnown}
 use Rattle.borsh_json.specs.Ordered.{numbers, text, HasOrder, IsOrdered, ordered}
-use Rattle.borsh_json.specs.Orders.{HasFound, KeepsOrders, IsOrderIn, AreOrders, HasOrders, KnowsMore, KeysAscend, HasKeyOrder, KindHasOrder, KindsHaveOrders}
+use Rattle.borsh_json.specs.Orders.{HasFound, KeepsOrders, Open, AreOpen, AreOpenIn, AwaitsOrder, TellsOrder, IsOrderIn, AreOrders, HasOrders, KnowsMore, KeysAscend, HasKeyOrder, KindHasOrder, KindsHaveOrders}
 use Rattle.borsh_json.specs.Places.{AreKeysOf, IsAt}
 use Rattle.borsh_json.specs.Table.{Keys, AreKeys, Kind as TableKind, no_bytes, whole, primitive_kind, HasKind, DefinedKind, texts, numbers as number_keys}
 use Rattle.borsh_json.proofs.FoundLaws.{full_list}
@@ -114,3 +115,18 @@ knows_more d e p q h k = (known_alike d e p q h.0, subst (λ (l : Bor Layout). A
 
 pub knows_then : (d e : Definitions) (orders : List Known) → e.layout ≡ d.layout → KnowsMore d e.orders.items → KnowsMore e orders → KnowsMore d orders
 knows_then d e orders p k m = (subst (λ (l : Bor Layout). AreOrders (forms_in l.now.map.now) l.now.names.items orders) p m.0, λ i z. m.1 i (k.1 i z))
+
+pub told : (d : Definitions) (orders : List Known) (at : ℕ) (x : List ℕ) (o : Option Ordered) → AreOrders (forms_of d) (names_of d) orders → IsAt (names_of d) at x → ((found : Ordered) → o ≡ Some found → slice_get orders at ≡ Some (KnownOrder (Some found))) → IfSome o (TellsOrder d orders x)
+told d orders at x None r a g = tt
+told d orders at x (Some found) r a g = r at x found (g found refl) a
+
+-- the same layout has the same names
+pub awaits_at : (d e : Definitions) (orders : List Known) (es : List Open) (k : ℕ) → d.layout ≡ e.layout → AwaitsOrder d orders es k → AwaitsOrder e orders es k
+awaits_at d e orders es k p w = subst (λ (l : Bor Layout). ((x : List ℕ) × IsAt l.now.names.items k x) × ((later : List Known) → KeepsOrders orders later → length later ≡ length orders → HasFound later k → AreOpen (forms_in l.now.map.now) l.now.names.items later (reverse es))) p w
+
+pub open_at : (d e : Definitions) (orders : List Known) (es : List Open) → d.layout ≡ e.layout → AreOpenIn d orders es → AreOpenIn e orders es
+open_at d e orders es p o = subst (λ (l : Bor Layout). AreOpen (forms_in l.now.map.now) l.now.names.items orders (reverse es)) p o
+
+pub was_true : (b : Bool) → not b ≡ false → b ≡ true
+was_true true e = refl
+was_true false e = cc

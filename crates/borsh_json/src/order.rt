@@ -525,13 +525,16 @@ pub fn first_descent(order: Ordered, size: usize, bytes: &[u8]) -> Option<usize>
     ensures { (signed : Bool) → AreOrderedNumbers order size signed bytes.now →
         IfSome result (NumbersDescend size signed bytes.now) }
 {
+    if size == 0 {
+        return None;
+    }
     let is_signed = is_signed(order);
     let mut rest = bytes;
     let mut index: usize = 1;
-    while size > 0 && rest.len() > size {
-        let (element, after) = rest.split_at(size);
-        let next = &after[..size.min(after.len())];
-        if compare_numbers(element, next, is_signed) != Ordering::Less {
+    while rest.len() > size {
+        let (element, after) = split(rest, size);
+        let (next, _) = split(after, size);
+        if !compare_numbers(element, next, is_signed).is_lt() {
             return Some(index);
         }
         rest = after;
