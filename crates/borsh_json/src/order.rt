@@ -5,7 +5,7 @@ ghost use Rattle.std.specs.Prelude.{◌≡◌, ◌⊎◌, ◌+◌, ◌++◌, ◌
 use crate::definitions::Definitions;
 use crate::formats::{behind, is_composed, is_list, option_part};
 use crate::kinds::{Kind, is_text, kind_of_primitive};
-use borsh_walks::{Declaration, Definition, LengthRange};
+use borsh_walks::{Declaration, Definition};
 use itoa::Buffer;
 use std::alloc::AllocError;
 use std::cmp::Ordering;
@@ -68,17 +68,7 @@ pub fn ordered_as(
         Definition::Sequence { elements, .. } if is_list(definition) => {
             list_as(definitions, at, definition, elements.as_str())
         }
-        Definition::Sequence {
-            length_width,
-            length_range,
-            elements,
-        } => array_as(
-            definitions,
-            at,
-            elements.as_str(),
-            *length_width,
-            *length_range,
-        ),
+        Definition::Sequence { .. } => array_as(definitions, at, definition),
         Definition::Tuple { elements } => {
             if is_tuple_name(name, elements.as_slice()) {
                 Some(Ordered::Tuple(at, elements.len()))
@@ -132,17 +122,22 @@ fn list_as(
 fn array_as(
     definitions: &Definitions<'_, '_>,
     at: usize,
-    element: &str,
-    width: u8,
-    range: LengthRange,
+    definition: &Definition,
 ) -> Option<Ordered>
-    ensures { (e : List ℕ) → element.now ≡ e →
-        FindsBytesAt definitions.now at (sequence width range.start range.end e) result }
+    ensures { FindsBytesAt definitions.now at (form_of definition.now) result }
 {
-    if width != 0 || range.start != range.end {
+    let Definition::Sequence {
+        length_width: 0,
+        length_range: range,
+        elements,
+    } = definition
+    else {
+        return None;
+    };
+    if range.start != range.end {
         return None;
     }
-    if is_array_name(definitions.name(at), element, range.start) {
+    if is_array_name(definitions.name(at), elements.as_str(), range.start) {
         Some(Ordered::Array(range.start, definitions.part(at, 0)))
     } else {
         None
