@@ -4,7 +4,6 @@
 //! refused in turn too, and each block of memory is freed once.
 #![tactic(auto)]
 
-mod generated_types;
 mod judge;
 mod names;
 mod row;
