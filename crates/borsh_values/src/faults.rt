@@ -66,10 +66,13 @@ pub struct Path<'a> {
 
 impl<'a> fmt::Display for Path<'a> {
     fn fmt<W: fmt::Write>(&self, f: &mut fmt::Formatter<W>) -> fmt::Result {
-        write!(f, "{}", self.root)?;
+        f.write_str(self.root)?;
         for step in self.steps.as_slice() {
             match step {
-                PathStep::Field(name) => write!(f, ".{name}")?,
+                PathStep::Field(name) => {
+                    f.write_str(".")?;
+                    f.write_str(name)?;
+                }
                 PathStep::Place(index) => write!(f, ".{index}")?,
                 PathStep::Element(index) => write!(f, "[{index}]")?,
                 PathStep::Variant(name) => write!(f, "::{name}")?,
@@ -155,7 +158,7 @@ fn frame_step<'a>(layout: &Layout<'a>, bytes: &[u8], frame: &Frame) -> Option<Pa
     }
 }
 
-/// That no member of the next name begins where `left` bytes are left; `frame` is the last of the open frames, and
+/// That no member of the next name begins where the bytes `left` are left; `frame` is the last of the open frames, and
 /// `step` leads on from it.
 pub fn no_member<'a>(
     alloc: Global,
@@ -164,13 +167,13 @@ pub fn no_member<'a>(
     open: &Vec<Frame>,
     frame: Frame,
     step: Step,
-    left: usize,
+    left: &[u8],
     reason: Reason,
 ) -> Result<Front<'a>, AllocError>
-    requires { left ≤ length bytes.now }
+    requires { length left.now ≤ length bytes.now }
     ensures { let all = length bytes.now in
         let name = name_at layout.now.names.items step.at in
-        IfOk result (λ a. StopsAt all left name reason a) }
+        IfOk result (λ a. StopsAt all (length left.now) name reason a) }
 {
     let mut steps: Vec<PathStep<'a>> = Vec::new(alloc);
     for frame in open.as_slice() {
@@ -188,7 +191,7 @@ pub fn no_member<'a>(
     }
     let root = layout.root;
     let fault = Fault {
-        offset: bytes.len() - left,
+        offset: bytes.len() - left.len(),
         name: name_of(&layout.names, step.at),
         reason,
         path: Path { root, steps },

@@ -413,16 +413,7 @@ pub fn decide<'a, 'b>(
                 Some(step) => {
                     let Some(definition) = definition_at(&layout.names, step.at) else {
                         let why = Reason::MissingDefinition;
-                        return no_member(
-                            alloc,
-                            layout,
-                            bytes,
-                            &stack,
-                            frame,
-                            step,
-                            left.len(),
-                            why,
-                        );
+                        return no_member(alloc, layout, bytes, &stack, frame, step, left, why);
                     };
                     let name = name_of(&layout.names, step.at);
                     match open_definition(
@@ -430,16 +421,7 @@ pub fn decide<'a, 'b>(
                     )? {
                         Opened::Undecided => return Ok(Front::Ambiguous(name)),
                         Opened::Refused(why) => {
-                            return no_member(
-                                alloc,
-                                layout,
-                                bytes,
-                                &stack,
-                                frame,
-                                step,
-                                left.len(),
-                                why,
-                            );
+                            return no_member(alloc, layout, bytes, &stack, frame, step, left, why);
                         }
                         Opened::Taken(own, parts) => {
                             let packed = pack(layout, wanted, step.at, own, parts, left);
@@ -460,14 +442,7 @@ pub fn decide<'a, 'b>(
                                     Known::Recursive => {
                                         let why = Reason::Recursive;
                                         return no_member(
-                                            alloc,
-                                            layout,
-                                            bytes,
-                                            &stack,
-                                            frame,
-                                            step,
-                                            left.len(),
-                                            why,
+                                            alloc, layout, bytes, &stack, frame, step, left, why,
                                         );
                                     }
                                     Known::New => {
