@@ -21,9 +21,6 @@ use std::fmt::Write;
 /// How wide a column is at most. What is wider moves the rest of its line.
 const WIDEST: usize = 64;
 
-/// As many spaces.
-const SPACES: &str = "                                                                ";
-
 /// How many bytes of a row are shown.
 const SHOWN_BYTES: usize = 16;
 
@@ -124,7 +121,9 @@ impl Widths {
         path: &Path<'_>,
         text: &mut PlainText,
     ) -> Result<(), AllocError> {
-        self.bytes = self.bytes.max(width_of_bytes(row.bytes));
+        text.clear();
+        push_bytes(row.bytes, text)?;
+        self.bytes = wider(self.bytes, text);
         text.clear();
         push_path(path, text)?;
         self.path = wider(self.path, text);
@@ -197,15 +196,6 @@ fn push_bytes(bytes: &[u8], text: &mut PlainText) -> Added {
     Ok(())
 }
 
-/// How many digits and dots these are.
-fn width_of_bytes(bytes: &[u8]) -> usize {
-    if bytes.len() > SHOWN_BYTES {
-        2 * SHOWN_BYTES + 2
-    } else {
-        2 * bytes.len()
-    }
-}
-
 fn push_path(path: &Path<'_>, text: &mut PlainText) -> Added {
     match write!(text, "{path}") {
         Ok(()) => Ok(()),
@@ -215,8 +205,11 @@ fn push_path(path: &Path<'_>, text: &mut PlainText) -> Added {
 
 /// Puts the spaces between a text and the next column in place of the text.
 fn push_gap(text: &mut PlainText, width: usize) -> Added {
-    let gap = width.saturating_sub(text.as_bytes().len());
+    let length = text.as_bytes().len();
     text.clear();
     text.push("  ")?;
-    text.push(SPACES.get(..gap).unwrap_or(SPACES))
+    for _ in length..width {
+        text.push(" ")?;
+    }
+    Ok(())
 }

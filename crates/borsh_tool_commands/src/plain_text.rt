@@ -1,7 +1,7 @@
 // Text that a terminal shows as it is.
 ghost use Rattle.std.specs.Prelude.{◌≡◌, ◌++◌, ◌∷◌, ◌<◌, ◌≤◌, [], All, OnOk, decimal, flat_map};
 ghost use Rattle.std.specs.Fmt.{signed_decimal};
-ghost use Rattle.borsh_json.specs.Ascii.{IsPlain, is_printable as is_printable_byte};
+ghost use Rattle.borsh_json.specs.Ascii.{IsPlain};
 ghost use Rattle.borsh_tool_commands.specs.Plain.{digit as digit_of, digits, escaped, quoted, name_text, is_word as is_word_byte, is_identifier as is_identifier_text};
 ghost use Rattle.std.specs.List.{list_all};
 
@@ -63,11 +63,7 @@ impl PlainText {
     pub fn push(&mut self, text: &str) -> Added
         ensures { OnOk result (self.new.text.items ≡ self.old.text.items ++ flat_map escaped text.now) }
     {
-        let bytes = text.as_bytes();
-        if are_printable(bytes) {
-            return self.text.extend_from_slice(bytes);
-        }
-        for byte in bytes {
+        for byte in text.as_bytes() {
             self.push_byte(*byte)?;
         }
         Ok(())
@@ -146,7 +142,7 @@ impl PlainText {
     fn push_byte(&mut self, byte: u8) -> Added
         ensures { OnOk result (self.new.text.items ≡ self.old.text.items ++ escaped byte) }
     {
-        if is_printable(byte) {
+        if 32 <= byte && byte < 127 {
             return self.put(byte);
         }
         self.put(b'\\')?;
@@ -205,19 +201,6 @@ fn is_identifier(name: &str) -> bool
         [] => false,
         [first, ..] => !first.is_ascii_digit() && are_words(name.as_bytes()),
     }
-}
-
-/// Whether all bytes are printed as they are.
-fn are_printable(bytes: &[u8]) -> bool
-    ensures { result ≡ list_all is_printable_byte bytes.now }
-{
-    bytes.iter().all(|byte| is_printable(*byte))
-}
-
-fn is_printable(byte: u8) -> bool
-    ensures { result ≡ is_printable_byte byte }
-{
-    32 <= byte && byte < 127
 }
 
 /// Whether all bytes are letters, digits and underscores.

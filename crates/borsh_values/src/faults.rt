@@ -66,13 +66,10 @@ pub struct Path<'a> {
 
 impl<'a> fmt::Display for Path<'a> {
     fn fmt<W: fmt::Write>(&self, f: &mut fmt::Formatter<W>) -> fmt::Result {
-        f.write_str(self.root)?;
+        write!(f, "{}", self.root)?;
         for step in self.steps.as_slice() {
             match step {
-                PathStep::Field(name) => {
-                    f.write_str(".")?;
-                    f.write_str(name)?;
-                }
+                PathStep::Field(name) => write!(f, ".{name}")?,
                 PathStep::Place(index) => write!(f, ".{index}")?,
                 PathStep::Element(index) => write!(f, "[{index}]")?,
                 PathStep::Variant(name) => write!(f, "::{name}")?,
@@ -182,9 +179,8 @@ pub fn no_member<'a>(
         }
     }
     let last = Frame {
-        at: frame.at,
-        start: frame.start,
         rest: step.others,
+        ..frame
     };
     if let Some(step) = frame_step(layout, bytes, &last) {
         steps.push(step)?;

@@ -127,13 +127,11 @@ fn pass_free<'a>(
     if wanted {
         return None;
     }
-    match free_front(layout, rest, left) {
-        Some(passed) => Some(Behind {
-            rest: passed.rest,
-            left: after(left, passed.taken),
-        }),
-        None => None,
-    }
+    let passed = free_front(layout, rest, left)?;
+    Some(Behind {
+        rest: passed.rest,
+        left: after(left, passed.taken),
+    })
 }
 
 // Passes values of an enum at the front of a list that was begun, and lists their nodes, if nodes are wanted.

@@ -68,19 +68,13 @@ fn length_by_tag(layout: &Layout<'_>, at: usize, variants: &Variants, tag: u8) -
         IfSome result (λ n. IsTagLength (definitions_in layout.now.map.now) name tag n) }
 {
     let bytes = [tag];
-    match find_variant(variants, bytes.as_slice()) {
-        Found::One(index) => match part_at(layout, at, index) {
-            Some(part) => match payload_size(layout, part) {
-                Some(size) => match size.checked_add(1) {
-                    Some(length) => Some(length),
-                    None => None,
-                },
-                None => None,
-            },
-            None => None,
-        },
-        _ => None,
-    }
+    let Found::One(index) = find_variant(variants, bytes.as_slice()) else {
+        return None;
+    };
+    let part = part_at(layout, at, index)?;
+    let size = payload_size(layout, part)?;
+    let length = size.checked_add(1)?;
+    Some(length)
 }
 
 // The same, by what was found before where the byte is the same.
@@ -145,29 +139,16 @@ fn run_of_enums(layout: &Layout<'_>, at: usize, variants: &Variants, count: u64,
         let known = length_of(layout, at, variants, *tag, last, other);
         other = kept(known, last, other);
         last = known;
-        match known.length {
-            Some(length) => {
-                if length > next.len() as u64 {
-                    return Run { taken, values };
-                }
-                taken += length as usize;
-                values += 1;
-            }
-            None => return Run { taken, values },
+        let Some(length) = known.length else {
+            return Run { taken, values };
+        };
+        if length > next.len() as u64 {
+            return Run { taken, values };
         }
+        taken += length as usize;
+        values += 1;
     }
     Run { taken, values }
-}
-
-// At most so many values lie in the bytes, each of some of them.
-fn most_values(count: u64, left: &[u8]) -> usize
-    ensures { result ≤ count }
-{
-    if count < left.len() as u64 {
-        count as usize
-    } else {
-        left.len()
-    }
 }
 
 // Lists the nodes of values of the enum at a place, at most so many; the first has the name, the definition and all bytes.
@@ -194,7 +175,7 @@ fn list_enums<'a, 'b>(
         IfOk result (λ r. ListsRun m first.entry r.taken r.values nodes.old.items nodes.new.items) }
 {
     let start = nodes.len();
-    let room = most_values(count, first.bytes);
+    let room = count.min(first.bytes.len() as u64) as usize;
     let Some(end) = start.checked_add(room) else {
         return Ok(Run {
             taken: 0,
@@ -258,11 +239,9 @@ fn put_enums<'a, 'b>(
             return run_of(taken, values);
         }
         nodes[start + values] = Node {
-            name: first.name,
-            definition: first.definition,
             bytes: front(next, length as usize),
             offset: first.offset + taken,
-            depth: first.depth,
+            ..first
         };
         taken += length as usize;
         values += 1;
@@ -320,7 +299,7 @@ pub fn list_run<'a, 'b>(
             tag_width,
             variants,
         } => {
-            if *tag_width != 1 || !has_free_parts(layout, at) {
+            if *tag_width != 1 || !has_short_parts(layout, at, true) {
                 return Ok(None);
             }
             let run = list_enums(layout, at, variants, count, first, nodes)?;
@@ -448,10 +427,8 @@ fn value_length(layout: &Layout<'_>, at: usize, left: &[u8]) -> Option<usize>
         }
         return None;
     }
-    match definition_at(&layout.names, at) {
-        Some(definition) => own_length(layout, at, definition, left),
-        None => None,
-    }
+    let definition = definition_at(&layout.names, at)?;
+    own_length(layout, at, definition, left)
 }
 
 // The same where the value is one node, which its definition tells: a primitive, or a list of primitives or of nothing.
@@ -499,10 +476,8 @@ fn parts_length(layout: &Layout<'_>, at: usize, left: &[u8]) -> Option<usize>
     let mut taken: usize = 0;
     let mut index: usize = 0;
     while let Some(part) = part_at(layout, at, index) {
-        match value_length(layout, part, after(left, taken)) {
-            Some(length) => taken += length,
-            None => return None,
-        }
+        let length = value_length(layout, part, after(left, taken))?;
+        taken += length;
         index += 1;
     }
     Some(taken)
@@ -520,40 +495,26 @@ fn run_of_products(layout: &Layout<'_>, at: usize, count: u64, left: &[u8]) -> R
     let mut taken: usize = 0;
     let mut values: u64 = 0;
     while values < count {
-        match parts_length(layout, at, after(left, taken)) {
-            Some(length) => {
-                if length == 0 {
-                    return Run { taken, values };
-                }
-                taken += length;
-                values += 1;
-            }
-            None => return Run { taken, values },
+        let Some(length) = parts_length(layout, at, after(left, taken)) else {
+            return Run { taken, values };
+        };
+        if length == 0 {
+            return Run { taken, values };
         }
+        taken += length;
+        values += 1;
     }
     Run { taken, values }
 }
 
-// Whether each part of the struct or tuple at a place may be of a free size or a list of primitives.
-fn has_short_parts(layout: &Layout<'_>, at: usize) -> bool {
+// Whether each part of the definition at a place is of a free size, or may be a list of primitives or, in an enum, has no bytes.
+fn has_short_parts(layout: &Layout<'_>, at: usize, in_enum: bool) -> bool {
     match layout.parts.as_slice().get(at) {
         Some(parts) => parts.as_slice().iter().all(|part| {
+            let definition = definition_at(&layout.names, *part);
             size_at(&layout.sizes, *part) > 0
-                || matches!(
-                    definition_at(&layout.names, *part),
-                    Some(Definition::Sequence { .. })
-                )
-        }),
-        None => false,
-    }
-}
-
-// Whether what each variant of the enum at a place has is of a free size, as far as a look at each tells.
-fn has_free_parts(layout: &Layout<'_>, at: usize) -> bool {
-    match layout.parts.as_slice().get(at) {
-        Some(parts) => parts.as_slice().iter().all(|part| {
-            size_at(&layout.sizes, *part) > 0
-                || layout.zeros.as_slice().get(*part).copied() == Some(true)
+                || in_enum && layout.zeros.as_slice().get(*part).copied() == Some(true)
+                || !in_enum && matches!(definition, Some(Definition::Sequence { .. }))
         }),
         None => false,
     }
@@ -575,14 +536,14 @@ pub fn pass_run(layout: &Layout<'_>, at: usize, count: u64, left: &[u8]) -> Opti
             tag_width,
             variants,
         } => {
-            if *tag_width == 1 && has_free_parts(layout, at) {
+            if *tag_width == 1 && has_short_parts(layout, at, true) {
                 passed(at, count, run_of_enums(layout, at, variants, count, left))
             } else {
                 None
             }
         }
         Definition::Struct { .. } | Definition::Tuple { .. } => {
-            if has_short_parts(layout, at) {
+            if has_short_parts(layout, at, false) {
                 passed(at, count, run_of_products(layout, at, count, left))
             } else {
                 None

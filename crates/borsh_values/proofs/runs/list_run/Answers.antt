@@ -1,6 +1,5 @@
-use Rattle.std.proofs.Common.{◌≡◌, ◌∙◌, sym, ap, subst, arith}
+use Rattle.std.proofs.Common.{◌≡◌, sym, subst, arith}
 use Rattle.std.specs.Prelude.{IfSome, MatchOption}
-use Rattle.std.specs.BTreeMap.{get_by_text}
 use Rattle.borsh_walks.specs.Definitions.{definitions_in}
 use Rattle.borsh_values.specs.declared.nodes.Node.{Node}
 use Rattle.borsh_values.specs.Free.{IsFreeFront}
@@ -8,7 +7,7 @@ use Rattle.borsh_values.specs.Passing.{ListsPassed}
 use Rattle.borsh_values.proofs.Bytes.{small_bytes}
 use Rattle.borsh_values.proofs.OnlyLaws.{run_passes}
 use Rattle.borsh_values.proofs.PassingLaws.{run_lists}
-use Rattle.borsh_values.proofs.Places.{fits_copies, looked_up_at}
+use Rattle.borsh_values.proofs.Places.{fits_copies}
 use Rattle.borsh_values.proofs.runs.list_run.Goals as goal
 
 pub list_enums-requires-clause-small : goal.list_enums-requires-clause-small

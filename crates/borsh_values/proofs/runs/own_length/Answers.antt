@@ -1,8 +1,7 @@
-use Rattle.std.proofs.Common.{◌≡◌, ◌<◌, [], ◌∙◌, ap, subst, sym, arith}
-use Rattle.std.specs.Prelude.{All}
+use Rattle.std.proofs.Common.{◌∙◌, ap, subst, arith}
 use Rattle.borsh_walks.specs.Definitions.{definitions_in, shape_of}
 use Rattle.borsh_values.specs.declared.frames.Rest.TheVariants.{Copies}
-use Rattle.borsh_values.specs.Layouts.{name_at, IsPlaceOf}
+use Rattle.borsh_values.specs.Layouts.{IsPlaceOf}
 use Rattle.borsh_values.specs.Steps.{OpensAs, Takes, remaining}
 use Rattle.borsh_values.proofs.Bytes.{small_bytes}
 use Rattle.borsh_values.proofs.Going.{defined_in}

@@ -1,14 +1,10 @@
-use Rattle.std.proofs.Common.{◌∙◌, ap, subst, sym, arith}
-use Rattle.borsh_walks.specs.Definitions.{definitions_in, shape_of}
-use Rattle.borsh_values.specs.declared.frames.Rest.TheVariants.{Copies}
-use Rattle.borsh_values.specs.Layouts.{name_at, IsPlaceOf}
-use Rattle.borsh_values.specs.Steps.{OpensAs, Takes, remaining}
+use Rattle.std.proofs.Common.{subst, sym, arith}
+use Rattle.borsh_walks.specs.Definitions.{definitions_in}
+use Rattle.borsh_values.specs.Layouts.{name_at}
 use Rattle.borsh_values.specs.Free.{FreeSize}
 use Rattle.borsh_values.proofs.Bytes.{small_bytes}
 use Rattle.borsh_values.proofs.FreeLaws.{free_one}
-use Rattle.borsh_values.proofs.Going.{defined_in}
-use Rattle.borsh_values.proofs.OnlyLaws.{first_free, first_taken}
-use Rattle.borsh_values.proofs.TakesLaws.{opens_sequence}
+use Rattle.borsh_values.proofs.OnlyLaws.{first_free}
 use Rattle.borsh_values.proofs.runs.value_length.Goals as goal
 
 pub returns-then-size-left : goal.returns-then-size-left
