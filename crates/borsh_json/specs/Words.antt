@@ -1,5 +1,5 @@
 -- The words that contracts of this crate cite, from where they are defined.
-pub use Rattle.borsh_json.specs.Errors.{DeniesValue, IsNoJsonReason, IsNoRowsReason, IsPartError, IsReadRefusal, IsTextReason, IsTooDeep, IsUnreadable, IsUnwritable}
+pub use Rattle.borsh_json.specs.Errors.{DeniesValue, IsNoJsonReason, IsNoMemberReason, IsNoRowsReason, IsPartError, IsReadRefusal, IsTextReason, IsTooDeep, IsUnreadable, IsUnwritable}
 pub use Rattle.borsh_json.specs.Forms.{Form, HasNoBytes, IsByte, IsMap, IsOption, choice, shapes, form_of, form_of_struct, forms_in, newtype, sequence, shape_of_form, tuple}
 pub use Rattle.borsh_json.specs.Found.{AreEntries, HasForm, IsAlike, IsCollection, IsMapName, IsNamed, IsPrimitiveKind, IsRefusedList, IsRepeated, IsSetName, TellsKind, forms_of, joined, names_of}
 pub use Rattle.borsh_json.specs.Frames.{AddsList, AreKeyed, AreSorted, DeniesPart, DeniesRead, GivesPart, HasEntries, HasFields, HasItems, HasLeft, HasRead, HaveLeft, HaveNumbers, HaveOneEach, IsArrayOf, IsEntryKey, IsExpected, IsKey, IsNext, IsNextEntry, IsOf, IsOfRead, IsOpened, IsRank, IsText, IsVariantAt, IsWanted, NamesVariant, NoneLeft, Opens, ReadsOn, SaysArray, Wanted}
