@@ -38,3 +38,6 @@ pub mod LineLaws
 pub mod LeafLaws
 pub mod ListLaws
 pub mod KeyLaws
+pub mod UnitLaws
+pub mod WordLaws
+pub mod EscapeLaws
