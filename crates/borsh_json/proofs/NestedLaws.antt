@@ -6,7 +6,7 @@ use Rattle.borsh_values.specs.Nodes.{Opens}
 use Rattle.borsh_values.proofs.NodesLaws.{opens_member}
 use Rattle.borsh_values.proofs.Required.{members_head}
 use Rattle.borsh_json.specs.Inside.{IsInside, outermost, inside}
-use Rattle.borsh_json.specs.Writes.{Rest, items_rest, members_rest, value_rest, entries_rest, names_of_rest, levels_of, Nested, unread, entered, passed}
+use Rattle.borsh_json.specs.Writes.{Rest, names_of_rest, Nested, unread, entered, passed, AreLevels, no_levels, level, no_place}
 
 -- the name is the only one, or comes later
 only_name : (C : List ℕ → Option Shape) (root y mid : List ℕ) (ps qs : List (List ℕ)) → root ∷ [] ≡ ps ++ y ∷ qs → Members C ps mid → IsInside C root 0 mid y
@@ -45,25 +45,14 @@ module _ (C : List ℕ → Option Shape) (root : List ℕ) where
   pub inside_of : {x : List ℕ} {xs : List (List ℕ)} {ls : List (List (List ℕ))} {done : List ℕ} → Nested C root ((x ∷ xs) ∷ ls) done → IsInside C root (length ls) done x
   inside_of {x} {xs} {ls} {done} n = subst (λ b. IsInside C root (length ls) b x) (append-nil done) (inside_after [] x [] xs refl n no_members)
 
-  -- ---- places
-  -- a value is read whole, and the part that it is of, if it is the value of an entry
-  pub part_read : (r : Rest) (rs : List Rest) {done : List ℕ} → Nested C root (levels_of (r ∷ rs)) done → Nested C root (names_of_rest r ∷ levels_of rs) done
-  part_read (items_rest xs) rs n = n
-  part_read (members_rest ws) rs n = n
-  part_read (value_rest xs) rs n = n
-  part_read (entries_rest keys k v e m last) rs n = leave n
-
-  -- all parts of a value are read, and so is it
-  pub place_read : (r : Rest) (rs : List Rest) {done : List ℕ} → Nested C root ([] ∷ levels_of (r ∷ rs)) done → Nested C root (names_of_rest r ∷ levels_of rs) done
-  place_read (items_rest xs) rs n = leave n
-  place_read (members_rest ws) rs n = leave n
-  place_read (value_rest xs) rs n = leave n
-  place_read (entries_rest keys k v e m last) rs n = leave (leave n)
+  -- all places whose parts are read are left
+  pub settled : {r : Rest} {rs : List Rest} {ls : List (List (List ℕ))} {done : List ℕ} → Nested C root ls done → AreLevels (r ∷ rs) ls → (outer : List (List (List ℕ))) × AreLevels rs outer × Nested C root (names_of_rest r ∷ outer) done
+  settled n (level {ls = ls} r a) = (ls, a, n)
+  settled n (no_place (level r a)) = settled (leave n) (level r a)
+  settled n (no_place (no_place a)) = settled (leave n) (no_place a)
 
 -- as many places are around, or more
-pub as_deep : (rs : List Rest) → length rs ≤ length (levels_of rs)
-as_deep [] = omega arith
-as_deep (items_rest xs ∷ rs) = let l = as_deep rs in omega (arith, l)
-as_deep (members_rest ws ∷ rs) = let l = as_deep rs in omega (arith, l)
-as_deep (value_rest xs ∷ rs) = let l = as_deep rs in omega (arith, l)
-as_deep (entries_rest keys k v e m last ∷ rs) = let l = as_deep rs in omega (arith, l)
+pub as_deep : {rs : List Rest} {ls : List (List (List ℕ))} → AreLevels rs ls → length rs ≤ length ls
+as_deep no_levels = omega arith
+as_deep (level r a) = let l = as_deep a in omega (arith, l)
+as_deep (no_place a) = let l = as_deep a in omega (arith, l)

@@ -61,17 +61,6 @@ abbrev pub names_of_all : List Rest → List (List ℕ)
 names_of_all [] = []
 names_of_all (r ∷ rs) = names_of_rest r ++ names_of_all rs
 
--- of each place around. Nothing is left of an entry, whose value is written
-abbrev pub levels_with : Rest → List (List (List ℕ)) → List (List (List ℕ))
-levels_with (items_rest xs) ls = xs ∷ ls
-levels_with (members_rest ws) ls = map (λ w. w.1) ws ∷ ls
-levels_with (value_rest xs) ls = xs ∷ ls
-levels_with (entries_rest keys k v e n last) ls = [] ∷ replicate n e ∷ ls
-
-abbrev pub levels_of : List Rest → List (List (List ℕ))
-levels_of [] = []
-levels_of (r ∷ rs) = levels_with r (levels_of rs)
-
 -- these members in order, as parts
 abbrev pub AreMembers : List Wanted → Members → List Part → Type 0
 AreMembers [] ms ps = (ms ≡ no_members) × (ps ≡ [])
@@ -164,6 +153,12 @@ module _ (C : List ℕ → Option Shape) (root : List ℕ) where
     entered : {x before : List ℕ} {xs parts : List (List ℕ)} {ls : List (List (List ℕ))} (d : Shape) (own : List ℕ) → Nested ((x ∷ xs) ∷ ls) before → C x ≡ Some d → Opens C d own parts → Nested (parts ∷ xs ∷ ls) (before ++ own)
     passed : {x before own : List ℕ} {xs : List (List ℕ)} {ls : List (List (List ℕ))} → Nested ((x ∷ xs) ∷ ls) before → Member C x own → Nested (xs ∷ ls) (before ++ own)
 
+-- the names are those that are left of the places; of values around their parts, of which all are begun, there is no place: of the entries of maps
+pub data AreLevels : List Rest → List (List (List ℕ)) → Type 0 where
+  no_levels : AreLevels [] []
+  level : {rs : List Rest} {ls : List (List (List ℕ))} (r : Rest) → AreLevels rs ls → AreLevels (r ∷ rs) (names_of_rest r ∷ ls)
+  no_place : {rs : List Rest} {ls : List (List (List ℕ))} → AreLevels rs ls → AreLevels rs ([] ∷ ls)
+
 module _ (F : List ℕ → Option Form) where
   -- these tokens are JSON of the root that can be printed and read, and says these bytes
   abbrev pub IsWhole : List ℕ → List Token → List ℕ → Type 0
@@ -246,7 +241,9 @@ module _ (F : List ℕ → Option Form) where
       pub there : AreRests ps around
       pub room : length around ≤ 128
       pub halved : IsHalved root bytes done left (names_of_all (inner ∷ around))
-      pub nested : Nested (shapes F) root (names_of_rest inner ∷ levels_of around) done
+      pub outer : List (List (List ℕ))
+      pub levels : AreLevels around outer
+      pub nested : Nested (shapes F) root (names_of_rest inner ∷ outer) done
       pub begun : Begins root (MayFollowAll (inner ∷ around)) written done
 
     -- in front of a value of this name, which has room for this depth, and then of the rest of the place
@@ -260,7 +257,7 @@ module _ (F : List ℕ → Option Form) where
       pub halved : IsHalved root bytes done left (x ∷ names_of_all (inner ∷ around))
       pub beside : List (List ℕ)
       pub outer : List (List (List ℕ))
-      pub levels : levels_of (inner ∷ around) ≡ beside ∷ outer
+      pub levels : AreLevels (inner ∷ around) (beside ∷ outer)
       pub nested : Nested (shapes F) root ((x ∷ beside) ∷ outer) done
       pub begun : Begins root (MayFollowFirst x n (inner ∷ around)) written done
 
