@@ -24,7 +24,7 @@ module _ (F : List ℕ → Option Form) where
     abbrev pub HasNoJsonPart : Type 0
     HasNoJsonPart =
         (n : ℕ) × (before : List ℕ) × (own : List ℕ) × (after : List ℕ) × (x : List ℕ)
-        × (bytes ≡ before ++ (own ++ after)) × IsInside (shapes F) root n before x × IsNoJson F x own
+        × (bytes ≡ before ++ (own ++ after)) × IsInside (shapes F) root n before x × IsNoJson x own
 
     -- the refusal is a true reason why a member has no JSON; of order it is left open
     abbrev pub RefusesBytes : Refusal → Type 0

@@ -326,7 +326,7 @@ module _ (F : List ℕ → Option Form) (root bytes : List ℕ) where
   Stops NoValue = ⊥
   Stops (Ambiguous x) = IsUndecided (shapes F) root x.now
   Stops (NotJson offset) = ⊥
-  Stops (RefusedBytes path refusal) = RefusesBytes refusal
+  Stops (RefusedBytes path refusal) = RefusesBytes F root bytes refusal
 
 -- ---- the writer
 
