@@ -7,6 +7,8 @@ pub mod Integers
 pub mod Places
 pub mod InOrder
 pub mod Represents
+pub mod Inside
+pub mod NoJson
 pub mod Known
 pub mod Found
 pub mod Reads

@@ -40,8 +40,8 @@ use std::collections::BTreeMap;
 /// Determined: after `Ok` the text is JSON that says these bytes, of the characters of the style; a compact one is one line, without
 /// control characters. So no other bytes have it, they are a member of the root ([`crate::text_determines_bytes`]), and
 /// [`crate::from_json`] gives them, if anything. `NoMember` and `Ambiguous` are as of [`borsh_values::is_member`], and `NoValue` and
-/// `NotJson` aren't returned. After `Refused` they are a member, and it has a reason:
-/// `TooDeep`, that 128 references lead from the root to a name; others, that they reach a part of which no JSON says these bytes.
+/// `NotJson` aren't returned. After `Refused` they are a member, and it has a reason: `TooDeep`, that a value begins in them inside
+/// of 128 others or more; others, that one begins there of which no JSON says these bytes.
 /// Left open: memory; the reason of `Descends`; which of the texts that say the bytes: tested.
 ///
 /// ```
