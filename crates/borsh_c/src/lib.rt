@@ -16,13 +16,13 @@ mod room;
 mod tests;
 
 ghost use Rattle.std.specs.Prelude.{◌≡◌, ◌≢◌, ◌+◌, ◌≤◌};
-ghost use Rattle.borsh_c.specs.Answers.{AnswersBytes, AnswersJson, AnswersMember, AnswersSize, AnswersValid, Gives};
+ghost use Rattle.borsh_c.specs.Answers.{AnswersBytes, AnswersJson, AnswersMember, AnswersSize, AnswersValid, Gives, layout_if};
 ghost use Rattle.borsh_c.specs.Many.{AnswersLines, AnswersRecords};
 ghost use Rattle.borsh_c.specs.Places.{offset_of};
 ghost use Rattle.borsh_c.specs.Room.{IsKept};
 
 use answers::{greatest_size, json_of, membership, rules, value_of};
-use borsh_json::{Layout, LongNumbers, Style};
+use borsh_json::{Layout, LongNumbers};
 use codes::{SHORT, YES};
 use many::{Whole, lines_of, whole_values};
 use place::NOWHERE;
@@ -140,21 +140,12 @@ pub extern "C" fn borsh_c_to_json(
     needed: &mut usize,
 ) -> u32
     ensures answer { let offset = offset_of place.new in
-        Gives (AnswersJson schema.now value.now offset result) room.new needed.new }
+        Gives (AnswersJson schema.now value.now is_compact offset result) room.new needed.new }
     ensures within { place.new.path_start + place.new.path_length ≤ needed.new }
     ensures kept { IsKept room.old room.new needed.new }
 {
-    let layout = if is_compact {
-        Layout::Compact
-    } else {
-        Layout::Pretty
-    };
-    let style = Style {
-        layout,
-        long_numbers: long_numbers(has_quoted_numbers),
-        ..Style::COMPACT
-    };
-    match json_of(alloc, schema, value, style) {
+    let (layout, numbers) = (layout(is_compact), long_numbers(has_quoted_numbers));
+    match json_of(alloc, schema, value, layout, numbers) {
         Ok(json) => {
             *place = NOWHERE;
             give(json.as_bytes(), room, needed);
@@ -192,6 +183,16 @@ pub extern "C" fn borsh_c_from_json(
             YES
         }
         Err(refusal) => refusal.tell(place, room, needed),
+    }
+}
+
+fn layout(is_compact: bool) -> Layout
+    ensures { result ≡ layout_if is_compact }
+{
+    if is_compact {
+        Layout::Compact
+    } else {
+        Layout::Pretty
     }
 }
 
@@ -277,11 +278,8 @@ pub extern "C" fn borsh_c_json_lines(
     ensures kept { IsKept room.old room.new needed.new }
 {
     *count = 0;
-    let style = Style {
-        long_numbers: long_numbers(has_quoted_numbers),
-        ..Style::COMPACT
-    };
-    match lines_of(alloc, schema, values, lengths, style) {
+    let numbers = long_numbers(has_quoted_numbers);
+    match lines_of(alloc, schema, values, lengths, numbers) {
         Ok(lines) => {
             *count = lines.count;
             *place = NOWHERE;

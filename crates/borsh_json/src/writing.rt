@@ -1,20 +1,21 @@
 // A value as JSON.
-ghost use Rattle.borsh_json.specs.Words.{Adds, AreKeysOf, EntryOf, Form, FoundElements, FoundKeyKind, FoundNumbers, FoundPart, HasKinds, HasNode, IsAbove, IsAt, IsAwaitingAt, IsBegunOf, IsEntryKey, IsFullOrDescends, IsKeyPut, IsKindOf, IsLast, IsNoJsonReason, IsPartError, IsPartWritten, IsUnwritable, IsWalker, IsWritingAt, IsWrittenNext, Keys, Member, NamedPlace, Place, SaysBy, ShowsNoJson, StopsBy, TextSays, definitions_in, ends_of, forms_in, forms_of, names_of, shapes};
+ghost use Rattle.borsh_json.specs.Words.{Adds, AreKeysOf, EntryOf, Form, FoundElements, FoundKeyKind, FoundNumbers, FoundPart, HasKinds, HasNode, IsAbove, IsAt, IsAwaitingAt, IsBegunOf, IsEntryKey, IsFullOrDescends, IsKeyPut, IsKindOf, IsLast, IsNoJsonReason, IsPartWritten, IsWalker, IsWritingAt, IsWrittenNext, Keys, Member, NamedPlace, Place, SaysBy, ShowsNoJson, StopsBy, TextSays, definitions_in, ends_of, forms_in, forms_of, names_of, shapes};
 ghost use Rattle.borsh_json.specs.Ascii.{IsInLine, IsPlain};
+ghost use Rattle.borsh_json.specs.Printed.{IsPrinted};
 ghost use Rattle.borsh_json.specs.declared.output.Layout.TheVariants.{Compact};
 ghost use Rattle.borsh_json.specs.declared.output.Characters.TheVariants.{Any, Ascii};
 ghost use Rattle.std.specs.Prelude.{◌≡◌, ◌<◌, ℕ, All, IfErr, IfOk, IsUtf8, List, MatchResult, OnOk, Option, Some, length, string_bytes, true};
 
 use crate::ascii::{in_ascii, is_ascii};
 use crate::definitions::Definitions;
-use crate::error::{JsonError, PartError, PartResult, Refusal};
+use crate::error::{JsonError, PartResult, Refusal};
 use crate::kinds::{Entries, Kind};
 use crate::leaves::{is_above, write_key};
 use crate::output::{Characters, LongNumbers, Output, Style};
 use crate::position::{Key, Part, Parts, Place, Position};
 use crate::sources::EntryKey;
 use crate::values::{begin_struct, begin_value};
-use borsh_values::{Layout, Membership, Node, Path, Walker, elements_of};
+use borsh_values::{Layout, Membership, Node, Walker, elements_of};
 use borsh_walks::Definition;
 use json::Token;
 use std::alloc::{AllocError, Global};
@@ -59,9 +60,10 @@ pub fn to_json<'a>(
         IfOk result (λ text. TextSays F root.now (string_bytes text) bytes.now) }
     ensures ascii { style.characters ≡ Ascii → IfOk result (λ text. All IsPlain (string_bytes text)) }
     ensures line { style.layout ≡ Compact → IfOk result (λ text. All IsInLine (string_bytes text)) }
+    ensures printed { style.characters ≡ Any →
+        IfOk result (λ text. IsPrinted style.layout (string_bytes text)) }
     ensures reason { IfErr result (λ e. IsNoJsonReason (definitions_in map.now) root.now bytes.now e) }
-    ensures refused { style.characters ≡ Any →
-        IfErr result (λ e. ShowsNoJson (forms_in map.now) root.now bytes.now e) }
+    ensures refused { IfErr result (λ e. ShowsNoJson (forms_in map.now) root.now bytes.now e) }
 {
     let layout = Layout::new(alloc, root, map)?;
     let json = Definitions::new(alloc, &layout)?;
@@ -75,9 +77,11 @@ impl<'a, 'l> Definitions<'a, 'l> {
         ensures says { IfOk result (λ text. SaysBy self.now (string_bytes text) bytes.now) }
         ensures ascii { style.characters ≡ Ascii → IfOk result (λ text. All IsPlain (string_bytes text)) }
         ensures line { style.layout ≡ Compact → IfOk result (λ text. All IsInLine (string_bytes text)) }
+        ensures printed { style.characters ≡ Any →
+            IfOk result (λ text. IsPrinted style.layout (string_bytes text)) }
         ensures reason { let l = self.now.layout.now in
             IfErr result (λ e. IsNoJsonReason (definitions_in l.map.now) l.root.now bytes.now e) }
-        ensures refused { let l = self.now.layout.now in style.characters ≡ Any →
+        ensures refused { let l = self.now.layout.now in
             IfErr result (λ e. ShowsNoJson (forms_in l.map.now) l.root.now bytes.now e) }
     {
         match self.layout.is_member(self.alloc, bytes)? {
@@ -96,45 +100,33 @@ impl<'a, 'l> Definitions<'a, 'l> {
         text: String,
         bytes: &[u8],
         characters: Characters,
-    ) -> PartResult<'a, String>
+    ) -> Result<String, AllocError>
         requires { HasKinds self.now }
         ensures says { SaysBy self.now (string_bytes text) bytes.now →
             IfOk result (λ text. SaysBy self.now (string_bytes text) bytes.now) }
         ensures ascii { characters ≡ Ascii → IfOk result (λ text. All IsPlain (string_bytes text)) }
         ensures line { All IsInLine (string_bytes text) → IfOk result (λ text. All IsInLine (string_bytes text)) }
-        ensures any { characters ≡ Any → IfErr result (λ e. ⊥) }
-        ensures refusal { IfErr result (IsPartError IsUnwritable) }
+        ensures same { characters ≡ Any → IfOk result (λ same. string_bytes same ≡ string_bytes text) }
     {
         if characters == Characters::Any || is_ascii(text.as_str()) {
             return Ok(text);
         }
         match String::from_utf8(in_ascii(self.alloc, text.as_str())?) {
-            Ok(text) => {
-                self.check_text(text.as_str(), bytes)?;
-                Ok(text)
-            }
-            Err(_) => Err(no_json(self.alloc, self.layout.root)),
+            Ok(text) if self.says(text.as_str(), bytes) => Ok(text),
+            // That a text in ASCII doesn't say the same isn't met: it is tested, and not proved.
+            _ => Err(AllocError),
         }
     }
 
-    /// Refuses a text that doesn't say the bytes, by reading it.
-    fn check_text(&self, text: &str, bytes: &[u8]) -> PartResult<'a, ()>
+    /// Whether a text says the bytes, by reading it; no where an allocation fails.
+    fn says(&self, text: &str, bytes: &[u8]) -> bool
         requires { HasKinds self.now }
-        ensures says { let l = self.now.layout.now in Member (definitions_in l.map.now) l.root.now bytes.now →
-            OnOk result (SaysBy self.now text.now bytes.now) }
-        ensures refusal { IfErr result (IsPartError IsUnwritable) }
+        ensures { let l = self.now.layout.now in Member (definitions_in l.map.now) l.root.now bytes.now →
+            result ≡ true → SaysBy self.now text.now bytes.now }
     {
         match self.read_text(text) {
-            Ok(read) => {
-                let is_same = read.as_slice() == bytes;
-                if is_same {
-                    Ok(())
-                } else {
-                    Err(no_json(self.alloc, self.layout.root))
-                }
-            }
-            Err(JsonError::OutOfMemory) => Err(PartError::OutOfMemory),
-            Err(_) => Err(no_json(self.alloc, self.layout.root)),
+            Ok(read) => read.as_slice() == bytes,
+            Err(_) => false,
         }
     }
 }
@@ -150,14 +142,6 @@ fn text_of(bytes: Vec<u8>) -> String
     }
 }
 
-/// That a text in ASCII doesn't say the bytes.
-fn no_json<'a>(alloc: Global, root: &'a str) -> PartError<'a>
-    ensures { IsPartError IsUnwritable result }
-{
-    let steps = Vec::new(alloc);
-    PartError::Refused(Path { root, steps }, Refusal::OtherNodes)
-}
-
 /// The JSON text of a member.
 fn write_value<'a>(
     definitions: &Definitions<'a, '_>,
@@ -169,6 +153,7 @@ fn write_value<'a>(
     ensures says { IfOk result (λ text. SaysBy definitions.now text.items bytes.now) }
     ensures utf8 { IfOk result (λ text. IsUtf8 text.items) }
     ensures line { style.layout ≡ Compact → IfOk result (λ text. All IsInLine text.items) }
+    ensures printed { IfOk result (λ text. IsPrinted style.layout text.items) }
     ensures stops { IfErr result (StopsBy definitions.now bytes.now) }
 {
     let alloc = definitions.alloc;
