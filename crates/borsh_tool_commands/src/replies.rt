@@ -1,5 +1,6 @@
 // What is replied to a request about a value.
 ghost use Rattle.std.specs.Prelude.{◌≡◌, IfErr, IfOk, true};
+ghost use Rattle.borsh_tool_commands.specs.Json.{layout_if};
 ghost use Rattle.borsh_tool_commands.specs.Replies.{IsNoReply, Replies};
 
 use super::answers::Answer;
@@ -77,7 +78,9 @@ fn yes(output: Vec<u8>) -> Reply
 }
 
 /// How JSON is written.
-pub fn style_of(request: &ValueRequest<'_>) -> Style {
+pub fn style_of(request: &ValueRequest<'_>) -> Style
+    ensures { result.layout ≡ layout_if request.now.is_compact }
+{
     Style {
         layout: if request.is_compact {
             Layout::Compact

@@ -126,9 +126,9 @@ pub fn json_text<'a>(
     style: Style,
 ) -> Result<PlainText, Failure<'a>>
     ensures ok { IfOk result (λ t. IsJsonLine schema.now.definitions (string_bytes schema.now.root)
-        bytes.now (printed t)) }
-    ensures err { IfErr result (IsNoJson (definitions_in schema.now.definitions)
-        (string_bytes schema.now.root) path.now bytes.now) }
+        style.layout bytes.now (printed t)) }
+    ensures err { IfErr result (IsNoJson schema.now.definitions (string_bytes schema.now.root)
+        path.now bytes.now) }
 {
     let style = Style {
         characters: Characters::Ascii,
@@ -159,8 +159,8 @@ pub fn bytes_said<'a>(
 ) -> Result<Vec<u8>, Failure<'a>>
     ensures ok { IfOk result (λ bytes. IsJson schema.now.definitions (string_bytes schema.now.root)
         json.now bytes.items) }
-    ensures err { IfErr result (IsNoValue (definitions_in schema.now.definitions)
-        (string_bytes schema.now.root) path.now json.now) }
+    ensures err { IfErr result (IsNoValue schema.now.definitions (string_bytes schema.now.root)
+        path.now json.now) }
 {
     let Ok(text) = str::from_utf8(json) else {
         return Err(Failure::NotText(path));
@@ -180,8 +180,8 @@ pub fn encoded<'a>(
     json: &[u8],
 ) -> Result<Vec<u8>, Failure<'a>>
     ensures ok { IfOk result (λ out. EncodesJson is_sent schema.now json.now out.items) }
-    ensures err { IfErr result (IsNoValue (definitions_in schema.now.definitions)
-        (string_bytes schema.now.root) path.now json.now) }
+    ensures err { IfErr result (IsNoValue schema.now.definitions (string_bytes schema.now.root)
+        path.now json.now) }
 {
     let bytes = bytes_said(alloc, schema, path, json)?;
     if is_sent {
