@@ -20,9 +20,10 @@ ghost use Rattle.borsh_c.specs.Answers.{AnswersBytes, AnswersJson, AnswersMember
 ghost use Rattle.borsh_c.specs.Many.{AnswersLines, AnswersRecords};
 ghost use Rattle.borsh_c.specs.Places.{offset_of};
 ghost use Rattle.borsh_c.specs.Room.{IsKept};
+ghost use Rattle.borsh_json.specs.declared.output.Characters.TheVariants.{Any};
 
 use answers::{greatest_size, json_of, membership, rules, value_of};
-use borsh_json::{Layout, LongNumbers};
+use borsh_json::{Layout, LongNumbers, Style};
 use codes::{SHORT, YES};
 use many::{Whole, lines_of, whole_values};
 use place::NOWHERE;
@@ -51,10 +52,7 @@ pub extern "C" fn borsh_c_valid(
             give(b"", room, needed);
             YES
         }
-        Err(refusal) => {
-            let mut nowhere = NOWHERE;
-            refusal.tell(&mut nowhere, room, needed)
-        }
+        Err(refusal) => refusal.tell(&mut { NOWHERE }, room, needed),
     }
 }
 
@@ -82,10 +80,7 @@ pub extern "C" fn borsh_c_size(
             give(b"", room, needed);
             YES
         }
-        Err(refusal) => {
-            let mut nowhere = NOWHERE;
-            refusal.tell(&mut nowhere, room, needed)
-        }
+        Err(refusal) => refusal.tell(&mut { NOWHERE }, room, needed),
     }
 }
 
@@ -144,8 +139,7 @@ pub extern "C" fn borsh_c_to_json(
     ensures within { place.new.path_start + place.new.path_length ≤ needed.new }
     ensures kept { IsKept room.old room.new needed.new }
 {
-    let (layout, numbers) = (layout(is_compact), long_numbers(has_quoted_numbers));
-    match json_of(alloc, schema, value, layout, numbers) {
+    match json_of(alloc, schema, value, style(is_compact, has_quoted_numbers)) {
         Ok(json) => {
             *place = NOWHERE;
             give(json.as_bytes(), room, needed);
@@ -186,21 +180,21 @@ pub extern "C" fn borsh_c_from_json(
     }
 }
 
-fn layout(is_compact: bool) -> Layout
-    ensures { result ≡ layout_if is_compact }
+fn style(is_compact: bool, has_quoted_numbers: bool) -> Style
+    ensures { (result.layout ≡ layout_if is_compact) × (result.characters ≡ Any) }
 {
-    if is_compact {
-        Layout::Compact
-    } else {
-        Layout::Pretty
-    }
-}
-
-fn long_numbers(has_quoted_numbers: bool) -> LongNumbers {
-    if has_quoted_numbers {
-        LongNumbers::Quoted
-    } else {
-        LongNumbers::Plain
+    Style {
+        layout: if is_compact {
+            Layout::Compact
+        } else {
+            Layout::Pretty
+        },
+        long_numbers: if has_quoted_numbers {
+            LongNumbers::Quoted
+        } else {
+            LongNumbers::Plain
+        },
+        ..Style::COMPACT
     }
 }
 
@@ -278,8 +272,13 @@ pub extern "C" fn borsh_c_json_lines(
     ensures kept { IsKept room.old room.new needed.new }
 {
     *count = 0;
-    let numbers = long_numbers(has_quoted_numbers);
-    match lines_of(alloc, schema, values, lengths, numbers) {
+    match lines_of(
+        alloc,
+        schema,
+        values,
+        lengths,
+        style(true, has_quoted_numbers),
+    ) {
         Ok(lines) => {
             *count = lines.count;
             *place = NOWHERE;

@@ -2,6 +2,8 @@
 ghost use Rattle.borsh_c.specs.Answers.{About, IsRefused, IsUnclear};
 ghost use Rattle.borsh_c.specs.Many.{AreLines, BeginWith, HaveLines, HasNoLine, IsNoLine, IsNoRecord, IsStop, IsWhole, behind};
 ghost use Rattle.borsh_json.specs.Known.{HasKinds};
+ghost use Rattle.borsh_json.specs.declared.output.Characters.TheVariants.{Any};
+ghost use Rattle.borsh_json.specs.declared.output.Layout.TheVariants.{Compact};
 ghost use Rattle.borsh_values.specs.Free.{KnowsSizes};
 ghost use Rattle.borsh_values.specs.Layouts.{IsLaidOut};
 ghost use Rattle.borsh_walks.specs.Definitions.{definitions_in};
@@ -9,7 +11,7 @@ ghost use Rattle.std.specs.Prelude.{◌≡◌, ◌≤◌, IfErr, IfOk, drop, len
 
 use super::answers::{container_from, no, no_value, said_of, unclear};
 use super::refusal::{Refusal, Said};
-use borsh_json::{Json, JsonError, LongNumbers, Style};
+use borsh_json::{Json, JsonError, Style};
 use borsh_values::{Fault, Front, Layout};
 use std::alloc::{AllocError, Global};
 
@@ -168,19 +170,16 @@ fn write_lines<'a>(
     json: &Json<'a, '_>,
     values: &[u8],
     lengths: &[usize],
-    long_numbers: LongNumbers,
+    style: Style,
 ) -> Result<Written<'a>, AllocError>
-    requires { HasKinds json.now }
+    requires kinds { HasKinds json.now }
+    requires style { (style.layout ≡ Compact) × (style.characters ≡ Any) }
     ensures room { IfOk result (λ w. w.count ≤ length lengths.now) }
     ensures lines { let l = json.now.layout.now in
         IfOk result (λ w. HaveLines l.map.now l.root.now (take w.count lengths.now) values.now w.text.items) }
     ensures stop { let l = json.now.layout.now in
         IfOk result (λ w. IsNoLine l.map.now l.root.now lengths.now values.now w.count w.stop) }
 {
-    let style = Style {
-        long_numbers,
-        ..Style::COMPACT
-    };
     let mut text: Vec<u8> = Vec::new(json.alloc);
     let mut left = values;
     let mut count = 0;
@@ -222,8 +221,9 @@ pub fn lines_of(
     schema: &[u8],
     values: &[u8],
     lengths: &[usize],
-    long_numbers: LongNumbers,
+    style: Style,
 ) -> Result<Lines, Refusal>
+    requires { (style.layout ≡ Compact) × (style.characters ≡ Any) }
     ensures ok { let lines = λ (l : Lines). AreLines values.now lengths.now l.count l.text.items in
         IfOk result (λ l. About schema.now (lines l)) }
     ensures err { IfErr result (λ e. IsRefused schema.now (HasNoLine values.now lengths.now) IsUnclear e) }
@@ -231,7 +231,7 @@ pub fn lines_of(
     let (root, definitions) = container_from(alloc, schema)?;
     let layout = Layout::new(alloc, root.as_str(), &definitions)?;
     let json = Json::new(alloc, &layout)?;
-    let written = write_lines(&json, values, lengths, long_numbers)?;
+    let written = write_lines(&json, values, lengths, style)?;
     let (count, text) = (written.count, written.text);
     if count > 0 {
         return Ok(Lines { count, text });
