@@ -2,8 +2,9 @@
 //!
 //! A container is given by its encoding, as `to_vec` of a `BorshSchemaContainer` makes it. Each call returns a code (the
 //! constants of [`codes`]) and gives a text or bytes in the caller's room: their length is written to `needed`, and they are
-//! the beginning of the room if they fit; otherwise the call is made again with a larger room. `bindings/c/borsh.c` does that, and is what
-//! a C program calls. After code 1 the [`Place`] says where; the path that it names is within the text. After another code it has none.
+//! the beginning of the room if they fit; otherwise the call is made again with a larger room. `bindings/c/borsh.c` does that until they
+//! fit, and is what a C program calls. A text that isn't stated here is cut after 65,536 bytes. After code 1 the [`Place`] says where; the
+//! path that it names is within the text. After another code it has none.
 #![tactic(auto)]
 
 mod answers;
@@ -115,10 +116,11 @@ pub extern "C" fn borsh_c_member(
 }
 
 /// Gives the JSON of the value that all of `value` is; on one line if `is_compact`, and with numbers of 64 bits as strings if
-/// `has_quoted_numbers`. Determined: after code 0 the JSON says `value`, a member of the root, and no other bytes; after 2 `schema` is no
-/// container, and after 0, 1 and 5 it is one; after 5 it breaks a rule or is ambiguous; an offset after 1 is that of a fault of `value`,
-/// which is no member; without one `value` is a member, and there is a reason why it has no JSON, of those that `borsh_json::to_json`
-/// has. Left open: code 3; code 5 for such a container; which reason it is; the text after 1; the path.
+/// `has_quoted_numbers`. Determined: after code 0 the JSON says `value`, a member of the root, and no other bytes, and has no white space
+/// but that of one line or of several; after 2 `schema` is no container, and after 0, 1 and 5 it is one; after 5 it breaks a rule or is
+/// ambiguous; an offset after 1 is that of a fault of `value`, which is no member; without one `value` is a member, and there is a reason
+/// why it has no JSON, of those that `borsh_json::to_json` has. Left open: code 3; code 5 for such a container; which reason it is; the
+/// text after 1; the path; `has_quoted_numbers`.
 ///
 /// ```c
 /// uint32_t code = borsh_c_to_json(schema, schema_length, value, value_length, true, false, &place, room, room_length, &needed);
@@ -150,8 +152,8 @@ pub extern "C" fn borsh_c_to_json(
 }
 
 /// Gives the bytes of the value that `json` says, which is UTF-8. Determined: after code 0 `json` says the bytes, a member of the root,
-/// and no others; the other codes as of [`borsh_c_to_json`], but an offset after 1 only if `json` isn't JSON. Left open: as there; the
-/// offset.
+/// and no others; the other codes as of [`borsh_c_to_json`], but after 1 `json` isn't UTF-8, or there is a reason of those that
+/// `borsh_json::from_json` has, and an offset only if it isn't JSON. Left open: as there; the offset.
 ///
 /// ```c
 /// uint32_t code = borsh_c_from_json(schema, schema_length, json, json_length, &place, room, room_length, &needed);
@@ -245,9 +247,9 @@ pub extern "C" fn borsh_c_records(
 
 /// Gives the JSON of each of the values that lie one after another in `values` and have these lengths, and a line end behind it, up to one
 /// that has none; how many have a line is written to `count`, and is 0 after any other code than [`YES`]. A length that reaches beyond the
-/// bytes is cut. Determined: after code 0 the lines say the first `count` values, each a member of the root; there is one, unless
-/// there are no lengths; after 1 and 5 as of [`borsh_c_to_json`] for the first. Left open: as there; how many have a line, but for the
-/// first; that the JSON has no line end.
+/// bytes is cut. Determined: after code 0 the lines say the first `count` values, each a member of the root, in one line each; there is
+/// one, unless there are no lengths; if there is a value behind them, there is a reason why it has no JSON; after 1 and 5 as of
+/// [`borsh_c_to_json`] for the first. Left open: as there.
 ///
 /// ```c
 /// uint32_t code = borsh_c_json_lines(schema, schema_length, values, length, lengths, lengths_count, false, &count, &place, room, room_length, &needed);

@@ -39,11 +39,11 @@ use std::collections::BTreeMap;
 /// `bool`, texts, and of tuples, arrays, lists, ordered sets and maps, and options of these, and not of structs and enums.
 ///
 /// Determined: after `Ok` the text is JSON that says these bytes, of the characters of the style; a compact one is one line, without
-/// control characters. So no other bytes have it, they are a member of the root ([`crate::text_determines_bytes`]), and
-/// [`crate::from_json`] gives them, if anything. `NoMember` and `Ambiguous` are as of [`borsh_values::is_member`], and `NoValue` and
-/// `NotJson` aren't returned. After `Refused` they are a member, and where the style allows any characters it has a reason:
+/// control characters; where any are allowed, it has no white space but that of its layout. So no other bytes have it, they are a
+/// member of the root ([`crate::text_determines_bytes`]), and [`crate::from_json`] gives them, if anything. `NoMember` and `Ambiguous`
+/// are as of [`borsh_values::is_member`], and `NoValue` and `NotJson` aren't returned. After `Refused` they are a member, for a reason:
 /// `TooDeep`, that 128 references lead from the root to a name; others, that they reach a part of which no JSON says these bytes.
-/// Left open: memory; the reason of `Descends`, and of refusals in ASCII; which of the texts that say the bytes: tested.
+/// Left open: memory; the reason of `Descends`; which of the texts that say the bytes: tested.
 ///
 /// ```
 /// let text = to_json(alloc, "(u8, bool)", &definitions, &[7, 1], Style::COMPACT)?;

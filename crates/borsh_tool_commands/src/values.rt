@@ -91,7 +91,7 @@ pub fn own_schema<'a>(alloc: Global) -> Result<Schema, Failure<'a>>
 }
 
 /// The container whose encoding the bytes are as JSON by the container of containers, and a line feed. The errors are those of
-/// [`schema_from`]. Left open: memory; `NotValue` for any container; as of [`to_json`].
+/// [`schema_from`]. Left open: memory; as of [`to_json`].
 ///
 /// ```
 /// let text = schema_json(alloc, "readme.borsh", bytes.as_slice())?;
