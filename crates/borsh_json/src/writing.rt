@@ -1,5 +1,5 @@
 // A value as JSON.
-ghost use Rattle.borsh_json.specs.Words.{Adds, AreKeysOf, EntryOf, Form, FoundElements, FoundKeyKind, FoundNumbers, FoundPart, HasKinds, HasNode, IsAbove, IsAt, IsAwaitingAt, IsBegunOf, IsEntryKey, IsFullOrDescends, IsKeyPut, IsKindOf, IsLast, IsNoJsonReason, IsPartWritten, IsWalker, IsWritingAt, IsWrittenNext, Keys, Member, NamedPlace, Place, SaysBy, ShowsNoJson, StopsBy, TextSays, definitions_in, ends_of, forms_in, forms_of, names_of, shapes};
+ghost use Rattle.borsh_json.specs.Words.{Adds, AreKeysOf, EntryOf, Form, FoundElements, FoundKeyKind, FoundNumbers, FoundPart, HasKinds, HasNode, IsAbove, IsAt, IsAwaitingAt, IsBegunOf, IsEntryKey, IsFullOrDescends, IsKeyPut, IsKindOf, IsLast, IsNoJsonReason, IsPartError, IsPartWritten, IsUnwritable, IsWalker, IsWritingAt, IsWrittenNext, Keys, Member, NamedPlace, Place, SaysBy, ShowsNoJson, StopsBy, TextSays, definitions_in, ends_of, forms_in, forms_of, names_of, shapes};
 ghost use Rattle.borsh_json.specs.Ascii.{IsInLine, IsPlain};
 ghost use Rattle.borsh_json.specs.Printed.{IsPrinted};
 ghost use Rattle.borsh_json.specs.declared.output.Layout.TheVariants.{Compact};
@@ -8,14 +8,14 @@ ghost use Rattle.std.specs.Prelude.{◌≡◌, ◌<◌, ℕ, All, IfErr, IfOk, I
 
 use crate::ascii::{in_ascii, is_ascii};
 use crate::definitions::Definitions;
-use crate::error::{JsonError, PartResult, Refusal};
+use crate::error::{JsonError, PartError, PartResult, Refusal};
 use crate::kinds::{Entries, Kind};
 use crate::leaves::{is_above, write_key};
 use crate::output::{Characters, LongNumbers, Output, Style};
 use crate::position::{Key, Part, Parts, Place, Position};
 use crate::sources::EntryKey;
 use crate::values::{begin_struct, begin_value};
-use borsh_values::{Layout, Membership, Node, Walker, elements_of};
+use borsh_values::{Layout, Membership, Node, Path, Walker, elements_of};
 use borsh_walks::Definition;
 use json::Token;
 use std::alloc::{AllocError, Global};
@@ -39,11 +39,11 @@ use std::collections::BTreeMap;
 /// `bool`, texts, and of tuples, arrays, lists, ordered sets and maps, and options of these, and not of structs and enums.
 ///
 /// Determined: after `Ok` the text is JSON that says these bytes, of the characters of the style; a compact one is one line, without
-/// control characters; where any are allowed, it has no white space but that of its layout. So no other bytes have it, they are a
-/// member of the root ([`crate::text_determines_bytes`]), and [`crate::from_json`] gives them, if anything. `NoMember` and `Ambiguous`
-/// are as of [`borsh_values::is_member`], and `NoValue` and `NotJson` aren't returned. After `Refused` they are a member, for a reason:
+/// control characters; where any are allowed, it has no white space but that of its layout. So no other bytes have it, they are a member of the root ([`crate::text_determines_bytes`]), and
+/// [`crate::from_json`] gives them, if anything. `NoMember` and `Ambiguous` are as of [`borsh_values::is_member`], and `NoValue` and
+/// `NotJson` aren't returned. After `Refused` they are a member, and where the style allows any characters it has a reason:
 /// `TooDeep`, that 128 references lead from the root to a name; others, that they reach a part of which no JSON says these bytes.
-/// Left open: memory; the reason of `Descends`; which of the texts that say the bytes: tested.
+/// Left open: memory; the reason of `Descends`, and of refusals in ASCII; which of the texts that say the bytes: tested.
 ///
 /// ```
 /// let text = to_json(alloc, "(u8, bool)", &definitions, &[7, 1], Style::COMPACT)?;
@@ -63,7 +63,8 @@ pub fn to_json<'a>(
     ensures printed { style.characters ≡ Any →
         IfOk result (λ text. IsPrinted style.layout (string_bytes text)) }
     ensures reason { IfErr result (λ e. IsNoJsonReason (definitions_in map.now) root.now bytes.now e) }
-    ensures refused { IfErr result (λ e. ShowsNoJson (forms_in map.now) root.now bytes.now e) }
+    ensures refused { style.characters ≡ Any →
+        IfErr result (λ e. ShowsNoJson (forms_in map.now) root.now bytes.now e) }
 {
     let layout = Layout::new(alloc, root, map)?;
     let json = Definitions::new(alloc, &layout)?;
@@ -81,7 +82,7 @@ impl<'a, 'l> Definitions<'a, 'l> {
             IfOk result (λ text. IsPrinted style.layout (string_bytes text)) }
         ensures reason { let l = self.now.layout.now in
             IfErr result (λ e. IsNoJsonReason (definitions_in l.map.now) l.root.now bytes.now e) }
-        ensures refused { let l = self.now.layout.now in
+        ensures refused { let l = self.now.layout.now in style.characters ≡ Any →
             IfErr result (λ e. ShowsNoJson (forms_in l.map.now) l.root.now bytes.now e) }
     {
         match self.layout.is_member(self.alloc, bytes)? {
@@ -100,33 +101,46 @@ impl<'a, 'l> Definitions<'a, 'l> {
         text: String,
         bytes: &[u8],
         characters: Characters,
-    ) -> Result<String, AllocError>
+    ) -> PartResult<'a, String>
         requires { HasKinds self.now }
         ensures says { SaysBy self.now (string_bytes text) bytes.now →
             IfOk result (λ text. SaysBy self.now (string_bytes text) bytes.now) }
         ensures ascii { characters ≡ Ascii → IfOk result (λ text. All IsPlain (string_bytes text)) }
         ensures line { All IsInLine (string_bytes text) → IfOk result (λ text. All IsInLine (string_bytes text)) }
-        ensures same { characters ≡ Any → IfOk result (λ same. string_bytes same ≡ string_bytes text) }
+        ensures any { characters ≡ Any → IfErr result (λ e. ⊥) }
+        ensures kept { characters ≡ Any → IfOk result (λ kept. string_bytes kept ≡ string_bytes text) }
+        ensures refusal { IfErr result (IsPartError IsUnwritable) }
     {
         if characters == Characters::Any || is_ascii(text.as_str()) {
             return Ok(text);
         }
         match String::from_utf8(in_ascii(self.alloc, text.as_str())?) {
-            Ok(text) if self.says(text.as_str(), bytes) => Ok(text),
-            // That a text in ASCII doesn't say the same isn't met: it is tested, and not proved.
-            _ => Err(AllocError),
+            Ok(text) => {
+                self.check_text(text.as_str(), bytes)?;
+                Ok(text)
+            }
+            Err(_) => Err(no_json(self.alloc, self.layout.root)),
         }
     }
 
-    /// Whether a text says the bytes, by reading it; no where an allocation fails.
-    fn says(&self, text: &str, bytes: &[u8]) -> bool
+    /// Refuses a text that doesn't say the bytes, by reading it.
+    fn check_text(&self, text: &str, bytes: &[u8]) -> PartResult<'a, ()>
         requires { HasKinds self.now }
-        ensures { let l = self.now.layout.now in Member (definitions_in l.map.now) l.root.now bytes.now →
-            result ≡ true → SaysBy self.now text.now bytes.now }
+        ensures says { let l = self.now.layout.now in Member (definitions_in l.map.now) l.root.now bytes.now →
+            OnOk result (SaysBy self.now text.now bytes.now) }
+        ensures refusal { IfErr result (IsPartError IsUnwritable) }
     {
         match self.read_text(text) {
-            Ok(read) => read.as_slice() == bytes,
-            Err(_) => false,
+            Ok(read) => {
+                let is_same = read.as_slice() == bytes;
+                if is_same {
+                    Ok(())
+                } else {
+                    Err(no_json(self.alloc, self.layout.root))
+                }
+            }
+            Err(JsonError::OutOfMemory) => Err(PartError::OutOfMemory),
+            Err(_) => Err(no_json(self.alloc, self.layout.root)),
         }
     }
 }
@@ -140,6 +154,14 @@ fn text_of(bytes: Vec<u8>) -> String
         Ok(text) => text,
         Err(_) => unreachable!(),
     }
+}
+
+/// That a text in ASCII doesn't say the bytes.
+fn no_json<'a>(alloc: Global, root: &'a str) -> PartError<'a>
+    ensures { IsPartError IsUnwritable result }
+{
+    let steps = Vec::new(alloc);
+    PartError::Refused(Path { root, steps }, Refusal::OtherNodes)
 }
 
 /// The JSON text of a member.

@@ -2,7 +2,7 @@ use Rattle.std.proofs.Common.{sym, ◌∙◌}
 use Rattle.std.proofs.lemmas.Bool.Decides.{Decides-eqb}
 use Rattle.std.proofs.lemmas.Slice.Eq.{slice_eq-Decides}
 use Rattle.borsh_json.proofs.LaidLaws.{said_by}
-use Rattle.borsh_json.proofs.definitions.Definitions.says.Goals as goal
+use Rattle.borsh_json.proofs.definitions.Definitions.check_text.Goals as goal
 
 pub returns-then-is_same-clause-says : goal.returns-then-is_same-clause-says
 returns-then-is_same-clause-says c m =
