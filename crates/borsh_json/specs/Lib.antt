@@ -14,6 +14,7 @@ pub mod Found
 pub mod Reads
 pub mod Frames
 pub mod Leaves
+pub mod Printed
 pub mod Writes
 pub mod Rows
 pub mod Words
