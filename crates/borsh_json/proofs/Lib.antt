@@ -24,6 +24,7 @@ pub mod LoopLaws
 pub mod ReadingLaws
 pub mod WritingLaws
 pub mod WritingPlaces
+pub mod NestedLaws
 pub mod WritingSteps
 pub mod WriterLaws
 pub mod MemberLaws
@@ -48,3 +49,6 @@ pub mod RankLaws
 pub mod DescentLaws
 pub mod KeyRanks
 pub mod PackedDescent
+pub mod UnitLaws
+pub mod WordLaws
+pub mod EscapeLaws

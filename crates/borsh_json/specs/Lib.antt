@@ -8,6 +8,8 @@ pub mod Places
 pub mod Ordered
 pub mod InOrder
 pub mod Represents
+pub mod Inside
+pub mod NoJson
 pub mod Known
 pub mod Found
 pub mod Descents
@@ -15,6 +17,7 @@ pub mod Orders
 pub mod Reads
 pub mod Frames
 pub mod Leaves
+pub mod Printed
 pub mod Writes
 pub mod Rows
 pub mod Words
