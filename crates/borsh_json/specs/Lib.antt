@@ -7,6 +7,7 @@ pub mod Integers
 pub mod Places
 pub mod InOrder
 pub mod Represents
+pub mod NoValue
 pub mod Known
 pub mod Found
 pub mod Reads
