@@ -146,18 +146,26 @@ leaf_depth (Repeated name) = 0
 
 -- ---- the invariant
 
+-- a value whose parts are read: its name, where the last part begins that was begun, and the names of those that are left
+pub data Level : Type 0 where
+  opened : List ℕ → Option ℕ → List (List ℕ) → Level
+
 module _ (C : List ℕ → Option Shape) (root : List ℕ) where
-  -- these bytes are read up to a place inside of values: the names that are left of the parts of each, the innermost first
-  pub data Nested : List (List (List ℕ)) → List ℕ → Type 0 where
-    unread : Nested ((root ∷ []) ∷ []) []
-    entered : {x before : List ℕ} {xs parts : List (List ℕ)} {ls : List (List (List ℕ))} (d : Shape) (own : List ℕ) → Nested ((x ∷ xs) ∷ ls) before → C x ≡ Some d → Opens C d own parts → Nested (parts ∷ xs ∷ ls) (before ++ own)
-    passed : {x before own : List ℕ} {xs : List (List ℕ)} {ls : List (List (List ℕ))} → Nested ((x ∷ xs) ∷ ls) before → Member C x own → Nested (xs ∷ ls) (before ++ own)
+  -- these bytes are read up to a place inside of values, the innermost first; the root is the only part of no value
+  pub data Nested : List Level → List ℕ → Type 0 where
+    unread : Nested (opened [] None (root ∷ []) ∷ []) []
+    entered : {x y before : List ℕ} {s : Option ℕ} {xs parts : List (List ℕ)} {ls : List Level} (d : Shape) (own : List ℕ) → Nested (opened y s (x ∷ xs) ∷ ls) before → C x ≡ Some d → Opens C d own parts → Nested (opened x None parts ∷ opened y (Some (length before)) xs ∷ ls) (before ++ own)
+    passed : {x y before own : List ℕ} {s : Option ℕ} {xs : List (List ℕ)} {ls : List Level} → Nested (opened y s (x ∷ xs) ∷ ls) before → Member C x own → Nested (opened y (Some (length before)) xs ∷ ls) (before ++ own)
+
+-- the name of a place's value, and where its last part begins
+abbrev pub Mark : Type 0
+Mark = List ℕ × Option ℕ
 
 -- the names are those that are left of the places; of values around their parts, of which all are begun, there is no place: of the entries of maps
-pub data AreLevels : List Rest → List (List (List ℕ)) → Type 0 where
-  no_levels : AreLevels [] []
-  level : {rs : List Rest} {ls : List (List (List ℕ))} (r : Rest) → AreLevels rs ls → AreLevels (r ∷ rs) (names_of_rest r ∷ ls)
-  no_place : {rs : List Rest} {ls : List (List (List ℕ))} → AreLevels rs ls → AreLevels rs ([] ∷ ls)
+pub data AreLevels : List Rest → List Mark → List Level → Type 0 where
+  no_levels : AreLevels [] [] []
+  level : {rs : List Rest} {ms : List Mark} {ls : List Level} (r : Rest) (m : Mark) → AreLevels rs ms ls → AreLevels (r ∷ rs) (m ∷ ms) (opened m.0 m.1 (names_of_rest r) ∷ ls)
+  no_place : {rs : List Rest} {ms : List Mark} {ls : List Level} (x : List ℕ) (s : Option ℕ) → AreLevels rs ms ls → AreLevels rs ms (opened x s [] ∷ ls)
 
 module _ (F : List ℕ → Option Form) where
   -- these tokens are JSON of the root that can be printed and read, and says these bytes
@@ -233,7 +241,7 @@ module _ (F : List ℕ → Option Form) where
     AreRests (p ∷ ps) rs = (r : Rest) × (outer : List Rest) × IsRest p r × AreRests ps outer × (rs ≡ outer ++ r ∷ [])
 
     -- in front of a part of a place: where the writer is
-    pub record IsWriting (root bytes : List ℕ) (p : Place) (ps : List Place) (left : List ℕ) (written : List Token) : Type 0 where
+    pub record IsWriting (root bytes : List ℕ) (p : Place) (ps : List Place) (m : Mark) (ms : List Mark) (left : List ℕ) (written : List Token) : Type 0 where
       pub inner : Rest
       pub around : List Rest
       pub done : List ℕ
@@ -241,13 +249,13 @@ module _ (F : List ℕ → Option Form) where
       pub there : AreRests ps around
       pub room : length around ≤ 128
       pub halved : IsHalved root bytes done left (names_of_all (inner ∷ around))
-      pub outer : List (List (List ℕ))
-      pub levels : AreLevels around outer
-      pub nested : Nested (shapes F) root (names_of_rest inner ∷ outer) done
+      pub outer : List Level
+      pub levels : AreLevels around ms outer
+      pub nested : Nested (shapes F) root (opened m.0 m.1 (names_of_rest inner) ∷ outer) done
       pub begun : Begins root (MayFollowAll (inner ∷ around)) written done
 
     -- in front of a value of this name, which has room for this depth, and then of the rest of the place
-    pub record IsAwaiting (root bytes : List ℕ) (x : List ℕ) (n : ℕ) (p : Place) (ps : List Place) (left : List ℕ) (written : List Token) : Type 0 where
+    pub record IsAwaiting (root bytes : List ℕ) (x : List ℕ) (n : ℕ) (p : Place) (ps : List Place) (m : Mark) (ms : List Mark) (left : List ℕ) (written : List Token) : Type 0 where
       pub inner : Rest
       pub around : List Rest
       pub done : List ℕ
@@ -255,10 +263,12 @@ module _ (F : List ℕ → Option Form) where
       pub there : AreRests ps around
       pub room : n + length around ≡ 128
       pub halved : IsHalved root bytes done left (x ∷ names_of_all (inner ∷ around))
+      pub value : List ℕ
+      pub before : Option ℕ
       pub beside : List (List ℕ)
-      pub outer : List (List (List ℕ))
-      pub levels : AreLevels (inner ∷ around) (beside ∷ outer)
-      pub nested : Nested (shapes F) root ((x ∷ beside) ∷ outer) done
+      pub outer : List Level
+      pub levels : AreLevels (inner ∷ around) (m ∷ ms) (opened value (Some (length done)) beside ∷ outer)
+      pub nested : Nested (shapes F) root (opened value before (x ∷ beside) ∷ outer) done
       pub begun : Begins root (MayFollowFirst x n (inner ∷ around)) written done
 
     -- of a value of x, whose definition opens these own bytes with these parts, JSON was written whole, and then its parts have no bytes; or it
