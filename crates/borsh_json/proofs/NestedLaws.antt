@@ -59,10 +59,11 @@ module _ (C : List ℕ → Option Shape) (root : List ℕ) where
     pub members : Members C read mid
     pub is : done ≡ before ++ (own ++ mid)
 
-  partly : {x y : List ℕ} {s t : Option ℕ} {xs ys : List (List ℕ)} {ls : List Level} {done : List ℕ} → Nested C root (opened x s xs ∷ opened y t ys ∷ ls) done → IsPartly x xs done
-  partly {ls = ls} (entered {before = before} d own n c o) = record { depth = length ls; before = before; shape = d; own = own; read = []; mid = []; here = inside_of n; defined = c; opens = o; members = no_members; is = ap (λ b. before ++ b) (sym (append-nil own)) }
-  partly {xs = xs} (passed {x = z} {own = own} n m) =
-      let p = partly n in
+  partly : {x : List ℕ} {s : Option ℕ} {xs : List (List ℕ)} {ls : List Level} {done : List ℕ} → 2 ≤ length xs → Nested C root (opened x s xs ∷ ls) done → IsPartly x xs done
+  partly l unread = absurd (omega (arith, l))
+  partly l (entered {before = before} {ls = ls} d own n c o) = record { depth = length ls; before = before; shape = d; own = own; read = []; mid = []; here = inside_of n; defined = c; opens = o; members = no_members; is = ap (λ b. before ++ b) (sym (append-nil own)) }
+  partly {xs = xs} l (passed {x = z} {own = own} n m) =
+      let p = partly (omega (arith, l)) n in
       record {
         depth = p.depth;
         before = p.before;
@@ -87,9 +88,10 @@ module _ (C : List ℕ → Option Shape) (root : List ℕ) where
     pub is : done ≡ until ++ bytes
     pub begins : i ≡ length until
 
-  pub last_part : {x y : List ℕ} {t : Option ℕ} {xs ys : List (List ℕ)} {ls : List Level} {done : List ℕ} (i : ℕ) (s : Option ℕ) → s ≡ Some i → Nested C root (opened x s xs ∷ opened y t ys ∷ ls) done → IsLastPart x xs done i
+  pub last_part : {x z : List ℕ} {zs : List (List ℕ)} {ls : List Level} {done : List ℕ} (i : ℕ) (s : Option ℕ) → s ≡ Some i → Nested C root (opened x s (z ∷ zs) ∷ ls) done → IsLastPart x (z ∷ zs) done i
+  last_part i s e unread = cc
   last_part i s e (entered d own n c o) = cc
-  last_part i s e (passed {x = z} {before = before} {own = own} n m) = record { part = z; until = before; bytes = own; partly = partly n; member = m; is = refl; begins = (let q : Some (length before) ≡ Some i = e in cc) }
+  last_part i s e (passed {x = z} {before = before} {own = own} n m) = record { part = z; until = before; bytes = own; partly = partly (omega arith) n; member = m; is = refl; begins = (let q : Some (length before) ≡ Some i = e in cc) }
 
   -- all places whose parts are read are left
   pub settled : {r : Rest} {rs : List Rest} {m : Mark} {ms : List Mark} {ls : List Level} {done : List ℕ} → Nested C root ls done → AreLevels (r ∷ rs) (m ∷ ms) ls → (outer : List Level) × AreLevels rs ms outer × Nested C root (opened m.0 m.1 (names_of_rest r) ∷ outer) done

@@ -24,7 +24,7 @@ use Rattle.borsh_json.specs.Table.{Part, key_json}
 use Rattle.borsh_json.specs.Writes.{Rest, value_rest, entries_rest, names_of_rest, names_of_all, IsAbove, MayFollow, MayFollowAll, IsLast, IsWhole, Begins, Level, opened, Nested, unread, entered, passed, Mark, AreLevels, no_levels, level, no_place, IsHalved, IsRestOf, IsRest, AreRests, IsWriting, IsAwaiting, WritesFront}
 use Rattle.borsh_json.proofs.WritingLaws.{begins, ends, key_written, leaf_written, front_written, end_written, entry_taken}
 use Rattle.borsh_json.proofs.NestedLaws.{settled}
-use Rattle.borsh_json.proofs.WritingPlaces.{key_tokens, TakesPart, TakesEntry, rest_pushed, rest_popped}
+use Rattle.borsh_json.proofs.WritingPlaces.{key_tokens, TakesPart, TakesEntry, each_pushed, each_popped}
 
 pub not_in : (x : List ℕ) → IsIn x [] → ⊥
 not_in x i = elim i [ ]
@@ -162,7 +162,7 @@ module _ (F : List ℕ → Option Form) (ns : List Named) (root bytes : List ℕ
           around = a.inner ∷ a.around;
           done = a.done ++ own;
           here = k;
-          there = subst (λ (qs : List Place). AreRests F ns qs (a.inner ∷ a.around)) (sym e) (rest_pushed F ns ps a.around p a.inner a.there a.here);
+          there = subst (λ (qs : List Place). AreRests F ns qs (a.inner ∷ a.around)) (sym e) (each_pushed (IsRest F ns) ps a.around p a.inner a.there a.here);
           room = omega (arith, l);
           halved = h;
           outer = opened a.value (Some (length a.done)) a.beside ∷ a.outer;
@@ -181,7 +181,7 @@ module _ (F : List ℕ → Option Form) (ns : List Named) (root bytes : List ℕ
     -- the writer goes back to the place around
     pub end_writes : (q : Place) (qs : List Place) (k : Mark) (ks : List Mark) → ps ≡ qs ++ q ∷ [] → ms ≡ k ∷ ks → IsWriting F ns root bytes q qs k ks left new
     end_writes q qs k ks f e =
-        let t = rest_popped F ns qs w.around q (subst (λ (ps : List Place). AreRests F ns ps w.around) f w.there) in
+        let t = each_popped (IsRest F ns) qs w.around q (subst (λ (ps : List Place). AreRests F ns ps w.around) f w.there) in
         let l = subst (λ (ks : List Mark). AreLevels (t.0 ∷ t.1) ks w.outer) e (subst (λ (rs : List Rest). AreLevels rs ms w.outer) t.4 w.levels) in
         let s = settled (shapes F) root (subst (λ l. Nested (shapes F) root (opened m.0 m.1 l ∷ w.outer) w.done) none w.nested) (no_place m.0 m.1 l) in
         record {

@@ -85,10 +85,10 @@ module _ (F : List ℕ → Option Form) where
   IsLeafRefusal TooDeep x own = ⊥
   IsLeafRefusal (RepeatedName name) x own = ⊥
   IsLeafRefusal EmptyElements x own = ⊥
-  IsLeafRefusal NotBool x own = HasKind F x truth × IsNoJson x own
-  IsLeafRefusal NotUtf8 x own = (l : Lengths) × HasKind F x (utf8 l) × IsNoJson x own
-  IsLeafRefusal Zero x own = (n : ℕ) × (signed : Bool) × HasKind F x (whole n signed true) × IsNoJson x own
-  IsLeafRefusal NotNumber x own = (n : ℕ) × (infinity : ℕ) × HasKind F x (float n infinity) × IsNoJson x own
+  IsLeafRefusal NotBool x own = HasKind F x truth × IsNoJson F x own
+  IsLeafRefusal NotUtf8 x own = (l : Lengths) × HasKind F x (utf8 l) × IsNoJson F x own
+  IsLeafRefusal Zero x own = (n : ℕ) × (signed : Bool) × HasKind F x (whole n signed true) × IsNoJson F x own
+  IsLeafRefusal NotNumber x own = (n : ℕ) × (infinity : ℕ) × HasKind F x (float n infinity) × IsNoJson F x own
   IsLeafRefusal Descends x own = ⊥
   IsLeafRefusal OtherNodes x own = ⊥
   IsLeafRefusal (Expected wanted) x own = ⊥
@@ -99,7 +99,7 @@ module _ (F : List ℕ → Option Form) where
 
   -- so is that of an element of a value of the name, and no JSON says the value
   abbrev pub IsElementRefusal : Refusal → List ℕ → List ℕ → Type 0
-  IsElementRefusal refusal x own = (e : List ℕ) × (piece : List ℕ) × IsLeafRefusal refusal e piece × IsNoJson x own
+  IsElementRefusal refusal x own = (e : List ℕ) × (piece : List ℕ) × IsLeafRefusal refusal e piece × IsNoJson F x own
 
   -- the error is right
   abbrev pub RefusesLeaf : List ℕ → List ℕ → WriteError → Type 0

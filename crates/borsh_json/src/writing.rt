@@ -217,12 +217,8 @@ impl<'a, 'l, 'b> Writing<'a, 'l, 'b> {
             write_end(self.position.place.parts, &mut self.out)?;
             return Ok(self.position.leave());
         };
-        if !ascends(
-            definitions,
-            &mut self.position.place,
-            self.walk.offset,
-            self.bytes,
-        )? {
+        let place = &mut self.position.place;
+        if !ascends(definitions, place, self.walk.offset, self.bytes)? {
             return Err(self.position.refused_element(Refusal::Descends).into());
         }
         self.write_key(definitions, part)?;
@@ -238,7 +234,7 @@ impl<'a, 'l, 'b> Writing<'a, 'l, 'b> {
     ) -> Result<(), JsonError<'a>>
         requires walk { IsWalker self.old.walk }
         ensures key { HasKinds definitions.now → (p : Place) → IsWritingAt definitions.now self.old p →
-            IsBegunOf definitions.now p self.old.position.place part.entry →
+            IsBegunOf definitions.now self.old.walk.offset p self.old.position.place part.entry →
             IsKeyPut definitions.now part.entry.at self.old self.new result }
         ensures bytes { self.new.bytes ≡ self.old.bytes }
     {
@@ -258,7 +254,7 @@ impl<'a, 'l, 'b> Writing<'a, 'l, 'b> {
         requires walk { IsWalker self.old.walk }
         ensures key { HasKinds definitions.now → (p : Place) (part : FoundPart) →
             IsWritingAt definitions.now self.old p → part.key ≡ EntryOf entries.entry →
-            IsBegunOf definitions.now p self.old.position.place part →
+            IsBegunOf definitions.now self.old.walk.offset p self.old.position.place part →
             IsKeyPut definitions.now part.at self.old self.new result }
         ensures bytes { self.new.bytes ≡ self.old.bytes }
     {
@@ -327,10 +323,20 @@ impl<'a, 'l, 'b> Writing<'a, 'l, 'b> {
             self.long_numbers,
             &mut self.out,
         ) {
-            Ok(Some(place)) => Ok(self.position.enter(place)?),
+            Ok(Some(place)) => Ok(self.position.enter(place.in_order(order_of(kind)))?),
             Ok(None) => Ok(()),
             Err(error) => Err(self.position.refused_value(error).into()),
         }
+    }
+}
+
+/// How a list's parts ascend that are written one by one, where that is known.
+fn order_of(kind: Kind<'_>) -> Option<Ordered>
+    ensures { IfSome result (λ order. (es : FoundElements) × (kind.entry ≡ FoundList es) × (es.order ≡ Some order)) }
+{
+    match kind {
+        Kind::List(elements) => elements.order,
+        _ => None,
     }
 }
 
@@ -357,7 +363,7 @@ fn check_elements<'a>(
 fn is_next(last: Option<EntryKey<'_>>, key: EntryKey<'_>) -> bool
     ensures { (F : List ℕ → Option Form) (ns : List NamedPlace) (k : List ℕ) (f : Form) (kind : FoundKeyKind)
         (keys : Keys) (o : Option (List ℕ)) (s : List ℕ) → AreKeysOf F ns k f kind keys →
-        IsLast kind last.entry o → IsEntryKey kind key.entry s → result ≡ true → IsAbove keys o s }
+        IsLast kind last.entry o → IsEntryKey kind key.entry s → Decides result (IsAbove keys o s) }
 {
     match last {
         Some(last) => is_above(key, last),
@@ -385,7 +391,9 @@ fn ascends(
     offset: usize,
     bytes: &[u8],
 ) -> Result<bool, AllocError>
-    ensures { (place.new.parts ≡ place.old.parts) × (place.new.begun ≡ place.old.begun) × (place.new.last ≡ place.old.last) }
+    ensures same { (place.new.parts ≡ place.old.parts) × (place.new.begun ≡ place.old.begun) × (place.new.last ≡ place.old.last) }
+    ensures begins { BeginsNext place.old.ascent offset place.new.ascent }
+    ensures tells { HasKinds definitions.now → IfOk result (TellsAscent definitions.now bytes.now place.old.ascent offset) }
 {
     let Some(ascent) = &mut place.ascent else {
         return Ok(true);
