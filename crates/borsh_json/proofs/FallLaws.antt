@@ -1,13 +1,19 @@
 -- Two neighbours that don't ascend, where the writer is.
-use Rattle.std.proofs.Common.{◌≡◌, ℕ, suc, zero, ◌+◌, ◌≤◌, List, [], ◌∷◌, ◌++◌, length, replicate, drop, Option, Some, None, refl, sym, ◌∙◌, ap, subst, arith, append_assoc, append-nil}
+use Rattle.std.proofs.Common.{◌≡◌, inr, ℕ, suc, zero, ◌+◌, ◌<◌, ◌≤◌, List, [], ◌∷◌, ◌++◌, length, replicate, drop, Option, Some, None, refl, sym, ◌∙◌, ap, subst, arith, append_assoc, append-nil}
 use Rattle.std.proofs.Math.Seq.{drop-append_seam}
-use Rattle.std.specs.Prelude.{pos, option_map, Bool, true, false, Decides}
+use Rattle.std.specs.Prelude.{pos, option_map, Bool, true, false, Decides, Result, Ok, Err, IfErr}
 use Rattle.std.specs.declared.cmp.Ordering.{Ordering}
 use Rattle.std.specs.declared.cmp.Ordering.TheVariants.{Less}
 use Rattle.json.specs.Json.{null}
 use Rattle.borsh_walks.specs.Container.{Shape, sequence, tag, Member, Members, more_members}
-use Rattle.borsh_values.specs.Nodes.{packed_size, Opens, OpensElements}
+use Rattle.borsh_values.specs.Nodes.{packed_size, Opens, OpensElements, AreElementsOf}
 use Rattle.borsh_json.specs.declared.definitions.Definitions.{Definitions}
+use Rattle.borsh_json.specs.declared.definitions.Known.{Known}
+use Rattle.borsh_json.specs.declared.error.PartError.{PartError}
+use Rattle.borsh_json.specs.declared.error.PartError.TheVariants.{OutOfMemory as NoPartMemory, Refused as RefusedPart}
+use Rattle.borsh_json.specs.declared.error.Refusal.TheVariants.{Descends}
+use Rattle.borsh_json.specs.declared.kinds.Elements.{Elements as FoundElements}
+use Rattle.borsh_json.specs.declared.kinds.Kind.TheVariants.{ByteList, Numbers}
 use Rattle.borsh_values.specs.declared.layout.Named.{Named}
 use Rattle.borsh_json.specs.declared.kinds.Entries.{Entries as FoundEntries}
 use Rattle.borsh_json.specs.declared.kinds.KeyKind.{KeyKind}
@@ -17,19 +23,22 @@ use Rattle.borsh_json.specs.declared.position.Part.{Part as FoundPart}
 use Rattle.borsh_json.specs.declared.position.Place.{Place}
 use Rattle.borsh_json.specs.declared.sources.EntryKey.{EntryKey}
 use Rattle.borsh_json.specs.declared.writing.Writing.{Writing}
-use Rattle.borsh_json.specs.Descents.{HasDescent}
-use Rattle.borsh_json.specs.Forms.{Form, form_of, shape_of_form, shapes}
+use Rattle.borsh_json.specs.Descents.{HasDescent, NumbersDescend}
+use Rattle.borsh_json.specs.Forms.{Form, sequence as sequence_form, primitive as primitive_form, form_of, shape_of_form, shapes}
 use Rattle.borsh_json.specs.Found.{forms_of, names_of}
 use Rattle.borsh_json.specs.NoJson.{IsOutOfOrder}
 use Rattle.borsh_json.specs.Ordered.{a_value, Compare}
-use Rattle.borsh_json.specs.Orders.{KeysAscend}
-use Rattle.borsh_json.specs.Places.{IsAt, AreKeysOf, lengths_of}
+use Rattle.borsh_json.specs.Frames.{IsOf}
+use Rattle.borsh_json.specs.Leaves.{IsOpenedAs}
+use Rattle.borsh_json.specs.Orders.{KeysAscend, HasKeyOrder, KindHasOrder, AreOrderedNumbers, IsElementFall}
+use Rattle.borsh_json.specs.Places.{IsAt, AreKeysOf, IsKindOf, IsListOf, lengths_of}
 use Rattle.borsh_json.specs.Reads.{SaysFirst}
-use Rattle.borsh_json.specs.Table.{Lengths, Keys, entries, AreKeys, HasKind, key_json, key_order}
-use Rattle.borsh_json.specs.Writes.{names_of_rest, names_of_all, opened, Nested, IsLast, IsAbove, IsMapOf, IsLastKey, IsWritingAt}
-use Rattle.borsh_json.proofs.FormKinds.{form_found}
+use Rattle.borsh_json.specs.Table.{Lengths, Keys, byte_list, list, entries, AreKeys, HasKind, key_json, key_order}
+use Rattle.borsh_json.specs.Writes.{IsFullOrFalls, names_of_rest, names_of_all, opened, Nested, IsLast, IsAbove, IsMapOf, IsLastKey, IsWritingAt}
+use Rattle.borsh_json.proofs.FormKinds.{form_found, form_known}
 use Rattle.borsh_json.proofs.NestedLaws.{IsLastPart, last_part}
 use Rattle.borsh_json.proofs.KeyRanks.{keys_compare}
+use Rattle.borsh_json.proofs.PackedDescent.{packed_descent}
 use Rattle.borsh_json.proofs.RankLaws.{compares, element_key}
 use Rattle.borsh_json.proofs.WritingPlaces.{TakesEntry}
 
@@ -184,3 +193,39 @@ module _ (d : Definitions) (w : Writing) (p : Place) (a : IsWritingAt d w p) (es
       go (Some key) l =
           let h = a.here.1 es t.entries.0 t.entries.1 in
           last_falls key h.0 (subst (λ (l : Option EntryKey). IsLastKey d w.bytes.now es l a.mark.1) l h.1) (λ o i b. (let q : true ≡ false = sym ((g o (subst (λ (l : Option EntryKey). IsLast es.key_kind l o) (sym l) i)).1 b) ∙ e in cc))
+
+-- ---- lists that are written whole
+positive : (n : ℕ) → 0 < n → (m : ℕ) × (n ≡ suc m)
+positive zero l = absurd (omega (arith, l))
+positive (suc m) l = (m, refl)
+
+-- the elements of a list of bytes
+byte_there : (F : List ℕ → Option Form) (x : List ℕ) (l : Lengths) (e : List ℕ) → HasKind F x (byte_list l e) → F e ≡ Some (primitive_form 1)
+byte_there F x l e h = (form_found F (byte_list l e) h (λ q. cc)).2.1.1
+
+module _ (F : List ℕ → Option Form) (ns : List Named) (orders : List Known) (x own after bytes : List ℕ) (f : Form) (parts : List (List ℕ)) (es : FoundElements) (o : IsOpenedAs F x f own parts) (elements : AreElementsOf (shape_of_form f) own bytes) where
+  list_falls : (n depth w lo hi : ℕ) (e : List ℕ) (error : PartError) → HasKeyOrder F ns orders x es.order → f ≡ sequence_form w lo hi e → F e ≡ Some (primitive_form (suc n)) → es.size ≡ suc n → IsOf Descends error → IsElementFall es bytes error → IsFullOrFalls depth (HasDescent F x (own ++ after)) error
+  list_falls n depth w lo hi e NoPartMemory k s p z d g = tt
+  list_falls n depth w lo hi e (RefusedPart path r) k s p z d g =
+      let h = subst (λ (order : Option Ordered). HasKeyOrder F ns orders x order) g.1 k in
+      inr (d, packed_descent F ns orders x e h.0 own bytes after parts n w lo hi g.0 h.1 (o.0 ∙ ap (λ f. Some f) s) p (subst (λ (f : Form). Opens (shapes F) (shape_of_form f) own parts) s o.1) (subst (λ (f : Form). AreElementsOf (shape_of_form f) own bytes) s elements)
+        (λ signed a. subst (λ n. (i : ℕ) × NumbersDescend n signed bytes i) z (g.2 signed (subst (λ n. AreOrderedNumbers g.0 n signed bytes) (sym z) a))))
+
+  pub bytes_falls : (depth : ℕ) (error : PartError) → IsKindOf F ns x f (ByteList es) → KindHasOrder F ns orders x (ByteList es) → IsOf Descends error → IsElementFall es bytes error → IsFullOrFalls depth (HasDescent F x (own ++ after)) error
+  bytes_falls depth error k h d g =
+      let l = lengths_of f in
+      let s = form_known F (byte_list l k.0) f k.2 o.0 (λ e. cc) in
+      list_falls 0 depth l.width l.least l.greatest k.0 error h.1 s.0 (byte_there F x l k.0 k.2) h.0 d g
+
+  pub numbers_falls : (depth : ℕ) (error : PartError) → IsKindOf F ns x f (Numbers es) → KindHasOrder F ns orders x (Numbers es) → IsOf Descends error → IsElementFall es bytes error → IsFullOrFalls depth (HasDescent F x (own ++ after)) error
+  numbers_falls depth error k h d g =
+      let l = lengths_of f in
+      let t = subst (λ (r : Bool). IsListOf F ns x f es.at r) k.1 k.0 in
+      let s = form_known F (list l t.0) f t.2 o.0 (λ e. cc) in
+      let n = positive es.size k.2 in
+      list_falls n.0 depth l.width l.least l.greatest t.0 error h s (k.3 t.0 t.1 ∙ ap (λ n. Some (primitive_form n)) n.1) n.1 d g
+
+-- of an error both are known
+pub both_known : {T : Type 0} {P Q R : PartError → Type 0} (r : Result T PartError) → IfErr r P → IfErr r Q → ((e : PartError) → P e → Q e → R e) → IfErr r R
+both_known (Ok t) p q f = tt
+both_known (Err e) p q f = f e p q

@@ -1,7 +1,7 @@
 -- What the writer's calls give.
 use Rattle.std.proofs.Common.{◌≡◌, inl, inr, ℕ, suc, ◌+◌, ◌-◌, ◌<◌, ◌≤◌, List, [], ◌∷◌, ◌++◌, length, replicate, drop, Option, Some, None, refl, sym, ◌∙◌, ap, subst, arith, append-nil, length-append}
 use Rattle.std.proofs.Math.Seq.{drop-append_seam}
-use Rattle.std.specs.Prelude.{ℤ, String, option_map, Result, Ok, Err, IfErr, Bool, true, false, Decides}
+use Rattle.std.specs.Prelude.{ℤ, String, option_map, Result, Ok, Err, IfErr, IfSome, Bool, true, false, Decides}
 use Rattle.std.specs.declared.cmp.Ordering.TheVariants.{Less}
 use Rattle.std.specs.BTreeMap.{BTreeMap}
 use Rattle.std.specs.Borrow.{Bor}
@@ -37,7 +37,7 @@ use Rattle.borsh_json.specs.declared.output.Output.{Output}
 use Rattle.borsh_json.specs.declared.position.Key.TheVariants.{Entry as EntryOf}
 use Rattle.borsh_json.specs.declared.position.Part.{Part as FoundPart}
 use Rattle.borsh_json.specs.declared.position.Parts.{Parts}
-use Rattle.borsh_json.specs.declared.position.Parts.TheVariants.{Entries as MapEntries}
+use Rattle.borsh_json.specs.declared.position.Parts.TheVariants.{Root, Entries as MapEntries}
 use Rattle.borsh_json.specs.declared.position.Place.{Place}
 use Rattle.borsh_json.specs.declared.position.Position.{Position}
 use Rattle.borsh_json.specs.declared.sources.EntryKey.{EntryKey}
@@ -46,6 +46,7 @@ use Rattle.borsh_json.specs.Errors.{error_of}
 use Rattle.borsh_json.specs.Forms.{Form, form_of, forms_in, shape_of_form, shapes, HasNoBytes}
 use Rattle.borsh_json.specs.Found.{forms_of, names_of}
 use Rattle.borsh_json.specs.Frames.{Wanted, IsWanted, GivesPart, IsKey, IsEntryKey, IsOf}
+use Rattle.borsh_json.specs.Descents.{HasDescent}
 use Rattle.borsh_json.specs.Inside.{IsInside}
 use Rattle.borsh_json.specs.NoJson.{IsNoJson, HasNoJsonPart, IsOutOfOrder, RefusesBytes}
 use Rattle.borsh_json.specs.Orders.{HasKeyOrder, KindHasOrder}
@@ -58,7 +59,7 @@ use Rattle.borsh_walks.proofs.Laws.{zero_member}
 use Rattle.borsh_values.proofs.NodesLaws.{opens_member}
 use Rattle.borsh_values.proofs.Required.{members_head}
 use Rattle.borsh_values.proofs.WalkedLaws.{read_product}
-use Rattle.borsh_json.specs.Writes.{IsAbove, IsLast, IsBegunOf, IsWhole, IsWrittenOn, ends_of, Rest, IsRest, WritesFront, names_of_rest, names_of_all, leaf_depth, opened, Nested, passed, Mark, AreEach, IsNewPlace, IsAscending, IsKeyed, IsLastKey, IsMarked, IsRestOf, BeginsNext, IsWriterOf, IsHalved, IsWriting, IsAwaiting, RefusesOwn, RefusesValue, IsWrittenAs, Stops, IsWritingAt, IsAwaitingAt, IsFull, IsFullOrDescends, IsOfWrite}
+use Rattle.borsh_json.specs.Writes.{IsAbove, IsLast, IsBegunOf, IsWhole, IsWrittenOn, ends_of, Rest, IsRest, WritesFront, names_of_rest, names_of_all, leaf_depth, opened, Nested, passed, Mark, AreEach, IsNewPlace, IsAscending, IsKeyed, IsLastKey, IsMarked, IsRestOf, BeginsNext, IsWriterOf, IsHalved, IsWriting, IsAwaiting, RefusesOwn, RefusesValue, IsWrittenAs, Stops, IsWritingAt, IsAwaitingAt, IsFull, IsFullOrFalls, AscendsFrom, IsOfWrite}
 use Rattle.borsh_json.proofs.FormsLaws.{shape_is, shapes_are}
 use Rattle.borsh_json.proofs.NestedLaws.{read_leaf, inside_of, as_deep}
 use Rattle.borsh_json.proofs.WritingPlaces.{as_many, each_pushed, each_popped, key_tokens, TakesPart, TakesEntry, takes_part, takes_entry, place_ends}
@@ -135,26 +136,36 @@ module _ (F : List ℕ → Option Form) (root bytes : List ℕ) where
   stops_full n done left x NoPartMemory d f = tt
   stops_full n done left x (RefusedPart path r) d f = subst (λ (r : Refusal). RefusesBytes F root bytes r) (sym f.0) (d.depth, done, left, x, d.joined, (let a = f.1 in let l = d.deep in omega (arith, a, l)), d.inside)
 
-  pub stops_either : (n : ℕ) (done left x : List ℕ) (e : PartError) → IsDeep n done left x → IsFullOrDescends n e → (IsOf Descends e → IsOutOfOrder F root bytes) → Stops F root bytes (error_of e)
-  stops_either n done left x NoPartMemory d f g = tt
-  stops_either n done left x (RefusedPart path r) d (inl f) g = stops_full n done left x (RefusedPart path r) d f
-  stops_either n done left x (RefusedPart path r) d (inr f) g = stops_descends (RefusedPart path r) f (g f)
+  pub stops_either : (n : ℕ) (done own after left x : List ℕ) → left ≡ own ++ after → (e : PartError) → IsDeep n done left x → IsFullOrFalls n (HasDescent F x (own ++ after)) e → Stops F root bytes (error_of e)
+  stops_either n done own after left x l NoPartMemory d f = tt
+  stops_either n done own after left x l (RefusedPart path r) d (inl f) = stops_full n done left x (RefusedPart path r) d f
+  stops_either n done own after left x l (RefusedPart path r) d (inr f) = stops_descends (RefusedPart path r) f.0 (d.depth, done, own ++ after, x, d.joined ∙ ap (λ b. done ++ b) l, d.inside, f.1)
 
   -- bytes that no JSON says
   pub no_json_part : (n : ℕ) (done own after left x : List ℕ) → left ≡ own ++ after → IsDeep n done left x → IsNoJson F x own → HasNoJsonPart F root bytes
   no_json_part n done own after left x e d j = (d.depth, done, own, after, x, d.joined ∙ ap (λ l. done ++ l) e, d.inside, j)
 
-pub full_either : (n : ℕ) (e : PartError) → IsFull n e → IsFullOrDescends n e
-full_either n NoPartMemory f = tt
-full_either n (RefusedPart path r) f = inl f
+-- a want of room
+pub room_only : (n : ℕ) (P : Type 0) (e : PartError) → IsFull n e → IsFullOrFalls n P e
+room_only n P NoPartMemory f = tt
+room_only n P (RefusedPart path r) f = inl f
 
-pub descends_either : (n : ℕ) (e : PartError) → IsOf Descends e → IsFullOrDescends n e
-descends_either n NoPartMemory f = tt
-descends_either n (RefusedPart path r) f = inr f
+-- ---- order
+-- a place that was begun, in the order of its kind
+pub in_order : (d : Definitions) (bytes x : List ℕ) (kind : Found) (o : Option Ordered) (new : Option Ascent) → KindHasOrder (forms_of d) (names_of d) d.orders.items x kind → IfSome o (λ order. (es : FoundElements) × (kind ≡ ListKind es) × (es.order ≡ Some order)) → AscendsFrom o new → IsAscending d bytes new (x, None)
+in_order d bytes x kind None new k h a = subst (λ (a : Option Ascent). IsAscending d bytes a (x, None)) (sym a) tt
+in_order d bytes x kind (Some order) new k h a =
+    let F = forms_of d in
+    let ns = names_of d in
+    let l = subst (λ (kind : Found). KindHasOrder F ns d.orders.items x kind) h.1 k in
+    let o = subst (λ (o : Option Ordered). HasKeyOrder F ns d.orders.items x o) (h.2 ∙ ap (λ o. Some o) (sym a.2)) l in
+    subst (λ (a : Option Ascent). IsAscending d bytes a (x, None)) (sym a.1) (o, a.3)
 
-pub descends_or_not : {T : Type 0} (n : ℕ) (r : Result T PartError) → IfErr r (λ e. IsOf Descends e) → IfErr r (IsFullOrDescends n)
-descends_or_not n (Ok t) f = tt
-descends_or_not n (Err e) f = descends_either n e f
+pub still_rest : (F : List ℕ → Option Form) (ns : List Named) (p q : Place) (r : Rest) → q.parts ≡ p.parts → q.begun ≡ p.begun → q.last ≡ p.last → IsRest F ns p r → IsRest F ns q r
+still_rest F ns p q r a b c h =
+    subst (λ (parts : Parts). IsRestOf F ns parts q.begun q.last r) (sym a)
+    (subst (λ (n : ℕ). IsRestOf F ns p.parts n q.last r) (sym b)
+    (subst (λ (l : Option EntryKey). IsRestOf F ns p.parts p.begun l r) (sym c) h))
 
 -- ---- room
 pub leaf_room : (kind : Found) (n l : ℕ) → n + l ≡ 128 → ((es : FoundElements) → kind ≡ Numbers es → l < 128) → leaf_depth kind ≤ n
@@ -176,6 +187,10 @@ leaf_room (Repeated name) n l e g = omega arith
 
 abbrev pub IsPlaceBegun : (List ℕ → Option Form) → List Named → List ℕ → Form → List ℕ → Output → Output → Place → Type 0
 IsPlaceBegun F ns x f own old new q = (r : Rest) × IsRest F ns q r × WritesFront F x own r old new × Opens (shapes F) (shape_of_form f) own (names_of_rest r)
+
+-- the root's place has no order
+pub root_marked : (d : Definitions) (bytes : List ℕ) (p : Place) → p.parts ≡ Root → p.ascent ≡ None → IsMarked d bytes p ([], None)
+root_marked d bytes p r a = (subst (λ (a : Option Ascent). IsAscending d bytes a ([], None)) (sym a) tt, λ es n e. let q : Root ≡ MapEntries es n = sym r ∙ e in cc)
 
 -- the offset after some bytes
 moved : (w new : Writing) (own : List ℕ) → w.walk.offset + length w.walk.left.now ≡ length w.bytes.now → new.bytes ≡ w.bytes → w.walk.left.now ≡ own ++ new.walk.left.now → new.walk.offset ≡ w.walk.offset + length own → new.walk.offset + length new.walk.left.now ≡ length new.bytes.now
@@ -344,12 +359,12 @@ module _ (d : Definitions) (w new : Writing) (x : List ℕ) (a : IsAwaitingAt d 
       (λ done parts ps n g. subst (λ (k : Walker). IsReadTo (shapes F) root (done ++ []) (parts ++ ps) k.left.now) (sym walk) (struct_on (shapes F) root x w.walk.left.now (names_of_rest r) (shape_of_form f) c s done parts ps n g)) q c room (r, h, t, opens) (new_marked d w.bytes.now x f kind q q z i k refl refl (subst (λ (l : Option Ascent). IsAscending d w.bytes.now l (x, None)) (sym z.0) tt)) p o
 
 -- ---- parts and their keys
--- the key is above the last one
-pub first_above : (kind : KeyKind) (keys : Keys) (o : Option (List ℕ)) (s : List ℕ) → IsLast kind None o → IsAbove keys o s
-first_above kind keys o s e = subst (λ o. IsAbove keys o s) (sym e) tt
+-- whether a key is above the last one
+pub first_above : (kind : KeyKind) (keys : Keys) (o : Option (List ℕ)) (s : List ℕ) → IsLast kind None o → Decides true (IsAbove keys o s)
+first_above kind keys o s e = (λ t. subst (λ o. IsAbove keys o s) (sym e) tt, λ t. refl)
 
-pub next_above : (kind : KeyKind) (keys : Keys) (o : Option (List ℕ)) (s : List ℕ) (last : EntryKey) (b : Bool) → (l : IsLast kind (Some last) o) → Decides b (key_order keys (l.0, null) (s, null) ≡ Less) → b ≡ true → IsAbove keys o s
-next_above kind keys o s last b l d e = subst (λ o. IsAbove keys o s) (sym l.1) (d.0 e)
+pub next_above : (kind : KeyKind) (keys : Keys) (o : Option (List ℕ)) (s : List ℕ) (last : EntryKey) (b : Bool) → (l : IsLast kind (Some last) o) → Decides b (key_order keys (l.0, null) (s, null) ≡ Less) → Decides b (IsAbove keys o s)
+next_above kind keys o s last b l d = subst (λ o. Decides b (IsAbove keys o s)) (sym l.1) d
 
 -- the kind of keys, by the definition that their name has
 keys_of_form : (F : List ℕ → Option Form) (ns : List Named) (k : List ℕ) (g f : Form) (kind : KeyKind) (keys : Keys) → AreKeysOf F ns k g kind keys → F k ≡ Some f → AreKeysOf F ns k f kind keys

@@ -11,7 +11,7 @@ pub use Rattle.borsh_json.specs.Reads.{AreRead, Left, PartsOfAll, SaysFirst, Say
 pub use Rattle.borsh_json.specs.Represents.{HaveBytes, TextSays}
 pub use Rattle.borsh_json.specs.Table.{AreKeys, Entry, HasKind, InRange, IsHex, IsNoNan, IsNullable, IsNumber, IsPrefixed, IsWhole, Keys, Kind as TableKind, Lengths, MayBeNull, Part as JsonPart, byte_list, entries as map_entries, entries_of, float, key_json, key_order, list_parts, no_bytes, number_kind, number_types, optional, primitive_kind, raw, texts, truth, utf8, variants as spec_variants, whole}
 pub use Rattle.borsh_json.specs.Leaves.{Adds, IsOpenedAs, output_before, output_tokens}
-pub use Rattle.borsh_json.specs.Writes.{ArePartsOf, BeginsAt, BeginsStruct, HasNode, IsAbove, IsAwaitingAt, IsBegunOf, IsFull, IsFullOrDescends, IsKeyPut, IsLast, IsOfWrite, IsPartWritten, IsWritingAt, IsWrittenNext, IsWrittenOn, StopsBy, WritesStruct, WritesValueOf, ends_of, leaf_depth}
+pub use Rattle.borsh_json.specs.Writes.{ArePartsOf, AscendsFrom, BeginsAt, BeginsNext, BeginsStruct, HasNode, IsAbove, IsAwaitingAt, IsBegunOf, IsFull, IsKeyPut, IsLast, IsOfWrite, IsPartWritten, IsWritingAt, IsWrittenNext, IsWrittenOn, RefusesElements, StopsBy, TellsAscent, WritesStruct, WritesValueOf, ends_of, leaf_depth}
 pub use Rattle.borsh_json.specs.declared.error.ReadError.TheVariants.{OutOfMemory}
 pub use Rattle.borsh_json.specs.declared.error.Refusal.TheVariants.{TooDeep}
 pub use Rattle.borsh_json.specs.declared.kinds.Elements.{Elements as FoundElements}

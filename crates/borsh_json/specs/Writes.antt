@@ -13,6 +13,7 @@ use Rattle.borsh_values.specs.Membership.{IsUndecided}
 use Rattle.borsh_values.specs.declared.layout.Named.{Named}
 use Rattle.borsh_values.specs.declared.nodes.Node.{Node}
 use Rattle.borsh_json.specs.declared.definitions.Definitions.{Definitions}
+use Rattle.borsh_json.specs.declared.definitions.Known.{Known}
 use Rattle.borsh_json.specs.declared.error.Refusal.{Refusal}
 use Rattle.borsh_json.specs.declared.error.Refusal.TheVariants.{TooDeep, RepeatedName, EmptyElements, NotBool, NotUtf8, Zero, NotNumber, Descends, OtherNodes, Expected, MissingField, UnknownName, RepeatedKey, Undefined}
 use Rattle.borsh_json.specs.declared.error.PartError.{PartError}
@@ -34,6 +35,7 @@ use Rattle.borsh_json.specs.declared.position.Part.{Part as FoundPart}
 use Rattle.borsh_json.specs.declared.position.Place.{Place}
 use Rattle.borsh_json.specs.declared.sources.EntryKey.{EntryKey}
 use Rattle.borsh_json.specs.declared.writing.Writing.{Writing}
+use Rattle.borsh_json.specs.Descents.{HasDescent}
 use Rattle.borsh_json.specs.Forms.{Form, form_of, shape_of_form, shapes, HasNoBytes}
 use Rattle.borsh_json.specs.Frames.{Wanted, IsWanted, IsEntryKey, IsOf, GivesPart}
 use Rattle.borsh_json.specs.Found.{forms_of, names_of}
@@ -442,10 +444,16 @@ IsOfWrite OutOfMemory e = e ≡ NoPartMemory
 IsOfWrite (Refused refusal) e = IsOf refusal e
 IsOfWrite (Element index refusal) e = IsOf refusal e
 
--- so has the refusal of elements that don't ascend
-abbrev pub IsFullOrDescends : ℕ → PartError → Type 0
-IsFullOrDescends n NoPartMemory = ⊤
-IsFullOrDescends n (RefusedPart path refusal) = ((refusal ≡ TooDeep) × (128 ≤ n)) ⊎ (refusal ≡ Descends)
+-- so has the refusal of elements that don't ascend, of which P holds
+abbrev pub IsFullOrFalls : ℕ → Type 0 → PartError → Type 0
+IsFullOrFalls n P NoPartMemory = ⊤
+IsFullOrFalls n P (RefusedPart path refusal) = ((refusal ≡ TooDeep) × (128 ≤ n)) ⊎ ((refusal ≡ Descends) × P)
+
+-- the refusal is right of the own bytes of a value of a kind
+abbrev pub RefusesElements : ℕ → Found → Node → PartError → Type 0
+RefusesElements depth kind n e =
+    (F : List ℕ → Option Form) (ns : List Named) (orders : List Known) (x : List ℕ) (parts : List (List ℕ)) (after : List ℕ)
+    → IsOpenedAs F x (form_of n.definition.now) n.bytes.now parts → IsKindOf F ns x (form_of n.definition.now) kind → KindHasOrder F ns orders x kind → IsFullOrFalls depth (HasDescent F x (n.bytes.now ++ after)) e
 
 -- the next part begins at the offset, where parts have to ascend
 abbrev pub BeginsNext : Option Ascent → ℕ → Option Ascent → Type 0
@@ -456,6 +464,11 @@ BeginsNext (Some a) i new = (b : Ascent) × (new ≡ Some b) × (b.order ≡ a.o
 abbrev pub TellsAscent : Definitions → List ℕ → Option Ascent → ℕ → Bool → Type 0
 TellsAscent d bytes None j ascends = ascends ≡ true
 TellsAscent d bytes (Some a) j ascends = MatchOption a.last (ascends ≡ true) (λ i. (k : List ℕ) (r : Comparison) → OrderedBy d k a.order → ValuesCompare d k (drop i bytes) (drop j bytes) r → Decides ascends (r ≡ Less))
+
+-- a place's ascent in this order, in front of the first part
+abbrev pub AscendsFrom : Option Ordered → Option Ascent → Type 0
+AscendsFrom None new = new ≡ None
+AscendsFrom (Some order) new = (a : Ascent) × (new ≡ Some a) × (a.order ≡ order) × (a.last ≡ None)
 
 -- the part is begun of the place p, which is q now
 abbrev pub IsBegunOf : Definitions → ℕ → Place → Place → FoundPart → Type 0

@@ -1,5 +1,5 @@
 // Where in a value the reader or writer is.
-ghost use Rattle.borsh_json.specs.Words.{GivesPart, IsFull, IsKnown, IsOf, IsOfRead, IsOfWrite, IsPartError, IsReadRefusal, IsUnreadable, IsUnwritable, Root, TooDeep};
+ghost use Rattle.borsh_json.specs.Words.{AscendsFrom, GivesPart, IsFull, IsKnown, IsOf, IsOfRead, IsOfWrite, IsPartError, IsReadRefusal, IsUnreadable, IsUnwritable, Root, TooDeep};
 ghost use Rattle.borsh_json.specs.declared.error.Refusal.TheVariants.{Descends};
 ghost use Rattle.std.specs.Prelude.{◌≡◌, ◌+◌, ◌^◌, ◌<◌, ◌≤◌, ◌∷◌, ◌++◌, [], true, false, ℕ, List, None, length, IfErr, IfSome, MatchOption, OnOk};
 
@@ -163,7 +163,7 @@ impl<'a, 'k> Position<'a, 'k> {
     /// In front of a value of this name.
     pub fn new(alloc: Global, root: &'a str) -> Position<'a, 'k>
         ensures outer { result.outer.items ≡ [] }
-        ensures place { (result.place.parts ≡ Root) × (result.place.begun ≡ 0) }
+        ensures place { (result.place.parts ≡ Root) × (result.place.begun ≡ 0) × (result.place.ascent ≡ None) }
     {
         let parts: Parts<'a> = Parts::Root;
         let place: Place<'a, 'k> = Place::new(parts);

@@ -1,15 +1,16 @@
 // A value as JSON.
-ghost use Rattle.borsh_json.specs.Words.{Adds, AreKeysOf, EntryOf, Form, FoundElements, FoundKeyKind, FoundNumbers, FoundPart, HasKinds, HasNode, IsAbove, IsAt, IsAwaitingAt, IsBegunOf, IsEntryKey, IsFullOrDescends, IsKeyPut, IsKindOf, IsLast, IsNoJsonReason, IsPartError, IsPartWritten, IsUnwritable, IsWalker, IsWritingAt, IsWrittenNext, Keys, Member, NamedPlace, Place, SaysBy, ShowsNoJson, StopsBy, TextSays, definitions_in, ends_of, forms_in, forms_of, names_of, shapes};
+ghost use Rattle.borsh_json.specs.Words.{Adds, AreKeysOf, BeginsNext, EntryOf, Form, FoundElements, FoundKeyKind, FoundList, FoundNumbers, FoundPart, HasKinds, HasNode, IsAbove, IsAt, IsAwaitingAt, IsBegunOf, IsEntryKey, IsKeyPut, IsKindOf, IsLast, IsNoJsonReason, IsPartError, IsPartWritten, IsUnwritable, IsWalker, IsWritingAt, IsWrittenNext, Keys, KindHasOrder, Member, NamedPlace, Place, RefusesElements, SaysBy, ShowsNoJson, StopsBy, TellsAscent, TextSays, definitions_in, ends_of, forms_in, forms_of, names_of, shapes};
 ghost use Rattle.borsh_json.specs.Ascii.{IsInLine, IsPlain};
 ghost use Rattle.borsh_json.specs.declared.output.Layout.TheVariants.{Compact};
 ghost use Rattle.borsh_json.specs.declared.output.Characters.TheVariants.{Any, Ascii};
-ghost use Rattle.std.specs.Prelude.{◌≡◌, ◌<◌, ℕ, All, IfErr, IfOk, IsUtf8, List, MatchResult, OnOk, Option, Some, length, string_bytes, true};
+ghost use Rattle.std.specs.Prelude.{◌≡◌, ◌<◌, ℕ, All, Decides, IfErr, IfOk, IfSome, IsUtf8, List, MatchResult, OnOk, Option, Some, length, string_bytes, true};
 
 use crate::ascii::{in_ascii, is_ascii};
 use crate::definitions::Definitions;
 use crate::error::{JsonError, PartError, PartResult, Refusal};
 use crate::kinds::{Entries, Kind};
 use crate::leaves::{is_above, write_key};
+use crate::order::Ordered;
 use crate::output::{Characters, LongNumbers, Output, Style};
 use crate::position::{Key, Part, Parts, Place, Position};
 use crate::sources::EntryKey;
@@ -307,7 +308,7 @@ impl<'a, 'l, 'b> Writing<'a, 'l, 'b> {
         requires walk { IsWalker self.old.walk }
         ensures part { let F = forms_of definitions.now in let ns = names_of definitions.now in
             HasKinds definitions.now → (x : List ℕ) (f : Form) → IsAt ns at x → F x ≡ Some f →
-            IsKindOf F ns x f kind.entry → HasNode kind.entry →
+            IsKindOf F ns x f kind.entry → KindHasOrder F ns definitions.now.orders.items x kind.entry → HasNode kind.entry →
             IsAwaitingAt definitions.now self.old x → IsPartWritten definitions.now self.old self.new result }
         ensures bytes { self.new.bytes ≡ self.old.bytes }
     {
@@ -347,7 +348,7 @@ fn check_elements<'a>(
     node: &Node<'_, '_>,
 ) -> PartResult<'a, ()>
     ensures room { OnOk result ((es : FoundElements) → kind.entry ≡ FoundNumbers es → length position.now.outer.items < 128) }
-    ensures full { IfErr result (IsFullOrDescends (length position.now.outer.items)) }
+    ensures full { IfErr result (RefusesElements (length position.now.outer.items) kind.entry node.now) }
 {
     match kind {
         Kind::ByteList(elements) => position.check_ascent(elements, elements_of(node)),

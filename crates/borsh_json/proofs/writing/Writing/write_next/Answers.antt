@@ -24,11 +24,11 @@ returns-in_err-write_key-clause-state c =
     let k = c.requires.known in
     let a = c.requires.state in
     let s = c.next_part.ensures.same in
-    let o = c.ascends.ensures in
-    let b = begun_still d w.position.place c.next_part.new.self c.ascends.new.place c.in-Some.part (c.in-Some.ensures.part k.known) s.0 s.1 o.0 o.1 o.2 in
+    let o = c.ascends.ensures.same in
+    let b = begun_still d w.walk.offset w.position.place c.next_part.new.self c.ascends.new.place c.in-Some.part (c.in-Some.ensures.part k.known) s.0 s.1 s.2 o.0 o.1 o.2 c.ascends.ensures.begins in
     let q = c.from_residual-in_err-write_key in
     let r = err_from_is_err_and q.result q.ensures.1 in
-    rw (r.1, r.2) (c.in_err-write_key.ensures.key k w.position.place (record { writer = record { layout = a.writer.layout; walk = a.writer.walk; fresh = a.writer.fresh }; state = a.state }) b)
+    rw (r.1, r.2) (c.in_err-write_key.ensures.key k w.position.place (record { writer = record { layout = a.writer.layout; walk = a.writer.walk; fresh = a.writer.fresh; offset = a.writer.offset }; mark = a.mark; marks = a.marks; state = a.state; here = a.here; around = a.around }) b)
 
 pub write_part-requires : goal.write_part-requires
 write_part-requires c =
@@ -37,9 +37,9 @@ write_part-requires c =
     let k = c.requires.known in
     let a = c.requires.state in
     let s = c.next_part.ensures.same in
-    let o = c.ascends.ensures in
-    let b = begun_still d w.position.place c.next_part.new.self c.ascends.new.place c.in-Some.part (c.in-Some.ensures.part k.known) s.0 s.1 o.0 o.1 o.2 in
-    let x = c.in_ok-write_key.ensures.key k w.position.place (record { writer = record { layout = a.writer.layout; walk = a.writer.walk; fresh = a.writer.fresh }; state = a.state }) b in
+    let o = c.ascends.ensures.same in
+    let b = begun_still d w.walk.offset w.position.place c.next_part.new.self c.ascends.new.place c.in-Some.part (c.in-Some.ensures.part k.known) s.0 s.1 s.2 o.0 o.1 o.2 c.ascends.ensures.begins in
+    let x = c.in_ok-write_key.ensures.key k w.position.place (record { writer = record { layout = a.writer.layout; walk = a.writer.walk; fresh = a.writer.fresh; offset = a.writer.offset }; mark = a.mark; marks = a.marks; state = a.state; here = a.here; around = a.around }) b in
     record { walk = x.2.writer.walk }
 
 pub returns-in_err-write_part-clause-state : goal.returns-in_err-write_part-clause-state
@@ -49,9 +49,9 @@ returns-in_err-write_part-clause-state c =
     let k = c.requires.known in
     let a = c.requires.state in
     let s = c.next_part.ensures.same in
-    let o = c.ascends.ensures in
-    let b = begun_still d w.position.place c.next_part.new.self c.ascends.new.place c.in-Some.part (c.in-Some.ensures.part k.known) s.0 s.1 o.0 o.1 o.2 in
-    let x = c.in_ok-write_key.ensures.key k w.position.place (record { writer = record { layout = a.writer.layout; walk = a.writer.walk; fresh = a.writer.fresh }; state = a.state }) b in
+    let o = c.ascends.ensures.same in
+    let b = begun_still d w.walk.offset w.position.place c.next_part.new.self c.ascends.new.place c.in-Some.part (c.in-Some.ensures.part k.known) s.0 s.1 s.2 o.0 o.1 o.2 c.ascends.ensures.begins in
+    let x = c.in_ok-write_key.ensures.key k w.position.place (record { writer = record { layout = a.writer.layout; walk = a.writer.walk; fresh = a.writer.fresh; offset = a.writer.offset }; mark = a.mark; marks = a.marks; state = a.state; here = a.here; around = a.around }) b in
     let q = c.from_residual-in_err-write_part in
     let r = err_from_is_err_and q.result q.ensures.1 in
     rw (r.1, r.2) (subst (λ (b : Bor (List ℕ)). StopsBy d b.now c.in_err-write_part.field-0.0) c.write_key.ensures.bytes (c.in_err-write_part.ensures.part k x.0 x.1 x.2))
@@ -63,7 +63,7 @@ returns-clause-state c =
     let k = c.requires.known in
     let a = c.requires.state in
     let s = c.next_part.ensures.same in
-    let o = c.ascends.ensures in
-    let b = begun_still d w.position.place c.next_part.new.self c.ascends.new.place c.in-Some.part (c.in-Some.ensures.part k.known) s.0 s.1 o.0 o.1 o.2 in
-    let x = c.in_ok-write_key.ensures.key k w.position.place (record { writer = record { layout = a.writer.layout; walk = a.writer.walk; fresh = a.writer.fresh }; state = a.state }) b in
+    let o = c.ascends.ensures.same in
+    let b = begun_still d w.walk.offset w.position.place c.next_part.new.self c.ascends.new.place c.in-Some.part (c.in-Some.ensures.part k.known) s.0 s.1 s.2 o.0 o.1 o.2 c.ascends.ensures.begins in
+    let x = c.in_ok-write_key.ensures.key k w.position.place (record { writer = record { layout = a.writer.layout; walk = a.writer.walk; fresh = a.writer.fresh; offset = a.writer.offset }; mark = a.mark; marks = a.marks; state = a.state; here = a.here; around = a.around }) b in
     c.in_ok-write_part.ensures.part k x.0 x.1 x.2
