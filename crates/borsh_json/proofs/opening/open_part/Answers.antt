@@ -28,14 +28,14 @@ pub returns-in_default : goal.returns-in_default
 returns-in_default c k x j at b =
     let F = forms_in c.args.definitions.now.layout.now.map.now in
     let full : HasNoBytes F x → ⊥ = λ z. (let q = (c.is_zero_size.ensures k.known x at).1 z in let s = c.if-is_zero_size.false in cc) in
-    undefined_says F x j (c.in_default.ensures k x at full) full
+    undefined_says F x j (c.in_default.ensures.kind k x at full) full
 
 pub returns-in-Newtype : goal.returns-in-Newtype
 returns-in-Newtype c k x j at b =
     let F = forms_in c.args.definitions.now.layout.now.map.now in
     let ns = c.args.definitions.now.layout.now.names.items in
     let f = form_of c.in-Some.definition.now in
-    let r = c.in-Some.ensures k x at (λ z. let q = (c.is_zero_size.ensures k.known x at).1 z in let s = c.if-is_zero_size.false in cc) in
+    let r = c.in-Some.ensures.kind k x at (λ z. let q = (c.is_zero_size.ensures k.known x at).1 z in let s = c.if-is_zero_size.false in cc) in
     let d = subst (λ (q : Kind). IsKindOf F ns x f q) c.in-Newtype.is r.1 in
     ([], sym (append-nil c.args.out.now.items), only_found F ns x j (inner d.0) [] (Newtype c.in-Newtype.part) d.0 j c.args.element c.only.result c.only.ensures (λ i. (d.0, refl, λ ws e. (d.0, d.1, e))) (λ q. q) d.2 b (refl, refl))
 
@@ -44,7 +44,7 @@ returns-in-Optional c k x j at b =
     let F = forms_in c.args.definitions.now.layout.now.map.now in
     let ns = c.args.definitions.now.layout.now.names.items in
     let f = form_of c.in-Some.definition.now in
-    let r = c.in-Some.ensures k x at (λ z. let q = (c.is_zero_size.ensures k.known x at).1 z in let s = c.if-is_zero_size.false in cc) in
+    let r = c.in-Some.ensures.kind k x at (λ z. let q = (c.is_zero_size.ensures k.known x at).1 z in let s = c.if-is_zero_size.false in cc) in
     c.open_option.ensures F ns x j (subst (λ (q : Kind). IsKindOf F ns x f q) c.in-Optional.is r.1) b
 
 pub returns-in-Choice : goal.returns-in-Choice
@@ -52,7 +52,7 @@ returns-in-Choice c k x j at b =
     let F = forms_in c.args.definitions.now.layout.now.map.now in
     let ns = c.args.definitions.now.layout.now.names.items in
     let f = form_of c.in-Some.definition.now in
-    let r = c.in-Some.ensures k x at (λ z. let q = (c.is_zero_size.ensures k.known x at).1 z in let s = c.if-is_zero_size.false in cc) in
+    let r = c.in-Some.ensures.kind k x at (λ z. let q = (c.is_zero_size.ensures k.known x at).1 z in let s = c.if-is_zero_size.false in cc) in
     let d = subst (λ (q : Kind). IsKindOf F ns x f q) c.in-Choice.is r.1 in
     c.open_variant.ensures k.known x j at d.1 d.0 b
 
@@ -60,5 +60,5 @@ pub returns-in_default-kind : goal.returns-in_default-kind
 returns-in_default-kind c k x j at b =
     let F = forms_in c.args.definitions.now.layout.now.map.now in
     let ns = c.args.definitions.now.layout.now.names.items in
-    let r = c.in-Some.ensures k x at (λ z. let q = (c.is_zero_size.ensures k.known x at).1 z in let s = c.if-is_zero_size.false in cc) in
+    let r = c.in-Some.ensures.kind k x at (λ z. let q = (c.is_zero_size.ensures k.known x at).1 z in let s = c.if-is_zero_size.false in cc) in
     c.open_kind.ensures F ns x j (form_of c.in-Some.definition.now, at, r.0, refl, r.1) b
