@@ -1,7 +1,8 @@
 -- What the writer's calls give.
 use Rattle.std.proofs.Common.{◌≡◌, inl, inr, ℕ, suc, ◌+◌, ◌-◌, ◌<◌, ◌≤◌, List, [], ◌∷◌, ◌++◌, length, replicate, drop, Option, Some, None, refl, sym, ◌∙◌, ap, subst, arith, append-nil, length-append}
 use Rattle.std.proofs.Math.Seq.{drop-append_seam}
-use Rattle.std.specs.Prelude.{ℤ, String, option_map, Result, Ok, Err, IfErr, IfSome, Bool, true, false, Decides}
+use Rattle.std.specs.Prelude.{ℤ, String, option_map, Result, Ok, Err, IfErr, IfSome, MatchOption, Bool, true, false, Decides}
+use Rattle.std.specs.declared.cmp.Ordering.{Ordering}
 use Rattle.std.specs.declared.cmp.Ordering.TheVariants.{Less}
 use Rattle.std.specs.BTreeMap.{BTreeMap}
 use Rattle.std.specs.Borrow.{Bor}
@@ -34,7 +35,8 @@ use Rattle.borsh_json.specs.declared.kinds.KeyKind.TheVariants.{Text as TextKeys
 use Rattle.borsh_json.specs.declared.order.Ascent.{Ascent}
 use Rattle.borsh_json.specs.declared.order.Ordered.{Ordered}
 use Rattle.borsh_json.specs.declared.output.Output.{Output}
-use Rattle.borsh_json.specs.declared.position.Key.TheVariants.{Entry as EntryOf}
+use Rattle.borsh_json.specs.declared.position.Key.{Key}
+use Rattle.borsh_json.specs.declared.position.Key.TheVariants.{None as NoKey, Name, Entry as EntryOf}
 use Rattle.borsh_json.specs.declared.position.Part.{Part as FoundPart}
 use Rattle.borsh_json.specs.declared.position.Parts.{Parts}
 use Rattle.borsh_json.specs.declared.position.Parts.TheVariants.{Root, Entries as MapEntries}
@@ -49,7 +51,7 @@ use Rattle.borsh_json.specs.Frames.{Wanted, IsWanted, GivesPart, IsKey, IsEntryK
 use Rattle.borsh_json.specs.Descents.{HasDescent}
 use Rattle.borsh_json.specs.Inside.{IsInside}
 use Rattle.borsh_json.specs.NoJson.{IsNoJson, HasNoJsonPart, IsOutOfOrder, RefusesBytes}
-use Rattle.borsh_json.specs.Orders.{HasKeyOrder, KindHasOrder}
+use Rattle.borsh_json.specs.Orders.{HasKeyOrder, KindHasOrder, OrderedBy, ValuesCompare}
 use Rattle.borsh_json.specs.Leaves.{output_tokens, Adds, IsOpenedAs, WritesLeaf, RefusesLeaf}
 use Rattle.borsh_json.specs.Places.{IsAt, AreKeysOf, IsKindOf, lengths_of}
 use Rattle.borsh_json.specs.Reads.{SaysFirst}
@@ -59,8 +61,9 @@ use Rattle.borsh_walks.proofs.Laws.{zero_member}
 use Rattle.borsh_values.proofs.NodesLaws.{opens_member}
 use Rattle.borsh_values.proofs.Required.{members_head}
 use Rattle.borsh_values.proofs.WalkedLaws.{read_product}
-use Rattle.borsh_json.specs.Writes.{IsAbove, IsLast, IsBegunOf, IsWhole, IsWrittenOn, ends_of, Rest, IsRest, WritesFront, names_of_rest, names_of_all, leaf_depth, opened, Nested, passed, Mark, AreEach, IsNewPlace, IsAscending, IsKeyed, IsLastKey, IsMarked, IsRestOf, BeginsNext, IsWriterOf, IsHalved, IsWriting, IsAwaiting, RefusesOwn, RefusesValue, IsWrittenAs, Stops, IsWritingAt, IsAwaitingAt, IsFull, IsFullOrFalls, AscendsFrom, IsOfWrite}
+use Rattle.borsh_json.specs.Writes.{IsAbove, IsLast, IsBegunOf, IsWhole, IsWrittenOn, ends_of, Rest, IsRest, WritesFront, names_of_rest, names_of_all, leaf_depth, opened, Nested, passed, Mark, AreEach, IsNewPlace, IsAscending, IsKeyed, IsLastKey, IsMarked, IsRestOf, BeginsNext, TellsAscent, IsWriterOf, IsHalved, IsWriting, IsAwaiting, RefusesOwn, RefusesValue, IsWrittenAs, Stops, IsWritingAt, IsAwaitingAt, IsFull, IsFullOrFalls, AscendsFrom, IsOfWrite}
 use Rattle.borsh_json.proofs.FormsLaws.{shape_is, shapes_are}
+use Rattle.borsh_json.proofs.FallLaws.{neighbours, falls}
 use Rattle.borsh_json.proofs.NestedLaws.{read_leaf, inside_of, as_deep}
 use Rattle.borsh_json.proofs.WritingPlaces.{as_many, each_pushed, each_popped, key_tokens, TakesPart, TakesEntry, takes_part, takes_entry, place_ends}
 use Rattle.borsh_json.proofs.FormKinds.{form_known}
@@ -400,6 +403,12 @@ module _ (d : Definitions) (i : ℕ) (p q : Place) (part : FoundPart) (b : IsBeg
   pub part_of : (r : Rest) → ((es : FoundEntries) → part.key ≡ EntryOf es → ⊥) → IsRest (forms_of d) (names_of d) p r → TakesPart (forms_of d) (names_of d) p.parts q.begun p.last part r
   part_of r n h = takes_part (forms_of d) (names_of d) p.parts p.begun q.begun p.last part r n h wanted_first
 
+  -- a name is left
+  pub next_name : (r : Rest) → IsRest (forms_of d) (names_of d) p r → (key : Key) → part.key ≡ key → (z : List ℕ) × (zs : List (List ℕ)) × (names_of_rest r ≡ z ∷ zs)
+  next_name r h NoKey e = let t = part_of r (λ es k. let q : NoKey ≡ EntryOf es = sym e ∙ k in cc) h in (t.name, names_of_rest t.rest, t.names)
+  next_name r h (Name n) e = let t = part_of r (λ es k. let q : Name n ≡ EntryOf es = sym e ∙ k in cc) h in (t.name, names_of_rest t.rest, t.names)
+  next_name r h (EntryOf es) e = let t = entry_of es r e h in (t.pair, replicate t.count t.pair, ap names_of_rest t.is)
+
 pub none_added : (out : Output) → Adds [] out out
 none_added out = record { before = refl; tokens = sym (append-nil (output_tokens out)) }
 
@@ -414,6 +423,23 @@ at_offset d w p a =
     let b = ap (λ (b : List ℕ). length b) s.halved.joined in
     let l = length-append s.done w.walk.left.now in
     omega (arith, o, b, l)
+
+-- the next part isn't above the last one
+pub next_falls : (d : Definitions) (w : Writing) (p : Place) (a : IsWritingAt d w p) (z : List ℕ) (zs : List (List ℕ)) → names_of_rest a.state.inner ≡ z ∷ zs → (ascends : Bool) → ascends ≡ false → (ascent : Option Ascent) → IsAscending d w.bytes.now ascent a.mark → TellsAscent d w.bytes.now ascent w.walk.offset ascends → IsOutOfOrder (forms_of d) d.layout.now.root.now w.bytes.now
+next_falls d w p a z zs names ascends no None h t = let q : true ≡ false = sym t ∙ no in cc
+next_falls d w p a z zs names ascends no (Some x) h t = go x.last h.1 t
+  where
+    go : (last : Option ℕ) → last ≡ a.mark.1 → MatchOption last (ascends ≡ true) (λ i. (k : List ℕ) (r : Ordering) → OrderedBy d k x.order → ValuesCompare d k (drop i w.bytes.now) (drop w.walk.offset w.bytes.now) r → Decides ascends (r ≡ Less)) → IsOutOfOrder (forms_of d) d.layout.now.root.now w.bytes.now
+    go None e t = let q : true ≡ false = sym t ∙ no in cc
+    go (Some i) e t =
+        let F = forms_of d in
+        let s = a.state in
+        let k = h.0.0 in
+        let n = neighbours d w p a z zs names k x.order h.0.1 i (sym e) in
+        let left : w.walk.left.now ≡ drop w.walk.offset w.bytes.now = sym (ap (λ j. drop j w.bytes.now) (at_offset d w p a) ∙ last_there w.bytes.now s.done w.walk.left.now w.walk.left.now s.halved.joined refl) in
+        let there = subst (λ b. ValuesCompare d k (drop i w.bytes.now) b n.0) left n.1 in
+        let tells = t k n.0 h.0.1.2 there in
+        falls d w p a z zs names k x.order h.0.1 i (sym e) n.0 n.1 (λ l. let q : true ≡ false = sym (tells.1 l) ∙ no in cc)
 
 -- a key that is no entry's was written, or none
 pub key_begun : (d : Definitions) (w new : Writing) (p : Place) (part : FoundPart) → IsWritingAt d w p → IsBegunOf d w.walk.offset p w.position.place part → ((es : FoundEntries) → part.key ≡ EntryOf es → ⊥)
