@@ -1,11 +1,12 @@
 -- The orders of sets and maps, as they are found with kinds.
-use Rattle.std.proofs.Common.{◌≡◌, inl, inr, ℕ, List, [], ◌∷◌, ◌++◌, length, Option, Some, None, IfSome, refl, sym, ◌∙◌, ap, subst}
-use mathlib.Core.Bool.{not}
-use Rattle.std.specs.Prelude.{Bool, true, false, reverse, slice_get}
+use Rattle.std.proofs.Common.{◌≡◌, inl, inr, ℕ, ◌<◌, List, [], ◌∷◌, ◌++◌, length, Option, Some, None, IfSome, refl, sym, ◌∙◌, ap, subst}
+use Rattle.std.specs.Prelude.{Bool, reverse, slice_get}
 use Rattle.std.specs.Borrow.{Bor}
 use Rattle.borsh_walks.specs.declared.definition.Definition.{Definition}
 use Rattle.borsh_values.specs.declared.layout.Layout.{Layout}
 use Rattle.borsh_values.specs.declared.layout.Named.{Named}
+use Rattle.borsh_values.specs.Layouts.{name_at}
+use Rattle.borsh_values.proofs.Places.{name_there}
 use Rattle.borsh_json.specs.declared.definitions.Definitions.{Definitions}
 use Rattle.borsh_json.specs.declared.definitions.Known.{Known}
 use Rattle.borsh_json.specs.declared.definitions.Known.TheVariants.{Nothing, Order as KnownOrder}
@@ -17,15 +18,15 @@ use Rattle.borsh_json.specs.declared.numbers.Number.{Number as FoundNumber}
 use Rattle.borsh_json.specs.declared.order.Ordered.{Ordered}
 use Rattle.borsh_json.specs.declared.order.Ordered.TheVariants.{Text, Number as NumberOrder}
 use Rattle.borsh_json.specs.Forms.{Form, primitive, sequence, HasNoBytes, IsList, IsMap, forms_in}
-use Rattle.borsh_json.specs.Found.{IsCollection, IsSetName, forms_of, names_of}
+use Rattle.borsh_json.specs.Found.{IsCollection, IsPrimitiveKind, IsRefusedList, IsSetName, forms_of, names_of}
 use Rattle.borsh_json.specs.Known.{IsKnown}
 use Rattle.borsh_json.specs.Ordered.{numbers, text, HasOrder, IsOrdered, ordered}
 use Rattle.borsh_json.specs.Orders.{HasFound, KeepsOrders, Open, AreOpen, AreOpenIn, AwaitsOrder, TellsOrder, IsOrderIn, AreOrders, HasOrders, KnowsMore, KeysAscend, HasKeyOrder, KindHasOrder, KindsHaveOrders}
-use Rattle.borsh_json.specs.Places.{AreKeysOf, IsAt}
+use Rattle.borsh_json.specs.Places.{AreKeysOf, IsAt, IsKindAt}
 use Rattle.borsh_json.specs.Table.{Keys, AreKeys, Kind as TableKind, no_bytes, whole, primitive_kind, HasKind, DefinedKind, texts, numbers as number_keys}
 use Rattle.borsh_json.proofs.FoundLaws.{full_list}
 use Rattle.borsh_json.proofs.OrderedLaws.{still}
-use Rattle.borsh_json.proofs.PlaceLaws.{get_pushed}
+use Rattle.borsh_json.proofs.PlaceLaws.{get_pushed, kinds_pushed}
 use Rattle.borsh_json.proofs.WaitingLaws.{known_alike}
 
 module _ (F : List ℕ → Option Form) (ns : List Named) where
@@ -37,7 +38,7 @@ module _ (F : List ℕ → Option Form) (ns : List Named) where
   keys_text orders k f keys a o =
       let t : AreKeys F k texts = subst (λ (q : Keys). AreKeys F k q) o.0 a in
       let h = text_order k t in
-      ((text, h, refl, λ p i q b. elim i [ ]), ordered text h (λ p i. elim i [ ]))
+      ((text, h, refl, λ p q i b. elim i [ ]), ordered text h (λ p i. elim i [ ]))
 
   whole_of : (k : List ℕ) (n : ℕ) (signed non_zero : Bool) → F k ≡ Some (primitive n) → HasKind F k (whole n signed non_zero) → (HasNoBytes F k → ⊥) × (primitive_kind k n ≡ whole n signed non_zero)
   whole_of k n signed non_zero f (inl z) = let e = z.1 in cc
@@ -53,7 +54,7 @@ module _ (F : List ℕ → Option Form) (ns : List Named) where
   keys_number n orders k f keys a o =
       let t : AreKeys F k (number_keys n.size) = subst (λ (q : Keys). AreKeys F k q) o.0 a in
       let h = number_order k n.size n.is_signed n.is_non_zero t o.1 in
-      ((numbers n.size n.is_signed, h, refl, λ p i q b. elim i [ ]), ordered (numbers n.size n.is_signed) h (λ p i. elim i [ ]))
+      ((numbers n.size n.is_signed, h, refl, λ p q i b. elim i [ ]), ordered (numbers n.size n.is_signed) h (λ p i. elim i [ ]))
 
   -- ---- sets and maps
   pub set_found : (x e : List ℕ) (w lo hi : ℕ) (orders : List Known) (found : Option Ordered) → IsCollection F ns x Set → F x ≡ Some (sequence w lo hi e) → IfSome found (λ f. IsOrderIn F ns orders e f × IsOrdered F e) → HasKeyOrder F ns orders x found
@@ -71,6 +72,27 @@ module _ (F : List ℕ → Option Form) (ns : List Named) where
   map_found x k v orders None m h = tt
   map_found x k v orders (Some found) m h = (k, key_found x k v orders found m h.0 h.1)
 
+  -- ---- kinds without orders
+  pub refused_order : (orders : List Known) (x : List ℕ) (kind : Kind) → IsRefusedList kind → KindHasOrder F ns orders x kind
+  refused_order orders x kind r = subst (λ (k : Kind). KindHasOrder F ns orders x k) (sym r.1) (subst (λ (o : Option Ordered). HasKeyOrder F ns orders x o) (sym r.3) tt)
+
+  pub primitive_order : (orders : List Known) (x : List ℕ) (kind : Kind) (k : TableKind) → IsPrimitiveKind kind k → KindHasOrder F ns orders x kind
+  primitive_order orders x (Number n) k p = tt
+  primitive_order orders x Truth k p = tt
+  primitive_order orders x TextKind k p = tt
+  primitive_order orders x (Bytes n) k p = tt
+  primitive_order orders x (Float n) k p = tt
+  primitive_order orders x (ByteList es) k p = absurd p
+  primitive_order orders x (Numbers es) k p = absurd p
+  primitive_order orders x (ListKind es) k p = absurd p
+  primitive_order orders x (Map es order) k p = absurd p
+  primitive_order orders x (Row n) k p = tt
+  primitive_order orders x (Newtype at) k p = tt
+  primitive_order orders x (Object fs) k p = tt
+  primitive_order orders x (Optional at) k p = tt
+  primitive_order orders x (Choice w vs) k p = tt
+  primitive_order orders x (Repeated name) k p = tt
+
   -- ---- orders that are found later
   kept : (old new : List Known) → KeepsOrders old new → (x k : List ℕ) (found : Ordered) → KeysAscend F ns old x k found → KeysAscend F ns new x k found
   kept old new keep x k found a = (a.0, a.1, still F ns k found old new keep a.2, a.3)
@@ -85,7 +107,7 @@ module _ (F : List ℕ → Option Form) (ns : List Named) where
   kind_kept old new k x TextKind h = tt
   kind_kept old new k x (Bytes n) h = tt
   kind_kept old new k x (Float n) h = tt
-  kind_kept old new k x (ByteList es) h = kept_some old new k x es.order h
+  kind_kept old new k x (ByteList es) h = (h.0, kept_some old new k x es.order h.1)
   kind_kept old new k x (Numbers es) h = kept_some old new k x es.order h
   kind_kept old new k x (ListKind es) h = kept_some old new k x es.order h
   kind_kept old new k x (Map es found) h = (h.0, h.1, kept old new k x h.0 found h.2)
@@ -127,6 +149,13 @@ awaits_at d e orders es k p w = subst (λ (l : Bor Layout). ((x : List ℕ) × I
 pub open_at : (d e : Definitions) (orders : List Known) (es : List Open) → d.layout ≡ e.layout → AreOpenIn d orders es → AreOpenIn e orders es
 open_at d e orders es p o = subst (λ (l : Bor Layout). AreOpen (forms_in l.now.map.now) l.now.names.items orders (reverse es)) p o
 
-pub was_true : (b : Bool) → not b ≡ false → b ≡ true
-was_true true e = refl
-was_true false e = cc
+pub if_some : {A : Type 0} (P : A → Type 0) (o : Option A) → ((a : A) → o ≡ Some a → P a) → IfSome o P
+if_some P None f = tt
+if_some P (Some a) f = f a refl
+
+-- one kind more is known
+pub more_known : (d e : Definitions) (at : ℕ) (found : Option (Bor Definition × Kind)) → e.layout ≡ d.layout → IsKnown d → AreOrders (forms_of d) (names_of d) d.orders.items → KindsHaveOrders (forms_of d) (names_of d) d.orders.items d.kinds.items → e.kinds.items ≡ d.kinds.items ++ found ∷ [] → length d.kinds.items ≡ at → at < length (names_of d) → IsKindAt (forms_of d) (names_of d) at found → ((x : List ℕ) → IsAt (names_of d) at x → KnowsMore d e.orders.items × IfSome found (λ r. KindHasOrder (forms_of d) (names_of d) e.orders.items x r.1)) → IsKnown e × AreOrders (forms_of e) (names_of e) e.orders.items × KindsHaveOrders (forms_of e) (names_of e) e.orders.items e.kinds.items
+more_known d e at found p k r a items n low tells orders =
+    let o = (orders (name_at (names_of d) at) (name_there (names_of d) at low)).0 in
+    let q = orders_pushed (forms_of d) (names_of d) d.orders.items e.orders.items d.kinds.items e.kinds.items at found o.1 a items n (λ x i. (orders x i).1) in
+    (kinds_pushed d e at found k p items n tells, subst (λ (l : Bor Layout). AreOrders (forms_in l.now.map.now) l.now.names.items e.orders.items) (sym p) o.0, subst (λ (l : Bor Layout). KindsHaveOrders (forms_in l.now.map.now) l.now.names.items e.orders.items e.kinds.items) (sym p) q)

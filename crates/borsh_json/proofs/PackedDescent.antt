@@ -44,20 +44,20 @@ module _ (F : List ℕ → Option Form) (ns : List Named) where
 
   module _ (orders : List Known) where
     -- the bytes of a set of primitives, of which two neighbours don't ascend by its order
-    pub packed_descent : (x e k own es rest : List ℕ) (parts : List (List ℕ)) (n w lo hi : ℕ) (found : Ordered) → KeysAscend F ns orders x k found → F x ≡ Some (sequence w lo hi e) → F e ≡ Some (primitive (suc n)) → Opens (shapes F) (shape_of_form (sequence w lo hi e)) own parts → AreElementsOf (shape_of_form (sequence w lo hi e)) own es → ((signed : Bool) → AreOrderedNumbers found (suc n) signed es → (i : ℕ) × NumbersDescend (suc n) signed es i) → HasDescent F x (own ++ rest)
-    packed_descent x e k own es rest parts n w lo hi found a s p o l falls =
+    pub packed_descent : (x e k own es rest : List ℕ) (qs : List (List ℕ)) (n w lo hi : ℕ) (found : Ordered) → KeysAscend F ns orders x k found → F x ≡ Some (sequence w lo hi e) → F e ≡ Some (primitive (suc n)) → Opens (shapes F) (shape_of_form (sequence w lo hi e)) own qs → AreElementsOf (shape_of_form (sequence w lo hi e)) own es → ((signed : Bool) → AreOrderedNumbers found (suc n) signed es → (i : ℕ) × NumbersDescend (suc n) signed es i) → HasDescent F x (own ++ rest)
+    packed_descent x e k own es rest qs n w lo hi found a s p o l falls =
         let g : Some (sequence w lo hi e) ≡ Some (sequence 4 0 4294967295 a.0) = sym s ∙ a.1.0 in
         let q : a.0 ≡ e = cc in
         let v : w ≡ 4 = cc in
         let size : packed_size (shapes F e) ≡ suc n = ap (λ o. packed_size o) (shaped (F e) p) in
-        let f : OpensElements (suc n) e o.0 o.1 parts = subst (λ m. OpensElements m e o.0 o.1 parts) size o.5 in
+        let f : OpensElements (suc n) e o.0 o.1 qs = subst (λ m. OpensElements m e o.0 o.1 qs) size o.5 in
         let keys = subst (λ e. HasKeys F x e k) q a.1 in
         let own_is : own ≡ tag 4 (pos o.0) ++ o.1 = o.4 ∙ ap (λ w. tag w (pos o.0) ++ o.1) v in
         let elements : es ≡ o.1 = l ∙ ap (λ w. drop w own) v ∙ ap (λ own. drop 4 own) own_is in
         elim keys.1 [
           | inl t ↦ (let h : IsOrderIn F ns orders e found = subst (λ k. IsOrderIn F ns orders k found) t.1 a.2 in
               let r = packed_order e n h.0 p h.1 in
-              let i = packed_found e n r.0 found (subst (λ (o : Order). IsOrderOf F ns e found o) r.1 h.2) in
+              let i = packed_found e (suc n) r.0 found (subst (λ (o : Order). IsOrderOf F ns e found o) r.1 h.2) in
               let len = ap (λ l. length l) elements ∙ f.0 in
               let small = subst (λ l. All (λ b. b < 256) l) (sym elements) f.1 in
               let d = falls r.0 (i, omega arith, (o.0, len), small) in

@@ -12,6 +12,7 @@ use Rattle.borsh_json.specs.declared.definitions.Known.{Known}
 use Rattle.borsh_json.specs.declared.definitions.Known.TheVariants.{Order as KnownOrder}
 use Rattle.borsh_json.specs.declared.error.PartError.{PartError}
 use Rattle.borsh_json.specs.declared.error.PartError.TheVariants.{OutOfMemory as NoMemory, Refused as RefusedPart}
+use Rattle.borsh_json.specs.declared.kinds.Elements.{Elements}
 use Rattle.borsh_json.specs.declared.kinds.KeyKind.{KeyKind}
 use Rattle.borsh_json.specs.declared.kinds.Kind.{Kind}
 use Rattle.borsh_json.specs.declared.kinds.Kind.TheVariants.{Number as NumberKind, Bool as Truth, Text as TextKind, Bytes, Float, ByteList, Numbers, List as ListKind, Map, Row, Newtype, Object, Optional, Choice, Repeated}
@@ -20,7 +21,7 @@ use Rattle.borsh_json.specs.declared.order.Next.TheVariants.{Value, Decided}
 use Rattle.borsh_json.specs.declared.order.Ordered.{Ordered}
 use Rattle.borsh_json.specs.declared.order.Ordered.TheVariants.{Single, Number, Text, Array, List as Counted, Tuple}
 use Rattle.borsh_json.specs.declared.order.Pending.{Pending}
-use Rattle.borsh_json.specs.declared.order.Pending.TheVariants.{Elements, Parts}
+use Rattle.borsh_json.specs.declared.order.Pending.TheVariants.{Elements as TwoLists, Parts}
 use Rattle.borsh_json.specs.Forms.{Form, tuple}
 use Rattle.borsh_json.specs.Descents.{HasKeys, NumbersDescend}
 use Rattle.borsh_json.specs.Found.{HasForm, forms_of, names_of}
@@ -74,7 +75,7 @@ module _ (F : List ℕ → Option Form) (ns : List Named) where
 
   -- what is pending, of the one value and of the other
   abbrev pub IsPending : List Known → Pending → List Ranked → List Ranked → Type 0
-  IsPending orders (Elements at n m) ts us = (e : List ℕ) × IsAt ns at e × HasFound orders at × (ts ≡ elements e n ∷ []) × (us ≡ elements e m ∷ [])
+  IsPending orders (TwoLists at n m) ts us = (e : List ℕ) × IsAt ns at e × HasFound orders at × (ts ≡ elements e n ∷ []) × (us ≡ elements e m ∷ [])
   IsPending orders (Parts at n i) ts us = (x : List ℕ) × (ps : List (List ℕ)) × IsAt ns at x × (F x ≡ Some (tuple ps)) × (n ≡ length ps) × AreFound ns orders ps × (ts ≡ map (λ p. a_value p) (drop i ps)) × (us ≡ map (λ p. a_value p) (drop i ps))
 
   -- the next first
@@ -104,7 +105,7 @@ module _ (F : List ℕ → Option Form) (ns : List Named) (orders : List Known) 
   KindHasOrder x TextKind = ⊤
   KindHasOrder x (Bytes n) = ⊤
   KindHasOrder x (Float n) = ⊤
-  KindHasOrder x (ByteList es) = HasKeyOrder x es.order
+  KindHasOrder x (ByteList es) = (es.size ≡ 1) × HasKeyOrder x es.order
   KindHasOrder x (Numbers es) = HasKeyOrder x es.order
   KindHasOrder x (ListKind es) = HasKeyOrder x es.order
   KindHasOrder x (Map es found) = (k : List ℕ) × IsAt ns es.key k × KeysAscend x k found
@@ -199,7 +200,10 @@ OrdersKeys found kind = (F : List ℕ → Option Form) (ns : List Named) (orders
 abbrev pub AreOrderedNumbers : Ordered → ℕ → Bool → List ℕ → Type 0
 AreOrderedNumbers order n signed bytes = (order ≡ Number n signed) × (0 < n) × ((c : ℕ) × (length bytes ≡ c * n)) × All (λ b. b < 256) bytes
 
--- the refusal is right of such bytes
+-- an order finds two of such bytes that don't ascend
 abbrev pub IsFallOf : ℕ → Bool → List ℕ → PartError → Type 0
 IsFallOf n signed bytes NoMemory = ⊤
 IsFallOf n signed bytes (RefusedPart path refusal) = (i : ℕ) × NumbersDescend n signed bytes i
+
+abbrev pub IsElementFall : Elements → List ℕ → PartError → Type 0
+IsElementFall es bytes e = (found : Ordered) × (es.order ≡ Some found) × ((signed : Bool) → AreOrderedNumbers found es.size signed bytes → IsFallOf es.size signed bytes e)

@@ -7,7 +7,7 @@ pub use Rattle.borsh_json.specs.Frames.{AddsList, AreKeyed, AreSorted, DeniesPar
 pub use Rattle.borsh_json.specs.NoJson.{ShowsNoJson}
 pub use Rattle.borsh_json.specs.Known.{IsKnown, SaysBy}
 pub use Rattle.borsh_json.specs.Ordered.{AreNumbers, IsSequenceName, IsTreeMapName, Order, is_below_zero, listed, needs, tuple_name}
-pub use Rattle.borsh_json.specs.Orders.{AreOpenIn, AreOrderedNumbers, AwaitsOrder, FindsBytes, FindsKeys, FindsKind, FindsOrder, FrontCompares, HasFound, HasKinds, HasOrders, IsNeeded, IsFallOf, IsNextValue, IsOrderOf, KindHasOrder, KnowsMore, OrderedBy, OrdersKeys, PendingCompares, TellsOrder, ValueCompares, ValuesCompare}
+pub use Rattle.borsh_json.specs.Orders.{AreOpenIn, AreOrderedNumbers, AwaitsOrder, FindsBytes, FindsKeys, FindsKind, FindsOrder, FrontCompares, HasFound, HasKinds, HasOrders, IsNeeded, IsElementFall, IsNextValue, IsOrderOf, KindHasOrder, KnowsMore, OrderedBy, OrdersKeys, PendingCompares, TellsOrder, ValueCompares, ValuesCompare}
 pub use Rattle.borsh_json.specs.Places.{AreKeysOf, IsAt, IsInfinity, IsKindAt, IsKindOf, IsListOf, lengths_of}
 pub use Rattle.borsh_json.specs.Ranks.{HasRank, IsLeading, IsPlain, magnitude, number_found, rank_of}
 pub use Rattle.borsh_json.specs.Reads.{AreRead, Left, PartsOfAll, SaysFirst, SaysSome, entries_left}

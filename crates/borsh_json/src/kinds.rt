@@ -149,7 +149,8 @@ fn kind_of_struct<'a>(
     at: usize,
     fields: &'a Fields,
 ) -> Result<Kind<'a>, AllocError>
-    ensures { IfOk result (TellsKind definitions.now at (form_of_struct fields.now)) }
+    ensures kind { IfOk result (TellsKind definitions.now at (form_of_struct fields.now)) }
+    ensures orders { FindsKind definitions.now definitions.now.orders.items at (form_of_struct fields.now) result }
 {
     match fields {
         Fields::NamedFields(fields) => match repeated_field(definitions.alloc, fields)? {

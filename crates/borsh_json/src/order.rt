@@ -525,20 +525,18 @@ pub fn first_descent(order: Ordered, size: usize, bytes: &[u8]) -> Option<usize>
     ensures { (signed : Bool) → AreOrderedNumbers order size signed bytes.now →
         IfSome result (NumbersDescend size signed bytes.now) }
 {
-    if size == 0 {
-        return None;
-    }
     let is_signed = is_signed(order);
     let mut rest = bytes;
-    let mut index: usize = 1;
-    while rest.len() > size {
+    for index in 1..bytes.len() {
+        if rest.len() <= size {
+            break;
+        }
         let (element, after) = split(rest, size);
         let (next, _) = split(after, size);
         if !compare_numbers(element, next, is_signed).is_lt() {
             return Some(index);
         }
         rest = after;
-        index = index.saturating_add(1);
     }
     None
 }

@@ -1,7 +1,7 @@
 // Where in a value the reader or writer is.
-ghost use Rattle.borsh_json.specs.Words.{AreOrderedNumbers, AscendsFrom, FoundOrder, GivesPart, IsFallOf, IsFull, IsKnown, IsOf, IsOfRead, IsOfWrite, IsPartError, IsReadRefusal, IsUnreadable, IsUnwritable, Root, TooDeep};
+ghost use Rattle.borsh_json.specs.Words.{AscendsFrom, GivesPart, IsElementFall, IsFull, IsKnown, IsOf, IsOfRead, IsOfWrite, IsPartError, IsReadRefusal, IsUnreadable, IsUnwritable, Root, TooDeep};
 ghost use Rattle.borsh_json.specs.declared.error.Refusal.TheVariants.{Descends};
-ghost use Rattle.std.specs.Prelude.{◌≡◌, ◌+◌, ◌^◌, ◌<◌, ◌≤◌, ◌∷◌, ◌++◌, [], true, false, ℕ, Bool, List, None, Some, length, IfErr, IfSome, MatchOption, OnOk};
+ghost use Rattle.std.specs.Prelude.{◌≡◌, ◌+◌, ◌^◌, ◌<◌, ◌≤◌, ◌∷◌, ◌++◌, [], true, false, ℕ, List, None, length, IfErr, IfSome, MatchOption, OnOk};
 
 use crate::definitions::Definitions;
 use crate::error::{PartError, PartResult, ReadError, Refusal, WriteError};
@@ -222,9 +222,7 @@ impl<'a, 'k> Position<'a, 'k> {
     pub fn check_ascent(&self, elements: Elements, bytes: &[u8]) -> PartResult<'a, ()>
         ensures reading { IfErr result (IsPartError IsUnreadable) }
         ensures descends { IfErr result (IsOf Descends) }
-        ensures falls { (found : FoundOrder) (signed : Bool) → elements.order ≡ Some found →
-            AreOrderedNumbers found elements.size signed bytes.now →
-            IfErr result (IsFallOf elements.size signed bytes.now) }
+        ensures falls { IfErr result (IsElementFall elements bytes.now) }
     {
         let Some(order) = elements.order else {
             return Ok(());
