@@ -45,9 +45,10 @@ use Rattle.borsh_json.proofs.WritingPlaces.{TakesEntry}
 -- ---- copies
 copied : (n : ℕ) (e : List ℕ) (xs : List (List ℕ)) → replicate n e ≡ xs → (xs ≡ replicate (length xs) e) × (n ≡ length xs)
 copied zero e [] h = (refl, refl)
-copied zero e (x ∷ xs) h = cc
-copied (suc n) e [] h = cc
+copied zero e (x ∷ xs) h = let g : [] ≡ x ∷ xs = h in cc
+copied (suc n) e [] h = let g : e ∷ replicate n e ≡ [] = h in cc
 copied (suc n) e (x ∷ xs) h =
+    let g : e ∷ replicate n e ≡ x ∷ xs = h in
     let q : e ≡ x = cc in
     let r : replicate n e ≡ xs = cc in
     let t = copied n e xs r in
@@ -55,16 +56,17 @@ copied (suc n) e (x ∷ xs) h =
 
 parted : (n : ℕ) (e : List ℕ) (xs ys : List (List ℕ)) → replicate n e ≡ xs ++ ys → (xs ≡ replicate (length xs) e) × (ys ≡ replicate (length ys) e) × (n ≡ length xs + length ys)
 parted n e [] ys h = (refl, copied n e ys h)
-parted zero e (x ∷ xs) ys h = cc
+parted zero e (x ∷ xs) ys h = let g : [] ≡ x ∷ (xs ++ ys) = h in cc
 parted (suc n) e (x ∷ xs) ys h =
+    let g : e ∷ replicate n e ≡ x ∷ (xs ++ ys) = h in
     let q : e ≡ x = cc in
     let r : replicate n e ≡ xs ++ ys = cc in
     let t = parted n e xs ys r in
     (ap (λ y. y ∷ xs) (sym q) ∙ ap (λ l. e ∷ l) t.0, t.1, ap suc t.2)
 
 not_none : (xs ys : List (List ℕ)) (y : List ℕ) → xs ++ y ∷ ys ≡ [] → ⊥
-not_none [] ys y e = cc
-not_none (x ∷ xs) ys y e = cc
+not_none [] ys y e = let g : y ∷ ys ≡ [] = e in cc
+not_none (x ∷ xs) ys y e = let g : x ∷ (xs ++ y ∷ ys) ≡ [] = e in cc
 
 -- a list that has parts has them without packing
 unpacked : (m : ℕ) (e : List ℕ) (k : ℕ) (cs : List ℕ) (xs ys : List (List ℕ)) (y : List ℕ) → OpensElements m e k cs (xs ++ y ∷ ys) → (cs ≡ []) × (replicate k e ≡ xs ++ y ∷ ys)
@@ -95,10 +97,10 @@ module _ (d : Definitions) (w : Writing) (p : Place) (a : IsWritingAt d w p) (z 
       (o.0, o.4 ∙ ap (λ b. tag 4 (pos o.0) ++ b) u.0 ∙ append-nil (tag 4 (pos o.0)), v.0, v.1, v.2)
 
   part_is : l.part ≡ e
-  part_is = let q = listed.3 in cc
+  part_is = let q : l.part ∷ z ∷ zs ≡ e ∷ e ∷ replicate (length zs) e = listed.3 in cc
 
   next_is : z ≡ e
-  next_is = let q = listed.3 in cc
+  next_is = let q : l.part ∷ z ∷ zs ≡ e ∷ e ∷ replicate (length zs) e = listed.3 in cc
 
   dropped : drop i w.bytes.now ≡ l.bytes ++ w.walk.left.now
   dropped =
