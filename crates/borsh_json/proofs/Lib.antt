@@ -26,6 +26,7 @@ pub mod WritingLaws
 pub mod WritingPlaces
 pub mod NestedLaws
 pub mod WritingSteps
+pub mod FallLaws
 pub mod WriterLaws
 pub mod MemberLaws
 pub mod EachLaws

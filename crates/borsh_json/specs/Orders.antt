@@ -179,8 +179,8 @@ abbrev pub ComparesFronts : {E : Type 0} → Definitions → Ordered → List Pe
 ComparesFronts d order old from new to result = (x : List ℕ) → OrderedBy d x order → (r : Ordering) → ValueCompares d x old from.left.now from.right.now r → IfOk result (λ o. FrontCompares d new to.left.now to.right.now r o)
 
 -- whether the last of the elements that were begun is above the one before it
-abbrev pub TellsAscent : {E : Type 0} → Definitions → Ascent → List ℕ → Result Bool E → Type 0
-TellsAscent d a bytes result = (x : List ℕ) → OrderedBy d x a.order → (i j : ℕ) → a.earlier ≡ Some i → a.last ≡ Some j → (r : Ordering) → ValuesCompare d x (drop i bytes) (drop j bytes) r → IfOk result (λ ascends. Decides ascends (r ≡ Less))
+abbrev pub DecidesAscent : {E : Type 0} → Definitions → Ascent → List ℕ → Result Bool E → Type 0
+DecidesAscent d a bytes result = (x : List ℕ) → OrderedBy d x a.order → (i j : ℕ) → a.earlier ≡ Some i → a.last ≡ Some j → (r : Ordering) → ValuesCompare d x (drop i bytes) (drop j bytes) r → IfOk result (λ ascends. Decides ascends (r ≡ Less))
 
 -- ---- orders that are being found
 

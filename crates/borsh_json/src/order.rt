@@ -1,5 +1,5 @@
 // The order of the keys of maps and sets, where names and definitions tell it.
-ghost use Rattle.borsh_json.specs.Words.{AreNumbers, AreOrderedNumbers, Comparison, ComparesFronts, ComparesNumbers, ComparesTexts, FindsBytesAt, FindsNext, HasFound, HasOrders, InRange, IsAt, IsCut, IsKnown, IsNeeded, IsOrderOf, IsSequenceName, IsTreeMapName, NumberOrder, NumbersDescend, Order, OrderedBy, TakesCount, TellsAscent, ValuesCompare, decimal, form_of, forms_of, int_cmp, is_below_zero, listed, low_bytes, names_of, nat_cmp, needs, primitive_kind, sequence, tag, tuple, tuple_name};
+ghost use Rattle.borsh_json.specs.Words.{AreNumbers, AreOrderedNumbers, Comparison, ComparesFronts, ComparesNumbers, ComparesTexts, DecidesAscent, FindsBytesAt, FindsNext, HasFound, HasOrders, InRange, IsAt, IsCut, IsKnown, IsNeeded, IsOrderOf, IsSequenceName, IsTreeMapName, NumberOrder, NumbersDescend, Order, OrderedBy, TakesCount, ValuesCompare, decimal, form_of, forms_of, int_cmp, is_below_zero, listed, low_bytes, names_of, nat_cmp, needs, primitive_kind, sequence, tag, tuple, tuple_name};
 ghost use Rattle.std.specs.Prelude.{◌≡◌, ◌⊎◌, ◌+◌, ◌++◌, ◌∷◌, [], ◌<◌, ◌^◌, ℕ, ℤ, Bool, List, Decides, IfOk, IfSome, None, Some, codes, drop, length, map, option_map, pos, string_bytes, true};
 
 use crate::definitions::Definitions;
@@ -465,7 +465,8 @@ impl Ascent {
         definitions: &Definitions<'_, '_>,
         bytes: &[u8],
     ) -> Result<bool, AllocError>
-        ensures { HasOrders definitions.now → TellsAscent definitions.now self.now bytes.now result }
+        ensures first { self.now.earlier ≡ None → IfOk result (λ ascends. ascends ≡ true) }
+        ensures order { HasOrders definitions.now → DecidesAscent definitions.now self.now bytes.now result }
     {
         let Some(earlier) = self.earlier else {
             return Ok(true);
