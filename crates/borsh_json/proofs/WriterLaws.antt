@@ -52,7 +52,7 @@ use Rattle.borsh_json.specs.Descents.{HasDescent}
 use Rattle.borsh_json.specs.Inside.{IsInside}
 use Rattle.borsh_json.specs.NoJson.{IsNoJson, HasNoJsonPart, IsOutOfOrder, RefusesBytes}
 use Rattle.borsh_json.specs.Orders.{HasKeyOrder, KindHasOrder, OrderedBy, ValuesCompare}
-use Rattle.borsh_json.specs.Leaves.{output_tokens, Adds, IsOpenedAs, WritesLeaf, RefusesLeaf}
+use Rattle.borsh_json.specs.Leaves.{output_tokens, output_before, Adds, IsOpenedAs, WritesLeaf, RefusesLeaf}
 use Rattle.borsh_json.specs.Places.{IsAt, AreKeysOf, IsKindOf, lengths_of}
 use Rattle.borsh_json.specs.Reads.{SaysFirst}
 use Rattle.borsh_json.specs.Represents.{next_part}
@@ -426,11 +426,11 @@ at_offset d w p a =
 
 -- the next part isn't above the last one
 pub next_falls : (d : Definitions) (w : Writing) (p : Place) (a : IsWritingAt d w p) (z : List ℕ) (zs : List (List ℕ)) → names_of_rest a.state.inner ≡ z ∷ zs → (ascends : Bool) → ascends ≡ false → (ascent : Option Ascent) → IsAscending d w.bytes.now ascent a.mark → TellsAscent d w.bytes.now ascent w.walk.offset ascends → IsOutOfOrder (forms_of d) d.layout.now.root.now w.bytes.now
-next_falls d w p a z zs names ascends no None h t = let q : true ≡ false = sym t ∙ no in cc
-next_falls d w p a z zs names ascends no (Some x) h t = go x.last h.1 t
+next_falls d w p a z zs names ascends off None h t = let q : true ≡ false = sym t ∙ off in cc
+next_falls d w p a z zs names ascends off (Some x) h t = go x.last h.1 t
   where
     go : (last : Option ℕ) → last ≡ a.mark.1 → MatchOption last (ascends ≡ true) (λ i. (k : List ℕ) (r : Ordering) → OrderedBy d k x.order → ValuesCompare d k (drop i w.bytes.now) (drop w.walk.offset w.bytes.now) r → Decides ascends (r ≡ Less)) → IsOutOfOrder (forms_of d) d.layout.now.root.now w.bytes.now
-    go None e t = let q : true ≡ false = sym t ∙ no in cc
+    go None e t = let q : true ≡ false = sym t ∙ off in cc
     go (Some i) e t =
         let F = forms_of d in
         let s = a.state in
@@ -439,7 +439,7 @@ next_falls d w p a z zs names ascends no (Some x) h t = go x.last h.1 t
         let left : w.walk.left.now ≡ drop w.walk.offset w.bytes.now = sym (ap (λ j. drop j w.bytes.now) (at_offset d w p a) ∙ last_there w.bytes.now s.done w.walk.left.now w.walk.left.now s.halved.joined refl) in
         let there = subst (λ b. ValuesCompare d k (drop i w.bytes.now) b n.0) left n.1 in
         let tells = t k n.0 h.0.1.2 there in
-        falls d w p a z zs names k x.order h.0.1 i (sym e) n.0 n.1 (λ l. let q : true ≡ false = sym (tells.1 l) ∙ no in cc)
+        falls d w p a z zs names k x.order h.0.1 i (sym e) n.0 n.1 (λ l. let q : true ≡ false = sym (tells.1 l) ∙ off in cc)
 
 -- a key that is no entry's was written, or none
 pub key_begun : (d : Definitions) (w new : Writing) (p : Place) (part : FoundPart) → IsWritingAt d w p → IsBegunOf d w.walk.offset p w.position.place part → ((es : FoundEntries) → part.key ≡ EntryOf es → ⊥)

@@ -181,7 +181,8 @@ impl<'a, 'l, 'b> Writing<'a, 'l, 'b> {
             return Ok(self.position.leave());
         };
         let place = &mut self.position.place;
-        if !ascends(definitions, place, self.walk.offset, self.bytes)? {
+        let is_above = ascends(definitions, place, self.walk.offset, self.bytes)?;
+        if !is_above {
             return Err(self.position.refused_element(Refusal::Descends).into());
         }
         self.write_key(definitions, part)?;

@@ -1,3 +1,4 @@
+use Rattle.std.proofs.Common.{◌∙◌}
 use Rattle.borsh_json.specs.Forms.{form_of}
 use Rattle.borsh_json.specs.Places.{lengths_of}
 use Rattle.borsh_json.proofs.OpeningLaws.{denies_expected}
@@ -8,7 +9,7 @@ pub returns-in-Ok : goal.returns-in-Ok
 returns-in-Ok c F ns x j kind e i h s b =
     let a = c.in-Of.ensures j b in
     let k = c.in-Ok.ensures in
-    list_opened F ns x j kind (lengths_of (form_of c.args.definition.now)) e c.args.elements.at i h (λ own ps. (s own ps).0) (λ own ps. (s own ps).1) c.in_order-place.result c.in-Of.items a.0 c.in-Of.count c.args.out.now.items c.put_length.new.out.items c.in_order-place.ensures.parts c.in_order-place.ensures.begun a.1 a.2 a.3 k.0 k.1 k.2
+    list_opened F ns x j kind (lengths_of (form_of c.args.definition.now)) e c.args.elements.at i h (λ own ps. (s own ps).0) (λ own ps. (s own ps).1) c.in_order-place.result c.in-Of.items a.0 c.in-Of.count c.args.out.now.items c.put_length.new.out.items (c.in_order-place.ensures.same.0 ∙ c.new.ensures.parts) (c.in_order-place.ensures.same.1 ∙ c.new.ensures.begun) a.1 a.2 a.3 k.0 k.1 k.2
 
 pub returns-in-Err : goal.returns-in-Err
 returns-in-Err c F ns x j kind e i h s b =
