@@ -24,6 +24,7 @@ pub mod LoopLaws
 pub mod ReadingLaws
 pub mod WritingLaws
 pub mod WritingPlaces
+pub mod NestedLaws
 pub mod WritingSteps
 pub mod WriterLaws
 pub mod MemberLaws

@@ -1,8 +1,9 @@
 // A value as JSON.
 ghost use Rattle.borsh_json.specs.Words.{Adds, AreKeysOf, EntryOf, Form, FoundElements, FoundKeyKind, FoundNumbers, FoundPart, HasKinds, HasNode, IsAbove, IsAt, IsAwaitingAt, IsBegunOf, IsEntryKey, IsFullOrDescends, IsKeyPut, IsKindOf, IsLast, IsNoJsonReason, IsPartWritten, IsWalker, IsWritingAt, IsWrittenNext, Keys, Member, NamedPlace, Place, SaysBy, ShowsNoJson, StopsBy, TextSays, definitions_in, ends_of, forms_in, forms_of, names_of, shapes};
 ghost use Rattle.borsh_json.specs.Ascii.{IsInLine, IsPlain, IsSameJson};
+ghost use Rattle.borsh_json.specs.Printed.{IsPrinted};
 ghost use Rattle.borsh_json.specs.declared.output.Layout.TheVariants.{Compact};
-ghost use Rattle.borsh_json.specs.declared.output.Characters.TheVariants.{Ascii};
+ghost use Rattle.borsh_json.specs.declared.output.Characters.TheVariants.{Any, Ascii};
 ghost use Rattle.std.specs.Prelude.{◌≡◌, ◌<◌, ℕ, All, IfErr, IfOk, IsUtf8, List, MatchResult, OnOk, Option, Some, length, string_bytes, true};
 
 use crate::ascii::{in_ascii, is_ascii};
@@ -38,10 +39,10 @@ use std::collections::BTreeMap;
 /// `bool`, texts, and of tuples, arrays, lists, ordered sets and maps, and options of these, and not of structs and enums.
 ///
 /// Determined: after `Ok` the text is JSON that says these bytes, of the characters of the style; a compact one is one line, without
-/// control characters. So no other bytes have it, they are a member of the root ([`crate::text_determines_bytes`]), and
+/// control characters; where any are allowed, it has no white space but that of its layout. So no other bytes have it, they are a member of the root ([`crate::text_determines_bytes`]), and
 /// [`crate::from_json`] gives them, if anything. `NoMember` and `Ambiguous` are as of [`borsh_values::is_member`], and `NoValue` and
-/// `NotJson` aren't returned. After `Refused` they are a member, and it has a reason:
-/// `TooDeep`, that 128 references lead from the root to a name; others, that they reach a part of which no JSON says these bytes.
+/// `NotJson` aren't returned. After `Refused` they are a member, and it has a reason: `TooDeep`, that a value begins in them inside
+/// of 128 others or more; others, that one begins there of which no JSON says these bytes.
 /// Left open: memory; the reason of `Descends`; which of the texts that say the bytes: tested.
 ///
 /// ```
@@ -59,6 +60,8 @@ pub fn to_json<'a>(
         IfOk result (λ text. TextSays F root.now (string_bytes text) bytes.now) }
     ensures ascii { style.characters ≡ Ascii → IfOk result (λ text. All IsPlain (string_bytes text)) }
     ensures line { style.layout ≡ Compact → IfOk result (λ text. All IsInLine (string_bytes text)) }
+    ensures printed { style.characters ≡ Any →
+        IfOk result (λ text. IsPrinted style.layout (string_bytes text)) }
     ensures reason { IfErr result (λ e. IsNoJsonReason (definitions_in map.now) root.now bytes.now e) }
     ensures refused { IfErr result (λ e. ShowsNoJson (forms_in map.now) root.now bytes.now e) }
 {
@@ -74,6 +77,8 @@ impl<'a, 'l> Definitions<'a, 'l> {
         ensures says { IfOk result (λ text. SaysBy self.now (string_bytes text) bytes.now) }
         ensures ascii { style.characters ≡ Ascii → IfOk result (λ text. All IsPlain (string_bytes text)) }
         ensures line { style.layout ≡ Compact → IfOk result (λ text. All IsInLine (string_bytes text)) }
+        ensures printed { style.characters ≡ Any →
+            IfOk result (λ text. IsPrinted style.layout (string_bytes text)) }
         ensures reason { let l = self.now.layout.now in
             IfErr result (λ e. IsNoJsonReason (definitions_in l.map.now) l.root.now bytes.now e) }
         ensures refused { let l = self.now.layout.now in
@@ -93,6 +98,7 @@ impl<'a, 'l> Definitions<'a, 'l> {
 /// The text, with these characters alone: it is read as the same JSON. Left open: memory.
 fn in_characters(alloc: Global, text: String, characters: Characters) -> Result<String, AllocError>
     ensures same { IfOk result (λ new. IsSameJson (string_bytes text) (string_bytes new)) }
+    ensures kept { characters ≡ Any → IfOk result (λ kept. string_bytes kept ≡ string_bytes text) }
     ensures ascii { characters ≡ Ascii → IfOk result (λ text. All IsPlain (string_bytes text)) }
     ensures line { All IsInLine (string_bytes text) → IfOk result (λ text. All IsInLine (string_bytes text)) }
 {
@@ -124,6 +130,7 @@ fn write_value<'a>(
     ensures says { IfOk result (λ text. SaysBy definitions.now text.items bytes.now) }
     ensures utf8 { IfOk result (λ text. IsUtf8 text.items) }
     ensures line { style.layout ≡ Compact → IfOk result (λ text. All IsInLine text.items) }
+    ensures printed { IfOk result (λ text. IsPrinted style.layout text.items) }
     ensures stops { IfErr result (StopsBy definitions.now bytes.now) }
 {
     let alloc = definitions.alloc;
