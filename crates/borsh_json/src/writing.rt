@@ -43,8 +43,8 @@ use std::collections::BTreeMap;
 /// control characters; where any are allowed, it has no white space but that of its layout. So no other bytes have it, they are a member of the root ([`crate::text_determines_bytes`]), and
 /// [`crate::from_json`] gives them, if anything. `NoMember` and `Ambiguous` are as of [`borsh_values::is_member`], and `NoValue` and
 /// `NotJson` aren't returned. After `Refused` they are a member, and it has a reason: `TooDeep`, that a value begins in them inside
-/// of 128 others or more; others, that one begins there of which no JSON says these bytes.
-/// Left open: memory; the reason of `Descends`; which of the texts that say the bytes: tested.
+/// of 128 others or more; `Descends`, that a set or a map begins there, of which two neighbours don't ascend in the known order of its
+/// keys; others, that a value begins there of which no JSON says these bytes. Left open: memory; which of the texts that say them: tested.
 ///
 /// ```
 /// let text = to_json(alloc, "(u8, bool)", &definitions, &[7, 1], Style::COMPACT)?;
