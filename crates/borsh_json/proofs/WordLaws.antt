@@ -121,9 +121,9 @@ ends_literal t name k p again =
     let rest = drop (length name) t in
     choose t (starts_with nat_eq t name && ends_word rest) k bad
     (λ e g.
-      let a = and_parts (starts_with nat_eq t name) (ends_word rest) e in
-      let front : name ≡ take (length name) t = (bytes_eq-Decides name (take (length name) t)).0 a.0 in
-      (name, rest, sym (take-append-drop (length name) t) ∙ ap (λ l. l ++ rest) (sym front), p, a.1, again))
+    let a = and_parts (starts_with nat_eq t name) (ends_word rest) e in
+    let front : name ≡ take (length name) t = (bytes_eq-Decides name (take (length name) t)).0 a.0 in
+    (name, rest, sym (take-append-drop (length name) t) ∙ ap (λ l. l ++ rest) (sym front), p, a.1, again))
     (λ e g. absurd (false≢true g))
 
 first_token : List Lexeme → Token

@@ -29,7 +29,9 @@ pub fn in_ascii(alloc: Global, json: &str) -> Result<Vec<u8>, AllocError>
 pub fn is_ascii(text: &str) -> bool
     ensures { result ≡ list_all is_plain text.now }
 {
-    text.as_bytes().iter().all(|byte| is_printed(u32::from(*byte)))
+    text.as_bytes()
+        .iter()
+        .all(|byte| is_printed(u32::from(*byte)))
 }
 
 /// Whether it is a line feed or printable ASCII.

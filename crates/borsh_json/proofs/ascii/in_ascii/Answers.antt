@@ -17,7 +17,7 @@ loop-character-preserved c =
     let e = c.in-Some.ensures.steps.0 in
     let added = sym c.in_ok-put_character.ensures in (
       λ j d. subst (λ (l : List ℕ). document (l ++ rest) ≡ Some j) added
-      (subst (λ (l : List ℕ). document l ≡ Some j) (sym (append_assoc old (character_text x) rest)) (kept_character old x rest j (first_scalar x rest (subst IsUtf8 e i.1)) (subst (λ (l : List ℕ). document (old ++ l) ≡ Some j) e (i.0 j d)))),
+          (subst (λ (l : List ℕ). document l ≡ Some j) (sym (append_assoc old (character_text x) rest)) (kept_character old x rest j (first_scalar x rest (subst IsUtf8 e i.1)) (subst (λ (l : List ℕ). document (old ++ l) ≡ Some j) e (i.0 j d)))),
       IsUtf8-past_char all rest x i.1 e,
       subst (λ (l : List ℕ). All IsPlain l) added (added_plain x old i.2),
       λ a. let k = i.3 a in let l = character_line x all rest e k.1 in (subst (λ (l : List ℕ). All IsInLine l) added (added_line x old l.0 k.0), l.1),
