@@ -20,10 +20,10 @@ use Rattle.borsh_json.specs.declared.sources.Source.{Source}
 use Rattle.borsh_json.specs.Forms.{Form, form_of}
 use Rattle.borsh_json.specs.Frames.{DeniesRead, Wanted, IsWanted, IsObject, IsMapPlace, IsKey, HasItems, HasFields, HasEntries, AreEntriesOf, HasLeft, IsNext, IsNextEntry}
 use Rattle.borsh_json.specs.Places.{IsAt, AreKeysOf}
-use Rattle.borsh_json.specs.Reads.{Left, items_left, fields_left, entries_left, PartsOfAll, SaysFirst, SaysSome, AreRead}
+use Rattle.borsh_json.specs.Reads.{Left, items_left, fields_left, entries_left, PartsOfAll, Before, SaysFirst, SaysSome, AreRead}
 use Rattle.borsh_json.specs.Table.{Keys, Part as JsonPart, row_parts, Entry, key_json}
 use Rattle.borsh_json.proofs.ReaderLaws.{front_says}
-use Rattle.borsh_json.proofs.StepLaws.{taken, item_front, item_back, field_taken, field_missing, entry_read, read_leaf}
+use Rattle.borsh_json.proofs.StepLaws.{taken, item_front, item_back, field_taken, field_missing, entry_read, read_leaf, part_left}
 use Rattle.borsh_json.proofs.OpeningLaws.{leaf, denies_read}
 
 -- a key that isn't that of an entry is of no map
@@ -110,11 +110,11 @@ module _ (F : List ℕ → Option Form) (ns : List Named) (root : List ℕ) (j :
 -- ---- entries
 module _ (F : List ℕ → Option Form) (ns : List Named) (root : List ℕ) (j : Json) where
   -- the key was added
-  pub key_added : (keys : Keys) (k v t own : List ℕ) (i : Json) (rest : List Entry) (ls : List Left) (out : List ℕ) → SaysFirst F k (key_json keys t) own [] → AreRead F root j out (PartsOfAll (entries_left keys k v ((t, i) ∷ rest) ∷ ls)) → AreRead F root j (out ++ own) (λ ps. (more : List JsonPart) × PartsOfAll (entries_left keys k v rest ∷ ls) more × (ps ≡ (v, i) ∷ more))
-  key_added keys k v t own i rest ls out s r = read_leaf F root j k (key_json keys t) out own (λ ps. (more : List JsonPart) × PartsOfAll (entries_left keys k v rest ∷ ls) more × (ps ≡ (v, i) ∷ more)) (leaf F ns k (key_json keys t) s.0 own s.1 s.2) (entry_read F root j keys k v t i rest ls r)
+  pub key_added : (keys : Keys) (k v t own : List ℕ) (i : Json) (rest : List Entry) (ls : List Left) (out : List ℕ) → SaysFirst F k (key_json keys t) own [] → AreRead F root j out (PartsOfAll (entries_left keys k v ((t, i) ∷ rest) ∷ ls)) → AreRead F root j (out ++ own) (Before (v, i) (PartsOfAll (entries_left keys k v rest ∷ ls)))
+  key_added keys k v t own i rest ls out s r = read_leaf F root j k (key_json keys t) out own (Before (v, i) (PartsOfAll (entries_left keys k v rest ∷ ls))) (part_left (v, i) (PartsOfAll (entries_left keys k v rest ∷ ls))) (leaf F ns k (key_json keys t) s.0 own s.1 s.2) (entry_read F root j keys k v t i rest ls r)
 
   pub key_denied : (e : ReadError) (keys : Keys) (k v t : List ℕ) (i : Json) (rest : List Entry) (ls : List Left) (out : List ℕ) → DeniesRead e (SaysSome F k (key_json keys t)) → AreRead F root j out (PartsOfAll (entries_left keys k v ((t, i) ∷ rest) ∷ ls)) → DeniesRead e (SaysSome F root j)
-  key_denied e keys k v t i rest ls out d r = denies_read e (front_says F root j k (key_json keys t) out (λ ps. (more : List JsonPart) × PartsOfAll (entries_left keys k v rest ∷ ls) more × (ps ≡ (v, i) ∷ more)) (entry_read F root j keys k v t i rest ls r)) d
+  key_denied e keys k v t i rest ls out d r = denies_read e (front_says F root j k (key_json keys t) out (Before (v, i) (PartsOfAll (entries_left keys k v rest ∷ ls))) (entry_read F root j keys k v t i rest ls r)) d
 
 -- the key of an entry is of a map
 of_map : (p : Parts) (key : Key) (f : List ℕ) (m : FoundEntries) → key ≡ EntryOf m → IsKey p key f → IsMapPlace p

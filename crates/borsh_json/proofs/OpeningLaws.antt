@@ -15,9 +15,10 @@ use Rattle.borsh_json.specs.declared.opening.Frame.{Frame}
 use Rattle.borsh_json.specs.declared.position.Parts.{Parts}
 use Rattle.borsh_json.specs.declared.sources.Source.{Source}
 use Rattle.borsh_json.specs.declared.sources.Source.TheVariants.{One}
-use Rattle.borsh_json.specs.Errors.{Denies, IsUnreadable, IsPartError}
+use Rattle.borsh_json.specs.Errors.{Denies, IsUnreadable}
 use Rattle.borsh_json.specs.Forms.{Form}
-use Rattle.borsh_json.specs.Frames.{DeniesRead, DeniesPart, IsOf, IsOfRead, IsExpected, IsFound, IsOpened, HasLeft, IsWanted, IsMapPlace, Wanted}
+use Rattle.borsh_json.specs.Frames.{DeniesRead, DeniesPart, IsUnread, IsOf, IsOfRead, IsExpected, IsFound, IsOpened, HasLeft, IsWanted, IsMapPlace, Wanted}
+use Rattle.borsh_json.specs.NoValue.{RefusesJson}
 use Rattle.borsh_json.specs.Reads.{Left, items_left, PartsOf, SaysFirst, SaysSome, IsOnly}
 use Rattle.borsh_json.specs.Table.{Kind, HasKind, Part, row_parts, list_parts, IsVariant, this, that, Says}
 use Rattle.borsh_json.proofs.FrameLaws.{drop_at}
@@ -60,7 +61,7 @@ number_is (object ms) s e = cc
 
 -- ---- errors
 pub denies_from : (r : Refusal) (P Q : Type 0) → (Q → P) → Denies r P → Denies r Q
-denies_from TooDeep P Q f d = tt
+denies_from TooDeep P Q f d = λ q. d (f q)
 denies_from (RepeatedName n) P Q f d = λ q. d (f q)
 denies_from EmptyElements P Q f d = λ q. d (f q)
 denies_from NotBool P Q f d = d
@@ -93,26 +94,30 @@ pub denies_expected : (e : ReadError) {P : Type 0} → IsExpected e → (P → �
 denies_expected e {P} (inl i) d = subst (λ (e : ReadError). DeniesRead e P) (sym i) tt
 denies_expected e {P} (inr i) d = subst (λ (e : ReadError). DeniesRead e P) (sym i.1) d
 
-unreadable : (r : Refusal) (P : Type 0) → Denies r P → IsUnreadable r
-unreadable TooDeep P d = tt
-unreadable (RepeatedName n) P d = tt
-unreadable EmptyElements P d = tt
-unreadable NotBool P d = d
-unreadable NotUtf8 P d = d
-unreadable Zero P d = d
-unreadable NotNumber P d = tt
-unreadable Descends P d = tt
-unreadable OtherNodes P d = tt
-unreadable (Expected w) P d = tt
-unreadable MissingField P d = tt
-unreadable (UnknownName n) P d = tt
-unreadable (RepeatedKey n) P d = tt
-unreadable (Undefined n) P d = tt
+-- what denies is a reason why JSON isn't read
+module _ (F : List ℕ → Option Form) (root : List ℕ) (j : Json) where
+  unread : (r : Refusal) → Denies r (SaysSome F root j) → IsUnreadable r × RefusesJson F root j r
+  unread TooDeep d = (tt, λ bs h. absurd (d (bs, h)))
+  unread (RepeatedName n) d = (tt, λ bs h. d (bs, h))
+  unread EmptyElements d = (tt, λ bs h. d (bs, h))
+  unread NotBool d = absurd d
+  unread NotUtf8 d = absurd d
+  unread Zero d = absurd d
+  unread NotNumber d = (tt, λ bs h. d (bs, h))
+  unread Descends d = (tt, λ bs h. tt)
+  unread OtherNodes d = (tt, λ bs h. d (bs, h))
+  unread (Expected w) d = (tt, λ bs h. d (bs, h))
+  unread MissingField d = (tt, λ bs h. d (bs, h))
+  unread (UnknownName n) d = (tt, λ bs h. d (bs, h))
+  unread (RepeatedKey n) d = (tt, λ bs h. d (bs, h))
+  unread (Undefined n) d = (tt, λ bs h. d (bs, h))
 
--- what denies is a reason why JSON can't be read
-pub part_unreadable : (e : PartError) (P : Type 0) → DeniesPart e P → IsPartError IsUnreadable e
-part_unreadable NoMemory P d = tt
-part_unreadable (RefusedPart path r) P d = unreadable r P d
+  pub unread_part : (e : PartError) → DeniesPart e (SaysSome F root j) → IsUnread F root j e
+  unread_part NoMemory d = tt
+  unread_part (RefusedPart path r) d = unread r d
+
+  pub unread_of : (r : ReadError) (e : PartError) → IsOfRead r e → DeniesRead r (SaysSome F root j) → IsUnread F root j e
+  unread_of r e i d = unread_part e (denies_part r e (SaysSome F root j) i d)
 
 module _ (F : List ℕ → Option Form) (ns : List Named) (x : List ℕ) (j : Json) where
   first_one : {a b : List ℕ} {ps qs : List Part} → SaysFirst F x j a ps → SaysFirst F x j b qs → (a ≡ b) × (ps ≡ qs)

@@ -1,13 +1,15 @@
 -- The reader's loop.
-use Rattle.std.proofs.Common.{◌≡◌, ℕ, List, [], ◌∷◌, ◌++◌, Option, Some, None, refl, sym, ◌∙◌, ap, subst}
+use Rattle.std.proofs.Common.{◌≡◌, ℕ, List, [], ◌∷◌, ◌++◌, length, Option, Some, None, refl, sym, ◌∙◌, ap, subst, arith, length-append}
 use Rattle.std.specs.Prelude.{Bool, true, Result, Ok, Err, MatchResult, IfOk, OnOk, IfErr}
 use Rattle.json.specs.Token.{Token}
 use Rattle.json.specs.Json.{Json, no_items, item}
 use Rattle.json.specs.Find.{BeginsWith}
 use Rattle.borsh_values.specs.declared.layout.Named.{Named}
 use Rattle.borsh_json.specs.declared.error.PartError.{PartError}
+use Rattle.borsh_json.specs.declared.error.PartError.TheVariants.{OutOfMemory as NoMemory, Refused as RefusedPart}
 use Rattle.borsh_json.specs.declared.error.ReadError.{ReadError}
-use Rattle.borsh_json.specs.declared.error.Refusal.TheVariants.{TooDeep}
+use Rattle.borsh_json.specs.declared.error.Refusal.{Refusal}
+use Rattle.borsh_json.specs.declared.error.Refusal.TheVariants.{Descends}
 use Rattle.borsh_json.specs.declared.opening.Frame.{Frame}
 use Rattle.borsh_json.specs.declared.position.Parts.{Parts}
 use Rattle.borsh_json.specs.declared.position.Parts.TheVariants.{Root}
@@ -15,14 +17,17 @@ use Rattle.borsh_json.specs.declared.position.Place.{Place}
 use Rattle.borsh_json.specs.declared.sources.Source.{Source}
 use Rattle.borsh_json.specs.declared.sources.Source.TheVariants.{One}
 use Rattle.borsh_json.specs.Forms.{Form}
-use Rattle.borsh_json.specs.Frames.{DeniesPart, DeniesRead, IsOf, IsReading, IsReadOn, HasLeft, HaveLeft, IsFound}
+use Rattle.borsh_json.specs.Errors.{IsUnreadable}
+use Rattle.borsh_json.specs.Frames.{DeniesRead, IsUnread, IsOf, IsReading, IsReadOn, HasLeft, HaveLeft, IsFound}
+use Rattle.borsh_json.specs.NoValue.{RefusesJson}
 use Rattle.borsh_json.specs.Places.{IsAt}
-use Rattle.borsh_json.specs.Reads.{Left, items_left, PartsOfAll, SaysFirst, SaysSome, AreRead}
+use Rattle.borsh_json.specs.Reads.{Left, items_left, PartsOfAll, Before, SaysFirst, SaysSome, AreRead}
 use Rattle.borsh_json.specs.Represents.{HaveBytes}
 use Rattle.borsh_json.specs.Table.{Part as JsonPart}
-use Rattle.borsh_json.proofs.ReaderLaws.{read_start, read_same, read_end, front_says}
-use Rattle.borsh_json.proofs.StepLaws.{read_leaf, read_frame, pushed, popped, bottom, alone}
-use Rattle.borsh_json.proofs.OpeningLaws.{denies_of, denies_read, some_one}
+use Rattle.borsh_json.specs.Writes.{IsFull}
+use Rattle.borsh_json.proofs.ReaderLaws.{read_start, read_same, read_end, read_deep, front_says}
+use Rattle.borsh_json.proofs.StepLaws.{read_leaf, read_frame, some_left, pushed, popped, bottom, alone}
+use Rattle.borsh_json.proofs.OpeningLaws.{denies_read, some_one}
 
 module _ (F : List ℕ → Option Form) (ns : List Named) (root : List ℕ) (j : Json) where
   pub reading_start : (e : List Token) (ps : List Place) (ss : List Source) → IsAt ns 0 root → BeginsWith e j → ps ≡ [] → ss ≡ [] → IsReading F ns root j Root 0 (One (Some e)) ps ss []
@@ -33,7 +38,7 @@ module _ (F : List ℕ → Option Form) (ns : List Named) (root : List ℕ) (j :
         around = [];
         here = (([], root) ∷ [], (root, i, refl), refl, (j, refl, b), (root, j) ∷ [], refl, λ z. z);
         there = subst (λ (ps : List Place). HaveLeft F ns ps ss []) (sym p) (subst (λ (ss : List Source). HaveLeft F ns [] ss []) (sym q) refl);
-        read = read_same F root j (λ ps. ps ≡ (root, j) ∷ []) (PartsOfAll (inner ∷ [])) (λ ps e. ((root, j) ∷ [], [], refl, refl, e)) (λ ps p. p.4 ∙ ap (λ b. p.0 ++ b) p.3 ∙ ap (λ a. a ++ []) (some_one ((root, j) ∷ []) p.0 p.2)) (read_start F root j);
+        read = read_same F root j (λ pss. pss ≡ ((root, j) ∷ []) ∷ []) (PartsOfAll (inner ∷ [])) (λ pss e. ((root, j) ∷ [], [], refl, refl, e)) (λ pss p. p.4 ∙ ap (λ b. p.0 ∷ b) p.3 ∙ ap (λ a. a ∷ []) (some_one ((root, j) ∷ []) p.0 p.2)) (read_start F root j);
       }
 
   -- the place's order is looked at
@@ -41,14 +46,14 @@ module _ (F : List ℕ → Option Form) (ns : List Named) (root : List ℕ) (j :
   reading_same {p} {q} {b} {c} {s} {ps} {ss} {out} e f r = subst (λ (q : Parts). IsReading F ns root j q c s ps ss out) (sym e) (subst (λ (c : ℕ). IsReading F ns root j p c s ps ss out) (sym f) r)
 
   -- a part is read: leaf or frame
-  module _ (place : Place) (s : Source) (ps : List Place) (ss : List Source) (ls : List Left) (out : List ℕ) (there : HaveLeft F ns ps ss ls) (x : List ℕ) (i : Json) (l : Left) (here : HasLeft F ns place.parts place.begun s l) (read : AreRead F root j out (λ ps. (rest : List JsonPart) × PartsOfAll (l ∷ ls) rest × (ps ≡ (x, i) ∷ rest))) where
+  module _ (place : Place) (s : Source) (ps : List Place) (ss : List Source) (ls : List Left) (out : List ℕ) (there : HaveLeft F ns ps ss ls) (x : List ℕ) (i : Json) (l : Left) (here : HasLeft F ns place.parts place.begun s l) (read : AreRead F root j out (Before (x, i) (PartsOfAll (l ∷ ls)))) where
     pub reading_leaf : (new own : List ℕ) → new ≡ out ++ own → IsFound F ns (SaysFirst F x i) own None → IsReading F ns root j place.parts place.begun s ps ss new
     reading_leaf new own e f = record {
       inner = l;
       around = ls;
       here = here;
       there = there;
-      read = subst (λ (o : List ℕ). AreRead F root j o (PartsOfAll (l ∷ ls))) (sym e) (read_leaf F root j x i out own (PartsOfAll (l ∷ ls)) f read);
+      read = subst (λ (o : List ℕ). AreRead F root j o (PartsOfAll (l ∷ ls))) (sym e) (read_leaf F root j x i out own (PartsOfAll (l ∷ ls)) (some_left l ls) f read);
     }
 
     pub reading_frame : (new own : List ℕ) (f : Frame) (qs : List Place) (ts : List Source) → new ≡ out ++ own → IsFound F ns (SaysFirst F x i) own (Some f) → qs ≡ ps ++ place ∷ [] → ts ≡ ss ++ s ∷ [] → IsReading F ns root j f.place.parts f.place.begun f.source qs ts new
@@ -57,7 +62,7 @@ module _ (F : List ℕ → Option Form) (ns : List Named) (root : List ℕ) (j :
       around = l ∷ ls;
       here = g.1;
       there = subst (λ (qs : List Place). HaveLeft F ns qs ts (l ∷ ls)) (sym a) (subst (λ (ts : List Source). HaveLeft F ns (ps ++ place ∷ []) ts (l ∷ ls)) (sym b) (pushed F ns ps ss ls place s l there here));
-      read = subst (λ (o : List ℕ). AreRead F root j o (PartsOfAll (g.0 ∷ l ∷ ls))) (sym e) (read_frame F root j x i out own g.0 (l ∷ ls) g.2 read);
+      read = subst (λ (o : List ℕ). AreRead F root j o (PartsOfAll (g.0 ∷ l ∷ ls))) (sym e) (read_frame F root j x i out own g.0 l ls g.2 read);
     }
 
     -- or refused
@@ -93,9 +98,31 @@ module _ (F : List ℕ → Option Form) (ns : List Named) (root : List ℕ) (j :
 
 -- ---- what the steps return
 module _ (F : List ℕ → Option Form) (ns : List Named) (root : List ℕ) (j : Json) where
+  -- no frame is entered where as many are around as may be
+  as_many : (ps : List Place) (ss : List Source) (ls : List Left) → HaveLeft F ns ps ss ls → length ls ≡ length ps
+  as_many [] [] ls h = ap (λ (l : List Left). length l) h
+  as_many [] (s ∷ ss) ls h = absurd h
+  as_many (p ∷ ps) [] ls h = absurd h
+  as_many (p ∷ ps) (s ∷ ss) ls h =
+      let a = ap (λ (l : List Left). length l) h.4 in
+      let b = length-append h.1 (h.0 ∷ []) in
+      let c = as_many ps ss h.1 h.3 in
+      omega (arith, a, b, c)
+
+  deep_part : (p : JsonPart) (out : List ℕ) (l : Left) (ls : List Left) (n : ℕ) → length ls ≡ n → AreRead F root j out (Before p (PartsOfAll (l ∷ ls))) → (e : PartError) → IsFull n e → IsUnread F root j e
+  deep_part p out l ls n e r NoMemory f = tt
+  deep_part p out l ls n e r (RefusedPart path refusal) f =
+      let d = read_deep F root j p out l ls (let g = f.1 in omega (arith, e, g)) r in
+      subst (λ (q : Refusal). IsUnreadable q × RefusesJson F root j q) (sym f.0) (tt, d)
+
+  -- elements don't ascend
+  pub descends_part : (e : PartError) → IsOf Descends e → IsUnread F root j e
+  descends_part NoMemory i = tt
+  descends_part (RefusedPart path refusal) i = subst (λ (q : Refusal). IsUnreadable q × RefusesJson F root j q) (sym i) (tt, λ bs h. tt)
+
   -- a frame was entered
-  pub frame_read : (place : Place) (s : Source) (ps : List Place) (ss : List Source) (ls : List Left) (out : List ℕ) → HaveLeft F ns ps ss ls → (x : List ℕ) (i : Json) (l : Left) → HasLeft F ns place.parts place.begun s l → AreRead F root j out (λ ps. (rest : List JsonPart) × PartsOfAll (l ∷ ls) rest × (ps ≡ (x, i) ∷ rest)) → (new own : List ℕ) (f : Frame) → new ≡ out ++ own → IsFound F ns (SaysFirst F x i) own (Some f) → (r : Result Bool PartError) (q : Place) (t : Source) (qs : List Place) (ts : List Source) (last : List ℕ) → IfOk r (λ more. more ≡ true) → OnOk r ((q ≡ f.place) × (t ≡ f.source)) → OnOk r ((qs ≡ ps ++ place ∷ []) × (ts ≡ ss ++ s ∷ [])) → OnOk r (last ≡ new) → IfErr r (λ e. IsOf TooDeep e) → MatchResult r (λ more. IsReadOn F ns root j more q t qs ts last) (λ e. DeniesPart e (SaysSome F root j))
+  pub frame_read : (place : Place) (s : Source) (ps : List Place) (ss : List Source) (ls : List Left) (out : List ℕ) → HaveLeft F ns ps ss ls → (x : List ℕ) (i : Json) (l : Left) → HasLeft F ns place.parts place.begun s l → AreRead F root j out (Before (x, i) (PartsOfAll (l ∷ ls))) → (new own : List ℕ) (f : Frame) → new ≡ out ++ own → IsFound F ns (SaysFirst F x i) own (Some f) → (r : Result Bool PartError) (q : Place) (t : Source) (qs : List Place) (ts : List Source) (last : List ℕ) → IfOk r (λ more. more ≡ true) → OnOk r ((q ≡ f.place) × (t ≡ f.source)) → OnOk r ((qs ≡ ps ++ place ∷ []) × (ts ≡ ss ++ s ∷ [])) → OnOk r (last ≡ new) → IfErr r (λ e. IsFull (length ps) e) → MatchResult r (λ more. IsReadOn F ns root j more q t qs ts last) (λ e. IsUnread F root j e)
   frame_read place s ps ss ls out there x i l here read new own f e g (Ok more) q t qs ts last m a b c d =
       let k = reading_frame F ns root j place s ps ss ls out there x i l here read new own f qs ts e g b.0 b.1 in
       subst (λ (more : Bool). IsReadOn F ns root j more q t qs ts last) (sym m) (subst (λ (o : List ℕ). IsReading F ns root j q.parts q.begun t qs ts o) (sym c) (subst (λ (q : Place). IsReading F ns root j q.parts q.begun t qs ts new) (sym a.0) (subst (λ (t : Source). IsReading F ns root j f.place.parts f.place.begun t qs ts new) (sym a.1) k)))
-  frame_read place s ps ss ls out there x i l here read new own f e g (Err r) q t qs ts last m a b c d = denies_of TooDeep r (SaysSome F root j) d tt
+  frame_read place s ps ss ls out there x i l here read new own f e g (Err r) q t qs ts last m a b c d = deep_part (x, i) out l ls (length ps) (as_many ps ss ls there) read r d

@@ -13,9 +13,9 @@ use Rattle.borsh_json.specs.declared.sources.Source.{Source}
 use Rattle.borsh_json.specs.declared.sources.Source.TheVariants.{One, Items as TheItems, Members as TheMembers, Entries as InPlace, Texts, Ranks}
 use Rattle.borsh_json.specs.Forms.{Form}
 use Rattle.borsh_json.specs.Frames.{Wanted, IsWanted, HasItems, HasFields, HasEntries, NoneLeft, AreEntriesOf, HasLeft, HaveLeft}
-use Rattle.borsh_json.specs.Reads.{Left, items_left, fields_left, entries_left, PartsOf, PartsOfAll, SaysFirst, SaysSome, IsOnly, AreRead}
+use Rattle.borsh_json.specs.Reads.{Left, items_left, fields_left, entries_left, PartsOf, PartsOfAll, Before, SaysFirst, SaysSome, IsOnly, AreRead}
 use Rattle.borsh_json.specs.Table.{Keys, Part, row_parts, field_parts, Entry, key_json, entry_parts}
-use Rattle.borsh_json.proofs.ReaderLaws.{read_same, read_on, read_bottom}
+use Rattle.borsh_json.proofs.ReaderLaws.{read_same, read_left, read_on, read_bottom}
 
 pub mapped : {A B : Type 0} (f : A → B) (o : Option A) {b : B} → option_map f o ≡ Some b → (a : A) × (o ≡ Some a) × (f a ≡ b)
 mapped f None e = cc
@@ -37,37 +37,44 @@ field_front f fs ms j a g e =
 pub field_back : (f : Wanted) (fs : List Wanted) (ms : Members) (j : Json) (b : List Part) → get_member f.0 ms ≡ Some j → field_parts fs ms ≡ Some b → field_parts (f ∷ fs) ms ≡ Some ((f.1, j) ∷ b)
 field_back f fs ms j b g e = ap (λ o. option_and_then (λ j. option_map (λ ps. (f.1, j) ∷ ps) (field_parts fs ms)) o) g ∙ ap (λ o. option_map (λ ps. (f.1, j) ∷ ps) o) e
 
+-- some part is left, or the end of some
+pub some_left : (l : Left) (ls : List Left) → PartsOfAll (l ∷ ls) [] → ⊥
+some_left l ls p = (let e = p.4 in cc)
+
+pub part_left : (p : Part) (R : List (List Part) → Type 0) → Before p R [] → ⊥
+part_left p R q = (let e = q.3 in cc)
+
 module _ (F : List ℕ → Option Form) (root : List ℕ) (j : Json) where
   -- one part is taken off
-  pub taken : {out : List ℕ} (x : List ℕ) (i : Json) (l m : Left) (ls : List Left) → ((a : List Part) → PartsOf l a → (b : List Part) × PartsOf m b × (a ≡ (x, i) ∷ b)) → ((b : List Part) → PartsOf m b → PartsOf l ((x, i) ∷ b)) → AreRead F root j out (PartsOfAll (l ∷ ls)) → AreRead F root j out (λ ps. (rest : List Part) × PartsOfAll (m ∷ ls) rest × (ps ≡ (x, i) ∷ rest))
-  taken x i l m ls f g r = read_same F root j (PartsOfAll (l ∷ ls)) (λ ps. (rest : List Part) × PartsOfAll (m ∷ ls) rest × (ps ≡ (x, i) ∷ rest))
-      (λ ps p. let q = f p.0 p.2 in (q.0 ++ p.1, (q.0, p.1, q.1, p.3, refl), p.4 ∙ ap (λ a. a ++ p.1) q.2))
-      (λ ps p. let q = p.1 in ((x, i) ∷ q.0, q.1, g q.0 q.2, q.3, p.2 ∙ ap (λ l. (x, i) ∷ l) q.4)) r
+  pub taken : {out : List ℕ} (x : List ℕ) (i : Json) (l m : Left) (ls : List Left) → ((a : List Part) → PartsOf l a → (b : List Part) × PartsOf m b × (a ≡ (x, i) ∷ b)) → ((b : List Part) → PartsOf m b → PartsOf l ((x, i) ∷ b)) → AreRead F root j out (PartsOfAll (l ∷ ls)) → AreRead F root j out (Before (x, i) (PartsOfAll (m ∷ ls)))
+  taken x i l m ls f g r = read_same F root j (PartsOfAll (l ∷ ls)) (Before (x, i) (PartsOfAll (m ∷ ls)))
+      (λ pss p. let q = f p.0 p.2 in (q.0, p.1, (q.0, p.1, q.1, p.3, refl), p.4 ∙ ap (λ a. a ∷ p.1) q.2))
+      (λ pss p. let q = p.2 in ((x, i) ∷ q.0, q.1, g q.0 q.2, q.3, (let d = p.3 in let e = q.4 in cc))) r
 
   -- nothing is left of the innermost
   pub ended : {out : List ℕ} (l : Left) (ls : List Left) → PartsOf l [] → ((a : List Part) → PartsOf l a → a ≡ []) → AreRead F root j out (PartsOfAll (l ∷ ls)) → AreRead F root j out (PartsOfAll ls)
-  ended l ls e f r = read_same F root j (PartsOfAll (l ∷ ls)) (PartsOfAll ls)
-      (λ ps p. subst (λ q. PartsOfAll ls q) (sym (p.4 ∙ ap (λ a. a ++ p.1) (f p.0 p.2))) p.3)
-      (λ ps p. ([], ps, e, p, refl)) r
+  ended l ls e f r = read_left F root j (PartsOfAll ls) (read_same F root j (PartsOfAll (l ∷ ls)) (λ pss. (b : List (List Part)) × PartsOfAll ls b × (pss ≡ [] ∷ b))
+      (λ pss p. (p.1, p.3, p.4 ∙ ap (λ a. a ∷ p.1) (f p.0 p.2)))
+      (λ pss p. ([], p.0, e, p.1, p.2)) r)
 
   -- a part that has no parts was read
-  pub read_leaf : (x : List ℕ) (i : Json) (out own : List ℕ) (R : List Part → Type 0) → IsOnly (SaysFirst F x i) own (λ ps. ps ≡ []) → AreRead F root j out (λ ps. (rest : List Part) × R rest × (ps ≡ (x, i) ∷ rest)) → AreRead F root j (out ++ own) R
-  read_leaf x i out own R o r = read_same F root j (λ ps. (a : List Part) × (b : List Part) × (a ≡ []) × R b × (ps ≡ a ++ b)) R
-      (λ ps p. subst R (sym (p.4 ∙ ap (λ a. a ++ p.1) p.2)) p.3)
-      (λ ps p. ([], ps, refl, p, refl)) (read_on F root j x i out own (λ ps. ps ≡ []) R o r)
+  pub read_leaf : (x : List ℕ) (i : Json) (out own : List ℕ) (R : List (List Part) → Type 0) → (R [] → ⊥) → IsOnly (SaysFirst F x i) own (λ ps. ps ≡ []) → AreRead F root j out (Before (x, i) R) → AreRead F root j (out ++ own) R
+  read_leaf x i out own R never o r = read_left F root j R (read_same F root j (λ pss. (a : List Part) × (b : List (List Part)) × (a ≡ []) × R b × (pss ≡ a ∷ b)) (λ pss. (b : List (List Part)) × R b × (pss ≡ [] ∷ b))
+      (λ pss p. (p.1, p.3, p.4 ∙ ap (λ a. a ∷ p.1) p.2))
+      (λ pss p. ([], p.0, refl, p.1, p.2)) (read_on F root j x i out own (λ ps. ps ≡ []) R never o r))
 
   -- one with parts was opened
-  pub read_frame : (x : List ℕ) (i : Json) (out own : List ℕ) (l : Left) (ls : List Left) → IsOnly (SaysFirst F x i) own (PartsOf l) → AreRead F root j out (λ ps. (rest : List Part) × PartsOfAll ls rest × (ps ≡ (x, i) ∷ rest)) → AreRead F root j (out ++ own) (PartsOfAll (l ∷ ls))
-  read_frame x i out own l ls o r = read_on F root j x i out own (PartsOf l) (PartsOfAll ls) o r
+  pub read_frame : (x : List ℕ) (i : Json) (out own : List ℕ) (g l : Left) (ls : List Left) → IsOnly (SaysFirst F x i) own (PartsOf g) → AreRead F root j out (Before (x, i) (PartsOfAll (l ∷ ls))) → AreRead F root j (out ++ own) (PartsOfAll (g ∷ l ∷ ls))
+  read_frame x i out own g l ls o r = read_on F root j x i out own (PartsOf g) (PartsOfAll (l ∷ ls)) (some_left l ls) o r
 
   -- the key of an entry, and then its value
-  pub entry_read : {out : List ℕ} (keys : Keys) (k v : List ℕ) (s : List ℕ) (i : Json) (es : List Entry) (ls : List Left) → AreRead F root j out (PartsOfAll (entries_left keys k v ((s, i) ∷ es) ∷ ls)) → AreRead F root j out (λ ps. (rest : List Part) × ((more : List Part) × PartsOfAll (entries_left keys k v es ∷ ls) more × (rest ≡ (v, i) ∷ more)) × (ps ≡ (k, key_json keys s) ∷ rest))
-  entry_read keys k v s i es ls r = read_same F root j (PartsOfAll (entries_left keys k v ((s, i) ∷ es) ∷ ls)) (λ ps. (rest : List Part) × ((more : List Part) × PartsOfAll (entries_left keys k v es ∷ ls) more × (rest ≡ (v, i) ∷ more)) × (ps ≡ (k, key_json keys s) ∷ rest))
-      (λ ps p. ((v, i) ∷ (entry_parts keys k v es ++ p.1), (entry_parts keys k v es ++ p.1, (entry_parts keys k v es, p.1, refl, p.3, refl), refl), p.4 ∙ ap (λ a. a ++ p.1) p.2))
-      (λ ps p. let q = p.1.1 in ((k, key_json keys s) ∷ (v, i) ∷ q.0, q.1, ap (λ a. (k, key_json keys s) ∷ (v, i) ∷ a) q.2, q.3, p.2 ∙ ap (λ l. (k, key_json keys s) ∷ l) (p.1.2 ∙ ap (λ l. (v, i) ∷ l) q.4))) r
+  pub entry_read : {out : List ℕ} (keys : Keys) (k v : List ℕ) (s : List ℕ) (i : Json) (es : List Entry) (ls : List Left) → AreRead F root j out (PartsOfAll (entries_left keys k v ((s, i) ∷ es) ∷ ls)) → AreRead F root j out (Before (k, key_json keys s) (Before (v, i) (PartsOfAll (entries_left keys k v es ∷ ls))))
+  entry_read keys k v s i es ls r = read_same F root j (PartsOfAll (entries_left keys k v ((s, i) ∷ es) ∷ ls)) (Before (k, key_json keys s) (Before (v, i) (PartsOfAll (entries_left keys k v es ∷ ls))))
+      (λ pss p. ((v, i) ∷ entry_parts keys k v es, p.1, (entry_parts keys k v es, p.1, (entry_parts keys k v es, p.1, refl, p.3, refl), refl), p.4 ∙ ap (λ a. a ∷ p.1) p.2))
+      (λ pss p. let m = p.2 in let q = m.2 in ((k, key_json keys s) ∷ (v, i) ∷ q.0, q.1, ap (λ a. (k, key_json keys s) ∷ (v, i) ∷ a) q.2, q.3, (let d = p.3 in let e = m.3 in let f = q.4 in cc))) r
 
   module _ {out : List ℕ} (fs : List Wanted) (ms : Members) (ls : List Left) where
-    pub field_taken : (f : Wanted) (i : Json) (n m : ℕ) → get_member f.0 ms ≡ Some i → n ≡ suc m → AreRead F root j out (PartsOfAll (fields_left (f ∷ fs) ms n ∷ ls)) → AreRead F root j out (λ ps. (rest : List Part) × PartsOfAll (fields_left fs ms m ∷ ls) rest × (ps ≡ (f.1, i) ∷ rest))
+    pub field_taken : (f : Wanted) (i : Json) (n m : ℕ) → get_member f.0 ms ≡ Some i → n ≡ suc m → AreRead F root j out (PartsOfAll (fields_left (f ∷ fs) ms n ∷ ls)) → AreRead F root j out (Before (f.1, i) (PartsOfAll (fields_left fs ms m ∷ ls)))
     field_taken f i n m g e r = taken f.1 i (fields_left (f ∷ fs) ms n) (fields_left fs ms m) ls
         (λ a p. let q = field_front f fs ms i a g p.0 in (q.0, (q.1, (let h = p.1 in omega (arith, h, e))), q.2))
         (λ b p. (field_back f fs ms i b g p.0, (let h = p.1 in omega (arith, h, e)))) r

@@ -66,9 +66,9 @@ IsUnreadable (UnknownName name) = ⊤
 IsUnreadable (RepeatedKey name) = ⊤
 IsUnreadable (Undefined name) = ⊤
 
--- the refusal shows that P doesn't hold; but depth and order show nothing
+-- the refusal shows that P doesn't hold; but order shows nothing
 abbrev pub Denies : Refusal → Type 0 → Type 0
-Denies TooDeep P = ⊤
+Denies TooDeep P = P → ⊥
 Denies (RepeatedName name) P = P → ⊥
 Denies EmptyElements P = P → ⊥
 Denies NotBool P = ⊥
@@ -145,12 +145,3 @@ module _ (C : List ℕ → Option Shape) (root : List ℕ) where
   IsTextReason text (Ambiguous x) = IsSome (document text) × IsUndecided C root x.now
   IsTextReason text (NotJson offset) = document text ≡ None
   IsTextReason text (Refused path refusal) = IsTextRefusal text refusal
-
--- the error shows that P doesn't hold; but want of memory, definitions that are undecided, depth and order show nothing
-abbrev pub DeniesValue : JsonError → Type 0 → Type 0
-DeniesValue OutOfMemory P = ⊤
-DeniesValue (NoMember f) P = P → ⊥
-DeniesValue NoValue P = P → ⊥
-DeniesValue (Ambiguous x) P = ⊤
-DeniesValue (NotJson offset) P = P → ⊥
-DeniesValue (Refused path refusal) P = Denies refusal P

@@ -19,7 +19,7 @@ use Rattle.borsh_json.specs.declared.error.ReadError.{ReadError}
 use Rattle.borsh_json.specs.declared.error.ReadError.TheVariants.{OutOfMemory, Refused, Descends as DescendsAt}
 use Rattle.borsh_json.specs.declared.error.Refusal.{Refusal}
 use Rattle.borsh_json.specs.declared.error.Refusal.TheVariants.{Descends, Expected}
-use Rattle.borsh_json.specs.Errors.{Denies}
+use Rattle.borsh_json.specs.Errors.{Denies, IsUnreadable}
 use Rattle.borsh_json.specs.declared.kinds.KeyKind.{KeyKind}
 use Rattle.borsh_json.specs.declared.kinds.KeyKind.TheVariants.{Text as TextKeys, Number as NumberKeys}
 use Rattle.borsh_json.specs.declared.numbers.Number.{Number}
@@ -41,10 +41,11 @@ use Rattle.borsh_json.specs.declared.sources.Source.{Source}
 use Rattle.borsh_json.specs.declared.sources.Source.TheVariants.{One, Items as TheItems, Members as TheMembers, Entries as InPlace, Texts, Ranks}
 use Rattle.borsh_json.specs.Forms.{Form, named, form_of, shape_of_form}
 use Rattle.borsh_json.specs.Found.{forms_of, names_of}
+use Rattle.borsh_json.specs.NoValue.{RefusesJson}
 use Rattle.borsh_json.specs.Places.{IsAt, AreKeysOf}
 use Rattle.borsh_json.specs.Ranks.{HasRank}
 use Rattle.borsh_json.specs.Represents.{HaveBytes}
-use Rattle.borsh_json.specs.Reads.{Left, items_left, fields_left, entries_left, PartsOf, PartsOfAll, SaysFirst, SaysSome, IsOnly, AreRead}
+use Rattle.borsh_json.specs.Reads.{Left, items_left, fields_left, entries_left, PartsOf, PartsOfAll, Before, SaysFirst, SaysSome, IsOnly, AreRead}
 use Rattle.borsh_json.specs.Table.{Keys, Part as JsonPart, row_parts, Entry, entries_of, key_order, IsVariant, IsWhole, IsPrefixed, list_parts, Lengths, Kind, IsArray, Says}
 
 -- ---- errors
@@ -57,6 +58,11 @@ DeniesRead (DescendsAt index) P = ⊤
 abbrev pub DeniesPart : PartError → Type 0 → Type 0
 DeniesPart NoMemory P = ⊤
 DeniesPart (RefusedPart path refusal) P = Denies refusal P
+
+-- the error of a part is a true reason why the JSON isn't read
+abbrev pub IsUnread : (List ℕ → Option Form) → List ℕ → Json → PartError → Type 0
+IsUnread F root j NoMemory = ⊤
+IsUnread F root j (RefusedPart path refusal) = IsUnreadable refusal × RefusesJson F root j refusal
 
 -- an error with a path has this refusal, unless there was no memory for the path
 abbrev pub IsOf : Refusal → PartError → Type 0
@@ -252,13 +258,13 @@ module _ (F : List ℕ → Option Form) (ns : List Named) where
 
   -- what comes next: a part, which the root's JSON has in front of those that are left; a field that it has not; or no part
   abbrev pub IsNext : List ℕ → Json → List Left → Place → Source → List ℕ → Next → Type 0
-  IsNext root j ls p s out (Part at e) = (x : List ℕ) × (i : Json) × (l : Left) × IsAt ns at x × BeginsWith e i × HasLeft p.parts p.begun s l × AreRead F root j out (λ ps. (rest : List JsonPart) × PartsOfAll (l ∷ ls) rest × (ps ≡ (x, i) ∷ rest))
+  IsNext root j ls p s out (Part at e) = (x : List ℕ) × (i : Json) × (l : Left) × IsAt ns at x × BeginsWith e i × HasLeft p.parts p.begun s l × AreRead F root j out (Before (x, i) (PartsOfAll (l ∷ ls)))
   IsNext root j ls p s out Missing = SaysSome F root j → ⊥
   IsNext root j ls p s out End = (NoneLeft s → AreRead F root j out (PartsOfAll ls)) × ((NoneLeft s → ⊥) → SaysSome F root j → ⊥)
 
   -- the same of a map, whose key was added
   abbrev pub IsNextEntry : List ℕ → Json → Keys → List ℕ → List ℕ → List Entry → List Left → KeyKind → Source → List ℕ → Next → Type 0
-  IsNextEntry root j keys k v es ls kind s out (Part at e) = (t : List ℕ) × (i : Json) × (rest : List Entry) × (es ≡ (t, i) ∷ rest) × IsAt ns at v × BeginsWith e i × HasEntries kind s rest × AreRead F root j out (λ ps. (more : List JsonPart) × PartsOfAll (entries_left keys k v rest ∷ ls) more × (ps ≡ (v, i) ∷ more))
+  IsNextEntry root j keys k v es ls kind s out (Part at e) = (t : List ℕ) × (i : Json) × (rest : List Entry) × (es ≡ (t, i) ∷ rest) × IsAt ns at v × BeginsWith e i × HasEntries kind s rest × AreRead F root j out (Before (v, i) (PartsOfAll (entries_left keys k v rest ∷ ls)))
   IsNextEntry root j keys k v es ls kind s out Missing = es ≡ []
   IsNextEntry root j keys k v es ls kind s out End = ⊥
 
@@ -310,7 +316,7 @@ HasRead d root j r = IsReading (forms_of d) (names_of d) root j r.position.place
 
 -- a step of a reader of these definitions, after which it is so
 abbrev pub ReadsOn : Definitions → List ℕ → Json → Reading → Result Bool PartError → Type 0
-ReadsOn d root j r result = MatchResult result (λ more. IsReadOn (forms_of d) (names_of d) root j more r.position.place r.source r.position.outer.items r.outer.items r.out.items) (λ e. DeniesPart e (SaysSome (forms_of d) root j))
+ReadsOn d root j r result = MatchResult result (λ more. IsReadOn (forms_of d) (names_of d) root j more r.position.place r.source r.position.outer.items r.outer.items r.out.items) (λ e. IsUnread (forms_of d) root j e)
 
 -- a list of bytes was added, and its length in front; or the length is out of range
 abbrev pub AddsList : {A : Type 0} → Lengths → List ℕ → List ℕ → List ℕ → Result A ReadError → Type 0

@@ -9,6 +9,7 @@ pub mod InOrder
 pub mod Represents
 pub mod Inside
 pub mod NoJson
+pub mod NoValue
 pub mod Known
 pub mod Found
 pub mod Reads

@@ -19,9 +19,18 @@ PartsOf (fields_left fs ms n) ps = (field_parts fs ms ≡ Some ps) × (n ≡ len
 PartsOf (entries_left keys k v es) ps = ps ≡ entry_parts keys k v es
 
 -- and these those of several, the innermost first
-abbrev pub PartsOfAll : List Left → List Part → Type 0
-PartsOfAll [] ps = ps ≡ []
-PartsOfAll (l ∷ ls) ps = (a : List Part) × (b : List Part) × PartsOf l a × PartsOfAll ls b × (ps ≡ a ++ b)
+abbrev pub PartsOfAll : List Left → List (List Part) → Type 0
+PartsOfAll [] pss = pss ≡ []
+PartsOfAll (l ∷ ls) pss = (a : List Part) × (b : List (List Part)) × PartsOf l a × PartsOfAll ls b × (pss ≡ a ∷ b)
+
+-- all of them, one after another
+abbrev pub joined_parts : List (List Part) → List Part
+joined_parts [] = []
+joined_parts (ps ∷ pss) = ps ++ joined_parts pss
+
+-- the innermost begin with this part, and R holds of those behind it
+abbrev pub Before : Part → (List (List Part) → Type 0) → List (List Part) → Type 0
+Before p R pss = (a : List Part) × (b : List (List Part)) × R (a ∷ b) × (pss ≡ (p ∷ a) ∷ b)
 
 -- S holds of these bytes with the parts that P holds of, and of nothing else
 pub record IsOnly (S : List ℕ → List Part → Type 0) (own : List ℕ) (P : List Part → Type 0) : Type 0 where
@@ -37,7 +46,14 @@ module _ (F : List ℕ → Option Form) where
   abbrev pub SaysSome : List ℕ → Json → Type 0
   SaysSome x j = (bs : List ℕ) × HaveBytes F ((x, j) ∷ []) bs
 
+  -- these bytes lead to the first of the parts that are left: of those of each value around it, the innermost first
+  pub data LeadTo (root : List ℕ) (j : Json) : List ℕ → List (List Part) → Type 0 where
+    to_root : LeadTo root j [] (((root, j) ∷ []) ∷ [])
+    into_parts : {x before : List ℕ} {i : Json} {ps qs : List Part} {pss : List (List Part)} (own : List ℕ) → LeadTo root j before (((x, i) ∷ ps) ∷ pss) → SaysFirst x i own qs → LeadTo root j (before ++ own) (qs ∷ ps ∷ pss)
+    past_part : {p : Part} {before bs : List ℕ} {ps : List Part} {pss : List (List Part)} → LeadTo root j before ((p ∷ ps) ∷ pss) → HaveBytes F (p ∷ []) bs → LeadTo root j (before ++ bs) (ps ∷ pss)
+    to_end : {all : List ℕ} → LeadTo root j all []
+
   -- the root's bytes are those read so far, and then those of parts that P holds of
-  pub record AreRead (root : List ℕ) (j : Json) (out : List ℕ) (P : List Part → Type 0) : Type 0 where
-    pub sound : (ps : List Part) (bs : List ℕ) → P ps → HaveBytes F ps bs → HaveBytes F ((root, j) ∷ []) (out ++ bs)
-    pub complete : (all : List ℕ) → HaveBytes F ((root, j) ∷ []) all → (ps : List Part) × (bs : List ℕ) × P ps × (all ≡ out ++ bs) × HaveBytes F ps bs
+  pub record AreRead (root : List ℕ) (j : Json) (out : List ℕ) (P : List (List Part) → Type 0) : Type 0 where
+    pub sound : (pss : List (List Part)) (bs : List ℕ) → P pss → HaveBytes F (joined_parts pss) bs → HaveBytes F ((root, j) ∷ []) (out ++ bs)
+    pub complete : (all : List ℕ) → HaveBytes F ((root, j) ∷ []) all → (pss : List (List Part)) × (bs : List ℕ) × P pss × (all ≡ out ++ bs) × HaveBytes F (joined_parts pss) bs × LeadTo root j out pss

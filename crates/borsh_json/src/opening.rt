@@ -46,44 +46,45 @@ pub fn open_part<'a, 't, 's>(
         let name = String::from_str(definitions.alloc, definitions.name(at))?;
         return Err(ReadError::Refused(Refusal::Undefined(name)));
     };
+    open_kind(definitions, at, definition, kind, element, out)
+}
+
+fn open_kind<'a, 't, 's>(
+    definitions: &Definitions<'a, '_>,
+    at: usize,
+    definition: &'a Definition,
+    kind: Kind<'a>,
+    element: Element<'t, 's>,
+    out: &mut Vec<u8>,
+) -> Opened<'a, 't, 's>
+    ensures { let F = forms_in definitions.now.layout.now.map.now in
+        let ns = definitions.now.layout.now.names.items in let f = form_of definition.now in
+        IsKnown definitions.now → (x : List ℕ) (j : Json) → IsAt ns at x → F x ≡ Some f →
+        IsKindOf F ns x f kind.entry → BeginsWith element.entry j →
+        IsOpened F ns x j out.old.items out.new.items result }
+{
+    let alloc = definitions.alloc;
     match kind {
+        Kind::Number(number) => open_number(alloc, number, &element, out),
+        Kind::Bool => open_bool(alloc, &element, out),
+        Kind::Bytes(size) => open_bytes(alloc, size, &element, out),
+        Kind::Float(size) => open_float(alloc, size, &element, out),
+        Kind::Text => open_text(alloc, definition, &element, out),
+        Kind::ByteList(elements) => open_byte_list(alloc, definition, elements, &element, out),
+        Kind::Numbers(elements) => open_list(alloc, definition, elements, &element, out),
+        Kind::List(elements) => open_list(alloc, definition, elements, &element, out),
+        Kind::Map(entries, _) => open_map(alloc, definition, entries, &element, out),
+        Kind::Row(count) => open_row(alloc, at, count, &element),
         Kind::Newtype(part) => Ok(only(Parts::Newtype(part), element)),
+        Kind::Object(fields) => open_object(alloc, at, fields, &element),
         Kind::Optional(part) => open_option(part, element, out),
         Kind::Choice(width, variants) => {
             open_variant(definitions, at, width, variants, &element, out)
         }
-        _ => open_kind(definitions.alloc, at, definition, kind, &element, out),
-    }
-}
-
-fn open_kind<'a, 't, 's>(
-    alloc: Global,
-    at: usize,
-    definition: &'a Definition,
-    kind: Kind<'a>,
-    element: &Element<'t, 's>,
-    out: &mut Vec<u8>,
-) -> Opened<'a, 't, 's>
-    ensures { Opens (λ F ns x. (f : Form) × IsAt ns at x × (F x ≡ Some f) × (f ≡ form_of definition.now) × IsKindOf F ns x f kind.entry)
-        element.now out.old.items out.new.items result }
-{
-    match kind {
-        Kind::Number(number) => open_number(alloc, number, element, out),
-        Kind::Bool => open_bool(alloc, element, out),
-        Kind::Bytes(size) => open_bytes(alloc, size, element, out),
-        Kind::Float(size) => open_float(alloc, size, element, out),
-        Kind::Text => open_text(alloc, definition, element, out),
-        Kind::ByteList(elements) => open_byte_list(alloc, definition, elements, element, out),
-        Kind::Numbers(elements) => open_list(alloc, definition, elements, element, out),
-        Kind::List(elements) => open_list(alloc, definition, elements, element, out),
-        Kind::Map(entries, _) => open_map(alloc, definition, entries, element, out),
-        Kind::Row(count) => open_row(alloc, at, count, element),
-        Kind::Object(fields) => open_object(alloc, at, fields, element),
         Kind::Repeated(name) => {
             let name = String::from_str(alloc, name)?;
             Err(ReadError::Refused(Refusal::RepeatedName(name)))
         }
-        _ => Err(ReadError::Refused(Refusal::TooDeep)),
     }
 }
 
@@ -451,7 +452,7 @@ fn open_items<'a, 't, 's>(
             Err(error) => Err(error),
         },
         Array::No => Err(expected(alloc, "an array")),
-        Array::TooLong => Err(ReadError::Refused(Refusal::TooDeep)),
+        Array::TooLong => Err(ReadError::OutOfMemory),
     }
 }
 
@@ -476,7 +477,7 @@ fn open_row<'a, 't, 's>(
             }
         }
         Array::No => Err(wrong_row(alloc, count)),
-        Array::TooLong => Err(ReadError::Refused(Refusal::TooDeep)),
+        Array::TooLong => Err(ReadError::OutOfMemory),
     }
 }
 

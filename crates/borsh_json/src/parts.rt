@@ -1,9 +1,9 @@
 // The reader's loop over the parts of a value.
-ghost use Rattle.borsh_json.specs.Words.{AreKeysOf, AreRead, BeginsWith, DeniesPart, DeniesRead, Entry, Form, HasEntries, HasKinds, HasLeft, HasRead, HaveBytes, HaveLeft, IsAt, IsEntryKey, IsKnown, IsNext, IsNextEntry, IsOf, Json, JsonPart, Keys, Left, NamedPlace, NextMissing, NextPart, NoneLeft, PartsOfAll, ReadsOn, SaysFirst, SaysSome, TooDeep, entries_left, form_of, forms_in, forms_of, key_json, names_of};
-ghost use Rattle.std.specs.Prelude.{◌≡◌, ◌∷◌, ◌++◌, [], true, IfErr, IfOk, ℕ, List, MatchOption, MatchResult, OnOk, Option};
+ghost use Rattle.borsh_json.specs.Words.{AreKeysOf, AreRead, Before, BeginsWith, DeniesRead, Entry, Form, HasEntries, HasKinds, HasLeft, HasRead, HaveBytes, HaveLeft, IsAt, IsEntryKey, IsFull, IsKnown, IsNext, IsNextEntry, IsUnread, Json, Keys, Left, NamedPlace, NextMissing, NextPart, NoneLeft, PartsOfAll, ReadsOn, SaysFirst, SaysSome, entries_left, form_of, forms_in, forms_of, key_json, names_of};
+ghost use Rattle.std.specs.Prelude.{◌≡◌, ◌∷◌, ◌++◌, [], true, IfErr, IfOk, ℕ, List, MatchOption, MatchResult, OnOk, Option, length};
 
 use crate::definitions::Definitions;
-use crate::error::{PartResult, ReadError, Refusal};
+use crate::error::{PartError, PartResult, ReadError, Refusal};
 use crate::kinds::{Entries, KeyKind};
 use crate::opening::{Frame, open_part, put_list, put_number};
 use crate::position::{Key, Place, Position};
@@ -32,7 +32,7 @@ pub fn read_value<'a>(
         let root = definitions.now.layout.now.root.now in
         HasKinds definitions.now → (j : Json) → BeginsWith element.entry j →
         MatchResult result (λ v. HaveBytes F ((root, j) ∷ []) v.items)
-        (λ e. DeniesPart e (SaysSome F root j)) }
+        (λ e. IsUnread F root j e) }
 {
     let alloc = definitions.alloc;
     let position = Position::new(alloc, definitions.layout.root);
@@ -54,7 +54,8 @@ pub fn read_value<'a>(
             Err(error) => return Err(error),
         }
     }
-    Err(reading.position.refused(Refusal::TooDeep))
+    // No text has so many parts.
+    Err(PartError::OutOfMemory)
 }
 
 /// The bytes so far, and where the reader is, with the JSON of the parts around it.
@@ -102,8 +103,7 @@ impl<'a, 't, 's> Reading<'a, 't, 's> {
             (ls : List Left) → IsAt ns at x → BeginsWith part.entry i →
             HasLeft F ns self.old.position.place.parts self.old.position.place.begun self.old.source l →
             HaveLeft F ns self.old.position.outer.items self.old.outer.items ls →
-            AreRead F root j self.old.out.items
-            (λ ps. (rest : List JsonPart) × PartsOfAll (l ∷ ls) rest × (ps ≡ (x, i) ∷ rest)) →
+            AreRead F root j self.old.out.items (Before (x, i) (PartsOfAll (l ∷ ls))) →
             ReadsOn definitions.now root j self.new result }
     {
         match open_part(definitions, at, part, &mut self.out) {
@@ -122,7 +122,7 @@ impl<'a, 't, 's> Reading<'a, 't, 's> {
             ((self.new.position.outer.items ≡ self.old.position.outer.items ++ self.old.position.place ∷ []) ×
             (self.new.outer.items ≡ self.old.outer.items ++ self.old.source ∷ [])) }
         ensures same { OnOk result (self.new.out ≡ self.old.out) }
-        ensures too_deep { IfErr result (IsOf TooDeep) }
+        ensures full { IfErr result (IsFull (length self.old.position.outer.items)) }
     {
         self.position.enter(frame.place)?;
         self.outer

@@ -1,5 +1,5 @@
 // The bytes of a value that JSON says.
-ghost use Rattle.borsh_json.specs.Words.{DeniesValue, HasKinds, HaveBytes, IsTextReason, Json, SaysBy, SaysSome, TextSays, definitions_in, document, forms_in};
+ghost use Rattle.borsh_json.specs.Words.{HasKinds, HaveBytes, IsTextReason, Json, SaysBy, ShowsNoValue, TextSays, definitions_in, document, forms_in};
 ghost use Rattle.std.specs.Prelude.{◌≡◌, ◌∷◌, [], ℕ, IfErr, IfOk, List, Some};
 
 use crate::definitions::Definitions;
@@ -19,10 +19,10 @@ use std::collections::BTreeMap;
 /// definitions is refused with its path and what was expected; so are keys that come twice, the bits of a NaN, and arrays whose
 /// elements or keys don't ascend where they have to. The bytes are a member of the root.
 ///
-/// Determined: after `Ok` the text says the bytes, and no others. After any error but `OutOfMemory`, `Ambiguous`, and a refusal
-/// for depth or order, it says none. `NotJson` is of a text that isn't JSON, `Ambiguous` as of [`borsh_values::is_member`], and
-/// `NoMember` isn't returned. Left open: memory; whether elements and keys ascend; the path and reason of a refusal; the byte of
-/// `NotJson`: tested.
+/// Determined: after `Ok` the text says the bytes, and no others. After any error but `OutOfMemory`, `Ambiguous` and `Descends`
+/// it says none, or, after `TooDeep`, bytes that lead into 128 parts, one inside another. `NotJson` is of a text that isn't JSON,
+/// `Ambiguous` as of [`borsh_values::is_member`], and `NoMember` isn't returned. Left open: memory; whether elements and keys
+/// ascend; the path and reason of a refusal; the byte of `NotJson`: tested.
 ///
 /// ```
 /// let bytes = from_json(alloc, "(u8, bool)", &definitions, "[7, true]")?;
@@ -38,8 +38,7 @@ pub fn from_json<'a>(
         IfOk result (λ bytes. TextSays F root.now text.now bytes.items) }
     ensures determined { let F = forms_in map.now in (bytes : List ℕ) →
         TextSays F root.now text.now bytes → IfOk result (λ found. found.items ≡ bytes) }
-    ensures denies { let F = forms_in map.now in
-        IfErr result (λ e. DeniesValue e ((bytes : List ℕ) × TextSays F root.now text.now bytes)) }
+    ensures denies { IfErr result (ShowsNoValue (forms_in map.now) root.now text.now) }
     ensures reason { IfErr result (λ e. IsTextReason (definitions_in map.now) root.now text.now e) }
 {
     let layout = Layout::new(alloc, root, map)?;
@@ -54,8 +53,8 @@ impl<'a, 'l> Definitions<'a, 'l> {
         ensures says { IfOk result (λ bytes. SaysBy self.now text.now bytes.items) }
         ensures determined { (bytes : List ℕ) → SaysBy self.now text.now bytes →
             IfOk result (λ found. found.items ≡ bytes) }
-        ensures denies { IfErr result (λ e.
-            DeniesValue e ((bytes : List ℕ) × SaysBy self.now text.now bytes)) }
+        ensures denies { let layout = self.now.layout.now in
+            IfErr result (ShowsNoValue (forms_in layout.map.now) layout.root.now text.now) }
         ensures reason { let layout = self.now.layout.now in
             IfErr result (λ e. IsTextReason (definitions_in layout.map.now) layout.root.now text.now e) }
     {
@@ -73,9 +72,8 @@ impl<'a, 'l> Definitions<'a, 'l> {
         ensures says { let layout = self.now.layout.now in let F = forms_in layout.map.now in
             IfOk result (λ bytes. (j : Json) × (document text.now ≡ Some j) ×
             HaveBytes F ((layout.root.now, j) ∷ []) bytes.items) }
-        ensures denies { let layout = self.now.layout.now in let F = forms_in layout.map.now in
-            IfErr result (λ e. DeniesValue e ((j : Json) × (document text.now ≡ Some j) ×
-            SaysSome F layout.root.now j)) }
+        ensures denies { let layout = self.now.layout.now in
+            IfErr result (ShowsNoValue (forms_in layout.map.now) layout.root.now text.now) }
         ensures reason { let layout = self.now.layout.now in
             IfErr result (λ e. IsTextReason (definitions_in layout.map.now) layout.root.now text.now e) }
     {

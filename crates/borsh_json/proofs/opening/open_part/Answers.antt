@@ -1,12 +1,8 @@
-use Rattle.std.proofs.Common.{◌≡◌, inl, inr, ℕ, List, [], Option, None, sym, subst, refl, append-nil}
+use Rattle.std.proofs.Common.{◌≡◌, inl, inr, ℕ, List, Option, None, refl}
 use Rattle.json.specs.Json.{Json}
-use Rattle.borsh_json.specs.declared.kinds.Kind.{Kind}
-use Rattle.borsh_json.specs.declared.position.Parts.TheVariants.{Newtype}
-use Rattle.borsh_json.specs.Forms.{Form, HasNoBytes, form_of, forms_in}
-use Rattle.borsh_json.specs.Places.{IsKindOf}
+use Rattle.borsh_json.specs.Forms.{Form, HasNoBytes, forms_in}
 use Rattle.borsh_json.specs.Reads.{SaysSome}
-use Rattle.borsh_json.specs.Table.{inner}
-use Rattle.borsh_json.proofs.OpeningLaws.{unmoved, only_found}
+use Rattle.borsh_json.proofs.OpeningLaws.{unmoved}
 use Rattle.borsh_json.proofs.ReaderLaws.{uncons}
 use Rattle.borsh_json.proofs.opening.open_part.Goals as goal
 
@@ -30,35 +26,9 @@ returns-in_default c k x j at b =
     let full : HasNoBytes F x → ⊥ = λ z. (let q = (c.is_zero_size.ensures k.known x at).1 z in let s = c.if-is_zero_size.false in cc) in
     undefined_says F x j (c.in_default.ensures k x at full) full
 
-pub returns-in-Newtype : goal.returns-in-Newtype
-returns-in-Newtype c k x j at b =
+pub returns : goal.returns
+returns c k x j at b =
     let F = forms_in c.args.definitions.now.layout.now.map.now in
-    let ns = c.args.definitions.now.layout.now.names.items in
-    let f = form_of c.in-Some.definition.now in
-    let r = c.in-Some.ensures k x at (λ z. let q = (c.is_zero_size.ensures k.known x at).1 z in let s = c.if-is_zero_size.false in cc) in
-    let d = subst (λ (q : Kind). IsKindOf F ns x f q) c.in-Newtype.is r.1 in
-    ([], sym (append-nil c.args.out.now.items), only_found F ns x j (inner d.0) [] (Newtype c.in-Newtype.part) d.0 j c.args.element c.only.result c.only.ensures (λ i. (d.0, refl, λ ws e. (d.0, d.1, e))) (λ q. q) d.2 b (refl, refl))
-
-pub returns-in-Optional : goal.returns-in-Optional
-returns-in-Optional c k x j at b =
-    let F = forms_in c.args.definitions.now.layout.now.map.now in
-    let ns = c.args.definitions.now.layout.now.names.items in
-    let f = form_of c.in-Some.definition.now in
-    let r = c.in-Some.ensures k x at (λ z. let q = (c.is_zero_size.ensures k.known x at).1 z in let s = c.if-is_zero_size.false in cc) in
-    c.open_option.ensures F ns x j (subst (λ (q : Kind). IsKindOf F ns x f q) c.in-Optional.is r.1) b
-
-pub returns-in-Choice : goal.returns-in-Choice
-returns-in-Choice c k x j at b =
-    let F = forms_in c.args.definitions.now.layout.now.map.now in
-    let ns = c.args.definitions.now.layout.now.names.items in
-    let f = form_of c.in-Some.definition.now in
-    let r = c.in-Some.ensures k x at (λ z. let q = (c.is_zero_size.ensures k.known x at).1 z in let s = c.if-is_zero_size.false in cc) in
-    let d = subst (λ (q : Kind). IsKindOf F ns x f q) c.in-Choice.is r.1 in
-    c.open_variant.ensures k.known x j at d.1 d.0 b
-
-pub returns-in_default-kind : goal.returns-in_default-kind
-returns-in_default-kind c k x j at b =
-    let F = forms_in c.args.definitions.now.layout.now.map.now in
-    let ns = c.args.definitions.now.layout.now.names.items in
-    let r = c.in-Some.ensures k x at (λ z. let q = (c.is_zero_size.ensures k.known x at).1 z in let s = c.if-is_zero_size.false in cc) in
-    c.open_kind.ensures F ns x j (form_of c.in-Some.definition.now, at, r.0, refl, r.1) b
+    let full : HasNoBytes F x → ⊥ = λ z. (let q = (c.is_zero_size.ensures k.known x at).1 z in let s = c.if-is_zero_size.false in cc) in
+    let r = c.in-Some.ensures k x at full in
+    c.open_kind.ensures k.known x j at r.0 r.1 b

@@ -1,6 +1,6 @@
-use Rattle.std.proofs.Common.{◌≡◌, ◌∷◌, List, ℕ, sym, subst}
-use Rattle.borsh_json.specs.Reads.{AreRead, PartsOfAll, entries_left}
-use Rattle.borsh_json.specs.Table.{Entry, Part}
+use Rattle.std.proofs.Common.{◌∷◌, List, ℕ, sym, subst}
+use Rattle.borsh_json.specs.Reads.{AreRead, Before, PartsOfAll, entries_left}
+use Rattle.borsh_json.specs.Table.{Entry}
 use Rattle.borsh_json.proofs.LoopLaws.{key_added, key_denied}
 use Rattle.borsh_json.proofs.parts.next_entry.Goals as goal
 
@@ -10,7 +10,7 @@ returns-in-Ok c F ns root j keys k v es ls at ks he r =
     let o = c.in-Ok.ensures F ns k keys t.0 ks t.4 in
     let out = c.args.out.now.items in
     let r2 = subst (λ (es : List Entry). AreRead F root j out (PartsOfAll (entries_left keys k v es ∷ ls))) t.3 r in
-    (t.0, t.1, t.2, t.3, at, t.5, t.6, subst (λ (l : List ℕ). AreRead F root j l (λ ps. (more : List Part) × PartsOfAll (entries_left keys k v t.2 ∷ ls) more × (ps ≡ (v, t.1) ∷ more))) (sym o.1) (key_added F ns root j keys k v t.0 o.0 t.1 t.2 ls out o.2 r2))
+    (t.0, t.1, t.2, t.3, at, t.5, t.6, subst (λ (l : List ℕ). AreRead F root j l (Before (v, t.1) (PartsOfAll (entries_left keys k v t.2 ∷ ls)))) (sym o.1) (key_added F ns root j keys k v t.0 o.0 t.1 t.2 ls out o.2 r2))
 
 pub returns-in-Err : goal.returns-in-Err
 returns-in-Err c F ns root j keys k v es ls at ks he r =

@@ -1,11 +1,8 @@
 use Rattle.std.proofs.Common.{◌≡◌, List, ℕ, sym, subst, true, false, Some}
 use Rattle.std.specs.Prelude.{Bool}
-use Rattle.borsh_json.specs.declared.error.Refusal.TheVariants.{TooDeep}
 use Rattle.borsh_json.specs.declared.sources.Source.TheVariants.{One}
 use Rattle.borsh_json.specs.Forms.{forms_in}
 use Rattle.borsh_json.specs.Frames.{IsReading, IsReadOn}
-use Rattle.borsh_json.specs.Reads.{SaysSome}
-use Rattle.borsh_json.proofs.OpeningLaws.{denies_of}
 use Rattle.borsh_json.proofs.ReadingLaws.{reading_start, reading_same}
 use Rattle.borsh_json.proofs.parts.read_value.Goals as goal
 
@@ -40,8 +37,3 @@ returns-then-not-more c a j b =
 pub returns-in-Err : goal.returns-in-Err
 returns-in-Err c a j b =
     c.in-Err.ensures a c.args.definitions.now.layout.now.root.now j (c.loop.invariant a j b)
-
-pub returns : goal.returns
-returns c a j b =
-    let y = c.args.definitions.now.layout.now in
-    denies_of TooDeep c.refused.result (SaysSome (forms_in y.map.now) y.root.now j) c.refused.ensures.same tt

@@ -1,8 +1,9 @@
 use Rattle.std.proofs.Common.{◌≡◌, ℕ, List}
 use Rattle.std.specs.Prelude.{IfOk, IfErr}
 use Rattle.borsh_walks.specs.Definitions.{definitions_in}
-use Rattle.borsh_json.specs.Errors.{DeniesValue, IsTextReason}
+use Rattle.borsh_json.specs.Errors.{IsTextReason}
 use Rattle.borsh_json.specs.Forms.{forms_in}
+use Rattle.borsh_json.specs.NoValue.{ShowsNoValue}
 use Rattle.borsh_json.specs.Represents.{TextSays}
 use Rattle.borsh_json.proofs.LaidLaws.{by_layout, laid_by}
 use Rattle.borsh_json.proofs.reading.from_json.Goals as goal
@@ -25,7 +26,7 @@ returns-clause-determined c =
 pub returns-clause-denies : goal.returns-clause-denies
 returns-clause-denies c =
     let l = c.in_ok-layout.ensures in
-    by_layout (λ root map. IfErr c.from_json.result (λ e. DeniesValue e ((bytes : List ℕ) × TextSays (forms_in map.now) root.now c.args.text.now bytes))) c.in_ok-json.json c.in_ok-layout.layout c.args.root c.args.map c.in_ok-json.ensures.layout l.same.0 l.same.1 c.from_json.ensures.denies
+    by_layout (λ root map. IfErr c.from_json.result (λ e. ShowsNoValue (forms_in map.now) root.now c.args.text.now e)) c.in_ok-json.json c.in_ok-layout.layout c.args.root c.args.map c.in_ok-json.ensures.layout l.same.0 l.same.1 c.from_json.ensures.denies
 
 pub returns-clause-reason : goal.returns-clause-reason
 returns-clause-reason c =

@@ -25,14 +25,14 @@ returns-in-Member-clause-determined c bytes s =
     text_one (forms_in y.map.now) y.root.now c.args.text.now (said_by c.args.self.now c.args.text.now read read c.in_ok-bytes.ensures.says refl (subst (λ b. Member (definitions_in y.map.now) y.root.now b) c.as_slice.ensures.value m)) s
 
 pub returns-in-NoMember-clause-denies : goal.returns-in-NoMember-clause-denies
-returns-in-NoMember-clause-denies c s =
+returns-in-NoMember-clause-denies c bytes s =
     let y = c.args.self.now.layout.now in
     let F = forms_in y.map.now in
     let C = definitions_in y.map.now in
     let root = y.root.now in
     let m = subst (IsAnswer C root c.as_slice.result.now) c.in-NoMember.is c.in_ok-is_member.ensures.answer in
     let r = c.in_ok-bytes.ensures.says in
-    let e : Some r.0 ≡ Some s.1.0 = sym r.1 ∙ s.1.1 in
-    let q : r.0 ≡ s.1.0 = cc in
-    let one = bytes_one F (subst (λ (j : Json). HaveBytes F ((root, j) ∷ []) c.in_ok-bytes.bytes.items) q r.2) s.1.2 in
-    m.0 (subst (λ b. Member C root b) (sym (c.as_slice.ensures.value ∙ one)) (text_member y.map.now root c.args.text.now s.0 s.1))
+    let e : Some r.0 ≡ Some s.0 = sym r.1 ∙ s.1 in
+    let q : r.0 ≡ s.0 = cc in
+    let one = bytes_one F (subst (λ (j : Json). HaveBytes F ((root, j) ∷ []) c.in_ok-bytes.bytes.items) q r.2) s.2 in
+    m.0 (subst (λ b. Member C root b) (sym (c.as_slice.ensures.value ∙ one)) (text_member y.map.now root c.args.text.now bytes s))

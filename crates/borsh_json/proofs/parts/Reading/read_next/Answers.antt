@@ -4,7 +4,7 @@ use Rattle.borsh_json.specs.declared.parts.Next.{Next}
 use Rattle.borsh_json.specs.Forms.{forms_in}
 use Rattle.borsh_json.specs.Frames.{IsNext}
 use Rattle.borsh_json.specs.Reads.{SaysSome}
-use Rattle.borsh_json.proofs.OpeningLaws.{denies_part, denies_of}
+use Rattle.borsh_json.proofs.OpeningLaws.{denies_of, unread_of, unread_part}
 use Rattle.borsh_json.proofs.ReadingLaws.{reading_same}
 use Rattle.borsh_json.proofs.parts.Reading.read_next.Goals as goal
 
@@ -22,7 +22,7 @@ returns-in-Missing c k root j r =
     let ns = c.args.definitions.now.layout.now.names.items in
     let s = reading_same F ns root j c.ascends.ensures.0 c.ascends.ensures.1 r in
     let n = subst (λ (n : Next). IsNext F ns root j s.around c.take_next.new.place c.take_next.new.source c.take_next.new.out.items n) c.in-Missing.is (c.in-Ok.ensures k.known root j s.inner s.around s.here s.read) in
-    denies_of MissingField c.refused.result (SaysSome F root j) c.refused.ensures.same n
+    unread_part F root j c.refused.result (denies_of MissingField c.refused.result (SaysSome F root j) c.refused.ensures.same n)
 
 pub returns-in-End : goal.returns-in-End
 returns-in-End c k root j r =
@@ -37,4 +37,4 @@ returns-in-Err c k root j r =
     let F = forms_in c.args.definitions.now.layout.now.map.now in
     let ns = c.args.definitions.now.layout.now.names.items in
     let s = reading_same F ns root j c.ascends.ensures.0 c.ascends.ensures.1 r in
-    denies_part c.in-Err.error c.refused_part.result (SaysSome F root j) c.refused_part.ensures.same (c.in-Err.ensures k.known root j s.inner s.around s.here s.read)
+    unread_of F root j c.in-Err.error c.refused_part.result c.refused_part.ensures.same (c.in-Err.ensures k.known root j s.inner s.around s.here s.read)
