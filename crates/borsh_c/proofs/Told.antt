@@ -14,13 +14,14 @@ use Rattle.borsh_values.specs.Membership.{IsUndecided}
 use Rattle.borsh_values.proofs.Valid.{none_ambiguous}
 use Rattle.borsh_json.specs.declared.error.JsonError.{JsonError}
 use Rattle.borsh_json.specs.declared.error.JsonError.TheVariants.{OutOfMemory as NoJsonRoom, NoMember, NoValue, Ambiguous, NotJson, Refused}
-use Rattle.borsh_json.specs.Errors.{DeniesValue, IsNoJsonReason, IsTextReason}
+use Rattle.borsh_json.specs.Errors.{IsNoJsonReason, IsTextReason}
 use Rattle.borsh_json.specs.Forms.{forms_in}
 use Rattle.borsh_json.specs.NoJson.{ShowsNoJson}
+use Rattle.borsh_json.specs.NoValue.{ShowsNoValue}
 use Rattle.borsh_c.specs.declared.refusal.Refusal.{Refusal}
 use Rattle.borsh_c.specs.declared.refusal.Refusal.TheVariants.{No, Malformed, OutOfMemory, Undecided}
 use Rattle.borsh_c.specs.declared.refusal.Said.{Said}
-use Rattle.borsh_c.specs.Answers.{Answers, AreBytesOf, Definitions, Saying, About, Gives, HasNoJson, HasNoSize, IsInvalid, IsNo, IsNoText, IsRefused, IsShort, IsUnclear, IsUnsized, Tells, code_of, offset_in, told_offset, told_text, unclear_text}
+use Rattle.borsh_c.specs.Answers.{Answers, Definitions, Saying, About, Gives, HasNoJson, HasNoSize, IsInvalid, IsNo, IsNoText, IsRefused, IsShort, IsUnclear, IsUnsized, Tells, code_of, offset_in, told_offset, told_text, unclear_text}
 use Rattle.borsh_c.specs.Answers.Answers.{yes, no, malformed, out_of_memory, undecided}
 use Rattle.borsh_c.specs.Answers.IsUnsized.{overflows, recurs, misses}
 use Rattle.borsh_c.specs.Room.{IsGiven}
@@ -84,7 +85,7 @@ module _ {schema : List ℕ} (c : String Global × Definitions) (encoded : root_
   bytes_refused value e reason shows OutOfMemory told = tt
   bytes_refused value e reason shows (Undecided t) told = unclear_told (subst (IsNoJsonReason C root value) told.1 reason) told.2
 
-  pub text_refused : (json : List ℕ) (e : JsonError) → IsTextReason C root json e → DeniesValue e ((value : List ℕ) × AreBytesOf json value c.1 root) → (r : Refusal) → TellsNoValue e r → IsRefused schema (IsNoText json) IsUnclear r
+  pub text_refused : (json : List ℕ) (e : JsonError) → IsTextReason C root json e → ShowsNoValue (forms_in c.1) root json e → (r : Refusal) → TellsNoValue e r → IsRefused schema (IsNoText json) IsUnclear r
   text_refused json e reason denies (No t) told = about_told (IsNoText json t.offset (string_bytes t.text)) (told.2, inr (e, told.1, told.0, reason, denies))
   text_refused json e reason denies (Malformed t) told = absurd told
   text_refused json e reason denies OutOfMemory told = tt

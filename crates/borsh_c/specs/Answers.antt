@@ -2,11 +2,12 @@
 use Rattle.std.specs.Prelude.{◌≡◌, ◌⊎◌, ◌^◌, ◌<◌, ◌≤◌, ◌++◌, ⊤, ℕ, List, [], length, Bool, true, false, Option, None, Some, String, string_bytes, codes, IsUtf8}
 use Rattle.std.specs.Global.{Global}
 use Rattle.std.specs.BTreeMap.{BTreeMap}
-use Rattle.borsh_json.specs.Errors.{DeniesValue, IsTextReason}
+use Rattle.borsh_json.specs.Errors.{IsTextReason}
 use Rattle.borsh_json.specs.Forms.{forms_in}
 use Rattle.borsh_json.specs.Printed.{IsPrinted}
 use Rattle.borsh_json.specs.Represents.{TextSays}
 use Rattle.borsh_json.specs.NoJson.{RefusesBytes}
+use Rattle.borsh_json.specs.NoValue.{ShowsNoValue}
 use Rattle.borsh_json.specs.declared.error.JsonError.{JsonError}
 use Rattle.borsh_json.specs.declared.error.JsonError.TheVariants.{OutOfMemory as NoJsonRoom, NoMember, NoValue, Ambiguous, NotJson, Refused}
 use Rattle.borsh_json.specs.declared.error.Refusal.{Refusal as JsonRefusal}
@@ -171,8 +172,7 @@ IsNo (Refused path refusal) = ⊤
 -- there is a reason why the text says no value, which has the offset
 abbrev pub SaysNone : List ℕ → Option ℕ → Definitions → List ℕ → Type 0
 SaysNone json offset m root =
-    (e : JsonError) × IsNo e × (offset ≡ offset_in e) × IsTextReason (definitions_in m) root json e
-    × DeniesValue e ((value : List ℕ) × AreBytesOf json value m root)
+    (e : JsonError) × IsNo e × (offset ≡ offset_in e) × IsTextReason (definitions_in m) root json e × ShowsNoValue (forms_in m) root json e
 
 -- the JSON isn't UTF-8, or there is a reason why it says no value
 abbrev pub IsNoText : List ℕ → Option ℕ → List ℕ → Saying

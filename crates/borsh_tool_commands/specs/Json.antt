@@ -3,10 +3,11 @@ use Rattle.std.specs.Prelude.{◌≡◌, ℕ, All, Bool, true, false, List, Stri
 use Rattle.std.specs.Global.{Global}
 use Rattle.std.specs.BTreeMap.{BTreeMap}
 use Rattle.borsh_json.specs.Ascii.{IsInLine}
-use Rattle.borsh_json.specs.Errors.{DeniesValue, IsNoJsonReason, IsTextReason}
+use Rattle.borsh_json.specs.Errors.{IsNoJsonReason, IsTextReason}
 use Rattle.borsh_json.specs.Forms.{forms_in}
 use Rattle.borsh_json.specs.Represents.{TextSays}
-use Rattle.borsh_json.specs.Words.{ShowsNoJson}
+use Rattle.borsh_json.specs.NoJson.{ShowsNoJson}
+use Rattle.borsh_json.specs.NoValue.{ShowsNoValue}
 use Rattle.borsh_json.specs.declared.error.JsonError.{JsonError}
 use Rattle.borsh_json.specs.declared.error.JsonError.TheVariants.{OutOfMemory as NoMemory}
 use Rattle.borsh_json.specs.declared.output.Layout.{Layout}
@@ -39,4 +40,4 @@ module _ (map : BTreeMap (String Global) Definition) (root : List ℕ) where
 
   -- the text is no JSON, or the definitions are undecided, or a part of it says no value
   abbrev pub SaysNone : List ℕ → Type 0
-  SaysNone text = HasReason (λ e. IsTextReason (definitions_in map) root text e × DeniesValue e ((bytes : List ℕ) × IsJson text bytes))
+  SaysNone text = HasReason (λ e. IsTextReason (definitions_in map) root text e × ShowsNoValue (forms_in map) root text e)

@@ -9,4 +9,4 @@ returns-in-Ok-clause-ok c =
 
 pub returns-clause-err : goal.returns-clause-err
 returns-clause-err c =
-    bytes_refused (c.in_ok-root.root, c.in_ok-root.definitions) c.in_ok-root.ensures.ok c.as_str.result.now c.as_str.ensures.value c.args.value.now c.in-Err.error c.in-Err.ensures.reason (c.in-Err.ensures.refused c.requires) c.in_ok-no_value-in-Err.field-0 c.in_ok-no_value-in-Err.ensures
+    bytes_refused (c.in_ok-root.root, c.in_ok-root.definitions) c.in_ok-root.ensures.ok c.as_str.result.now c.as_str.ensures.value c.args.value.now c.in-Err.error c.in-Err.ensures.reason c.in-Err.ensures.refused c.in_ok-no_value-in-Err.field-0 c.in_ok-no_value-in-Err.ensures

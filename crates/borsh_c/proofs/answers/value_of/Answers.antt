@@ -1,12 +1,14 @@
-use Rattle.std.proofs.Common.{ℕ, List, refl, string_bytes, subst}
+use Rattle.std.proofs.Common.{ℕ, List, arith, inl, refl, string_bytes, subst, sym}
 use Rattle.borsh_json.specs.Forms.{forms_in}
 use Rattle.borsh_json.specs.Represents.{TextSays}
-use Rattle.borsh_c.specs.Answers.{AreBytesOf, IsNoText, IsRefused, IsUnclear}
+use Rattle.borsh_c.specs.Answers.{AreBytesOf, IsNoText, IsRefused, IsShort, IsUnclear}
 use Rattle.borsh_c.proofs.Told.{about_told, no_told, text_refused}
 use Rattle.borsh_c.proofs.answers.value_of.Goals as goal
 
 pub returns-in_default-clause-err : goal.returns-in_default-clause-err
-returns-in_default-clause-err c = no_told (c.in_ok-root.root, c.in_ok-root.definitions) c.in_ok-root.ensures.ok (string_bytes c.in_ok-root.root) refl (IsNoText c.args.json.now) IsUnclear tt c.no.result c.no.ensures
+returns-in_default-clause-err c =
+    let short = subst IsShort (sym c.in_ok-from_str.ensures.ok) (omega arith) in
+    no_told (c.in_ok-root.root, c.in_ok-root.definitions) c.in_ok-root.ensures.ok (string_bytes c.in_ok-root.root) refl (IsNoText c.args.json.now) IsUnclear (short, inl (refl, c.in_default.ensures.cases.0)) c.no.result c.no.ensures
 
 pub returns-in-Ok-from_json-clause-ok : goal.returns-in-Ok-from_json-clause-ok
 returns-in-Ok-from_json-clause-ok c =

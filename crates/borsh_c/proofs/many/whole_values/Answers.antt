@@ -1,4 +1,4 @@
-use Rattle.std.proofs.Common.{ℕ, Option, arith, length, refl, subst, sym, take}
+use Rattle.std.proofs.Common.{ℕ, Option, arith, length, refl, subst, sym, take, string_bytes}
 use Rattle.borsh_walks.specs.Definitions.{definitions_in}
 use Rattle.borsh_c.specs.Answers.{IsUnclear, Saying}
 use Rattle.borsh_c.specs.Many.{AreLengths, BeginWith, IsCut, IsNoRecord, IsStop, behind}

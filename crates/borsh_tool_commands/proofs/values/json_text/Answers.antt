@@ -1,6 +1,6 @@
 use Rattle.borsh_json.specs.Errors.{IsNoJsonReason}
 use Rattle.borsh_json.specs.Forms.{forms_in}
-use Rattle.borsh_json.specs.Words.{ShowsNoJson}
+use Rattle.borsh_json.specs.NoJson.{ShowsNoJson}
 use Rattle.borsh_walks.specs.Definitions.{definitions_in}
 use Rattle.borsh_tool_commands.proofs.Failing.{led, reasoned}
 use Rattle.borsh_tool_commands.proofs.values.json_text.Goals as goal
