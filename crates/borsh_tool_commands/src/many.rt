@@ -107,23 +107,15 @@ fn make_answers<'a, E: Eprint, R: Read + Drop, W: Write>(
         Writes (AnswersMany action form many.now.is_strict l (R.stream input).bytes)
         W.writing out.old out.new made.new.items result }
 {
-    let is_lenient = !many.is_strict;
+    let lenient = !many.is_strict;
     match action {
         Action::Decode => match form {
             Form::Records => decode_records(many, input, progress, made, out),
-            Form::Lines => answer_lines(many, Wanted::Json, is_lenient, input, progress, made, out),
+            Form::Lines => answer_lines(many, Wanted::Json, lenient, input, progress, made, out),
         },
         Action::Encode => match form {
             Form::Records => encode_records(many, input, progress, made, out),
-            Form::Lines => answer_lines(
-                many,
-                Wanted::Digits,
-                is_lenient,
-                input,
-                progress,
-                made,
-                out,
-            ),
+            Form::Lines => answer_lines(many, Wanted::Digits, lenient, input, progress, made, out),
         },
         Action::Member => make_count(many, input, progress, made),
         Action::Show => Err(Failure::NoCommand),

@@ -78,17 +78,12 @@ fn yes(output: Vec<u8>) -> Reply
 
 /// How JSON is written.
 pub fn style_of(request: &ValueRequest<'_>) -> Style {
-    Style {
-        layout: if request.is_compact {
-            Layout::Compact
-        } else {
-            Layout::Pretty
-        },
-        long_numbers: if request.has_quoted_numbers {
-            LongNumbers::Quoted
-        } else {
-            LongNumbers::Plain
-        },
-        ..Style::COMPACT
+    let mut style = Style::COMPACT;
+    if !request.is_compact {
+        style.layout = Layout::Pretty;
     }
+    if request.has_quoted_numbers {
+        style.long_numbers = LongNumbers::Quoted;
+    }
+    style
 }
