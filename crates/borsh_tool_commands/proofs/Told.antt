@@ -3,7 +3,7 @@ use Rattle.std.proofs.Common.{◌≡◌, ◌∙◌, ap, ℕ, ◌+◌, ◌/◌, �
 use Rattle.std.specs.Prelude.{OnOk, codes}
 use Rattle.std.specs.List.{list_all}
 use Rattle.std.specs.Result.{is_ok}
-use Rattle.std.proofs.lemmas.List.Elements.{All-append}
+use Rattle.std.proofs.lemmas.List.Elements.{All-append, All-same}
 use Rattle.std.proofs.lemmas.List.Sums.{AllPass-from_list_all}
 use Rattle.std.proofs.lemmas.Fmt.{decimal_by_steps}
 use Rattle.std.proofs.lemmas.Grind.{flat_map-append}
@@ -63,13 +63,13 @@ printable_plain bs h k d low = or_right (slice_index_or bs k d == 10) (is_printa
     or_right false b e = e
 
 -- a text to which such a text was added, or nothing
-pub plain_grown : {old xs new : List ℕ} (added : Bool) → All IsPlain old → All IsPlain xs → new ≡ (if added then old ++ xs else old) → All IsPlain new
-plain_grown {old} {xs} true p q e = rw e (All-append IsPlain old xs p q)
-plain_grown false p q e = rw e p
+pub plain_grown : (old xs new : List ℕ) (added : Bool) → All IsPlain old → All IsPlain xs → new ≡ (if added then old ++ xs else old) → All IsPlain new
+plain_grown old xs new true p q e = All-same IsPlain new (old ++ xs) e (All-append IsPlain old xs p q)
+plain_grown old xs new false p q e = All-same IsPlain new old e p
 
-pub added_as : {E : Type 0} {old xs ys new : List ℕ} (r : Result (Unit {0}) E) → new ≡ (if is_ok r then old ++ xs else old) → xs ≡ ys → OnOk r (new ≡ old ++ ys)
-added_as {old = old} (Ok v) e q = e ∙ ap (λ l. old ++ l) q
-added_as (Err x) e q = tt
+pub added_as : {E : Type 0} (old xs ys new : List ℕ) (r : Result (Unit {0}) E) → new ≡ (if is_ok r then old ++ xs else old) → xs ≡ ys → OnOk r (new ≡ old ++ ys)
+added_as old xs ys new (Ok v) e q = e ∙ ap (λ l. old ++ l) q
+added_as old xs ys new (Err x) e q = tt
 
 -- a decimal digit is printed as itself
 digit_escaped : (d : ℕ) → d < 10 → flat_map escaped ((48 + d) ∷ []) ≡ (48 + d) ∷ []

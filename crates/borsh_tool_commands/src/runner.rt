@@ -102,9 +102,7 @@ fn perform<'a, R: Files + Env + Input + Print + Eprint + AllocGlobal + Drop, W: 
         }
         return perform_on_value(rt, &request, is_terminal, out);
     }
-    let Some(request) = request_from(matches) else {
-        return Err(Failure::NoCommand);
-    };
+    let request = request_from(matches).ok_or(Failure::NoCommand)?;
     let bytes = input(rt, request.path, request.is_hex)?;
     if request.is_json {
         let text = schema_json(rt.alloc(), request.path, bytes.as_slice())?;
@@ -154,9 +152,7 @@ fn perform_on_many<'a, R: Files + Input + Eprint + AllocGlobal + Drop, W: Write>
     is_watched: bool,
     out: &mut W,
 ) -> Result<bool, Failure<'a>> {
-    let Some(path) = request.schema else {
-        return Err(Failure::NoCommand);
-    };
+    let path = request.schema.ok_or(Failure::NoCommand)?;
     let alloc = rt.alloc();
     let schema = schema_at(rt, path, request)?;
     let layout = borsh_values::Layout::new(alloc, schema.root.as_str(), &schema.definitions)?;
@@ -184,16 +180,15 @@ fn perform_on_many<'a, R: Files + Input + Eprint + AllocGlobal + Drop, W: Write>
         let input = StdReader::new(rt.reader(), INTERRUPTIONS);
         return answer_many(action, form, &many, input, &mut progress, out);
     }
-    match fs::File::open(rt, request.value) {
-        Ok(file) => {
-            if let Ok(metadata) = file.metadata() {
-                progress.all = Some(metadata.len());
-            }
-            let input = StdReader::new(file, INTERRUPTIONS);
-            answer_many(action, form, &many, input, &mut progress, out)
-        }
-        Err(error) => Err(Failure::Unreadable(request.value, error)),
+    let file = fs::File::open(rt, request.value).map_err(|error| Failure::Unreadable(
+        request.value,
+        error,
+    ))?;
+    if let Ok(metadata) = file.metadata() {
+        progress.all = Some(metadata.len());
     }
+    let input = StdReader::new(file, INTERRUPTIONS);
+    answer_many(action, form, &many, input, &mut progress, out)
 }
 
 /// The container in a file, or that of containers for `self`.
