@@ -26,7 +26,8 @@ use Rattle.borsh_json.specs.declared.position.Place.{Place}
 use Rattle.borsh_json.specs.declared.sources.EntryKey.{EntryKey}
 use Rattle.borsh_json.specs.Forms.{Form, sequence, shape_of_form, shapes}
 use Rattle.borsh_json.specs.Frames.{Wanted}
-use Rattle.borsh_json.specs.Leaves.{IsNoJson, IsOpenedAs}
+use Rattle.borsh_json.specs.Leaves.{IsOpenedAs}
+use Rattle.borsh_json.specs.NoJson.{IsNoJson}
 use Rattle.borsh_json.specs.Places.{IsAt, IsUnsayable, IsListOf, IsKindOf, lengths_of}
 use Rattle.borsh_json.specs.Table.{Lengths, list, entries, row, inner, fields}
 use Rattle.borsh_json.specs.Writes.{Rest, items_rest, members_rest, value_rest, entries_rest, names_of_rest, IsFront, BeginsAt, begins_of, IsRestOf, IsRest, WritesValue, WritesStruct, ArePartsOf, RefusesValue}

@@ -24,6 +24,7 @@ pub mod LoopLaws
 pub mod ReadingLaws
 pub mod WritingLaws
 pub mod WritingPlaces
+pub mod NestedLaws
 pub mod WritingSteps
 pub mod WriterLaws
 pub mod MemberLaws
@@ -38,3 +39,6 @@ pub mod LineLaws
 pub mod LeafLaws
 pub mod ListLaws
 pub mod KeyLaws
+pub mod UnitLaws
+pub mod WordLaws
+pub mod EscapeLaws

@@ -12,7 +12,8 @@ use Rattle.borsh_json.specs.declared.numbers.Number.{Number}
 use Rattle.borsh_json.specs.declared.output.Output.{Output}
 use Rattle.borsh_json.specs.Forms.{Form}
 use Rattle.borsh_json.specs.Found.{IsPrimitiveKind}
-use Rattle.borsh_json.specs.Leaves.{IsNoJson, IsLeafRefusal, IsOpenedAs, RefusesLeaf, WritesLeaf}
+use Rattle.borsh_json.specs.NoJson.{IsNoJson}
+use Rattle.borsh_json.specs.Leaves.{IsLeafRefusal, IsOpenedAs, RefusesLeaf, WritesLeaf}
 use Rattle.borsh_json.specs.Places.{IsKindOf}
 use Rattle.borsh_json.specs.Table.{Kind, truth, whole, float, raw}
 use Rattle.borsh_json.specs.Writes.{RefusesOwn, RefusesValue, IsWrittenAs, leaf_depth}

@@ -6,12 +6,12 @@ use Rattle.std.specs.BTreeMap.{BTreeMap}
 use Rattle.std.specs.Borrow.{Bor}
 use Rattle.json.specs.Json.{null}
 use Rattle.json.specs.Token.{Token}
-use Rattle.borsh_walks.specs.Container.{Shape, primitive, sequence, product, choice, IsIn, first, later, references, variant_names, IsListedVariant, first_variant, later_variant, Member, of_primitive, of_sequence, of_parts, of_choice, Members, more_members}
+use Rattle.borsh_walks.specs.Container.{Shape, product, Member, of_primitive, of_sequence, of_parts, of_choice, Members, no_members, more_members}
 use Rattle.borsh_walks.specs.Definitions.{definitions_in}
 use Rattle.borsh_walks.specs.declared.definition.Definition.{Definition}
 use Rattle.borsh_values.specs.Layouts.{name_of}
 use Rattle.borsh_values.specs.Membership.{IsUndecided}
-use Rattle.borsh_values.specs.Nodes.{Opens, OpensElements, packed_size}
+use Rattle.borsh_values.specs.Nodes.{Opens}
 use Rattle.borsh_values.specs.Walks.{IsReadTo, IsCounted, IsNodeOf, FindsNode, FindsAt, IsWalker}
 use Rattle.borsh_values.specs.declared.layout.Layout.{Layout}
 use Rattle.borsh_values.specs.declared.layout.Named.{Named}
@@ -42,38 +42,24 @@ use Rattle.borsh_json.specs.Errors.{error_of}
 use Rattle.borsh_json.specs.Forms.{Form, form_of, forms_in, shape_of_form, shapes, HasNoBytes}
 use Rattle.borsh_json.specs.Found.{forms_of, names_of}
 use Rattle.borsh_json.specs.Frames.{Wanted, IsWanted, GivesPart, IsKey, IsEntryKey, IsOf}
-use Rattle.borsh_json.specs.Leaves.{output_tokens, Adds, IsNoJson, IsOpenedAs, WritesLeaf, RefusesLeaf}
+use Rattle.borsh_json.specs.Inside.{IsInside}
+use Rattle.borsh_json.specs.NoJson.{IsNoJson, HasNoJsonPart, RefusesBytes}
+use Rattle.borsh_json.specs.Leaves.{output_tokens, Adds, IsOpenedAs, WritesLeaf, RefusesLeaf}
 use Rattle.borsh_json.specs.Places.{IsAt, AreKeysOf, lengths_of}
 use Rattle.borsh_json.specs.Reads.{SaysFirst}
 use Rattle.borsh_json.specs.Represents.{next_part}
 use Rattle.borsh_json.specs.Table.{Keys, no_bytes, utf8, HasKind, key_order, key_json}
+use Rattle.borsh_walks.proofs.Laws.{zero_member}
+use Rattle.borsh_values.proofs.NodesLaws.{opens_member}
+use Rattle.borsh_values.proofs.Required.{members_head}
 use Rattle.borsh_values.proofs.WalkedLaws.{read_product}
-use Rattle.borsh_json.specs.Writes.{IsAbove, IsLast, IsBegunOf, IsWhole, IsWrittenOn, ends_of, Rest, IsRest, WritesFront, names_of_rest, names_of_all, leaf_depth, IsBelow, IsHalved, IsWriting, IsAwaiting, RefusesOwn, RefusesValue, IsWrittenAs, HasNoJsonPart, RefusesBytes, Stops, IsWritingAt, IsAwaitingAt, IsFull, IsFullOrDescends, IsOfWrite}
+use Rattle.borsh_json.specs.Writes.{IsAbove, IsLast, IsBegunOf, IsWhole, IsWrittenOn, ends_of, Rest, IsRest, WritesFront, names_of_rest, names_of_all, leaf_depth, Nested, passed, IsHalved, IsWriting, IsAwaiting, RefusesOwn, RefusesValue, IsWrittenAs, Stops, IsWritingAt, IsAwaitingAt, IsFull, IsFullOrDescends, IsOfWrite}
 use Rattle.borsh_json.proofs.FormsLaws.{shape_is, shapes_are}
+use Rattle.borsh_json.proofs.NestedLaws.{read_leaf, inside_of, as_deep}
 use Rattle.borsh_json.proofs.WritingPlaces.{as_many, key_tokens, TakesPart, TakesEntry, takes_part, takes_entry, place_ends}
 use Rattle.borsh_json.proofs.FormKinds.{form_known}
 use Rattle.borsh_json.proofs.WholeLaws.{leaf_refused}
-use Rattle.borsh_json.proofs.WritingSteps.{only_in, not_in, halved_on, leaf_writes, front_writes, awaits, entry_halved, awaits_entry, end_writes, end_whole}
-
--- ---- the parts of a definition are its references
-in_copies : (n : ℕ) (e y : List ℕ) → IsIn y (replicate n e) → e ≡ y
-in_copies zero e y i = absurd (not_in y i)
-in_copies (suc n) e y first = refl
-in_copies (suc n) e y (later i) = in_copies n e y i
-
-in_elements : (s : ℕ) (e : List ℕ) (k : ℕ) (own : List ℕ) (parts : List (List ℕ)) → OpensElements s e k own parts → (y : List ℕ) → IsIn y parts → IsIn y (e ∷ [])
-in_elements zero e k own parts o y i = subst (λ z. IsIn z (e ∷ [])) (in_copies k e y (subst (λ l. IsIn y l) o.1 i)) first
-in_elements (suc s) e k own parts o y i = absurd (not_in y (subst (λ l. IsIn y l) o.2 i))
-
-listed_in : (k : ℤ) (p : List ℕ) (vs : List (ℤ × List ℕ)) → IsListedVariant k p vs → IsIn p (variant_names vs)
-listed_in k p vs first_variant = first
-listed_in k p vs (later_variant l) = later (listed_in k p _ l)
-
-pub parts_in : (C : List ℕ → Option Shape) (d : Shape) (own : List ℕ) (parts : List (List ℕ)) → Opens C d own parts → (y : List ℕ) → IsIn y parts → IsIn y (references d)
-parts_in C (primitive n) own parts o y i = absurd (not_in y (subst (λ l. IsIn y l) o.2 i))
-parts_in C (sequence w lo hi e) own parts o y i = in_elements (packed_size (C e)) e o.0 o.1 parts o.5 y i
-parts_in C (product ps) own parts o y i = subst (λ l. IsIn y l) o.1 i
-parts_in C (choice w vs) own parts o y i = subst (λ z. IsIn z (variant_names vs)) (only_in y o.1 (subst (λ l. IsIn y l) o.4 i)) (listed_in o.0 o.1 vs o.2)
+use Rattle.borsh_json.proofs.WritingSteps.{only_in, halved_on, leaf_writes, front_writes, awaits, entry_halved, entry_nested, awaits_entry, end_writes, end_whole}
 
 -- ---- nodes
 module _ {A : Type 0} (m : BTreeMap (String A) Definition) (x : List ℕ) (old new : Walker) (n : Node) (k : IsNodeOf m x old new n) where
@@ -133,18 +119,25 @@ module _ (F : List ℕ → Option Form) (root bytes : List ℕ) where
   pub stops_descends : (e : PartError) → IsOf Descends e → Stops F root bytes (error_of e)
   stops_descends e i = stops_as Descends e i tt
 
-  pub stops_full : (n m : ℕ) (x : List ℕ) (e : PartError) → n ≤ m → IsBelow F root m x → IsFull n e → Stops F root bytes (error_of e)
-  stops_full n m x NoPartMemory l b f = tt
-  stops_full n m x (RefusedPart path r) l b f = subst (λ (r : Refusal). RefusesBytes F root bytes r) (sym f.0) (m, x, (let a = f.1 in omega (arith, a, l)), b)
+  -- a value begins behind these bytes, inside of at least so many others
+  pub record IsDeep (n : ℕ) (done left x : List ℕ) : Type 0 where
+    pub joined : bytes ≡ done ++ left
+    pub depth : ℕ
+    pub deep : n ≤ depth
+    pub inside : IsInside (shapes F) root depth done x
 
-  pub stops_either : (n m : ℕ) (x : List ℕ) (e : PartError) → n ≤ m → IsBelow F root m x → IsFullOrDescends n e → Stops F root bytes (error_of e)
-  stops_either n m x NoPartMemory l b f = tt
-  stops_either n m x (RefusedPart path r) l b (inl f) = stops_full n m x (RefusedPart path r) l b f
-  stops_either n m x (RefusedPart path r) l b (inr f) = stops_descends (RefusedPart path r) f
+  pub stops_full : (n : ℕ) (done left x : List ℕ) (e : PartError) → IsDeep n done left x → IsFull n e → Stops F root bytes (error_of e)
+  stops_full n done left x NoPartMemory d f = tt
+  stops_full n done left x (RefusedPart path r) d f = subst (λ (r : Refusal). RefusesBytes F root bytes r) (sym f.0) (d.depth, done, left, x, d.joined, (let a = f.1 in let l = d.deep in omega (arith, a, l)), d.inside)
+
+  pub stops_either : (n : ℕ) (done left x : List ℕ) (e : PartError) → IsDeep n done left x → IsFullOrDescends n e → Stops F root bytes (error_of e)
+  stops_either n done left x NoPartMemory d f = tt
+  stops_either n done left x (RefusedPart path r) d (inl f) = stops_full n done left x (RefusedPart path r) d f
+  stops_either n done left x (RefusedPart path r) d (inr f) = stops_descends (RefusedPart path r) f
 
   -- bytes that no JSON says
-  pub no_json_part : (x done own after left : List ℕ) (names : List (List ℕ)) → left ≡ own ++ after → IsHalved F root bytes done left (x ∷ names) → IsNoJson F x own → HasNoJsonPart F root bytes
-  no_json_part x done own after left names e h n = (done, own, after, x, names, h.joined ∙ ap (λ l. done ++ l) e, h.read.0, n)
+  pub no_json_part : (n : ℕ) (done own after left x : List ℕ) → left ≡ own ++ after → IsDeep n done left x → IsNoJson F x own → HasNoJsonPart F root bytes
+  no_json_part n done own after left x e d j = (d.depth, done, own, after, x, d.joined ∙ ap (λ l. done ++ l) e, d.inside, j)
 
 pub full_either : (n : ℕ) (e : PartError) → IsFull n e → IsFullOrDescends n e
 full_either n NoPartMemory f = tt
@@ -181,14 +174,15 @@ module _ (d : Definitions) (w new : Writing) (x : List ℕ) (f : Form) (own : Li
     (bytes : w.walk.left.now ≡ own ++ new.walk.left.now)
     (onward : (done : List ℕ) (parts ps : List (List ℕ)) → Opens (shapes (forms_of d)) (shape_of_form f) own parts → IsReadTo (shapes (forms_of d)) d.layout.now.root.now done (x ∷ ps) w.walk.left.now → IsReadTo (shapes (forms_of d)) d.layout.now.root.now (done ++ own) (parts ++ ps) new.walk.left.now) where
   -- the writer is in front of the next part of the place
-  pub leaf_begun : (m : ℕ) → m ≤ a.room → IsWrittenAs (forms_of d) (names_of d) m x f own w.out new.out None → new.position.place ≡ w.position.place → new.position.outer.items ≡ w.position.outer.items → IsWritingAt d new new.position.place
-  leaf_begun m l h p o =
+  pub leaf_begun : (m : ℕ) → shapes (forms_of d) x ≡ Some (shape_of_form f) → m ≤ a.room → IsWrittenAs (forms_of d) (names_of d) m x f own w.out new.out None → new.position.place ≡ w.position.place → new.position.outer.items ≡ w.position.outer.items → IsWritingAt d new new.position.place
+  leaf_begun m c l h p o =
       let F = forms_of d in
       let ns = names_of d in
       let root = d.layout.now.root.now in
       let s = a.state in
       let k = halved_on F ns root w.bytes.now x (shape_of_form f) s.done w.walk.left.now own new.walk.left.now h.1 (names_of_all (s.inner ∷ s.around)) bytes (λ r. onward s.done h.1 (names_of_all (s.inner ∷ s.around)) h.2 r) s.halved in
-      let t = leaf_writes F ns root w.bytes.now x a.room w.position.place w.position.outer.items w.walk.left.now w.out s own new.walk.left.now new.out m h.1 l h.0 h.3 k in
+      let n = read_leaf (shapes F) root own (names_of_all (s.inner ∷ s.around)) (shape_of_form f) s.nested c h.2 h.3 k.read.1 in
+      let t = leaf_writes F ns root w.bytes.now x a.room w.position.place w.position.outer.items w.walk.left.now w.out s own new.walk.left.now new.out m h.1 l n h.0 h.3 k in
       record {
         writer = record { layout = layout; walk = walk; fresh = h.0.adds.before ∙ a.writer.fresh };
         state =
@@ -207,7 +201,7 @@ module _ (d : Definitions) (w new : Writing) (x : List ℕ) (f : Form) (own : Li
       let r = h.0 in
       let k = halved_on F ns root w.bytes.now x (shape_of_form f) s.done w.walk.left.now own new.walk.left.now (names_of_rest r) (names_of_all (s.inner ∷ s.around)) bytes (λ t. onward s.done (names_of_rest r) (names_of_all (s.inner ∷ s.around)) h.3 t) s.halved in
       let l = as_many F ns w.position.outer.items s.around s.there in
-      let t = front_writes F ns root w.bytes.now x a.room w.position.place w.position.outer.items w.walk.left.now w.out s own new.walk.left.now new.out (shape_of_form f) r q new.position.outer.items (omega (arith, l, room)) c (parts_in (shapes F) (shape_of_form f) own (names_of_rest r) h.3) h.1 h.2 o k in
+      let t = front_writes F ns root w.bytes.now x a.room w.position.place w.position.outer.items w.walk.left.now w.out s own new.walk.left.now new.out (shape_of_form f) r q new.position.outer.items (omega (arith, l, room)) c h.3 h.1 h.2 o k in
       record {
         writer = record { layout = layout; walk = walk; fresh = h.2.adds.before ∙ a.writer.fresh };
         state =
@@ -237,8 +231,12 @@ module _ (d : Definitions) (w : Writing) (walk : Walker) (at : ℕ) (x : List �
 
 -- ---- no room
 module _ (d : Definitions) (w : Writing) (x : List ℕ) (a : IsAwaitingAt d w x) where
-  pub outer_awaiting : length w.position.outer.items ≤ a.state.deep.0
-  outer_awaiting = let l = as_many (forms_of d) (names_of d) w.position.outer.items a.state.around a.state.there in let m = a.state.deep.1 in omega (arith, l, m)
+  pub is_deep : IsDeep (forms_of d) d.layout.now.root.now w.bytes.now (length w.position.outer.items) a.state.done w.walk.left.now x
+  is_deep =
+      let s = a.state in
+      let l = as_many (forms_of d) (names_of d) w.position.outer.items s.around s.there in
+      let m = as_deep s.levels in
+      record { joined = s.halved.joined; depth = length s.outer; deep = omega (arith, l, m); inside = inside_of (shapes (forms_of d)) d.layout.now.root.now s.nested }
 
   pub room_awaiting : a.room + length w.position.outer.items ≡ 128
   room_awaiting = let l = as_many (forms_of d) (names_of d) w.position.outer.items a.state.around a.state.there in let m = a.state.room in omega (arith, l, m)
@@ -264,7 +262,9 @@ module _ (d : Definitions) (w new : Writing) (x : List ℕ) (a : IsAwaitingAt d 
       let names = names_of_all (s.inner ∷ s.around) in
       let leaf : WritesLeaf F 0 x [] w.out new.out = record { json = null; adds = t; numbers = tt; nests = omega arith; says = λ ps bs h. next_part no_bytes [] [] (inl (z, refl)) (refl, refl, refl) h } in
       let h = subst (λ b. IsHalved F root w.bytes.now b w.walk.left.now (x ∷ names)) (sym (append-nil s.done)) s.halved in
-      let k = leaf_writes F ns root w.bytes.now x a.room w.position.place w.position.outer.items w.walk.left.now w.out s [] w.walk.left.now new.out 0 (x ∷ []) (omega arith) leaf (λ y i. subst (λ y. HasNoBytes F y) (only_in y x i) z) h in
+      let head = members_head (shapes F) s.halved.read.1 in
+      let n = passed s.nested (subst (λ b. Member (shapes F) x b) (zero_member (shapes F) head.2 z) head.2) in
+      let k = leaf_writes F ns root w.bytes.now x a.room w.position.place w.position.outer.items w.walk.left.now w.out s [] w.walk.left.now new.out 0 (x ∷ []) (omega arith) n leaf (λ y i. subst (λ y. HasNoBytes F y) (only_in y x i) z) h in
       record {
         writer = record { layout = subst (λ (k : Walker). k.layout.now ≡ d.layout.now) (sym walk) a.writer.layout; walk = subst (λ (k : Walker). IsWalker k) (sym walk) a.writer.walk; fresh = t.before ∙ a.writer.fresh };
         state =
@@ -350,6 +350,9 @@ module _ (d : Definitions) (w new : Writing) (p : Place) (part : FoundPart) (es 
   pub entry_next : IsHalved (forms_of d) d.layout.now.root.now w.bytes.now a.state.done w.walk.left.now (t.key ∷ t.value ∷ (replicate t.count t.pair ++ names_of_all a.state.around))
   entry_next = entry_halved (forms_of d) (names_of d) d.layout.now.root.now w.bytes.now p new.position.place w.position.outer.items w.walk.left.now (output_tokens w.out) (output_tokens new.out) a.state parts es part t
 
+  entry_open : Nested (shapes (forms_of d)) d.layout.now.root.now ((t.key ∷ t.value ∷ []) ∷ replicate t.count t.pair ∷ a.state.outer) a.state.done
+  entry_open = entry_nested (forms_of d) (names_of d) d.layout.now.root.now w.bytes.now p new.position.place w.position.outer.items w.walk.left.now (output_tokens w.out) (output_tokens new.out) a.state parts es part t
+
   module _ (found : Option Node) (n : Node) (is : found ≡ Some n) (g : FindsAt es.key w.walk new.walk found) where
     pub entry_opened : IsOpenedAs (forms_of d) t.key (form_of n.definition.now) n.bytes.now (node_is d w new.walk es.key t.key a.writer.layout t.key_named found n is g).parts
     entry_opened = node_opened d w new.walk es.key t.key a.writer.layout t.key_named found n is g
@@ -370,7 +373,8 @@ module _ (d : Definitions) (w new : Writing) (p : Place) (part : FoundPart) (es 
         let node = node_is d w new.walk es.key t.key a.writer.layout t.key_named found n is g in
         let o = subst (λ l. Opens (shapes F) (shape_of_form (form_of n.definition.now)) n.bytes.now l) none opens in
         let h = halved_on F ns root w.bytes.now t.key (shape_of_form (form_of n.definition.now)) v.done w.walk.left.now n.bytes.now new.walk.left.now [] rest node.bytes (λ r. node_on d w new.walk es.key t.key a.writer.layout t.key_named found n is g v.done [] rest o r) entry_next in
-        let r = awaits_entry F ns root w.bytes.now p new.position.place w.position.outer.items w.walk.left.now (output_tokens w.out) (output_tokens new.out) v parts es part t n.bytes.now new.walk.left.now key s last k says above h adds.tokens in (
+        let m = opens_member (shapes F) (shape_of_form (form_of n.definition.now)) n.bytes.now [] [] (node_shape d w new.walk es.key t.key a.writer.layout t.key_named found n is g) o no_members in
+        let r = awaits_entry F ns root w.bytes.now p new.position.place w.position.outer.items w.walk.left.now (output_tokens w.out) (output_tokens new.out) v parts es part t n.bytes.now new.walk.left.now key s last k says above (subst (λ b. Member (shapes F) t.key b) (append-nil n.bytes.now) m) h adds.tokens in (
           t.value,
           t.named,
           record {
@@ -388,7 +392,8 @@ module _ (d : Definitions) (w new : Writing) (p : Place) (part : FoundPart) (es 
         let F = forms_of d in
         let root = d.layout.now.root.now in
         let node = node_is d w new.walk es.key t.key a.writer.layout t.key_named found n is g in
-        stops_value F root w.bytes.now t.key n.bytes.now e pe i (no_json_part F root w.bytes.now t.key a.state.done n.bytes.now new.walk.left.now w.walk.left.now (t.value ∷ (replicate t.count t.pair ++ names_of_all a.state.around)) node.bytes entry_next) (leaf_refused F t.key n.bytes.now e r)
+        let deep : IsDeep F root w.bytes.now 0 a.state.done w.walk.left.now t.key = record { joined = entry_next.joined; depth = suc (length a.state.outer); deep = omega arith; inside = inside_of (shapes F) root entry_open } in
+        stops_value F root w.bytes.now t.key n.bytes.now e pe i (no_json_part F root w.bytes.now 0 a.state.done n.bytes.now new.walk.left.now w.walk.left.now t.key node.bytes deep) (leaf_refused F t.key n.bytes.now e r)
 
 -- ---- the parts of a place have ended
 pub place_ended : (d : Definitions) (w new : Writing) (p : Place) → IsWritingAt d w p → ((ws : List Wanted) → IsWanted (forms_of d) (names_of d) p.parts p.begun ws → ws ≡ []) → Adds (ends_of p.parts) w.out new.out → new.walk ≡ w.walk → new.bytes ≡ w.bytes

@@ -7,11 +7,14 @@ pub mod Integers
 pub mod Places
 pub mod InOrder
 pub mod Represents
+pub mod Inside
+pub mod NoJson
 pub mod Known
 pub mod Found
 pub mod Reads
 pub mod Frames
 pub mod Leaves
+pub mod Printed
 pub mod Writes
 pub mod Rows
 pub mod Words

@@ -5,8 +5,8 @@ use Rattle.std.specs.Borrow.{Bor}
 use Rattle.json.specs.Token.{Token}
 use Rattle.json.specs.Json.{Json, null, Items, Members, no_members, member}
 use Rattle.json.specs.Tree.{json_tokens, items_tokens, members_tokens, depth, items_depth, members_depth, HasNumbers, ItemsHaveNumbers, MembersHaveNumbers}
-use Rattle.borsh_walks.specs.Container.{Shape, product, IsIn, references}
-use Rattle.borsh_values.specs.Nodes.{Reads, Opens}
+use Rattle.borsh_walks.specs.Container.{Shape, product, IsIn, Member}
+use Rattle.borsh_values.specs.Nodes.{Opens}
 use Rattle.borsh_values.specs.Walks.{IsReadTo, IsWalker}
 use Rattle.borsh_values.specs.Membership.{IsUndecided}
 use Rattle.borsh_values.specs.declared.layout.Named.{Named}
@@ -35,7 +35,8 @@ use Rattle.borsh_json.specs.Frames.{Wanted, IsWanted, IsEntryKey, IsOf, GivesPar
 use Rattle.borsh_json.specs.Found.{forms_of, names_of}
 use Rattle.borsh_json.specs.Places.{IsAt, AreKeysOf, IsKindOf}
 use Rattle.borsh_json.specs.Represents.{HaveBytes}
-use Rattle.borsh_json.specs.Leaves.{output_tokens, output_before, Adds, IsNoJson, IsOpenedAs, WritesLeaf}
+use Rattle.borsh_json.specs.Leaves.{output_tokens, output_before, Adds, IsOpenedAs, WritesLeaf}
+use Rattle.borsh_json.specs.NoJson.{IsNoJson, RefusesBytes}
 use Rattle.borsh_json.specs.Table.{Keys, Part, row_parts, Entry, entries_of, entry_parts, key_order}
 
 -- ---- what is left to be written of a place
@@ -145,6 +146,19 @@ leaf_depth (Repeated name) = 0
 
 -- ---- the invariant
 
+module _ (C : List ℕ → Option Shape) (root : List ℕ) where
+  -- these bytes are read up to a place inside of values: the names that are left of the parts of each, the innermost first
+  pub data Nested : List (List (List ℕ)) → List ℕ → Type 0 where
+    unread : Nested ((root ∷ []) ∷ []) []
+    entered : {x before : List ℕ} {xs parts : List (List ℕ)} {ls : List (List (List ℕ))} (d : Shape) (own : List ℕ) → Nested ((x ∷ xs) ∷ ls) before → C x ≡ Some d → Opens C d own parts → Nested (parts ∷ xs ∷ ls) (before ++ own)
+    passed : {x before own : List ℕ} {xs : List (List ℕ)} {ls : List (List (List ℕ))} → Nested ((x ∷ xs) ∷ ls) before → Member C x own → Nested (xs ∷ ls) (before ++ own)
+
+-- the names are those that are left of the places; of values around their parts, of which all are begun, there is no place: of the entries of maps
+pub data AreLevels : List Rest → List (List (List ℕ)) → Type 0 where
+  no_levels : AreLevels [] []
+  level : {rs : List Rest} {ls : List (List (List ℕ))} (r : Rest) → AreLevels rs ls → AreLevels (r ∷ rs) (names_of_rest r ∷ ls)
+  no_place : {rs : List Rest} {ls : List (List (List ℕ))} → AreLevels rs ls → AreLevels rs ([] ∷ ls)
+
 module _ (F : List ℕ → Option Form) where
   -- these tokens are JSON of the root that can be printed and read, and says these bytes
   abbrev pub IsWhole : List ℕ → List Token → List ℕ → Type 0
@@ -153,16 +167,6 @@ module _ (F : List ℕ → Option Form) where
   -- tokens were written of so many bytes, and with any that P holds of they are JSON of the root
   abbrev pub Begins : List ℕ → (List Token → List Part → Type 0) → List Token → List ℕ → Type 0
   Begins root P written done = (ts : List Token) (ps : List Part) (bs : List ℕ) → P ts ps → HaveBytes F ps bs → IsWhole root (written ++ ts) (done ++ bs)
-
-  -- a chain of so many references leads from the root to the name
-  pub data IsBelow (root : List ℕ) : ℕ → List ℕ → Type 0 where
-    here : IsBelow root 0 root
-    below : {n : ℕ} {y z : List ℕ} (d : Shape) → IsBelow root n y → shapes F y ≡ Some d → IsIn z (references d) → IsBelow root (suc n) z
-
-  -- at least as many as places are around lead to each name that is left
-  abbrev pub AreBelow : List ℕ → List Rest → Type 0
-  AreBelow root [] = ⊤
-  AreBelow root (r ∷ rs) = ((x : List ℕ) → IsIn x (names_of_rest r) → (n : ℕ) × (length rs ≤ n) × IsBelow root n x) × AreBelow root rs
 
   -- the bytes are those read and those left, and these names come next
   pub record IsHalved (root bytes done left : List ℕ) (names : List (List ℕ)) : Type 0 where
@@ -237,7 +241,9 @@ module _ (F : List ℕ → Option Form) where
       pub there : AreRests ps around
       pub room : length around ≤ 128
       pub halved : IsHalved root bytes done left (names_of_all (inner ∷ around))
-      pub chain : AreBelow root (inner ∷ around)
+      pub outer : List (List (List ℕ))
+      pub levels : AreLevels around outer
+      pub nested : Nested (shapes F) root (names_of_rest inner ∷ outer) done
       pub begun : Begins root (MayFollowAll (inner ∷ around)) written done
 
     -- in front of a value of this name, which has room for this depth, and then of the rest of the place
@@ -249,8 +255,10 @@ module _ (F : List ℕ → Option Form) where
       pub there : AreRests ps around
       pub room : n + length around ≡ 128
       pub halved : IsHalved root bytes done left (x ∷ names_of_all (inner ∷ around))
-      pub chain : AreBelow root (inner ∷ around)
-      pub deep : (m : ℕ) × (length around ≤ m) × IsBelow root m x
+      pub beside : List (List ℕ)
+      pub outer : List (List (List ℕ))
+      pub levels : AreLevels (inner ∷ around) (beside ∷ outer)
+      pub nested : Nested (shapes F) root ((x ∷ beside) ∷ outer) done
       pub begun : Begins root (MayFollowFirst x n (inner ∷ around)) written done
 
     -- of a value of x, whose definition opens these own bytes with these parts, JSON was written whole, and then its parts have no bytes; or it
@@ -308,32 +316,9 @@ ArePartsOf at kind (Some (Variant v p)) = ⊥
 abbrev pub BeginsStruct : ℕ → Found → Output → Output → Result (Option Place) WriteError → Type 0
 BeginsStruct at kind old new result = (F : List ℕ → Option Form) (ns : List Named) (x : List ℕ) (f : Form) → IsAt ns at x → F x ≡ Some f → IsKindOf F ns x f kind → WritesStruct F ns x f kind old new result
 
--- ---- why a value has no JSON
+-- ---- why the writer stopped
 
 module _ (F : List ℕ → Option Form) (root bytes : List ℕ) where
-  -- the bytes are read up to a value of a name, and no JSON says that, whatever follows
-  abbrev pub HasNoJsonPart : Type 0
-  HasNoJsonPart =
-      (before : List ℕ) × (own : List ℕ) × (after : List ℕ) × (x : List ℕ) × (names : List (List ℕ))
-      × (bytes ≡ before ++ (own ++ after)) × Reads (shapes F) (root ∷ []) before (x ∷ names) × IsNoJson F x own
-
-  -- the refusal is a true reason why a member has no JSON
-  abbrev pub RefusesBytes : Refusal → Type 0
-  RefusesBytes TooDeep = (n : ℕ) × (x : List ℕ) × (128 ≤ n) × IsBelow F root n x
-  RefusesBytes (RepeatedName name) = HasNoJsonPart
-  RefusesBytes EmptyElements = HasNoJsonPart
-  RefusesBytes NotBool = HasNoJsonPart
-  RefusesBytes NotUtf8 = HasNoJsonPart
-  RefusesBytes Zero = HasNoJsonPart
-  RefusesBytes NotNumber = HasNoJsonPart
-  RefusesBytes Descends = ⊤
-  RefusesBytes OtherNodes = ⊥
-  RefusesBytes (Expected wanted) = ⊥
-  RefusesBytes MissingField = ⊥
-  RefusesBytes (UnknownName name) = ⊥
-  RefusesBytes (RepeatedKey name) = ⊥
-  RefusesBytes (Undefined name) = ⊥
-
   -- the error is a true reason why the writer stopped at a member
   abbrev pub Stops : JsonError → Type 0
   Stops NoMemory = ⊤
@@ -341,16 +326,7 @@ module _ (F : List ℕ → Option Form) (root bytes : List ℕ) where
   Stops NoValue = ⊥
   Stops (Ambiguous x) = IsUndecided (shapes F) root x.now
   Stops (NotJson offset) = ⊥
-  Stops (RefusedBytes path refusal) = RefusesBytes refusal
-
-  -- and so is the refusal of a call for a member
-  abbrev pub ShowsNoJson : JsonError → Type 0
-  ShowsNoJson NoMemory = ⊤
-  ShowsNoJson (NoMember f) = ⊤
-  ShowsNoJson NoValue = ⊥
-  ShowsNoJson (Ambiguous x) = ⊤
-  ShowsNoJson (NotJson offset) = ⊥
-  ShowsNoJson (RefusedBytes path refusal) = RefusesBytes refusal
+  Stops (RefusedBytes path refusal) = RefusesBytes F root bytes refusal
 
 -- ---- the writer
 

@@ -1,7 +1,8 @@
 // JSON in printable ASCII.
-ghost use Rattle.borsh_json.specs.Ascii.{IsInLine, IsPlain, StaysInLine, is_plain};
+ghost use Rattle.borsh_json.specs.Ascii.{AddsText, IsInLine, IsPlain, IsSameJson, StaysInLine, character_text, is_plain, unit_text};
+ghost use Rattle.std.specs.Char.{digit_char};
 ghost use Rattle.std.specs.List.{list_all};
-ghost use Rattle.std.specs.Prelude.{◌≡◌, ◌<◌, ◌≤◌, All, IfOk};
+ghost use Rattle.std.specs.Prelude.{◌≡◌, ◌<◌, ◌≤◌, ◌∷◌, [], All, IfOk};
 
 use std::alloc::{AllocError, Global};
 
@@ -12,14 +13,16 @@ struct AsciiText {
     ghost plain: { All IsPlain text.items },
 }
 
-/// JSON in which a character that isn't printable ASCII, but for line feeds, is `\u` and four digits, or two of these. Only
-/// strings of JSON have such characters, and the texts say the same. Left open: memory; any other such text: tested.
+/// JSON with `\u` and four digits, or two of these, for a character of a string that isn't printable ASCII. Between tokens a tab
+/// or carriage return is a space. Determined: the text is printable ASCII and line feeds; if the other is JSON it is the same
+/// JSON, and if that has no control characters it has none. Left open: memory; any other such text: tested.
 ///
 /// ```
 /// assert_eq!(rt; in_ascii(alloc, "\"h\u{e9}\"")?.as_slice(), b"\"h\\u00e9\"".as_slice());
 /// ```
 pub fn in_ascii(alloc: Global, json: &str) -> Result<Vec<u8>, AllocError>
     ensures plain { IfOk result (λ text. All IsPlain text.items) }
+    ensures same { IfOk result (λ text. IsSameJson json.now text.items) }
     ensures line { All IsInLine json.now → IfOk result (λ text. All IsInLine text.items) }
 {
     let mut out = AsciiText {
@@ -35,22 +38,27 @@ pub fn in_ascii(alloc: Global, json: &str) -> Result<Vec<u8>, AllocError>
 pub fn is_ascii(text: &str) -> bool
     ensures { result ≡ list_all is_plain text.now }
 {
-    text.as_bytes().iter().all(|byte| is_plain_byte(*byte))
+    text.as_bytes().iter().all(|byte| is_printed(u32::from(*byte)))
 }
 
-fn is_plain_byte(byte: u8) -> bool
-    ensures { result ≡ is_plain byte }
+/// Whether it is a line feed or printable ASCII.
+fn is_printed(number: u32) -> bool
+    ensures { result ≡ is_plain number }
 {
-    byte == 10 || (32 <= byte && byte < 127)
+    number == 10 || (32 <= number && number < 127)
 }
 
 impl AsciiText {
     fn put_character(&mut self, character: char) -> Result<(), AllocError>
-        ensures { 32 ≤ character → StaysInLine self.old.text.items self.new.text.items result }
+        ensures text { AddsText (character_text character) self.old.text.items self.new.text.items result }
+        ensures line { 32 ≤ character → StaysInLine self.old.text.items self.new.text.items result }
     {
         let number = u32::from(character);
-        if number == 10 || (32 <= number && number < 127) {
+        if is_printed(number) {
             return self.put(number as u8);
+        }
+        if number == 9 || number == 13 {
+            return self.put(b' ');
         }
         if number < 65536 {
             return self.put_unit(number);
@@ -61,7 +69,8 @@ impl AsciiText {
 
     /// `\u` and four digits.
     fn put_unit(&mut self, unit: u32) -> Result<(), AllocError>
-        ensures { StaysInLine self.old.text.items self.new.text.items result }
+        ensures text { AddsText (unit_text unit) self.old.text.items self.new.text.items result }
+        ensures line { StaysInLine self.old.text.items self.new.text.items result }
     {
         self.put(b'\\')?;
         self.put(b'u')?;
@@ -73,7 +82,8 @@ impl AsciiText {
 
     fn put(&mut self, byte: u8) -> Result<(), AllocError>
         requires { IsPlain byte }
-        ensures { 32 ≤ byte → StaysInLine self.old.text.items self.new.text.items result }
+        ensures text { AddsText (byte ∷ []) self.old.text.items self.new.text.items result }
+        ensures line { 32 ≤ byte → StaysInLine self.old.text.items self.new.text.items result }
     {
         Ok(self.text.push(byte)?)
     }
@@ -82,6 +92,7 @@ impl AsciiText {
 /// A hexadecimal digit.
 fn digit(number: u32) -> u8
     requires { number < 16 }
+    ensures value { result ≡ digit_char number }
     ensures plain { IsPlain result }
     ensures line { 32 ≤ result }
 {

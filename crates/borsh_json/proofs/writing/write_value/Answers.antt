@@ -4,6 +4,7 @@ use Rattle.json.specs.Print.{print}
 use Rattle.borsh_json.specs.Ascii.{IsInLine}
 use Rattle.borsh_json.specs.Found.{forms_of, names_of}
 use Rattle.borsh_json.specs.Leaves.{output_tokens}
+use Rattle.borsh_json.specs.Printed.{laid_out}
 use Rattle.borsh_json.specs.Writes.{IsWhole, IsWriting, IsWrittenOn}
 use Rattle.borsh_json.proofs.LineLaws.{compact_line}
 use Rattle.borsh_json.proofs.WritingLaws.{whole_read}
@@ -47,5 +48,13 @@ returns-then-is_in-clause-line c = λ q.
     let e : c.in_ok-more.more ≡ false = cc in
     let h = subst (λ (more : Bool). IsWrittenOn c.args.definitions.now new more) e c.in_ok-more.ensures.state in
     let w = h.whole in
-    let p = c.into_bytes.ensures.compact (c.is_in.ensures q c.if-is_in.true) h.fresh in
+    let p = c.into_bytes.ensures.layout h.fresh ∙ ap (λ l. laid_out l (output_tokens new.out)) (c.is_in.ensures c.if-is_in.true ∙ q) in
     subst (λ (l : List ℕ). All IsInLine l) (sym (p ∙ ap (λ ts. print ts) w.1)) (compact_line w.0 w.2)
+
+pub returns-then-is_in-clause-printed : goal.returns-then-is_in-clause-printed
+returns-then-is_in-clause-printed c =
+    let new = c.write_next.new.self in
+    let e : c.in_ok-more.more ≡ false = cc in
+    let h = subst (λ (more : Bool). IsWrittenOn c.args.definitions.now new more) e c.in_ok-more.ensures.state in
+    let tokens = c.into_bytes.ensures.tokens h.fresh in
+    c.into_bytes.ensures.layout h.fresh ∙ ap (λ l. laid_out l (output_tokens new.out)) (c.is_in.ensures c.if-is_in.true) ∙ ap (λ ts. laid_out c.args.style.layout ts) (sym tokens)

@@ -10,7 +10,7 @@ use Rattle.borsh_json.specs.Forms.{form_of, shape_of_form}
 use Rattle.borsh_json.specs.Found.{forms_of, names_of}
 use Rattle.borsh_json.specs.Writes.{Rest, names_of_rest, names_of_all, HasNode, IsRest, WritesFront, Stops, IsAwaitingAt}
 use Rattle.borsh_json.proofs.FoundLaws.{not_true}
-use Rattle.borsh_json.proofs.WriterLaws.{stops_value, stops_full, no_json_part, outer_awaiting, undefined_next, zero_begun, struct_begun}
+use Rattle.borsh_json.proofs.WriterLaws.{stops_value, stops_full, no_json_part, is_deep, undefined_next, zero_begun, struct_begun}
 use Rattle.borsh_json.proofs.writing.Writing.write_part.Goals as goal
 
 pub returns-then-is_zero_size-clause-part : goal.returns-then-is_zero_size-clause-part
@@ -30,7 +30,7 @@ returns-in_err-enter-in-Ok-Some-clause-part c k x i a =
     let w = c.args.self.now in
     let q = c.from_residual-in_err-enter-in-Ok-Some in
     let p = err_from_is_err_and q.result q.ensures.1 in
-    rw (p.1, p.2) (stops_full (forms_of d) d.layout.now.root.now w.bytes.now (length w.position.outer.items) a.state.deep.0 x c.in_err-enter-in-Ok-Some.field-0.0 (outer_awaiting d w x a) a.state.deep.2 c.in_err-enter-in-Ok-Some.ensures.full)
+    rw (p.1, p.2) (stops_full (forms_of d) d.layout.now.root.now w.bytes.now (length w.position.outer.items) a.state.done w.walk.left.now x c.in_err-enter-in-Ok-Some.field-0.0 (is_deep d w x a) c.in_err-enter-in-Ok-Some.ensures.full)
 
 pub returns-in_ok-enter-in-Ok-Some-clause-part : goal.returns-in_ok-enter-in-Ok-Some-clause-part
 returns-in_ok-enter-in-Ok-Some-clause-part c k x i a =
@@ -66,4 +66,4 @@ returns-in-Err-clause-part c k x i a =
     let s = a.state in
     let kind = c.in-Some.ensures k x i (not_true c.is_zero_size.result (c.is_zero_size.ensures k.known x i) c.if-is_zero_size.false) in
     let f = form_of c.in-Some.field-0-0.now in
-    subst (λ (e : JsonError). Stops F root w.bytes.now e) (sym c.into.ensures) (stops_value F root w.bytes.now x [] c.in-Err.error c.refused_value.result c.refused_value.ensures (no_json_part F root w.bytes.now x s.done [] w.walk.left.now w.walk.left.now (names_of_all (s.inner ∷ s.around)) refl s.halved) (c.in-Err.ensures F ns x f i kind.0 kind.1))
+    subst (λ (e : JsonError). Stops F root w.bytes.now e) (sym c.into.ensures) (stops_value F root w.bytes.now x [] c.in-Err.error c.refused_value.result c.refused_value.ensures (no_json_part F root w.bytes.now (length w.position.outer.items) s.done [] w.walk.left.now w.walk.left.now x refl (is_deep d w x a)) (c.in-Err.ensures F ns x f i kind.0 kind.1))
