@@ -38,3 +38,13 @@ pub mod LineLaws
 pub mod LeafLaws
 pub mod ListLaws
 pub mod KeyLaws
+pub mod OrderLaws
+pub mod OrderNumbers
+pub mod PendingLaws
+pub mod OrderedLaws
+pub mod WaitingLaws
+pub mod KindOrders
+pub mod RankLaws
+pub mod DescentLaws
+pub mod KeyRanks
+pub mod PackedDescent

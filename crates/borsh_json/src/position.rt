@@ -1,5 +1,5 @@
 // Where in a value the reader or writer is.
-ghost use Rattle.borsh_json.specs.Words.{GivesPart, IsFull, IsKnown, IsOf, IsOfRead, IsOfWrite, IsPartError, IsReadRefusal, IsUnreadable, IsUnwritable, Root, TooDeep};
+ghost use Rattle.borsh_json.specs.Words.{GivesPart, IsElementFall, IsFull, IsKnown, IsOf, IsOfRead, IsOfWrite, IsPartError, IsReadRefusal, IsUnreadable, IsUnwritable, Root, TooDeep};
 ghost use Rattle.borsh_json.specs.declared.error.Refusal.TheVariants.{Descends};
 ghost use Rattle.std.specs.Prelude.{◌≡◌, ◌+◌, ◌^◌, ◌<◌, ◌≤◌, ◌∷◌, ◌++◌, [], true, false, ℕ, List, None, length, IfErr, IfSome, MatchOption, OnOk};
 
@@ -221,6 +221,7 @@ impl<'a, 'k> Position<'a, 'k> {
     pub fn check_ascent(&self, elements: Elements, bytes: &[u8]) -> PartResult<'a, ()>
         ensures reading { IfErr result (IsPartError IsUnreadable) }
         ensures descends { IfErr result (IsOf Descends) }
+        ensures falls { IfErr result (IsElementFall elements bytes.now) }
     {
         let Some(order) = elements.order else {
             return Ok(());

@@ -25,3 +25,11 @@ returns-clause-kind c = λ w lo hi e q i b x h full.
           (let t = c.eq.ensures ∙ (bytes_eq-Decides c.name.result.now (codes "String")).1 (c.name.ensures h.0 x h.1 ∙ s) in let g = c.if-eq.false in cc)) b),
       refl,
     )
+
+pub returns-then-eq-clause-orders : goal.returns-then-eq-clause-orders
+returns-then-eq-clause-orders c = λ w lo hi e q i h x f. ((h.1, λ k z. z), tt)
+
+pub returns-clause-orders : goal.returns-clause-orders
+returns-clause-orders c = λ w lo hi e q i h x f.
+    let o = c.in_ok-order.ensures.orders h x e w lo hi (c.collection_of-collection.ensures x f) i.1 (f.2 ∙ ap (λ f. Some f) q) in
+    (o.0, (refl, o.1))

@@ -24,11 +24,11 @@ pub returns-in_default : goal.returns-in_default
 returns-in_default c k x j at b =
     let F = forms_in c.args.definitions.now.layout.now.map.now in
     let full : HasNoBytes F x → ⊥ = λ z. (let q = (c.is_zero_size.ensures k.known x at).1 z in let s = c.if-is_zero_size.false in cc) in
-    undefined_says F x j (c.in_default.ensures k x at full) full
+    undefined_says F x j (c.in_default.ensures.kind k x at full) full
 
 pub returns : goal.returns
 returns c k x j at b =
     let F = forms_in c.args.definitions.now.layout.now.map.now in
     let full : HasNoBytes F x → ⊥ = λ z. (let q = (c.is_zero_size.ensures k.known x at).1 z in let s = c.if-is_zero_size.false in cc) in
-    let r = c.in-Some.ensures k x at full in
+    let r = c.in-Some.ensures.kind k x at full in
     c.open_kind.ensures k.known x j at r.0 r.1 b

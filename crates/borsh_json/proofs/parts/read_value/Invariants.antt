@@ -2,7 +2,7 @@ use Rattle.json.specs.Json.{Json}
 use Rattle.json.specs.Find.{BeginsWith}
 use Rattle.borsh_json.specs.Forms.{forms_in}
 use Rattle.borsh_json.specs.Frames.{IsReading}
-use Rattle.borsh_json.specs.Known.{HasKinds}
+use Rattle.borsh_json.specs.Orders.{HasKinds}
 use Rattle.borsh_json.proofs.parts.read_value.Given as goal
 
 abbrev pub invariant-loop : goal.invariant-loop

@@ -38,7 +38,7 @@ returns-in_ok-enter-in-Ok-Some-clause-part c k x i a =
     let w = c.args.self.now in
     let F = forms_of d in
     let ns = names_of d in
-    let kind = c.in-Some.ensures k x i (not_true c.is_zero_size.result (c.is_zero_size.ensures k.known x i) c.if-is_zero_size.false) in
+    let kind = c.in-Some.ensures.kind k x i (not_true c.is_zero_size.result (c.is_zero_size.ensures k.known x i) c.if-is_zero_size.false) in
     let f = form_of c.in-Some.field-0-0.now in
     let h = subst (λ (o : Option Place). MatchOption o (HasNode c.in-Some.kind × (c.begin_struct.new.out ≡ w.out)) (λ p. (r : Rest) × IsRest F ns p r × WritesFront F x [] r w.out c.begin_struct.new.out × (shape_of_form f ≡ product (names_of_rest r)))) c.in-Ok-Some.field-0-is (c.in-Ok-Some.ensures F ns x f i kind.0 kind.1) in
     let new : Writing = record { walk = w.walk; position = c.enter.new.self; out = c.begin_struct.new.out; bytes = w.bytes; long_numbers = w.long_numbers } in
@@ -51,7 +51,7 @@ returns-in-Ok-None-clause-part c k x i a =
     let w = c.args.self.now in
     let F = forms_of d in
     let ns = names_of d in
-    let kind = c.in-Some.ensures k x i (not_true c.is_zero_size.result (c.is_zero_size.ensures k.known x i) c.if-is_zero_size.false) in
+    let kind = c.in-Some.ensures.kind k x i (not_true c.is_zero_size.result (c.is_zero_size.ensures k.known x i) c.if-is_zero_size.false) in
     let f = form_of c.in-Some.field-0-0.now in
     let h = subst (λ (o : Option Place). MatchOption o (HasNode c.in-Some.kind × (c.begin_struct.new.out ≡ w.out)) (λ p. (r : Rest) × IsRest F ns p r × WritesFront F x [] r w.out c.begin_struct.new.out × (shape_of_form f ≡ product (names_of_rest r)))) c.in-Ok-None.field-0-is (c.in-Ok-None.ensures F ns x f i kind.0 kind.1) in
     c.write_node.ensures.part k x f i kind.0 kind.1 h.0 (subst (λ (o : Output). IsAwaitingAt d (record { walk = w.walk; position = w.position; out = o; bytes = w.bytes; long_numbers = w.long_numbers }) x) (sym h.1) a)
@@ -64,6 +64,6 @@ returns-in-Err-clause-part c k x i a =
     let ns = names_of d in
     let root = d.layout.now.root.now in
     let s = a.state in
-    let kind = c.in-Some.ensures k x i (not_true c.is_zero_size.result (c.is_zero_size.ensures k.known x i) c.if-is_zero_size.false) in
+    let kind = c.in-Some.ensures.kind k x i (not_true c.is_zero_size.result (c.is_zero_size.ensures k.known x i) c.if-is_zero_size.false) in
     let f = form_of c.in-Some.field-0-0.now in
     subst (λ (e : JsonError). Stops F root w.bytes.now e) (sym c.into.ensures) (stops_value F root w.bytes.now x [] c.in-Err.error c.refused_value.result c.refused_value.ensures (no_json_part F root w.bytes.now x s.done [] w.walk.left.now w.walk.left.now (names_of_all (s.inner ∷ s.around)) refl s.halved) (c.in-Err.ensures F ns x f i kind.0 kind.1))
