@@ -16,7 +16,7 @@ use Rattle.borsh_json.specs.declared.error.JsonError.{JsonError}
 use Rattle.borsh_json.specs.declared.error.JsonError.TheVariants.{OutOfMemory as NoJsonRoom, NoMember, NoValue, Ambiguous, NotJson, Refused}
 use Rattle.borsh_json.specs.Errors.{IsNoJsonReason, IsTextReason}
 use Rattle.borsh_json.specs.Forms.{forms_in}
-use Rattle.borsh_json.specs.Writes.{ShowsNoJson}
+use Rattle.borsh_json.specs.NoJson.{ShowsNoJson}
 use Rattle.borsh_c.specs.declared.refusal.Refusal.{Refusal}
 use Rattle.borsh_c.specs.declared.refusal.Refusal.TheVariants.{No, Malformed, OutOfMemory, Undecided}
 use Rattle.borsh_c.specs.declared.refusal.Said.{Said}

@@ -5,7 +5,7 @@ use Rattle.std.specs.BTreeMap.{BTreeMap}
 use Rattle.json.specs.Json.{document}
 use Rattle.borsh_json.specs.Forms.{forms_in}
 use Rattle.borsh_json.specs.Represents.{TextSays}
-use Rattle.borsh_json.specs.Writes.{RefusesBytes}
+use Rattle.borsh_json.specs.NoJson.{RefusesBytes}
 use Rattle.borsh_json.specs.declared.error.Refusal.{Refusal as JsonRefusal}
 use Rattle.borsh_codec.specs.Codec.{IsDecodable}
 use Rattle.borsh_definitions.specs.Codecs.{root_and_map}

@@ -9,7 +9,7 @@ use Rattle.borsh_values.specs.Unambiguous.{IsUnambiguous}
 use Rattle.borsh_values.specs.declared.faults.Fault.{Fault}
 use Rattle.borsh_json.specs.Errors.{IsNoJsonReason}
 use Rattle.borsh_json.specs.Forms.{forms_in}
-use Rattle.borsh_json.specs.Writes.{ShowsNoJson}
+use Rattle.borsh_json.specs.NoJson.{ShowsNoJson}
 use Rattle.borsh_json.specs.declared.error.JsonError.{JsonError}
 use Rattle.borsh_c.specs.Answers.{Alone, Answers, About, Definitions, Saying, HasNoJson, IsJsonOf, IsUnclear, Never}
 use Rattle.borsh_c.specs.declared.many.Stop.{Stop}

@@ -24,7 +24,9 @@ pub mod LoopLaws
 pub mod ReadingLaws
 pub mod WritingLaws
 pub mod WritingPlaces
+pub mod NestedLaws
 pub mod WritingSteps
+pub mod FallLaws
 pub mod WriterLaws
 pub mod MemberLaws
 pub mod EachLaws

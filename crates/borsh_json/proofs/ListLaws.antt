@@ -12,6 +12,7 @@ use Rattle.borsh_walks.specs.Container as shape
 use Rattle.borsh_walks.specs.Definitions.{shape_of}
 use Rattle.borsh_walks.specs.declared.definition.Definition.{Definition}
 use Rattle.borsh_values.specs.Nodes.{AreElementsOf, Opens, OpensElements, packed_size}
+use Rattle.borsh_values.specs.Walks.{IsCounted}
 use Rattle.borsh_values.specs.declared.layout.Named.{Named}
 use Rattle.borsh_json.specs.declared.error.WriteError.{WriteError}
 use Rattle.borsh_json.specs.declared.error.WriteError.TheVariants.{OutOfMemory, Refused, Element}
@@ -19,7 +20,8 @@ use Rattle.borsh_json.specs.declared.kinds.Elements.{Elements}
 use Rattle.borsh_json.specs.declared.kinds.Kind.TheVariants.{Numbers}
 use Rattle.borsh_json.specs.declared.output.Output.{Output}
 use Rattle.borsh_json.specs.Forms.{Form, primitive, sequence, tuple, newtype, unnamed, named, choice, form_of, shape_of_form, shapes, IsByte}
-use Rattle.borsh_json.specs.Leaves.{Adds, HasSize, IsCounted, IsNoJson, IsOpenedAs, RefusesElement, RefusesLeaf, WritesLeaf, output_before, output_tokens}
+use Rattle.borsh_json.specs.Leaves.{Adds, HasSize, IsOpenedAs, RefusesElement, RefusesLeaf, WritesLeaf, output_before, output_tokens}
+use Rattle.borsh_json.specs.NoJson.{IsNoJson}
 use Rattle.borsh_json.specs.Places.{IsAt, IsKindOf, IsListOf, lengths_of}
 use Rattle.borsh_json.specs.Reads.{SaysFirst}
 use Rattle.borsh_json.specs.Represents.{HaveBytes, next_part}

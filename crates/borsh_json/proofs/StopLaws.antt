@@ -12,7 +12,8 @@ use Rattle.borsh_json.specs.declared.error.Refusal.{Refusal}
 use Rattle.borsh_json.specs.declared.error.Refusal.TheVariants.{TooDeep, RepeatedName, EmptyElements, NotBool, NotUtf8, Zero, NotNumber, Descends, OtherNodes, Expected, MissingField, UnknownName, RepeatedKey, Undefined}
 use Rattle.borsh_json.specs.Errors.{IsUnwritable, IsNoJsonReason}
 use Rattle.borsh_json.specs.Forms.{Form, forms_in}
-use Rattle.borsh_json.specs.Writes.{RefusesBytes, Stops}
+use Rattle.borsh_json.specs.NoJson.{RefusesBytes}
+use Rattle.borsh_json.specs.Writes.{Stops}
 use Rattle.borsh_json.proofs.FormsLaws.{shapes_are}
 
 unwritable : (F : List ℕ → Option Form) (root bytes : List ℕ) (r : Refusal) → RefusesBytes F root bytes r → IsUnwritable r

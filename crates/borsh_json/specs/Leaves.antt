@@ -1,13 +1,13 @@
 -- What is written of a value without places of its own.
-use Rattle.std.specs.Prelude.{◌≡◌, ◌⊎◌, ⊤, ℕ, ◌<◌, ◌≤◌, ◌^◌, List, [], ◌∷◌, ◌++◌, length, Bool, true, Decides, Option, Some, Result, MatchResult}
+use Rattle.std.specs.Prelude.{◌≡◌, ⊤, ℕ, ◌≤◌, List, [], ◌∷◌, ◌++◌, length, Bool, true, Decides, Option, Some, Result, MatchResult}
 use Rattle.std.specs.declared.cmp.Ordering.TheVariants.{Less}
 use Rattle.json.specs.Token.{Token}
 use Rattle.json.specs.Token as token
 use Rattle.json.specs.Json.{Json, string}
 use Rattle.json.specs.Tree.{json_tokens, depth, HasNumbers}
 use Rattle.borsh_walks.specs.declared.definition.Definition.{Definition}
-use Rattle.borsh_walks.specs.Container.{Shape, primitive, sequence, product, choice}
 use Rattle.borsh_values.specs.Nodes.{Opens}
+use Rattle.borsh_values.specs.Walks.{IsCounted}
 use Rattle.borsh_values.specs.declared.layout.Named.{Named}
 use Rattle.borsh_json.specs.declared.error.Refusal.{Refusal}
 use Rattle.borsh_json.specs.declared.error.Refusal.TheVariants.{TooDeep, RepeatedName, EmptyElements, NotBool, NotUtf8, Zero, NotNumber, Descends, OtherNodes, Expected, MissingField, UnknownName, RepeatedKey, Undefined}
@@ -21,6 +21,7 @@ use Rattle.borsh_json.specs.declared.sources.EntryKey.{EntryKey}
 use Rattle.borsh_json.specs.Forms.{Form, form_of, shape_of_form, shapes}
 use Rattle.borsh_json.specs.Found.{IsPrimitiveKind}
 use Rattle.borsh_json.specs.Frames.{IsEntryKey}
+use Rattle.borsh_json.specs.NoJson.{IsNoJson}
 use Rattle.borsh_json.specs.Places.{AreKeysOf, IsKindOf}
 use Rattle.borsh_json.specs.Reads.{SaysFirst}
 use Rattle.borsh_json.specs.Represents.{HaveBytes}
@@ -49,13 +50,6 @@ pub record Adds (ts : List Token) (old new : Output) : Type 0 where
 
 -- ---- values
 
--- the count of a sequence is the one that its definition allows, or a number of at most eight bytes
-abbrev pub IsCounted : Shape → Type 0
-IsCounted (primitive n) = ⊤
-IsCounted (sequence w lo hi e) = ((w ≡ 0) × (lo ≡ hi)) ⊎ ((w ≤ 8) × (hi < 256 ^ w))
-IsCounted (product ps) = ⊤
-IsCounted (choice w vs) = ⊤
-
 -- how many bytes a primitive of the kind has
 abbrev pub HasSize : Kind → ℕ → Type 0
 HasSize no_bytes n = ⊥
@@ -78,10 +72,6 @@ abbrev pub WritesHex : List ℕ → Output → Output → Result (Unit {0}) Writ
 WritesHex bytes old new result = MatchResult result (λ _. (s : List ℕ) × Adds (token.string s ∷ []) old new × IsHex (string s) bytes) (λ e. e ≡ OutOfMemory)
 
 module _ (F : List ℕ → Option Form) where
-  -- no JSON says a value of the name whose bytes begin so, whatever parts and bytes follow
-  abbrev pub IsNoJson : List ℕ → List ℕ → Type 0
-  IsNoJson x own = (j : Json) (ps : List Part) (bs : List ℕ) → HaveBytes F ((x, j) ∷ ps) (own ++ bs) → ⊥
-
   -- JSON of the name was written whole: it nests at most so deep, and says these bytes
   pub record WritesLeaf (n : ℕ) (x own : List ℕ) (old new : Output) : Type 0 where
     pub json : Json
@@ -95,10 +85,10 @@ module _ (F : List ℕ → Option Form) where
   IsLeafRefusal TooDeep x own = ⊥
   IsLeafRefusal (RepeatedName name) x own = ⊥
   IsLeafRefusal EmptyElements x own = ⊥
-  IsLeafRefusal NotBool x own = HasKind F x truth × IsNoJson x own
-  IsLeafRefusal NotUtf8 x own = (l : Lengths) × HasKind F x (utf8 l) × IsNoJson x own
-  IsLeafRefusal Zero x own = (n : ℕ) × (signed : Bool) × HasKind F x (whole n signed true) × IsNoJson x own
-  IsLeafRefusal NotNumber x own = (n : ℕ) × (infinity : ℕ) × HasKind F x (float n infinity) × IsNoJson x own
+  IsLeafRefusal NotBool x own = HasKind F x truth × IsNoJson F x own
+  IsLeafRefusal NotUtf8 x own = (l : Lengths) × HasKind F x (utf8 l) × IsNoJson F x own
+  IsLeafRefusal Zero x own = (n : ℕ) × (signed : Bool) × HasKind F x (whole n signed true) × IsNoJson F x own
+  IsLeafRefusal NotNumber x own = (n : ℕ) × (infinity : ℕ) × HasKind F x (float n infinity) × IsNoJson F x own
   IsLeafRefusal Descends x own = ⊥
   IsLeafRefusal OtherNodes x own = ⊥
   IsLeafRefusal (Expected wanted) x own = ⊥
@@ -109,7 +99,7 @@ module _ (F : List ℕ → Option Form) where
 
   -- so is that of an element of a value of the name, and no JSON says the value
   abbrev pub IsElementRefusal : Refusal → List ℕ → List ℕ → Type 0
-  IsElementRefusal refusal x own = (e : List ℕ) × (piece : List ℕ) × IsLeafRefusal refusal e piece × IsNoJson x own
+  IsElementRefusal refusal x own = (e : List ℕ) × (piece : List ℕ) × IsLeafRefusal refusal e piece × IsNoJson F x own
 
   -- the error is right
   abbrev pub RefusesLeaf : List ℕ → List ℕ → WriteError → Type 0

@@ -8,6 +8,8 @@ pub mod Places
 pub mod Ordered
 pub mod InOrder
 pub mod Represents
+pub mod Inside
+pub mod NoJson
 pub mod NoValue
 pub mod Known
 pub mod Found

@@ -4,6 +4,7 @@ pub use Rattle.borsh_json.specs.Errors.{IsNoJsonReason, IsNoRowsReason, IsPartEr
 pub use Rattle.borsh_json.specs.Forms.{Form, HasNoBytes, IsByte, IsMap, IsOption, choice, shapes, form_of, form_of_struct, forms_in, newtype, sequence, shape_of_form, tuple}
 pub use Rattle.borsh_json.specs.Found.{AreEntries, HasForm, IsAlike, IsCollection, IsMapName, IsNamed, IsPrimitiveKind, IsRefusedList, IsRepeated, IsSetName, TellsKind, forms_of, joined, names_of}
 pub use Rattle.borsh_json.specs.Frames.{AddsList, AreKeyed, AreSorted, DeniesRead, GivesPart, HasEntries, HasFields, HasItems, HasLeft, HasRead, HaveLeft, HaveNumbers, HaveOneEach, IsArrayOf, IsEntryKey, IsExpected, IsKey, IsNext, IsNextEntry, IsOf, IsOfRead, IsOpened, IsRank, IsText, IsUnread, IsVariantAt, IsWanted, NamesVariant, NoneLeft, Opens, ReadsOn, SaysArray, Wanted}
+pub use Rattle.borsh_json.specs.NoJson.{ShowsNoJson}
 pub use Rattle.borsh_json.specs.Known.{IsKnown, SaysBy}
 pub use Rattle.borsh_json.specs.NoValue.{ShowsNoValue}
 pub use Rattle.borsh_json.specs.Ordered.{AreNumbers, IsSequenceName, IsTreeMapName, Order, is_below_zero, listed, needs, tuple_name}
@@ -14,7 +15,7 @@ pub use Rattle.borsh_json.specs.Reads.{AreRead, Before, Left, PartsOfAll, SaysFi
 pub use Rattle.borsh_json.specs.Represents.{HaveBytes, TextSays}
 pub use Rattle.borsh_json.specs.Table.{AreKeys, Entry, HasKind, InRange, IsHex, IsNoNan, IsNullable, IsNumber, IsPrefixed, IsWhole, Keys, Kind as TableKind, Lengths, MayBeNull, Part as JsonPart, byte_list, entries as map_entries, entries_of, float, key_json, key_order, list_parts, no_bytes, number_kind, number_types, optional, primitive_kind, raw, texts, truth, utf8, variants as spec_variants, whole}
 pub use Rattle.borsh_json.specs.Leaves.{Adds, IsOpenedAs, output_before, output_tokens}
-pub use Rattle.borsh_json.specs.Writes.{ArePartsOf, BeginsAt, BeginsStruct, HasNode, IsAbove, IsAwaitingAt, IsBegunOf, IsFull, IsFullOrDescends, IsKeyPut, IsLast, IsOfWrite, IsPartWritten, IsWritingAt, IsWrittenNext, IsWrittenOn, ShowsNoJson, StopsBy, WritesStruct, WritesValueOf, ends_of, leaf_depth}
+pub use Rattle.borsh_json.specs.Writes.{ArePartsOf, AscendsFrom, BeginsAt, BeginsNext, BeginsStruct, HasNode, IsAbove, IsAwaitingAt, IsBegunOf, IsFull, IsKeyPut, IsLast, IsOfWrite, IsPartWritten, IsWritingAt, IsWrittenNext, IsWrittenOn, RefusesElements, StopsBy, TellsAscent, WritesStruct, WritesValueOf, ends_of, leaf_depth}
 pub use Rattle.borsh_json.specs.declared.definitions.Known.{Known as KnownAt}
 pub use Rattle.borsh_json.specs.declared.definitions.Known.TheVariants.{Order as KnownOrder}
 pub use Rattle.borsh_json.specs.declared.error.ReadError.TheVariants.{OutOfMemory}

@@ -445,7 +445,8 @@ fn open_items<'a, 't, 's>(
         Array::Of(items, count) => match put_length(alloc, definition, count, out) {
             Ok(()) => {
                 let parts: Parts<'a> = Parts::List(elements.at, count as u64);
-                let place: Place<'a, 'static> = Place::in_order(parts, elements.order);
+                let place: Place<'a, 'static> = Place::new(parts);
+                let place = place.in_order(elements.order);
                 let source = Source::Items(items);
                 Ok(Some(Frame { place, source }))
             }
