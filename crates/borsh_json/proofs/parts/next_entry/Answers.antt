@@ -1,6 +1,6 @@
-use Rattle.std.proofs.Common.{◌≡◌, ◌∷◌, List, ℕ, sym, subst}
+use Rattle.std.proofs.Common.{◌∷◌, List, ℕ, sym, subst}
 use Rattle.borsh_json.specs.Reads.{AreRead, Before, PartsOfAll, entries_left}
-use Rattle.borsh_json.specs.Table.{Entry, Part}
+use Rattle.borsh_json.specs.Table.{Entry}
 use Rattle.borsh_json.proofs.LoopLaws.{key_added, key_denied}
 use Rattle.borsh_json.proofs.parts.next_entry.Goals as goal
 
