@@ -3,12 +3,12 @@ pub use Rattle.borsh_json.specs.Descents.{HasDescent, HasKeys, NumbersDescend}
 pub use Rattle.borsh_json.specs.Errors.{IsNoJsonReason, IsNoRowsReason, IsPartError, IsReadRefusal, IsTextReason, IsTooDeep, IsUnreadable, IsUnwritable}
 pub use Rattle.borsh_json.specs.Forms.{Form, HasNoBytes, IsByte, IsMap, IsOption, choice, shapes, form_of, form_of_struct, forms_in, newtype, sequence, shape_of_form, tuple}
 pub use Rattle.borsh_json.specs.Found.{AreEntries, HasForm, IsAlike, IsCollection, IsMapName, IsNamed, IsPrimitiveKind, IsRefusedList, IsRepeated, IsSetName, TellsKind, forms_of, joined, names_of}
-pub use Rattle.borsh_json.specs.Frames.{AddsList, AreKeyed, AreSorted, DeniesRead, GivesPart, HasEntries, HasFields, HasItems, HasLeft, HasRead, HaveLeft, HaveNumbers, HaveOneEach, IsArrayOf, IsEntryKey, IsExpected, IsKey, IsNext, IsNextEntry, IsOf, IsOfRead, IsOpened, IsRank, IsText, IsUnread, IsVariantAt, IsWanted, NamesVariant, NoneLeft, Opens, ReadsOn, SaysArray, Wanted}
+pub use Rattle.borsh_json.specs.Frames.{AddsList, AddsOrFalls, AreKeyed, AreSorted, DeniesRead, ElementsFall, GivesPart, HasEntries, HasFields, HasItems, HasLeft, HasRead, HaveLeft, HaveNumbers, HaveOneEach, IsArrayOf, IsEntryKey, IsExpected, IsKey, IsNext, IsNextEntry, IsOf, IsOfRead, IsOpened, IsOpenedOrFalls, IsRank, IsText, IsUnread, IsVariantAt, IsWanted, MayFall, NamesVariant, NoneLeft, Opens, ReadsOn, SaysArray, Wanted}
 pub use Rattle.borsh_json.specs.NoJson.{ShowsNoJson}
 pub use Rattle.borsh_json.specs.Known.{IsKnown, SaysBy}
 pub use Rattle.borsh_json.specs.NoValue.{ShowsNoValue}
 pub use Rattle.borsh_json.specs.Ordered.{AreNumbers, IsSequenceName, IsTreeMapName, Order, is_below_zero, listed, needs, tuple_name}
-pub use Rattle.borsh_json.specs.Orders.{AreOpenIn, AreOrderedNumbers, AwaitsOrder, FindsBytes, FindsKeys, FindsKind, FindsOrder, FrontCompares, HasFound, HasKinds, HasOrders, IsNeeded, IsElementFall, IsNextValue, IsOrderOf, KindHasOrder, KnowsMore, OrderedBy, OrdersKeys, PendingCompares, TellsOrder, ValueCompares, ValuesCompare}
+pub use Rattle.borsh_json.specs.Orders.{AreOpenIn, AreOrderedNumbers, AwaitsOrder, FindsBytes, FindsKeys, FindsKind, FindsOrder, FrontCompares, HasFound, HasKinds, HasOrders, IsNeeded, HasKeyOrder, IsElementFall, IsNextValue, IsOrderOf, KindHasOrder, KnowsMore, OrderedBy, OrdersKeys, PendingCompares, TellsOrder, ValueCompares, ValuesCompare}
 pub use Rattle.borsh_json.specs.Places.{AreKeysOf, IsAt, IsInfinity, IsKindAt, IsKindOf, IsListOf, lengths_of}
 pub use Rattle.borsh_json.specs.Ranks.{HasRank, IsLeading, IsPlain, magnitude, number_found, rank_of}
 pub use Rattle.borsh_json.specs.Reads.{AreRead, Before, Left, PartsOfAll, SaysFirst, SaysSome, entries_left}
