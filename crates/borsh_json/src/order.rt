@@ -496,7 +496,8 @@ impl Ascent {
         definitions: &Definitions<'_, '_>,
         bytes: &[u8],
     ) -> Result<bool, AllocError>
-        ensures { HasOrders definitions.now → (x : List ℕ) → OrderedBy definitions.now x self.now.order →
+        ensures first { self.now.earlier ≡ None → IfOk result (λ ascends. ascends ≡ true) }
+        ensures order { HasOrders definitions.now → (x : List ℕ) → OrderedBy definitions.now x self.now.order →
             (i j : ℕ) → self.now.earlier ≡ Some i → self.now.last ≡ Some j → (r : Comparison) →
             ValuesCompare definitions.now x (drop i bytes.now) (drop j bytes.now) r →
             IfOk result (λ ascends. Decides ascends (r ≡ Less)) }

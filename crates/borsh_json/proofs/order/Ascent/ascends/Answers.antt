@@ -1,10 +1,10 @@
-use Rattle.std.proofs.Common.{◌≡◌, ◌∙◌, ℕ, Some, drop, sym, ap, subst}
+use Rattle.std.proofs.Common.{◌≡◌, ◌∙◌, ℕ, None, Some, drop, sym, ap, subst}
 use Rattle.borsh_json.specs.Orders.{ValuesCompare}
 use Rattle.borsh_json.proofs.OrderedLaws.{less_tested}
 use Rattle.borsh_json.proofs.order.Ascent.ascends.Goals as goal
 
-pub returns : goal.returns
-returns c h x o i j ei ej r v =
+pub returns-clause-order : goal.returns-clause-order
+returns-clause-order c h x o i j ei ej r v =
     let d = c.args.definitions.now in
     let bs = c.args.bytes.now in
     let p : Some i ≡ Some c.in-Some.earlier = sym ei ∙ c.in-Some.is in
@@ -15,3 +15,6 @@ returns c h x o i j ei ej r v =
     let m = ap (λ j. drop j bs) b ∙ sym c.from-right.ensures in
     let w = subst (λ right. ValuesCompare d x c.from-left.result.now right r) m (subst (λ left. ValuesCompare d x left (drop j bs) r) l v) in
     less_tested r c.in_ok-ordering.ordering c.is_lt.result c.is_lt.ensures (c.in_ok-ordering.ensures h x o r w)
+
+pub returns-clause-first : goal.returns-clause-first
+returns-clause-first c e = let q : None ≡ Some c.in-Some.earlier = sym e ∙ c.in-Some.is in cc
