@@ -1,6 +1,6 @@
 -- Sets of bytes as digits, of which two neighbours don't ascend; and sets and maps as arrays, of which they may not.
-use Rattle.std.proofs.Common.{◌≡◌, ℕ, ◌≤◌, ◌*◌, List, [], ◌∷◌, ◌++◌, length, drop, Bool, true, false, Option, Some, None, refl, sym, ◌∙◌, ap, subst, arith}
-use Rattle.std.specs.Prelude.{Result, Ok, Err, pos, is_some, All}
+use Rattle.std.proofs.Common.{◌≡◌, ℕ, ◌<◌, ◌≤◌, ◌*◌, List, [], ◌∷◌, ◌++◌, length, drop, Bool, true, false, Option, Some, None, refl, sym, ◌∙◌, ap, subst, arith}
+use Rattle.std.specs.Prelude.{Result, Ok, Err, pos, is_some, All, IfSome}
 use Rattle.json.specs.Json.{Json, string, array, Items}
 use Rattle.borsh_walks.specs.Container.{tag}
 use Rattle.borsh_values.specs.Nodes.{OpensElements, packed_size}
@@ -26,8 +26,9 @@ use Rattle.borsh_json.proofs.RankLaws.{shaped}
 use Rattle.borsh_json.proofs.RepresentsLaws.{kind_one, hex_one}
 
 -- the first descent of primitives
-pub some_falls : (es : Elements) (found : Ordered) (bytes : List ℕ) (n i : ℕ) → es.order ≡ Some found → n ≡ es.size → All (λ b. b < 256) bytes → ((signed : Bool) → AreOrderedNumbers found n signed bytes → NumbersDescend n signed bytes i) → ElementsFall es bytes
-some_falls es found bytes n i e s small f = (found, e, small, λ signed a. (i, subst (λ n. NumbersDescend n signed bytes i) s (f signed (subst (λ n. AreOrderedNumbers found n signed bytes) (sym s) a))))
+pub some_falls : (es : Elements) (found : Ordered) (bytes : List ℕ) (n : ℕ) (r : Option ℕ) → es.order ≡ Some found → n ≡ es.size → All (λ b. b < 256) bytes → ((signed : Bool) → AreOrderedNumbers found n signed bytes → IfSome r (λ i. NumbersDescend n signed bytes i)) → IfSome r (λ i. ElementsFall es bytes)
+some_falls es found bytes n None e s small f = tt
+some_falls es found bytes n (Some i) e s small f = (found, e, small, λ signed a. (i, subst (λ n. NumbersDescend n signed bytes i) s (f signed (subst (λ n. AreOrderedNumbers found n signed bytes) (sym s) a))))
 
 pub adds_or : {A : Type 0} (es : Elements) (l : Lengths) (bs old new : List ℕ) (r : Result A ReadError) → AddsList l bs old new r → AddsOrFalls es l bs old new r
 adds_or es l bs old new (Ok a) h = h
@@ -35,10 +36,10 @@ adds_or es l bs old new (Err OutOfMemory) h = h
 adds_or es l bs old new (Err (Refused r)) h = h
 adds_or es l bs old new (Err (DescendsAt i)) h = absurd h
 
-pub denies_or : (e : ReadError) {P : Type 0} → DeniesRead e P → DeniesOr ⊥ e P
-denies_or OutOfMemory d = d
-denies_or (Refused r) d = d
-denies_or (DescendsAt i) d = d
+pub denies_or : (e : ReadError) (P : Type 0) → DeniesRead e P → DeniesOr ⊥ e P
+denies_or OutOfMemory P d = d
+denies_or (Refused r) P d = d
+denies_or (DescendsAt i) P d = d
 
 pub falls_or : (e : ReadError) {P Q D E : Type 0} → (Q → P) → (D → E) → DeniesOr D e P → DeniesOr E e Q
 falls_or OutOfMemory f g d = tt
@@ -61,7 +62,7 @@ module _ (F : List ℕ → Option Form) (ns : List Named) (orders : List Known) 
       let one : packed_size (shapes F e) ≡ 1 = ap (λ o. packed_size o) (shaped (F e) d.2.1.1) in
       let opens : OpensElements (packed_size (shapes F e)) e (length bytes) bytes [] = subst (λ m. OpensElements m e (length bytes) bytes []) (sym one) (omega arith, f.2, refl) in
       packed_descent F ns orders x e o.0 own bytes rest [] 0 l.width l.least l.greatest f.0 o.1 x_is d.2.1.1 (length bytes, bytes, p.0, p.1, p.2, opens) behind
-        (λ signed a. subst (λ n. (i : ℕ) × NumbersDescend n signed bytes i) size (f.3 signed (subst (λ n. AreOrderedNumbers f.0 n signed bytes) (sym size) a)))
+      (λ signed a. subst (λ n. (i : ℕ) × NumbersDescend n signed bytes i) size (f.3 signed (subst (λ n. AreOrderedNumbers f.0 n signed bytes) (sym size) a)))
 
   -- an array
   pub neighbours_there : (order : Option Ordered) (ascent : Option Ascent) (js : Items) (n : ℕ) → HasKeyOrder F ns orders x order → AscendsFrom order ascent → j ≡ array js → n ≡ length (list_parts [] js) → 2 ≤ n → is_some ascent ≡ true → HasNeighbours F x j

@@ -48,15 +48,15 @@ no_places false e = e
 
 any_last : (p : Place) (ps : List Place) → list_any has_order (ps ++ p ∷ []) ≡ true → list_any has_order (p ∷ ps) ≡ true
 any_last p ps e = elim (either (list_any has_order ps) (list_any has_order (p ∷ [])) (sym (list_any-append has_order ps (p ∷ [])) ∙ e)) [
-    | inl q ↦ ap (λ b. has_order p || b) q ∙ or_true (has_order p)
-    | inr q ↦ ap (λ a. a || list_any has_order ps) (no_places (has_order p) q)
-  ]
+  | inl q ↦ ap (λ b. has_order p || b) q ∙ or_true (has_order p)
+  | inr q ↦ ap (λ a. a || list_any has_order ps) (no_places (has_order p) q)
+]
 
 last_any : (p : Place) (ps : List Place) → list_any has_order (p ∷ ps) ≡ true → list_any has_order (ps ++ p ∷ []) ≡ true
 last_any p ps e = list_any-append has_order ps (p ∷ []) ∙ elim (either (has_order p) (list_any has_order ps) e) [
-    | inl q ↦ ap (λ a. list_any has_order ps || (a || false)) q ∙ or_true (list_any has_order ps)
-    | inr q ↦ ap (λ a. a || list_any has_order (p ∷ [])) q
-  ]
+  | inl q ↦ ap (λ a. list_any has_order ps || (a || false)) q ∙ or_true (list_any has_order ps)
+  | inr q ↦ ap (λ a. a || list_any has_order (p ∷ [])) q
+]
 
 module _ (F : List ℕ → Option Form) (root : List ℕ) (j : Json) where
   -- elements don't ascend
@@ -73,9 +73,9 @@ module _ (F : List ℕ → Option Form) (root : List ℕ) (j : Json) where
 
   fall_entered : (new p : Place) (ps : List Place) → MayFall F root j (p ∷ ps) → (is_some new.ascent ≡ true → RefusesJson F root j Descends) → MayFall F root j (new ∷ (ps ++ p ∷ []))
   fall_entered new p ps f g = λ t. elim (either (has_order new) (list_any has_order (ps ++ p ∷ [])) t) [
-      | inl q ↦ g q
-      | inr q ↦ f (any_last p ps q)
-    ]
+    | inl q ↦ g q
+    | inr q ↦ f (any_last p ps q)
+  ]
 
   pub none_falls : (p : Place) (ps : List Place) → p.ascent ≡ None → ps ≡ [] → MayFall F root j (p ∷ ps)
   none_falls p ps a e = λ t. (let q : list_any has_order (p ∷ ps) ≡ false = ap (λ (a : Option Ascent). is_some a || list_any has_order ps) a ∙ ap (λ l. list_any has_order l) e in let z : true ≡ false = sym t ∙ q in cc)

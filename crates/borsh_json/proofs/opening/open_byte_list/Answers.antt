@@ -33,4 +33,4 @@ pub returns : goal.returns
 returns c F ns orders x j e at h size order b =
     let l = lengths_of (form_of c.args.definition.now) in
     let s = string_is j c.in-Some.text.now (sym (c.in-Some.ensures j b)) in
-    falls_or c.in-Err.error (λ g. let k = said F ns x j (byte_list l e) h g in let q = byte_said F j l e k.0 k.1 c.in-Some.text.now s k.2 in (q.0, q.1)) (λ f. absurd f) (denies_or c.in-Err.error c.in-Err.ensures)
+    falls_or c.in-Err.error (λ g. let k = said F ns x j (byte_list l e) h g in let q = byte_said F j l e k.0 k.1 c.in-Some.text.now s k.2 in (q.0, q.1)) (λ f. absurd f) (denies_or c.in-Err.error _ c.in-Err.ensures)

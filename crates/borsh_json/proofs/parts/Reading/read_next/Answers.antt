@@ -1,4 +1,4 @@
-use Rattle.std.proofs.Common.{ap, subst, Option}
+use Rattle.std.proofs.Common.{◌≡◌, ap, subst, false, Option}
 use Rattle.std.specs.Prelude.{is_some}
 use Rattle.borsh_json.specs.declared.order.Ascent.{Ascent}
 use Rattle.borsh_json.specs.declared.error.Refusal.TheVariants.{MissingField}
@@ -41,8 +41,10 @@ returns-in-Err c k root j r =
     let s = reading_same F ns root j c.ascends.ensures.same.0 c.ascends.ensures.same.1 r.0 in
     unread_of F root j c.in-Err.error c.refused_part.result c.refused_part.ensures.same (c.in-Err.ensures.next k.known root j s.inner s.around s.here s.read)
 
-pub returns-then-not-ascends : goal.returns-then-not-ascends
-returns-then-not-ascends c k root j r =
+pub returns-then-not-branch : goal.returns-then-not-branch
+returns-then-not-branch c k root j r =
     let F = forms_in c.args.definitions.now.layout.now.map.now in
     let old = c.args.self.now.position in
-    descends_part F root j c.refused_element.result c.refused_element.ensures.same (falls_here F root j old.place old.outer.items r.1 (c.ascends.ensures.falls c.if-ascends.false))
+    let t = c.if-not-branch.true in
+    let e : c.in_ok-ascends.field-0 ≡ false = cc in
+    descends_part F root j c.refused_element.result c.refused_element.ensures.same (falls_here F root j old.place old.outer.items r.1 (c.in_ok-ascends.ensures.falls e))
