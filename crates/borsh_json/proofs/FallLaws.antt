@@ -130,8 +130,8 @@ module _ (d : Definitions) (w : Writing) (p : Place) (a : IsWritingAt d w p) (z 
       let left = w.walk.left.now in
       let after = t.own ++ (t.mid ++ (l.bytes ++ left)) in
       let b : w.bytes.now ≡ t.before ++ after =
-      s.halved.joined ∙ ap (λ b. b ++ left) (l.is ∙ ap (λ b. b ++ l.bytes) t.is) ∙ append_assoc (t.before ++ (t.own ++ t.mid)) l.bytes left
-      ∙ append_assoc t.before (t.own ++ t.mid) (l.bytes ++ left) ∙ ap (λ b. t.before ++ b) (append_assoc t.own t.mid (l.bytes ++ left)) in
+          s.halved.joined ∙ ap (λ b. b ++ left) (l.is ∙ ap (λ b. b ++ l.bytes) t.is) ∙ append_assoc (t.before ++ (t.own ++ t.mid)) l.bytes left
+          ∙ append_assoc t.before (t.own ++ t.mid) (l.bytes ++ left) ∙ ap (λ b. t.before ++ b) (append_assoc t.own t.mid (l.bytes ++ left)) in
       let m : suc (suc (length t.read)) ≤ listed.0 = (let q = listed.4 in omega (arith, q)) in
       let fall : HasDescent (forms_of d) a.mark.0 after = record {
         e = e;
@@ -210,11 +210,8 @@ module _ (F : List ℕ → Option Form) (ns : List Named) (orders : List Known) 
   list_falls n depth w lo hi e NoPartMemory k s p z d g = tt
   list_falls n depth w lo hi e (RefusedPart path r) k s p z d g =
       let h = subst (λ (order : Option Ordered). HasKeyOrder F ns orders x order) g.1 k in
-      inr (
-        d,
-        packed_descent F ns orders x e h.0 own bytes after parts n w lo hi g.0 h.1 (o.0 ∙ ap (λ f. Some f) s) p (subst (λ (f : Form). Opens (shapes F) (shape_of_form f) own parts) s o.1) (subst (λ (f : Form). AreElementsOf (shape_of_form f) own bytes) s elements)
-            (λ signed a. subst (λ n. (i : ℕ) × NumbersDescend n signed bytes i) z (g.2 signed (subst (λ n. AreOrderedNumbers g.0 n signed bytes) (sym z) a))),
-      )
+      inr (d, packed_descent F ns orders x e h.0 own bytes after parts n w lo hi g.0 h.1 (o.0 ∙ ap (λ f. Some f) s) p (subst (λ (f : Form). Opens (shapes F) (shape_of_form f) own parts) s o.1) (subst (λ (f : Form). AreElementsOf (shape_of_form f) own bytes) s elements)
+        (λ signed a. subst (λ n. (i : ℕ) × NumbersDescend n signed bytes i) z (g.2 signed (subst (λ n. AreOrderedNumbers g.0 n signed bytes) (sym z) a))))
 
   pub bytes_falls : (depth : ℕ) (error : PartError) → IsKindOf F ns x f (ByteList es) → KindHasOrder F ns orders x (ByteList es) → IsOf Descends error → IsElementFall es bytes error → IsFullOrFalls depth (HasDescent F x (own ++ after)) error
   bytes_falls depth error k h d g =
