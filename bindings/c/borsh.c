@@ -111,8 +111,8 @@ static uint32_t ask(const struct question *q, struct borsh_buffer *out) {
         is_null(q->lengths, q->lengths_count))
         return FAIL(BORSH_NULL, "null pointer", out);
     size_t room_length = first_room(q);
-    /* The answer of a second call is as long as the first one's, so that no third is needed. */
-    for (int calls = 0; calls < 2 && room_length < SIZE_MAX; calls++) {
+    /* A call whose answer doesn't fit asks for a larger room, and no answer to a question is longer than a certain one: so one fits. */
+    while (room_length < SIZE_MAX) {
         uint8_t *room = calloc(room_length + 1, 1);
         if (room == NULL)
             break;

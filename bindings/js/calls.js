@@ -121,8 +121,8 @@ function ask(it, name, given, roomLength) {
   const block = Number(it.heap_take(BigInt(size)));
   if (block === 0) return outOfMemory();
   const words = given.flatMap((argument, index) => writePart(it, argument, block + starts[index]));
-  // The answer of a second call is as long as the first one's, so that no third is needed.
-  for (let count = 0; count < 2; count++) {
+  // A call whose answer doesn't fit asks for a larger room, and no answer to a question is longer than a certain one: so one fits.
+  for (;;) {
     const room = Number(it.heap_take(BigInt(roomLength)));
     if (room === 0) return outOfMemory();
     const kind = KINDS[it[name](...words, BigInt(room), BigInt(roomLength), BigInt(block))];
@@ -136,7 +136,6 @@ function ask(it, name, given, roomLength) {
     it.heap_give_back(BigInt(room));
     roomLength = length;
   }
-  return outOfMemory();
 }
 
 function sizeOf(argument) {

@@ -12,12 +12,12 @@ use Rattle.borsh_values.specs.declared.layout.Layout.{Layout}
 use Rattle.borsh_values.proofs.Valid.{none_ambiguous}
 use Rattle.borsh_json.specs.declared.definitions.Definitions.{Definitions as Json}
 use Rattle.borsh_json.specs.declared.error.JsonError.{JsonError}
-use Rattle.borsh_c.specs.Answers.{Definitions, IsJsonOf, IsRefused, IsUnclear, Saying}
+use Rattle.borsh_c.specs.Answers.{Definitions, IsRefused, IsUnclear, Saying}
 use Rattle.borsh_c.specs.Texts.{TellsNoValue}
 use Rattle.borsh_c.specs.declared.many.Stop.{Stop}
 use Rattle.borsh_c.specs.declared.many.Stop.TheVariants.{End, EmptyValue, Short, NoMember, Ambiguous}
 use Rattle.borsh_c.specs.declared.refusal.Refusal.{Refusal}
-use Rattle.borsh_c.specs.Many.{BeginWith, HasNoLine, HaveLines, IsNoLine, IsStop, NoMore, behind}
+use Rattle.borsh_c.specs.Many.{BeginWith, HasNoLine, HaveLines, IsLineOf, IsNoLine, IsStop, NoMore, behind}
 use Rattle.borsh_c.specs.Many.NoMore.{done, none, empty, unclear}
 use Rattle.borsh_c.proofs.Told.{bytes_refused}
 
@@ -58,7 +58,7 @@ module _ (C : List ℕ → Option Shape) (root : List ℕ) where
   at_first lengths bytes room (suc i) stop h s = absurd (omega (arith, h))
 
 module _ (m : Definitions) (root : List ℕ) where
-  lines_more : (ns values text : List ℕ) (n : ℕ) (line : List ℕ) → HaveLines m root ns values text → IsJsonOf (take n (behind ns values)) line m root → HaveLines m root (ns ++ (n ∷ [])) values ((text ++ line) ++ (10 ∷ []))
+  lines_more : (ns values text : List ℕ) (n : ℕ) (line : List ℕ) → HaveLines m root ns values text → IsLineOf m root (take n (behind ns values)) line → HaveLines m root (ns ++ (n ∷ [])) values ((text ++ line) ++ (10 ∷ []))
   lines_more [] values text n line h j = (line, [], ap (λ (t : List ℕ). (t ++ line) ++ (10 ∷ [])) h, j, refl)
   lines_more (k ∷ ns) values text n line h j = (
     h.0,
@@ -69,10 +69,10 @@ module _ (m : Definitions) (root : List ℕ) where
   )
 
   -- one more line is written behind the others
-  pub lined : (lengths values left text : List ℕ) (i : ℕ) (line : List ℕ) → i < length lengths → HaveLines m root (take i lengths) values text → left ≡ behind (take i lengths) values → IsJsonOf (take (get_or lengths i 0) left) line m root → HaveLines m root (take (i + 1) lengths) values ((text ++ line) ++ (10 ∷ []))
+  pub lined : (lengths values left text : List ℕ) (i : ℕ) (line : List ℕ) → i < length lengths → HaveLines m root (take i lengths) values text → left ≡ behind (take i lengths) values → IsLineOf m root (take (get_or lengths i 0) left) line → HaveLines m root (take (i + 1) lengths) values ((text ++ line) ++ (10 ∷ []))
   lined lengths values left text i line h l e j =
       rw (take_more lengths i 0 h)
-      (lines_more (take i lengths) values text (get_or lengths i 0) line l (subst (λ (xs : List ℕ). IsJsonOf (take (get_or lengths i 0) xs) line m root) e j))
+      (lines_more (take i lengths) values text (get_or lengths i 0) line l (subst (λ (xs : List ℕ). IsLineOf m root (take (get_or lengths i 0) xs) line) e j))
 
 -- of a layout whose kinds were found
 pub by_json : (P : Definitions → List ℕ → Type 0) (d : Json) (l : Layout) → d.layout.now ≡ l → P d.layout.now.map.now d.layout.now.root.now → P l.map.now l.root.now
@@ -93,5 +93,5 @@ module _ {schema : List ℕ} (c : String Global × Definitions) (encoded : root_
   -- why the first value has no line
   pub line_refused : (values lengths : List ℕ) (count : ℕ) (e : JsonError) → count ≤ 0 → IsNoLine c.1 root lengths values count (Some e) → (t : Refusal) → TellsNoValue e t → IsRefused schema (HasNoLine values lengths) IsUnclear t
   line_refused values [] count e h n t told = absurd (omega (arith, n.0))
-  line_refused values (k ∷ ks) zero e h n t told = bytes_refused c encoded root named (take k values) e n.1 n.2 t told
+  line_refused values (k ∷ ks) zero e h n t told = bytes_refused c encoded root named (take k values) e n.2 n.3 t told
   line_refused values (k ∷ ks) (suc i) e h n t told = absurd (omega (arith, h))

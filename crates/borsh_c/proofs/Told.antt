@@ -1,5 +1,5 @@
 -- A refusal says what is right.
-use Rattle.std.proofs.Common.{◌≡◌, ◌^◌, ◌<◌, ℕ, List, Option, Some, String, string_bytes, codes, refl, subst, sym}
+use Rattle.std.proofs.Common.{◌≡◌, ◌^◌, ◌<◌, inr, ℕ, List, Option, Some, String, string_bytes, codes, refl, subst, sym}
 use Rattle.std.specs.Global.{Global}
 use Rattle.borsh_definitions.specs.Codecs.{root_and_map}
 use Rattle.borsh_walks.specs.Container.{Shape, MaxSize, zst_sequence, tag_too_wide, tag_too_narrow, tag_not_power_of_two, missing_definition, empty_length_range}
@@ -14,17 +14,17 @@ use Rattle.borsh_values.specs.Membership.{IsUndecided}
 use Rattle.borsh_values.proofs.Valid.{none_ambiguous}
 use Rattle.borsh_json.specs.declared.error.JsonError.{JsonError}
 use Rattle.borsh_json.specs.declared.error.JsonError.TheVariants.{OutOfMemory as NoJsonRoom, NoMember, NoValue, Ambiguous, NotJson, Refused}
-use Rattle.borsh_json.specs.Errors.{IsNoJsonReason, IsTextReason}
+use Rattle.borsh_json.specs.Errors.{DeniesValue, IsNoJsonReason, IsTextReason}
 use Rattle.borsh_json.specs.Forms.{forms_in}
 use Rattle.borsh_json.specs.NoJson.{ShowsNoJson}
 use Rattle.borsh_c.specs.declared.refusal.Refusal.{Refusal}
 use Rattle.borsh_c.specs.declared.refusal.Refusal.TheVariants.{No, Malformed, OutOfMemory, Undecided}
 use Rattle.borsh_c.specs.declared.refusal.Said.{Said}
-use Rattle.borsh_c.specs.Answers.{Answers, Definitions, Saying, About, Gives, HasNoJson, HasNoSize, IsInvalid, IsNoText, IsRefused, IsUnclear, IsUnsized, Tells, code_of, told_offset, told_text, unclear_text}
+use Rattle.borsh_c.specs.Answers.{Answers, AreBytesOf, Definitions, Saying, About, Gives, HasNoJson, HasNoSize, IsInvalid, IsNo, IsNoText, IsRefused, IsShort, IsUnclear, IsUnsized, Tells, code_of, offset_in, told_offset, told_text, unclear_text}
 use Rattle.borsh_c.specs.Answers.Answers.{yes, no, malformed, out_of_memory, undecided}
 use Rattle.borsh_c.specs.Answers.IsUnsized.{overflows, recurs, misses}
 use Rattle.borsh_c.specs.Room.{IsGiven}
-use Rattle.borsh_c.specs.Texts.{TellsBroken, TellsNoSize, IsNo, TellsNoValue, offset_in}
+use Rattle.borsh_c.specs.Texts.{TellsBroken, TellsNoSize, TellsNoValue}
 
 -- ---- what is said of the container whose encoding the bytes are, and of the name of its root
 
@@ -69,35 +69,26 @@ module _ {schema : List ℕ} (c : String Global × Definitions) (encoded : root_
   unclear_told {text} {x} u t = about_told (IsUnclear text) (λ v d. none_ambiguous C x v d u, (x, u, t))
 
   -- what an error's offset says
-  no_json : (value text : List ℕ) (e : JsonError) → IsNoJsonReason C root value e → ShowsNoJson (forms_in c.1) root value e → IsNo e → HasNoJson value (offset_in e) text c.1 root
-  no_json value text NoJsonRoom reason shows told = absurd told
-  no_json value text (NoMember f) reason shows told = (reason.0, (f, reason.1, refl))
-  no_json value text NoValue reason shows told = absurd reason
-  no_json value text (Ambiguous name) reason shows told = absurd told
-  no_json value text (NotJson offset) reason shows told = absurd reason
-  no_json value text (Refused path refusal) reason shows told = (reason.0, (refusal, shows))
-
-  no_text : (json text : List ℕ) (e : JsonError) → IsTextReason C root json e → IsNoText json (offset_in e) text c.1 root
-  no_text json text NoJsonRoom reason = tt
-  no_text json text (NoMember f) reason = absurd reason
-  no_text json text NoValue reason = tt
-  no_text json text (Ambiguous name) reason = tt
-  no_text json text (NotJson offset) reason = reason
-  no_text json text (Refused path refusal) reason = tt
+  no_json : (value text : List ℕ) (e : JsonError) → IsNoJsonReason C root value e → ShowsNoJson (forms_in c.1) root value e → IsNo e → IsShort text → HasNoJson value (offset_in e) text c.1 root
+  no_json value text NoJsonRoom reason shows told short = absurd told
+  no_json value text (NoMember f) reason shows told short = (reason.0, (f, reason.1, refl), short)
+  no_json value text NoValue reason shows told short = absurd reason
+  no_json value text (Ambiguous name) reason shows told short = absurd told
+  no_json value text (NotJson offset) reason shows told short = absurd reason
+  no_json value text (Refused path refusal) reason shows told short = (reason.0, (refusal, shows), short)
 
   pub bytes_refused : (value : List ℕ) (e : JsonError) → IsNoJsonReason C root value e → ShowsNoJson (forms_in c.1) root value e → (r : Refusal) → TellsNoValue e r → IsRefused schema (HasNoJson value) IsUnclear r
   bytes_refused value e reason shows (No t) told =
-      about_told (HasNoJson value t.offset (string_bytes t.text)) (subst (λ (o : Option ℕ). HasNoJson value o (string_bytes t.text) c.1 root) (sym told.0) (no_json value (string_bytes t.text) e reason shows told.1))
+      about_told (HasNoJson value t.offset (string_bytes t.text)) (subst (λ (o : Option ℕ). HasNoJson value o (string_bytes t.text) c.1 root) (sym told.0) (no_json value (string_bytes t.text) e reason shows told.1 told.2))
   bytes_refused value e reason shows (Malformed t) told = absurd told
   bytes_refused value e reason shows OutOfMemory told = tt
   bytes_refused value e reason shows (Undecided t) told = unclear_told (subst (IsNoJsonReason C root value) told.1 reason) told.2
 
-  pub text_refused : (json : List ℕ) (e : JsonError) → IsTextReason C root json e → (r : Refusal) → TellsNoValue e r → IsRefused schema (IsNoText json) IsUnclear r
-  text_refused json e reason (No t) told =
-      about_told (IsNoText json t.offset (string_bytes t.text)) (subst (λ (o : Option ℕ). IsNoText json o (string_bytes t.text) c.1 root) (sym told.0) (no_text json (string_bytes t.text) e reason))
-  text_refused json e reason (Malformed t) told = absurd told
-  text_refused json e reason OutOfMemory told = tt
-  text_refused json e reason (Undecided t) told = unclear_told (subst (IsTextReason C root json) told.1 reason).1 told.2
+  pub text_refused : (json : List ℕ) (e : JsonError) → IsTextReason C root json e → DeniesValue e ((value : List ℕ) × AreBytesOf json value c.1 root) → (r : Refusal) → TellsNoValue e r → IsRefused schema (IsNoText json) IsUnclear r
+  text_refused json e reason denies (No t) told = about_told (IsNoText json t.offset (string_bytes t.text)) (told.2, inr (e, told.1, told.0, reason, denies))
+  text_refused json e reason denies (Malformed t) told = absurd told
+  text_refused json e reason denies OutOfMemory told = tt
+  text_refused json e reason denies (Undecided t) told = unclear_told (subst (IsTextReason C root json) told.1 reason).1 told.2
 
 -- ---- what is told
 

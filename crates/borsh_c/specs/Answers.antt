@@ -1,12 +1,17 @@
 -- What the calls answer about the container whose encoding the bytes are.
-use Rattle.std.specs.Prelude.{◌≡◌, ◌^◌, ◌<◌, ◌≤◌, ◌++◌, ⊤, ℕ, List, [], Option, None, Some, true, String, string_bytes, codes}
+use Rattle.std.specs.Prelude.{◌≡◌, ◌⊎◌, ◌^◌, ◌<◌, ◌≤◌, ◌++◌, ⊤, ℕ, List, [], length, Bool, true, false, Option, None, Some, String, string_bytes, codes, IsUtf8}
 use Rattle.std.specs.Global.{Global}
 use Rattle.std.specs.BTreeMap.{BTreeMap}
-use Rattle.json.specs.Json.{document}
+use Rattle.borsh_json.specs.Errors.{DeniesValue, IsTextReason}
 use Rattle.borsh_json.specs.Forms.{forms_in}
+use Rattle.borsh_json.specs.Printed.{IsPrinted}
 use Rattle.borsh_json.specs.Represents.{TextSays}
 use Rattle.borsh_json.specs.NoJson.{RefusesBytes}
+use Rattle.borsh_json.specs.declared.error.JsonError.{JsonError}
+use Rattle.borsh_json.specs.declared.error.JsonError.TheVariants.{OutOfMemory as NoJsonRoom, NoMember, NoValue, Ambiguous, NotJson, Refused}
 use Rattle.borsh_json.specs.declared.error.Refusal.{Refusal as JsonRefusal}
+use Rattle.borsh_json.specs.declared.output.Layout.{Layout}
+use Rattle.borsh_json.specs.declared.output.Layout.TheVariants.{Compact, Pretty}
 use Rattle.borsh_codec.specs.Codec.{IsDecodable}
 use Rattle.borsh_definitions.specs.Codecs.{root_and_map}
 use Rattle.borsh_walks.specs.Container.{Shape, Rule, Breaks, Member, MaxSize, PartialSize, IsRecursive, IsValid, Reached, SizeReaches}
@@ -33,9 +38,13 @@ Saying = Definitions → List ℕ → Type 0
 abbrev pub About : List ℕ → Saying → Type 0
 About bytes P = (c : String Global × Definitions) × (root_and_map.encoding c ≡ Some bytes) × P c.1 (string_bytes c.0)
 
+-- a text that isn't stated by its bytes is cut after so many, so that there is a room in which each one fits
+abbrev pub IsShort : List ℕ → Type 0
+IsShort text = length text ≤ 65536
+
 -- no container decodes from the bytes, and the text says so, and then why
 abbrev pub IsMalformed : List ℕ → List ℕ → Type 0
-IsMalformed bytes text = (IsDecodable root_and_map true bytes → ⊥) × ((why : List ℕ) × (text ≡ codes "not a schema container: " ++ why))
+IsMalformed bytes text = (IsDecodable root_and_map true bytes → ⊥) × ((why : List ℕ) × (text ≡ codes "not a schema container: " ++ why) × IsShort why)
 
 -- bytes of which this holds were given
 abbrev pub Gives : (List ℕ → Type 0) → List ℕ → ℕ → Type 0
@@ -121,25 +130,53 @@ HasNoSize text m root = ((n : ℕ) → MaxSize (definitions_in m) root n → n <
 -- the bytes are no member of the root, and there is a fault at the offset, which is told
 abbrev pub IsNoMember : List ℕ → Option ℕ → List ℕ → Saying
 IsNoMember value None text m root = ⊥
-IsNoMember value (Some offset) text m root = (Member (definitions_in m) root value → ⊥) × ((f : Fault) × IsFault (definitions_in m) root value f × (f.offset ≡ offset))
+IsNoMember value (Some offset) text m root = (Member (definitions_in m) root value → ⊥) × ((f : Fault) × IsFault (definitions_in m) root value f × (f.offset ≡ offset)) × IsShort text
 
--- the text is JSON that says the bytes, and these are a member of the root
-abbrev pub IsJsonOf : List ℕ → List ℕ → Saying
-IsJsonOf value text m root = TextSays (forms_in m) root text value
-
--- the other way about
+-- the JSON says these bytes, which are a member of the root
 abbrev pub AreBytesOf : List ℕ → List ℕ → Saying
-AreBytesOf json value = IsJsonOf value json
+AreBytesOf json value m root = TextSays (forms_in m) root json value
+
+-- on one line, or in several
+abbrev pub layout_if : Bool → Layout
+layout_if true = Compact
+layout_if false = Pretty
+
+-- the other way about, with no white space but that of the layout
+abbrev pub IsJsonOf : Layout → List ℕ → List ℕ → Saying
+IsJsonOf layout value text m root = AreBytesOf text value m root × IsPrinted layout text
 
 -- an offset is told only where the bytes are no member of the root, and is then that of a fault; without one they are a member, and there is a reason why it has no JSON
 abbrev pub HasNoJson : List ℕ → Option ℕ → List ℕ → Saying
-HasNoJson value None text m root = Member (definitions_in m) root value × ((r : JsonRefusal) × RefusesBytes (forms_in m) root value r)
+HasNoJson value None text m root = Member (definitions_in m) root value × ((r : JsonRefusal) × RefusesBytes (forms_in m) root value r) × IsShort text
 HasNoJson value (Some offset) text m root = IsNoMember value (Some offset) text m root
 
--- an offset is told only where the text isn't JSON
+-- the offset that an error has
+abbrev pub offset_in : JsonError → Option ℕ
+offset_in NoJsonRoom = None
+offset_in (NoMember f) = Some f.offset
+offset_in NoValue = None
+offset_in (Ambiguous name) = None
+offset_in (NotJson offset) = Some offset
+offset_in (Refused path refusal) = None
+
+-- the error is no want of memory, and no name is undecided
+abbrev pub IsNo : JsonError → Type 0
+IsNo NoJsonRoom = ⊥
+IsNo (NoMember f) = ⊤
+IsNo NoValue = ⊤
+IsNo (Ambiguous name) = ⊥
+IsNo (NotJson offset) = ⊤
+IsNo (Refused path refusal) = ⊤
+
+-- there is a reason why the text says no value, which has the offset
+abbrev pub SaysNone : List ℕ → Option ℕ → Definitions → List ℕ → Type 0
+SaysNone json offset m root =
+    (e : JsonError) × IsNo e × (offset ≡ offset_in e) × IsTextReason (definitions_in m) root json e
+    × DeniesValue e ((value : List ℕ) × AreBytesOf json value m root)
+
+-- the JSON isn't UTF-8, or there is a reason why it says no value
 abbrev pub IsNoText : List ℕ → Option ℕ → List ℕ → Saying
-IsNoText json None text m root = ⊤
-IsNoText json (Some offset) text m root = document json ≡ None
+IsNoText json offset text m root = IsShort text × (((offset ≡ None) × (IsUtf8 json → ⊥)) ⊎ SaysNone json offset m root)
 
 -- that a name is undecided
 abbrev pub unclear_text : List ℕ → List ℕ
@@ -163,9 +200,9 @@ AnswersSize schema most = Answers schema (Alone (λ C root. MaxSize C root most)
 abbrev pub AnswersMember : List ℕ → List ℕ → Option ℕ → ℕ → List ℕ → Type 0
 AnswersMember schema value offset = Answers schema (Alone (λ C root. Member C root value)) (IsNoMember value offset) IsUnclear
 
--- code 0: JSON of the value is given; undecided only where the container breaks a rule or is ambiguous
-abbrev pub AnswersJson : List ℕ → List ℕ → Option ℕ → ℕ → List ℕ → Type 0
-AnswersJson schema value offset = Answers schema (IsJsonOf value) (HasNoJson value offset) IsUnclear
+-- code 0: JSON of the value is given, on one line or in several; undecided only where the container breaks a rule or is ambiguous
+abbrev pub AnswersJson : List ℕ → List ℕ → Bool → Option ℕ → ℕ → List ℕ → Type 0
+AnswersJson schema value compact offset = Answers schema (IsJsonOf (layout_if compact) value) (HasNoJson value offset) IsUnclear
 
 -- code 0: the bytes of the JSON are given; undecided only where the container breaks a rule or is ambiguous
 abbrev pub AnswersBytes : List ℕ → List ℕ → Option ℕ → ℕ → List ℕ → Type 0

@@ -1,5 +1,5 @@
 -- What the calls answer about many values of one container.
-use Rattle.std.specs.Prelude.{◌≡◌, ◌≤◌, ◌<◌, ⊤, ℕ, List, [], ◌∷◌, ◌++◌, length, take, drop, slice_index, Option, None, Some, codes}
+use Rattle.std.specs.Prelude.{◌≡◌, ◌≤◌, ◌<◌, ⊤, ℕ, List, [], ◌∷◌, ◌++◌, length, take, drop, slice_index, All, Option, None, Some, codes, string_bytes}
 use Rattle.borsh_walks.specs.Container.{Shape, IsValid, Member}
 use Rattle.borsh_walks.specs.Definitions.{definitions_in}
 use Rattle.borsh_values.specs.Faults.{BeginsWith}
@@ -7,11 +7,14 @@ use Rattle.borsh_values.specs.Fronts.{IsFront, HasNoFront}
 use Rattle.borsh_values.specs.Membership.{IsUndecided}
 use Rattle.borsh_values.specs.Unambiguous.{IsUnambiguous}
 use Rattle.borsh_values.specs.declared.faults.Fault.{Fault}
+use Rattle.borsh_json.specs.Ascii.{IsInLine}
 use Rattle.borsh_json.specs.Errors.{IsNoJsonReason}
 use Rattle.borsh_json.specs.Forms.{forms_in}
 use Rattle.borsh_json.specs.NoJson.{ShowsNoJson}
 use Rattle.borsh_json.specs.declared.error.JsonError.{JsonError}
-use Rattle.borsh_c.specs.Answers.{Alone, Answers, About, Definitions, Saying, HasNoJson, IsJsonOf, IsUnclear, Never}
+use Rattle.borsh_json.specs.declared.error.JsonError.TheVariants.{OutOfMemory as NoJsonRoom}
+use Rattle.borsh_json.specs.declared.output.Layout.TheVariants.{Compact}
+use Rattle.borsh_c.specs.Answers.{Alone, Answers, About, Definitions, Saying, HasNoJson, IsJsonOf, IsShort, IsUnclear, Never}
 use Rattle.borsh_c.specs.declared.many.Stop.{Stop}
 use Rattle.borsh_c.specs.declared.many.Stop.TheVariants.{End, EmptyValue, Short as StopsShort, NoMember, Ambiguous}
 use Rattle.borsh_c.specs.declared.many.Whole.{Whole}
@@ -54,36 +57,41 @@ module _ (C : List ℕ → Option Shape) (root : List ℕ) where
 -- ---- JSON
 
 module _ (m : Definitions) (root : List ℕ) where
+  -- one line of JSON of a value
+  abbrev pub IsLineOf : List ℕ → List ℕ → Type 0
+  IsLineOf value line = IsJsonOf Compact value line m root × All IsInLine line
+
   -- the text has a line of JSON, and a line end behind it, for each of the values that have these lengths, one after another
   abbrev pub HaveLines : List ℕ → List ℕ → List ℕ → Type 0
   HaveLines [] values text = text ≡ []
-  HaveLines (n ∷ ns) values text = (line : List ℕ) × (rest : List ℕ) × (text ≡ line ++ (10 ∷ rest)) × IsJsonOf (take n values) line m root × HaveLines ns (drop n values) rest
+  HaveLines (n ∷ ns) values text = (line : List ℕ) × (rest : List ℕ) × (text ≡ line ++ (10 ∷ rest)) × IsLineOf (take n values) line × HaveLines ns (drop n values) rest
 
   -- why the value behind so many others has no line, if there is one
   abbrev pub IsNoLine : List ℕ → List ℕ → ℕ → Option JsonError → Type 0
   IsNoLine lengths values count None = count ≡ length lengths
   IsNoLine lengths values count (Some e) =
-      (count < length lengths)
+      (count < length lengths) × (e ≡ NoJsonRoom → ⊥)
       × IsNoJsonReason (definitions_in m) root (take (slice_index lengths count) (behind (take count lengths) values)) e
       × ShowsNoJson (forms_in m) root (take (slice_index lengths count) (behind (take count lengths) values)) e
 
--- the first values have lines, and at least one has
+-- the first values have lines, at least one has, and the next one has none
 pub record AreLines (values lengths : List ℕ) (count : ℕ) (text : List ℕ) (m : Definitions) (root : List ℕ) : Type 0 where
   pub room : count ≤ length lengths
   pub lines : HaveLines m root (take count lengths) values text
   pub some : 0 < length lengths → 0 < count
+  pub last : (stop : Option JsonError) × IsNoLine m root lengths values count stop
 
 -- ---- what the calls say
 
 -- no value begins there, whatever bytes follow, and the offset is that of the fault; without one the root has the empty value
 abbrev pub IsNoRecord : List ℕ → Option ℕ → List ℕ → Saying
 IsNoRecord bytes None text m root = Member (definitions_in m) root [] × (text ≡ codes "the type has a value without bytes, so that any bytes are any number of values")
-IsNoRecord bytes (Some offset) text m root = (f : Fault) × (f.offset ≡ offset) × ((more : List ℕ) → HasNoFront (definitions_in m) root (bytes ++ more) f)
+IsNoRecord bytes (Some offset) text m root = IsShort text × (f : Fault) × (f.offset ≡ offset) × ((more : List ℕ) → HasNoFront (definitions_in m) root (bytes ++ more) f)
 
 -- no first bytes are a value, and the offset is that of the fault
-abbrev pub IsCut : List ℕ → Option ℕ → Saying
-IsCut bytes None m root = ⊥
-IsCut bytes (Some offset) m root = (f : Fault) × (f.offset ≡ offset) × HasNoFront (definitions_in m) root bytes f
+abbrev pub IsCut : List ℕ → Option ℕ → List ℕ → Saying
+IsCut bytes None text m root = ⊥
+IsCut bytes (Some offset) text m root = IsShort text × (f : Fault) × (f.offset ≡ offset) × HasNoFront (definitions_in m) root bytes f
 
 -- the first of the values with these lengths has no JSON
 abbrev pub HasNoLine : List ℕ → List ℕ → Option ℕ → List ℕ → Saying
@@ -93,14 +101,14 @@ HasNoLine values (n ∷ ns) offset = HasNoJson (take n values) offset
 -- how many values there are, or where the first is cut
 abbrev pub IsWhole : List ℕ → List ℕ → List ℕ → Whole → Type 0
 IsWhole schema bytes lengths (Values count) = About schema (λ m root. AreLengths (definitions_in m) root bytes lengths count)
-IsWhole schema bytes lengths (Short said) = About schema (IsCut bytes said.offset)
+IsWhole schema bytes lengths (Short said) = About schema (IsCut bytes said.offset (string_bytes said.text))
 
 -- ---- the outcomes of the calls
 
 -- code 0: the lengths are given; code 6: the bytes end within the first value; code 1: they begin with none
 pub data AnswersRecords (schema bytes lengths : List ℕ) (count : ℕ) (offset : Option ℕ) (code : ℕ) (given : List ℕ) : Type 0 where
   whole : Answers schema (Alone (λ C root. AreLengths C root bytes lengths count)) (IsNoRecord bytes offset) IsUnclear code given → AnswersRecords schema bytes lengths count offset code given
-  cut : About schema (IsCut bytes offset) → code ≡ 6 → AnswersRecords schema bytes lengths count offset code given
+  cut : About schema (IsCut bytes offset given) → code ≡ 6 → AnswersRecords schema bytes lengths count offset code given
 
 -- code 0: lines are given; code 1: the first value has no JSON
 abbrev pub AnswersLines : List ℕ → List ℕ → List ℕ → ℕ → Option ℕ → ℕ → List ℕ → Type 0

@@ -7,14 +7,14 @@ use Rattle.borsh_walks.specs.Errors.{broken_rule, size_reason}
 use Rattle.borsh_walks.specs.declared.error.SchemaContainerValidateError.{SchemaContainerValidateError}
 use Rattle.borsh_walks.specs.declared.error.SchemaMaxSerializedSizeError.{SchemaMaxSerializedSizeError}
 use Rattle.borsh_json.specs.declared.error.JsonError.{JsonError}
-use Rattle.borsh_json.specs.declared.error.JsonError.TheVariants.{OutOfMemory as NoJsonRoom, NoMember, NoValue, Ambiguous, NotJson, Refused}
-use Rattle.borsh_c.specs.Answers.{invalid_text, unclear_text}
+use Rattle.borsh_json.specs.declared.error.JsonError.TheVariants.{Ambiguous}
+use Rattle.borsh_c.specs.Answers.{IsNo, IsShort, invalid_text, offset_in, unclear_text}
 use Rattle.borsh_c.specs.declared.refusal.Refusal.{Refusal}
 use Rattle.borsh_c.specs.declared.refusal.Refusal.TheVariants.{No, Malformed, OutOfMemory, Undecided}
 
 -- no container, for a reason that isn't want of memory
 abbrev pub TellsUnread : ErrorKind → List ℕ → Type 0
-TellsUnread kind text = (kind ≡ NoRoom → ⊥) × ((why : List ℕ) × (text ≡ codes "not a schema container: " ++ why))
+TellsUnread kind text = (kind ≡ NoRoom → ⊥) × ((why : List ℕ) × (text ≡ codes "not a schema container: " ++ why) × IsShort why)
 
 -- the rule that is broken, and the name that breaks it
 abbrev pub TellsBroken : SchemaContainerValidateError → List ℕ → Type 0
@@ -29,27 +29,9 @@ reason_text (word, Some name) = word ++ (codes " " ++ name)
 abbrev pub TellsNoSize : SchemaMaxSerializedSizeError → List ℕ → Type 0
 TellsNoSize e text = MatchOption (size_reason e) ⊥ (λ p. text ≡ reason_text p)
 
--- the offset that an error has
-abbrev pub offset_in : JsonError → Option ℕ
-offset_in NoJsonRoom = None
-offset_in (NoMember f) = Some f.offset
-offset_in NoValue = None
-offset_in (Ambiguous name) = None
-offset_in (NotJson offset) = Some offset
-offset_in (Refused path refusal) = None
-
--- the error is no want of memory, and no name is undecided
-abbrev pub IsNo : JsonError → Type 0
-IsNo NoJsonRoom = ⊥
-IsNo (NoMember f) = ⊤
-IsNo NoValue = ⊤
-IsNo (Ambiguous name) = ⊥
-IsNo (NotJson offset) = ⊤
-IsNo (Refused path refusal) = ⊤
-
 -- no, with the error's offset, or undecided where a name is undecided
 abbrev pub TellsNoValue : JsonError → Refusal → Type 0
-TellsNoValue e (No t) = (t.offset ≡ offset_in e) × IsNo e
+TellsNoValue e (No t) = (t.offset ≡ offset_in e) × IsNo e × IsShort (string_bytes t.text)
 TellsNoValue e (Malformed t) = ⊥
 TellsNoValue e OutOfMemory = ⊤
 TellsNoValue e (Undecided t) = (name : Bor (List ℕ)) × (e ≡ Ambiguous name) × (string_bytes t ≡ unclear_text name.now)

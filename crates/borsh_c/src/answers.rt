@@ -1,6 +1,6 @@
 // What is asked of a container, and of bytes by it.
 ghost use Rattle.std.specs.Prelude.{[], ◌≡◌, IfErr, IfOk, None, OnOk, Some, string_bytes};
-ghost use Rattle.borsh_c.specs.Answers.{About, Alone, AreBytesOf, HasNoJson, HasNoSize, IsInvalid, IsJsonOf, IsNoMember, IsNoText, IsRefused, IsUnclear, Never, Tells, unclear_text, wherever};
+ghost use Rattle.borsh_c.specs.Answers.{About, Alone, AreBytesOf, HasNoJson, HasNoSize, IsInvalid, IsJsonOf, IsNoMember, IsNoText, IsRefused, IsShort, IsUnclear, Never, Tells, unclear_text, wherever};
 ghost use Rattle.borsh_c.specs.Texts.{TellsBroken, TellsNoSize, TellsNoValue, TellsUnread};
 ghost use Rattle.borsh_definitions.specs.Codecs.{root_and_map};
 ghost use Rattle.borsh_json.specs.declared.output.Characters.TheVariants.{Any};
@@ -24,6 +24,9 @@ use std::alloc::{AllocError, Global};
 use std::collections::BTreeMap;
 use std::str;
 
+/// How many bytes a text has at most that says what is wrong with bytes or JSON; the rest is left out.
+const MOST_TEXT: usize = 65536;
+
 /// A container: the name of its root, and its definitions.
 type Container = (String, BTreeMap<String, Definition>);
 
@@ -45,7 +48,16 @@ fn unread(alloc: Global, error: &Error) -> Result<String, AllocError>
     if error.kind() == ErrorKind::OutOfMemory {
         return Err(AllocError);
     }
-    format!(in alloc; "not a schema container: {error}")
+    let why = cut(format!(in alloc; "{error}")?);
+    format!(in alloc; "not a schema container: {why}")
+}
+
+/// The text, or as many of its first characters as have room in a text.
+fn cut(mut text: String) -> String
+    ensures { IsShort (string_bytes result) }
+{
+    text.truncate(text.as_str().floor_char_boundary(MOST_TEXT));
+    text
 }
 
 /// Whether the container keeps the rules of schemas.
@@ -95,35 +107,34 @@ pub fn no(text: String, offset: Option<usize>) -> Refusal
     })
 }
 
-/// No, with a text that begins with a path.
-fn no_part(alloc: Global, text: String, path: &Path<'_>) -> Result<Refusal, AllocError>
-    ensures { IfOk result (λ r. Tells None (string_bytes text) r) }
+/// What is said of a part, the path to which comes behind so many bytes of the text.
+fn said_of_part(
+    alloc: Global,
+    text: String,
+    offset: Option<usize>,
+    before: usize,
+    path: &Path<'_>,
+) -> Result<Said, AllocError>
+    ensures { IfOk result (λ s. (s.offset ≡ offset) × IsShort (string_bytes s.text)) }
 {
     let path = format!(in alloc; "{path}")?;
-    Ok(Refusal::No(Said {
-        text,
-        offset: None,
-        path: Some(Span {
-            start: 0,
-            length: path.len(),
-        }),
-    }))
+    let span = Span {
+        start: before,
+        length: path.len(),
+    };
+    Ok(Said {
+        text: cut(text),
+        offset,
+        path: Some(span),
+    })
 }
 
 /// What is said of a fault, behind other words.
 pub fn said_of(alloc: Global, before: &str, fault: &Fault<'_>) -> Result<Said, AllocError>
-    ensures { IfOk result (λ s. s.offset ≡ Some fault.now.offset) }
+    ensures { IfOk result (λ s. (s.offset ≡ Some fault.now.offset) × IsShort (string_bytes s.text)) }
 {
     let text = format!(in alloc; "{before}{fault}")?;
-    let path = format!(in alloc; "{}", fault.path)?;
-    Ok(Said {
-        text,
-        offset: Some(fault.offset),
-        path: Some(Span {
-            start: before.len(),
-            length: path.len(),
-        }),
-    })
+    said_of_part(alloc, text, Some(fault.offset), before.len(), &fault.path)
 }
 
 /// The greatest size of the root: no encoding is longer.
@@ -185,7 +196,7 @@ pub fn unclear(alloc: Global, name: &str) -> Result<String, AllocError>
 /// The JSON of the value that the bytes are.
 pub fn json_of(alloc: Global, schema: &[u8], value: &[u8], style: Style) -> Result<String, Refusal>
     requires { style.characters ≡ Any }
-    ensures ok { IfOk result (λ text. About schema.now (IsJsonOf value.now (string_bytes text))) }
+    ensures ok { IfOk result (λ text. About schema.now (IsJsonOf style.layout value.now (string_bytes text))) }
     ensures err { IfErr result (λ e. IsRefused schema.now (HasNoJson value.now) IsUnclear e) }
 {
     let (root, definitions) = container_from(alloc, schema)?;
@@ -218,8 +229,11 @@ pub fn no_value(alloc: Global, error: &JsonError<'_>) -> Result<Refusal, AllocEr
         JsonError::OutOfMemory => Err(AllocError),
         JsonError::Ambiguous(name) => Ok(Refusal::Undecided(unclear(alloc, name)?)),
         JsonError::NoMember(fault) => Ok(Refusal::No(said_of(alloc, "", fault)?)),
-        JsonError::NotJson(offset) => Ok(no(format!(in alloc; "{error}")?, Some(*offset))),
-        JsonError::Refused(path, _) => no_part(alloc, format!(in alloc; "{error}")?, path),
-        JsonError::NoValue => Ok(no(format!(in alloc; "{error}")?, None)),
+        JsonError::NotJson(offset) => Ok(no(cut(format!(in alloc; "{error}")?), Some(*offset))),
+        JsonError::Refused(path, _) => {
+            let text = format!(in alloc; "{error}")?;
+            Ok(Refusal::No(said_of_part(alloc, text, None, 0, path)?))
+        }
+        JsonError::NoValue => Ok(no(cut(format!(in alloc; "{error}")?), None)),
     }
 }

@@ -2,8 +2,9 @@
 //!
 //! A container is given by its encoding, as `to_vec` of a `BorshSchemaContainer` makes it. Each call returns a code (the
 //! constants of [`codes`]) and gives a text or bytes in the caller's room: their length is written to `needed`, and they are
-//! the beginning of the room if they fit; otherwise the call is made again with a larger room. `bindings/c/borsh.c` does that, and is what
-//! a C program calls. After code 1 the [`Place`] says where; the path that it names is within the text. After another code it has none.
+//! the beginning of the room if they fit; otherwise the call is made again with a larger room. `bindings/c/borsh.c` does that until they
+//! fit, and is what a C program calls. A text that isn't stated here is cut after 65,536 bytes. After code 1 the [`Place`] says where; the
+//! path that it names is within the text. After another code it has none.
 #![tactic(auto)]
 
 mod answers;
@@ -16,10 +17,11 @@ mod room;
 mod tests;
 
 ghost use Rattle.std.specs.Prelude.{◌≡◌, ◌≢◌, ◌+◌, ◌≤◌};
-ghost use Rattle.borsh_c.specs.Answers.{AnswersBytes, AnswersJson, AnswersMember, AnswersSize, AnswersValid, Gives};
+ghost use Rattle.borsh_c.specs.Answers.{AnswersBytes, AnswersJson, AnswersMember, AnswersSize, AnswersValid, Gives, layout_if};
 ghost use Rattle.borsh_c.specs.Many.{AnswersLines, AnswersRecords};
 ghost use Rattle.borsh_c.specs.Places.{offset_of};
 ghost use Rattle.borsh_c.specs.Room.{IsKept};
+ghost use Rattle.borsh_json.specs.declared.output.Characters.TheVariants.{Any};
 
 use answers::{greatest_size, json_of, membership, rules, value_of};
 use borsh_json::{Layout, LongNumbers, Style};
@@ -51,10 +53,7 @@ pub extern "C" fn borsh_c_valid(
             give(b"", room, needed);
             YES
         }
-        Err(refusal) => {
-            let mut nowhere = NOWHERE;
-            refusal.tell(&mut nowhere, room, needed)
-        }
+        Err(refusal) => refusal.tell(&mut { NOWHERE }, room, needed),
     }
 }
 
@@ -82,10 +81,7 @@ pub extern "C" fn borsh_c_size(
             give(b"", room, needed);
             YES
         }
-        Err(refusal) => {
-            let mut nowhere = NOWHERE;
-            refusal.tell(&mut nowhere, room, needed)
-        }
+        Err(refusal) => refusal.tell(&mut { NOWHERE }, room, needed),
     }
 }
 
@@ -120,10 +116,11 @@ pub extern "C" fn borsh_c_member(
 }
 
 /// Gives the JSON of the value that all of `value` is; on one line if `is_compact`, and with numbers of 64 bits as strings if
-/// `has_quoted_numbers`. Determined: after code 0 the JSON says `value`, a member of the root, and no other bytes; after 2 `schema` is no
-/// container, and after 0, 1 and 5 it is one; after 5 it breaks a rule or is ambiguous; an offset after 1 is that of a fault of `value`,
-/// which is no member; without one `value` is a member, and there is a reason why it has no JSON, of those that `borsh_json::to_json`
-/// has. Left open: code 3; code 5 for such a container; which reason it is; the text after 1; the path.
+/// `has_quoted_numbers`. Determined: after code 0 the JSON says `value`, a member of the root, and no other bytes, and has no white space
+/// but that of one line or of several; after 2 `schema` is no container, and after 0, 1 and 5 it is one; after 5 it breaks a rule or is
+/// ambiguous; an offset after 1 is that of a fault of `value`, which is no member; without one `value` is a member, and there is a reason
+/// why it has no JSON, of those that `borsh_json::to_json` has. Left open: code 3; code 5 for such a container; which reason it is; the
+/// text after 1; the path; `has_quoted_numbers`.
 ///
 /// ```c
 /// uint32_t code = borsh_c_to_json(schema, schema_length, value, value_length, true, false, &place, room, room_length, &needed);
@@ -140,21 +137,11 @@ pub extern "C" fn borsh_c_to_json(
     needed: &mut usize,
 ) -> u32
     ensures answer { let offset = offset_of place.new in
-        Gives (AnswersJson schema.now value.now offset result) room.new needed.new }
+        Gives (AnswersJson schema.now value.now is_compact offset result) room.new needed.new }
     ensures within { place.new.path_start + place.new.path_length ≤ needed.new }
     ensures kept { IsKept room.old room.new needed.new }
 {
-    let layout = if is_compact {
-        Layout::Compact
-    } else {
-        Layout::Pretty
-    };
-    let style = Style {
-        layout,
-        long_numbers: long_numbers(has_quoted_numbers),
-        ..Style::COMPACT
-    };
-    match json_of(alloc, schema, value, style) {
+    match json_of(alloc, schema, value, style(is_compact, has_quoted_numbers)) {
         Ok(json) => {
             *place = NOWHERE;
             give(json.as_bytes(), room, needed);
@@ -165,8 +152,8 @@ pub extern "C" fn borsh_c_to_json(
 }
 
 /// Gives the bytes of the value that `json` says, which is UTF-8. Determined: after code 0 `json` says the bytes, a member of the root,
-/// and no others; the other codes as of [`borsh_c_to_json`], but an offset after 1 only if `json` isn't JSON. Left open: as there; the
-/// offset.
+/// and no others; the other codes as of [`borsh_c_to_json`], but after 1 `json` isn't UTF-8, or there is a reason of those that
+/// `borsh_json::from_json` has, and an offset only if it isn't JSON. Left open: as there; the offset.
 ///
 /// ```c
 /// uint32_t code = borsh_c_from_json(schema, schema_length, json, json_length, &place, room, room_length, &needed);
@@ -195,11 +182,21 @@ pub extern "C" fn borsh_c_from_json(
     }
 }
 
-fn long_numbers(has_quoted_numbers: bool) -> LongNumbers {
-    if has_quoted_numbers {
-        LongNumbers::Quoted
-    } else {
-        LongNumbers::Plain
+fn style(is_compact: bool, has_quoted_numbers: bool) -> Style
+    ensures { (result.layout ≡ layout_if is_compact) × (result.characters ≡ Any) }
+{
+    Style {
+        layout: if is_compact {
+            Layout::Compact
+        } else {
+            Layout::Pretty
+        },
+        long_numbers: if has_quoted_numbers {
+            LongNumbers::Quoted
+        } else {
+            LongNumbers::Plain
+        },
+        ..Style::COMPACT
     }
 }
 
@@ -250,9 +247,9 @@ pub extern "C" fn borsh_c_records(
 
 /// Gives the JSON of each of the values that lie one after another in `values` and have these lengths, and a line end behind it, up to one
 /// that has none; how many have a line is written to `count`, and is 0 after any other code than [`YES`]. A length that reaches beyond the
-/// bytes is cut. Determined: after code 0 the lines say the first `count` values, each a member of the root; there is one, unless
-/// there are no lengths; after 1 and 5 as of [`borsh_c_to_json`] for the first. Left open: as there; how many have a line, but for the
-/// first; that the JSON has no line end.
+/// bytes is cut. Determined: after code 0 the lines say the first `count` values, each a member of the root, in one line each; there is
+/// one, unless there are no lengths; if there is a value behind them, there is a reason why it has no JSON; after 1 and 5 as of
+/// [`borsh_c_to_json`] for the first. Left open: as there.
 ///
 /// ```c
 /// uint32_t code = borsh_c_json_lines(schema, schema_length, values, length, lengths, lengths_count, false, &count, &place, room, room_length, &needed);
@@ -277,11 +274,13 @@ pub extern "C" fn borsh_c_json_lines(
     ensures kept { IsKept room.old room.new needed.new }
 {
     *count = 0;
-    let style = Style {
-        long_numbers: long_numbers(has_quoted_numbers),
-        ..Style::COMPACT
-    };
-    match lines_of(alloc, schema, values, lengths, style) {
+    match lines_of(
+        alloc,
+        schema,
+        values,
+        lengths,
+        style(true, has_quoted_numbers),
+    ) {
         Ok(lines) => {
             *count = lines.count;
             *place = NOWHERE;

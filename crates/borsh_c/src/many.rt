@@ -1,8 +1,9 @@
 // Many values of one schema, which is decoded once.
 ghost use Rattle.borsh_c.specs.Answers.{About, IsRefused, IsUnclear};
 ghost use Rattle.borsh_c.specs.Many.{AreLines, BeginWith, HaveLines, HasNoLine, IsNoLine, IsNoRecord, IsStop, IsWhole, behind};
-ghost use Rattle.borsh_json.specs.Known.{HasKinds};
+ghost use Rattle.borsh_json.specs.Orders.{HasKinds};
 ghost use Rattle.borsh_json.specs.declared.output.Characters.TheVariants.{Any};
+ghost use Rattle.borsh_json.specs.declared.output.Layout.TheVariants.{Compact};
 ghost use Rattle.borsh_values.specs.Free.{KnowsSizes};
 ghost use Rattle.borsh_values.specs.Layouts.{IsLaidOut};
 ghost use Rattle.borsh_walks.specs.Definitions.{definitions_in};
@@ -172,7 +173,7 @@ fn write_lines<'a>(
     style: Style,
 ) -> Result<Written<'a>, AllocError>
     requires kinds { HasKinds json.now }
-    requires any { style.characters ≡ Any }
+    requires style { (style.layout ≡ Compact) × (style.characters ≡ Any) }
     ensures room { IfOk result (λ w. w.count ≤ length lengths.now) }
     ensures lines { let l = json.now.layout.now in
         IfOk result (λ w. HaveLines l.map.now l.root.now (take w.count lengths.now) values.now w.text.items) }
@@ -188,6 +189,7 @@ fn write_lines<'a>(
                 text.extend_from_slice(line.as_bytes())?;
                 text.push(b'\n')?;
             }
+            Err(JsonError::OutOfMemory) => return Err(AllocError),
             Err(error) => {
                 return Ok(Written {
                     count,
@@ -221,7 +223,7 @@ pub fn lines_of(
     lengths: &[usize],
     style: Style,
 ) -> Result<Lines, Refusal>
-    requires { style.characters ≡ Any }
+    requires { (style.layout ≡ Compact) × (style.characters ≡ Any) }
     ensures ok { let lines = λ (l : Lines). AreLines values.now lengths.now l.count l.text.items in
         IfOk result (λ l. About schema.now (lines l)) }
     ensures err { IfErr result (λ e. IsRefused schema.now (HasNoLine values.now lengths.now) IsUnclear e) }

@@ -65,24 +65,13 @@ fn ask(alloc: Global, call: Call, schema: &[u8], value: &[u8]) -> Answer {
     let mut place = NOWHERE;
     let mut room = [0; 64];
     let mut needed = 1;
+    let (at, to, length) = (&mut place, &mut room, &mut needed);
     let code = match call {
-        Call::Member => borsh_c_member(alloc, schema, value, &mut place, &mut room, &mut needed),
-        Call::ToJson(is_compact, has_quoted) => {
-            let (at, to) = (&mut place, &mut room);
-            borsh_c_to_json(
-                alloc,
-                schema,
-                value,
-                is_compact,
-                has_quoted,
-                at,
-                to,
-                &mut needed,
-            )
+        Call::Member => borsh_c_member(alloc, schema, value, at, to, length),
+        Call::ToJson(compact, quoted) => {
+            borsh_c_to_json(alloc, schema, value, compact, quoted, at, to, length)
         }
-        Call::FromJson => {
-            borsh_c_from_json(alloc, schema, value, &mut place, &mut room, &mut needed)
-        }
+        Call::FromJson => borsh_c_from_json(alloc, schema, value, at, to, length),
     };
     Answer {
         code,
@@ -226,11 +215,7 @@ fn measured(alloc: Global, schema: &[u8], bytes: &[u8]) -> (u32, usize, [usize; 
         to,
         &mut needed,
     );
-    let offset = if place.has_offset {
-        Some(place.offset)
-    } else {
-        None
-    };
+    let offset = place.has_offset.then_some(place.offset);
     (code, count, lengths, offset)
 }
 

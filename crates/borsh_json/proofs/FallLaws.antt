@@ -1,7 +1,7 @@
 -- Two neighbours that don't ascend, where the writer is.
 use Rattle.std.proofs.Common.{◌≡◌, inr, ℕ, suc, zero, ◌+◌, ◌<◌, ◌≤◌, List, [], ◌∷◌, ◌++◌, length, replicate, drop, Option, Some, None, refl, sym, ◌∙◌, ap, subst, arith, append_assoc, append-nil}
 use Rattle.std.proofs.Math.Seq.{drop-append_seam}
-use Rattle.std.specs.Prelude.{pos, option_map, Bool, true, false, Decides, Result, Ok, Err, IfErr}
+use Rattle.std.specs.Prelude.{pos, option_map, Bool, true, false, Decides, Result, Ok, Err, IfErr, IfOk, MatchOption}
 use Rattle.std.specs.declared.cmp.Ordering.{Ordering}
 use Rattle.std.specs.declared.cmp.Ordering.TheVariants.{Less}
 use Rattle.json.specs.Json.{null}
@@ -18,6 +18,7 @@ use Rattle.borsh_values.specs.declared.layout.Named.{Named}
 use Rattle.borsh_json.specs.declared.kinds.Entries.{Entries as FoundEntries}
 use Rattle.borsh_json.specs.declared.kinds.KeyKind.{KeyKind}
 use Rattle.borsh_json.specs.declared.kinds.KeyKind.TheVariants.{Text as TextKeys, Number as NumberKeys}
+use Rattle.borsh_json.specs.declared.order.Ascent.{Ascent}
 use Rattle.borsh_json.specs.declared.order.Ordered.{Ordered}
 use Rattle.borsh_json.specs.declared.position.Part.{Part as FoundPart}
 use Rattle.borsh_json.specs.declared.position.Place.{Place}
@@ -30,11 +31,11 @@ use Rattle.borsh_json.specs.NoJson.{IsOutOfOrder}
 use Rattle.borsh_json.specs.Ordered.{a_value, Compare}
 use Rattle.borsh_json.specs.Frames.{IsOf}
 use Rattle.borsh_json.specs.Leaves.{IsOpenedAs}
-use Rattle.borsh_json.specs.Orders.{KeysAscend, HasKeyOrder, KindHasOrder, AreOrderedNumbers, IsElementFall}
+use Rattle.borsh_json.specs.Orders.{KeysAscend, HasKeyOrder, OrderedBy, ValuesCompare, KindHasOrder, AreOrderedNumbers, IsElementFall}
 use Rattle.borsh_json.specs.Places.{IsAt, AreKeysOf, IsKindOf, IsListOf, lengths_of}
 use Rattle.borsh_json.specs.Reads.{SaysFirst}
 use Rattle.borsh_json.specs.Table.{Lengths, Keys, byte_list, list, entries, AreKeys, HasKind, key_json, key_order}
-use Rattle.borsh_json.specs.Writes.{IsFullOrFalls, names_of_rest, names_of_all, opened, Nested, IsLast, IsAbove, IsMapOf, IsLastKey, IsWritingAt}
+use Rattle.borsh_json.specs.Writes.{IsFullOrFalls, TellsAscent, names_of_rest, names_of_all, opened, Nested, IsLast, IsAbove, IsMapOf, IsLastKey, IsWritingAt}
 use Rattle.borsh_json.proofs.FormKinds.{form_found, form_known}
 use Rattle.borsh_json.proofs.NestedLaws.{IsLastPart, last_part}
 use Rattle.borsh_json.proofs.KeyRanks.{keys_compare}
@@ -55,14 +56,14 @@ copied (suc n) e (x ∷ xs) h =
     (ap (λ y. y ∷ xs) (sym q) ∙ ap (λ l. e ∷ l) t.0, ap suc t.1)
 
 parted : (n : ℕ) (e : List ℕ) (xs ys : List (List ℕ)) → replicate n e ≡ xs ++ ys → (xs ≡ replicate (length xs) e) × (ys ≡ replicate (length ys) e) × (n ≡ length xs + length ys)
-parted n e [] ys h = (refl, copied n e ys h)
+parted n e [] ys h = let t = copied n e ys h in (refl, t.0, (let l = t.1 in omega (arith, l)))
 parted zero e (x ∷ xs) ys h = let g : [] ≡ x ∷ (xs ++ ys) = h in cc
 parted (suc n) e (x ∷ xs) ys h =
     let g : e ∷ replicate n e ≡ x ∷ (xs ++ ys) = h in
     let q : e ≡ x = cc in
     let r : replicate n e ≡ xs ++ ys = cc in
     let t = parted n e xs ys r in
-    (ap (λ y. y ∷ xs) (sym q) ∙ ap (λ l. e ∷ l) t.0, t.1, ap suc t.2)
+    (ap (λ y. y ∷ xs) (sym q) ∙ ap (λ l. e ∷ l) t.0, t.1, (let l = t.2 in omega (arith, l)))
 
 not_none : (xs ys : List (List ℕ)) (y : List ℕ) → xs ++ y ∷ ys ≡ [] → ⊥
 not_none [] ys y e = let g : y ∷ ys ≡ [] = e in cc
@@ -130,8 +131,8 @@ module _ (d : Definitions) (w : Writing) (p : Place) (a : IsWritingAt d w p) (z 
       let left = w.walk.left.now in
       let after = t.own ++ (t.mid ++ (l.bytes ++ left)) in
       let b : w.bytes.now ≡ t.before ++ after =
-          s.halved.joined ∙ ap (λ b. b ++ left) (l.is ∙ ap (λ b. b ++ l.bytes) t.is) ∙ append_assoc (t.before ++ (t.own ++ t.mid)) l.bytes left
-          ∙ append_assoc t.before (t.own ++ t.mid) (l.bytes ++ left) ∙ ap (λ b. t.before ++ b) (append_assoc t.own t.mid (l.bytes ++ left)) in
+      s.halved.joined ∙ ap (λ b. b ++ left) (l.is ∙ ap (λ b. b ++ l.bytes) t.is) ∙ append_assoc (t.before ++ (t.own ++ t.mid)) l.bytes left
+      ∙ append_assoc t.before (t.own ++ t.mid) (l.bytes ++ left) ∙ ap (λ b. t.before ++ b) (append_assoc t.own t.mid (l.bytes ++ left)) in
       let m : suc (suc (length t.read)) ≤ listed.0 = (let q = listed.4 in omega (arith, q)) in
       let fall : HasDescent (forms_of d) a.mark.0 after = record {
         e = e;
@@ -210,8 +211,11 @@ module _ (F : List ℕ → Option Form) (ns : List Named) (orders : List Known) 
   list_falls n depth w lo hi e NoPartMemory k s p z d g = tt
   list_falls n depth w lo hi e (RefusedPart path r) k s p z d g =
       let h = subst (λ (order : Option Ordered). HasKeyOrder F ns orders x order) g.1 k in
-      inr (d, packed_descent F ns orders x e h.0 own bytes after parts n w lo hi g.0 h.1 (o.0 ∙ ap (λ f. Some f) s) p (subst (λ (f : Form). Opens (shapes F) (shape_of_form f) own parts) s o.1) (subst (λ (f : Form). AreElementsOf (shape_of_form f) own bytes) s elements)
-        (λ signed a. subst (λ n. (i : ℕ) × NumbersDescend n signed bytes i) z (g.2 signed (subst (λ n. AreOrderedNumbers g.0 n signed bytes) (sym z) a))))
+      inr (
+        d,
+        packed_descent F ns orders x e h.0 own bytes after parts n w lo hi g.0 h.1 (o.0 ∙ ap (λ f. Some f) s) p (subst (λ (f : Form). Opens (shapes F) (shape_of_form f) own parts) s o.1) (subst (λ (f : Form). AreElementsOf (shape_of_form f) own bytes) s elements)
+            (λ signed a. subst (λ n. (i : ℕ) × NumbersDescend n signed bytes i) z (g.2 signed (subst (λ n. AreOrderedNumbers g.0 n signed bytes) (sym z) a))),
+      )
 
   pub bytes_falls : (depth : ℕ) (error : PartError) → IsKindOf F ns x f (ByteList es) → KindHasOrder F ns orders x (ByteList es) → IsOf Descends error → IsElementFall es bytes error → IsFullOrFalls depth (HasDescent F x (own ++ after)) error
   bytes_falls depth error k h d g =
@@ -231,3 +235,16 @@ module _ (F : List ℕ → Option Form) (ns : List Named) (orders : List Known) 
 pub both_known : {T : Type 0} {P Q R : PartError → Type 0} (r : Result T PartError) → IfErr r P → IfErr r Q → ((e : PartError) → P e → Q e → R e) → IfErr r R
 both_known (Ok t) p q f = tt
 both_known (Err e) p q f = f e p q
+
+-- ---- places
+-- whether the part that is begun is above the one before it
+pub begun_tells : {E : Type 0} (d : Definitions) (bytes : List ℕ) (old new : Ascent) (j : ℕ) (r : Result Bool E) → new.order ≡ old.order → new.earlier ≡ old.last → new.last ≡ Some j
+    → (new.earlier ≡ None → IfOk r (λ a. a ≡ true))
+    → ((x : List ℕ) → OrderedBy d x new.order → (i j : ℕ) → new.earlier ≡ Some i → new.last ≡ Some j → (c : Ordering) → ValuesCompare d x (drop i bytes) (drop j bytes) c → IfOk r (λ a. Decides a (c ≡ Less)))
+    → IfOk r (TellsAscent d bytes (Some old) j)
+begun_tells d bytes old new j (Err e) a b l first order = tt
+begun_tells d bytes old new j (Ok above) a b l first order = go old.last refl
+  where
+    go : (last : Option ℕ) → old.last ≡ last → MatchOption last (above ≡ true) (λ i. (k : List ℕ) (c : Ordering) → OrderedBy d k old.order → ValuesCompare d k (drop i bytes) (drop j bytes) c → Decides above (c ≡ Less))
+    go None e = first (b ∙ e)
+    go (Some i) e = λ k c o v. order k (subst (λ (q : Ordered). OrderedBy d k q) (sym a) o) i j (b ∙ e) l c v

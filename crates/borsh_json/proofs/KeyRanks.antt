@@ -55,8 +55,8 @@ module _ (F : List ℕ → Option Form) (k : List ℕ) where
       let y = text_bytes t other b (subst (λ (keys : Keys). SaysFirst F k (key_json keys t) other []) o.0 q) in
       let c = texts_compare F k s t bs cs (text_order F ns k b) x.0 y.0 in
       subst (λ (keys : Keys). Compare F (a_value k ∷ []) (a_value k ∷ []) (own ++ bs) (other ++ cs) (key_order keys (s, null) (t, null))) (sym o.0)
-        (subst (λ other. Compare F (a_value k ∷ []) (a_value k ∷ []) (own ++ bs) (other ++ cs) (key_order texts (s, null) (t, null))) (sym y.1)
-          (subst (λ own. Compare F (a_value k ∷ []) (a_value k ∷ []) (own ++ bs) ((tag 4 (pos (length t)) ++ t) ++ cs) (key_order texts (s, null) (t, null))) (sym x.1) c))
+      (subst (λ other. Compare F (a_value k ∷ []) (a_value k ∷ []) (own ++ bs) (other ++ cs) (key_order texts (s, null) (t, null))) (sym y.1)
+      (subst (λ own. Compare F (a_value k ∷ []) (a_value k ∷ []) (own ++ bs) ((tag 4 (pos (length t)) ++ t) ++ cs) (key_order texts (s, null) (t, null))) (sym x.1) c))
   keys_compare ns f (NumberKeys n) keys s t own other bs cs a o p q =
       let b : AreKeys F k (numbers n.size) = subst (λ (keys : Keys). AreKeys F k keys) o.0 a in
       let x = number_bytes n.size n.is_signed n.is_non_zero s own o.1 (subst (λ (keys : Keys). SaysFirst F k (key_json keys s) own []) o.0 p) in
@@ -64,6 +64,6 @@ module _ (F : List ℕ → Option Form) (k : List ℕ) where
       let c = numbers_compare F k n.size n.is_signed x.0 y.0 bs cs (number_order F ns k n.size n.is_signed n.is_non_zero b o.1) x.1 y.1 in
       let same : int_cmp x.0 y.0 ≡ key_order (numbers n.size) (s, null) (t, null) = ap (λ z. int_cmp z y.0) (sym x.3) ∙ ap (λ z. int_cmp (signed_digits_value 10 s) z) (sym y.3) in
       subst (λ (keys : Keys). Compare F (a_value k ∷ []) (a_value k ∷ []) (own ++ bs) (other ++ cs) (key_order keys (s, null) (t, null))) (sym o.0)
-        (subst (λ other. Compare F (a_value k ∷ []) (a_value k ∷ []) (own ++ bs) (other ++ cs) (key_order (numbers n.size) (s, null) (t, null))) (sym y.2)
-          (subst (λ own. Compare F (a_value k ∷ []) (a_value k ∷ []) (own ++ bs) (tag n.size y.0 ++ cs) (key_order (numbers n.size) (s, null) (t, null))) (sym x.2)
-            (subst (λ r. Compare F (a_value k ∷ []) (a_value k ∷ []) (tag n.size x.0 ++ bs) (tag n.size y.0 ++ cs) r) same c)))
+      (subst (λ other. Compare F (a_value k ∷ []) (a_value k ∷ []) (own ++ bs) (other ++ cs) (key_order (numbers n.size) (s, null) (t, null))) (sym y.2)
+      (subst (λ own. Compare F (a_value k ∷ []) (a_value k ∷ []) (own ++ bs) (tag n.size y.0 ++ cs) (key_order (numbers n.size) (s, null) (t, null))) (sym x.2)
+      (subst (λ r. Compare F (a_value k ∷ []) (a_value k ∷ []) (tag n.size x.0 ++ bs) (tag n.size y.0 ++ cs) r) same c)))

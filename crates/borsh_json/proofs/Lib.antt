@@ -51,3 +51,6 @@ pub mod RankLaws
 pub mod DescentLaws
 pub mod KeyRanks
 pub mod PackedDescent
+pub mod UnitLaws
+pub mod WordLaws
+pub mod EscapeLaws

@@ -112,13 +112,15 @@ module _ (F : List ℕ → Option Form) (ns : List Named) where
     ]
 
     pub unknown_orders : slice_get orders at ≡ Some Nothing → AreOrders F ns (set orders at (KnownOrder None)) × KeepsOrders orders (set orders at (KnownOrder None))
-    unknown_orders e = ((λ i x f g a. elim (cases_eq i at) [
-      | inl q ↦ absurd (let h : Some (KnownOrder None) ≡ Some (KnownOrder (Some f)) = sym (get_same orders at (KnownOrder None) (in_range orders at Nothing e)) ∙ ap (λ k. slice_get (set orders at (KnownOrder None)) k) (sym q) ∙ g in cc)
-      | inr n ↦ (let o = known i x f (sym (get_other orders at i (KnownOrder None) n) ∙ g) a in (still x f orders (set orders at (KnownOrder None)) (unknown_kept e) o.0, o.1))
-    ]), unknown_kept e)
+    unknown_orders e = (
+      (λ i x f g a. elim (cases_eq i at) [
+        | inl q ↦ absurd (let h : Some (KnownOrder None) ≡ Some (KnownOrder (Some f)) = sym (get_same orders at (KnownOrder None) (in_range orders at Nothing e)) ∙ ap (λ k. slice_get (set orders at (KnownOrder None)) k) (sym q) ∙ g in cc)
+        | inr n ↦ (let o = known i x f (sym (get_other orders at i (KnownOrder None) n) ∙ g) a in (still x f orders (set orders at (KnownOrder None)) (unknown_kept e) o.0, o.1))
+      ]),
+      unknown_kept e,
+    )
 
     module _ (found : Ordered) (count : ℕ) (one : (p : List ℕ) (i j : ℕ) → IsAt ns i p → IsAt ns j p → i ≡ j) (entry : IsOpen F ns orders (at, found, count)) (all : length (needs entry.1) ≤ count) where
-
       found_kept : KeepsOrders orders (set orders at (KnownOrder (Some found)))
       found_kept k f = elim (cases_eq k at) [
         | inl q ↦ (found, ap (λ k. slice_get (set orders at (KnownOrder (Some found))) k) q ∙ get_same orders at (KnownOrder (Some found)) entry.3)
@@ -135,12 +137,16 @@ module _ (F : List ℕ → Option Form) (ns : List Named) where
           subst (λ x. IsOrderIn F ns (set orders at (KnownOrder (Some found))) x found × IsOrdered F x) e ((entry.1, entry.4, entry.5, (λ p k i b. (let r = needed p i in found_kept k (subst (λ k. HasFound orders k) (one p r.0 k r.1 b) r.2)))), ordered entry.1 entry.4 (λ p i. (let r = needed p i in (known r.0 p r.2.0 r.2.1 r.1).1)))
 
       pub found_orders : AreOrders F ns (set orders at (KnownOrder (Some found))) × KeepsOrders orders (set orders at (KnownOrder (Some found))) × HasFound (set orders at (KnownOrder (Some found))) at
-      found_orders = ((λ i x f g a. elim (cases_eq i at) [
-        | inl q ↦ (let h : Some (KnownOrder (Some found)) ≡ Some (KnownOrder (Some f)) = sym (get_same orders at (KnownOrder (Some found)) entry.3) ∙ ap (λ k. slice_get (set orders at (KnownOrder (Some found))) k) (sym q) ∙ g in
-            let e : found ≡ f = cc in
-            subst (λ (f : Ordered). IsOrderIn F ns (set orders at (KnownOrder (Some found))) x f × IsOrdered F x) e (is_found x (subst (λ i. IsAt ns i x) q a)))
-        | inr n ↦ (let o = known i x f (sym (get_other orders at i (KnownOrder (Some found)) n) ∙ g) a in (still x f orders (set orders at (KnownOrder (Some found))) found_kept o.0, o.1))
-      ]), found_kept, (found, get_same orders at (KnownOrder (Some found)) entry.3))
+      found_orders = (
+        (λ i x f g a. elim (cases_eq i at) [
+          | inl q ↦ (let h : Some (KnownOrder (Some found)) ≡ Some (KnownOrder (Some f)) = sym (get_same orders at (KnownOrder (Some found)) entry.3) ∙ ap (λ k. slice_get (set orders at (KnownOrder (Some found))) k) (sym q) ∙ g in
+              let e : found ≡ f = cc in
+              subst (λ (f : Ordered). IsOrderIn F ns (set orders at (KnownOrder (Some found))) x f × IsOrdered F x) e (is_found x (subst (λ i. IsAt ns i x) q a)))
+          | inr n ↦ (let o = known i x f (sym (get_other orders at i (KnownOrder (Some found)) n) ∙ g) a in (still x f orders (set orders at (KnownOrder (Some found))) found_kept o.0, o.1))
+        ]),
+        found_kept,
+        (found, get_same orders at (KnownOrder (Some found)) entry.3),
+      )
 
   -- the last of the open names, and those that wait for it
   pub last_open : (orders : List Known) (all es : List Open) (e : Open) → all ≡ es ++ e ∷ [] → AreOpen F ns orders (reverse all) → IsOpen F ns orders e × ((after : List Known) → KeepsOrders orders after → length after ≡ length orders → HasFound after e.0 → AreOpen F ns after (reverse es))
@@ -151,9 +157,17 @@ module _ (F : List ℕ → Option Form) (ns : List Named) where
 
   -- one part more was gone through
   pub part_open : (orders after : List Known) (at index k : ℕ) (found : Ordered) (p : List ℕ) (h : IsOpen F ns orders (at, found, index)) → slice_get (needs h.1) index ≡ Some p → IsAt ns k p → KeepsOrders orders after → length after ≡ length orders → HasFound after k → IsOpen F ns after (at, found, index + 1)
-  part_open orders after at index k found p h g a keep len f = (h.0, h.1, h.2, (let l = h.3 in omega (arith, l, len)), h.4, h.5, (λ j q l s. elim (cases_eq j index) [
-    | inl e ↦ (let t : Some p ≡ Some q = sym g ∙ ap (λ j. slice_get (needs h.1) j) (sym e) ∙ s in
-        let u : p ≡ q = cc in
-        (k, subst (λ p. IsAt ns k p) u a, f))
-    | inr n ↦ (let r = h.6 j q (omega (arith, l, n)) s in (r.0, r.1, keep r.0 r.2))
-  ]))
+  part_open orders after at index k found p h g a keep len f = (
+    h.0,
+    h.1,
+    h.2,
+    (let l = h.3 in omega (arith, l, len)),
+    h.4,
+    h.5,
+    (λ j q l s. elim (cases_eq j index) [
+      | inl e ↦ (let t : Some p ≡ Some q = sym g ∙ ap (λ j. slice_get (needs h.1) j) (sym e) ∙ s in
+          let u : p ≡ q = cc in
+          (k, subst (λ p. IsAt ns k p) u a, f))
+      | inr n ↦ (let r = h.6 j q (omega (arith, l, n)) s in (r.0, r.1, keep r.0 r.2))
+    ]),
+  )

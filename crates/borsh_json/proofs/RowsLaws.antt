@@ -4,7 +4,9 @@ use Rattle.std.specs.Prelude.{ℤ, String, Vec, Option, Some, None, Result, Ok, 
 use Rattle.std.specs.Global.{Global}
 use Rattle.std.proofs.lemmas.Option.{slice_get-map}
 use Rattle.borsh_walks.specs.declared.definition.Definition.{Definition}
-use Rattle.borsh_walks.specs.declared.definition.Definition.TheVariants.{Primitive, Sequence, Enum}
+use Rattle.borsh_walks.specs.declared.definition.Definition.TheVariants.{Primitive, Sequence, Tuple, Enum, Struct}
+use Rattle.borsh_walks.specs.declared.definition.Fields.{Fields}
+use Rattle.borsh_walks.specs.declared.definition.Fields.TheVariants.{NamedFields, UnnamedFields, Empty}
 use Rattle.borsh_walks.specs.declared.definition.LengthRange.{LengthRange}
 use Rattle.std.specs.Borrow.{Bor}
 use Rattle.std.specs.BTreeMap.{get_by_text}
@@ -20,7 +22,7 @@ use Rattle.borsh_json.specs.declared.error.JsonError.TheVariants.{OutOfMemory, N
 use Rattle.borsh_json.specs.declared.error.Refusal.{Refusal}
 use Rattle.borsh_json.specs.declared.error.Refusal.TheVariants.{TooDeep, RepeatedName, EmptyElements, NotBool, NotUtf8, Zero, NotNumber, Descends, OtherNodes, Expected, MissingField, UnknownName, RepeatedKey, Undefined}
 use Rattle.borsh_json.specs.Errors.{IsNoJsonReason, IsNoRowsReason, IsTooDeep, IsUnwritable}
-use Rattle.borsh_json.specs.Forms.{Form, form_of}
+use Rattle.borsh_json.specs.Forms.{Form, form_of, form_of_parts, form_of_struct}
 use Rattle.borsh_json.specs.Rows.{AreRows, IsNextRow, IsPrimitiveText, IsQuoted, IsText, IsValueText, counted, rows_layout}
 use Rattle.borsh_json.specs.Table.{primitive_kind}
 use Rattle.borsh_json.specs.declared.rows.Rows.{Rows}
@@ -118,6 +120,24 @@ module _ (F : List ℕ → Option Form) (x own : List ℕ) (d : Definition) wher
       let n = slice_get-map parts vs.items i ∙ ap (λ o. option_map parts o) g in
       let s = b.2 in
       cc
+
+-- of other definitions than primitives, sequences and enums nothing is said
+pub nothing_value : (F : List ℕ → Option Form) (x own : List ℕ) (d : Definition) → ((n : ℕ) → d ≡ Primitive n → ⊥) → ((w : ℕ) (l : LengthRange) (s : String Global) → d ≡ Sequence w l s → ⊥) → ((w : ℕ) (vs : Vec (ℤ × String Global × String Global) Global) → d ≡ Enum w vs → ⊥) → (t : List ℕ) → t ≡ [] → IsValueText F x (form_of d) own t
+nothing_value F x own (Primitive n) f g h t e = absurd (f n refl)
+nothing_value F x own (Sequence w l s) f g h t e = absurd (g w l s refl)
+nothing_value F x own (Tuple es) f g h t e = e
+nothing_value F x own (Enum w vs) f g h t e = absurd (h w vs refl)
+nothing_value F x own (Struct fs) f g h t e = of_struct fs
+  where
+    of_parts : (ps : List (List ℕ)) → IsValueText F x (form_of_parts ps) own t
+    of_parts [] = e
+    of_parts (p ∷ []) = e
+    of_parts (p ∷ q ∷ ps) = e
+
+    of_struct : (fs : Fields) → IsValueText F x (form_of_struct fs) own t
+    of_struct (NamedFields fs) = e
+    of_struct (UnnamedFields fs) = of_parts (map (λ f. string_bytes f) fs.items)
+    of_struct Empty = e
 
 pub if_same : {E : Type 0} (P : List ℕ → Type 0) (r : Result (String Global) E) (t : List ℕ) → IfOk r (λ v. string_bytes v ≡ t) → P t → IfOk r (λ v. P (string_bytes v))
 if_same P (Ok v) t e p = subst (λ t. P t) (sym e) p

@@ -52,7 +52,7 @@ use Rattle.borsh_json.specs.Descents.{HasDescent}
 use Rattle.borsh_json.specs.Inside.{IsInside}
 use Rattle.borsh_json.specs.NoJson.{IsNoJson, HasNoJsonPart, IsOutOfOrder, RefusesBytes}
 use Rattle.borsh_json.specs.Orders.{HasKeyOrder, KindHasOrder, OrderedBy, ValuesCompare}
-use Rattle.borsh_json.specs.Leaves.{output_tokens, Adds, IsOpenedAs, WritesLeaf, RefusesLeaf}
+use Rattle.borsh_json.specs.Leaves.{output_tokens, output_before, Adds, IsOpenedAs, WritesLeaf, RefusesLeaf}
 use Rattle.borsh_json.specs.Places.{IsAt, AreKeysOf, IsKindOf, lengths_of}
 use Rattle.borsh_json.specs.Reads.{SaysFirst}
 use Rattle.borsh_json.specs.Represents.{next_part}
@@ -261,9 +261,12 @@ module _ (d : Definitions) (w new : Writing) (x : List ℕ) (f : Form) (own : Li
 
 -- of a place that is begun nothing is known of parts yet
 pub new_marked : (d : Definitions) (bytes x : List ℕ) (f : Form) (kind : Found) (p q : Place) → IsNewPlace kind p → IsKindOf (forms_of d) (names_of d) x f kind → KindHasOrder (forms_of d) (names_of d) d.orders.items x kind → q.parts ≡ p.parts → q.last ≡ p.last → IsAscending d bytes q.ascent (x, None) → IsMarked d bytes q (x, None)
-new_marked d bytes x f kind p q h i k a b c = (c, λ es n e.
-    let t = h.2 es n (sym a ∙ e) in
-    ((t.0, f, subst (λ (kind : Found). IsKindOf (forms_of d) (names_of d) x f kind) t.1 i, subst (λ (kind : Found). KindHasOrder (forms_of d) (names_of d) d.orders.items x kind) t.1 k), subst (λ (l : Option EntryKey). IsLastKey d bytes es l None) (sym (b ∙ h.1)) tt))
+new_marked d bytes x f kind p q h i k a b c = (
+  c,
+  λ es n e.
+      let t = h.2 es n (sym a ∙ e) in
+      ((t.0, f, subst (λ (kind : Found). IsKindOf (forms_of d) (names_of d) x f kind) t.1 i, subst (λ (kind : Found). KindHasOrder (forms_of d) (names_of d) d.orders.items x kind) t.1 k), subst (λ (l : Option EntryKey). IsLastKey d bytes es l None) (sym (b ∙ h.1)) tt),
+)
 
 -- ---- a node was found of the name that is awaited
 some_form : (f g : Form) → Some f ≡ Some g → f ≡ g
@@ -426,11 +429,11 @@ at_offset d w p a =
 
 -- the next part isn't above the last one
 pub next_falls : (d : Definitions) (w : Writing) (p : Place) (a : IsWritingAt d w p) (z : List ℕ) (zs : List (List ℕ)) → names_of_rest a.state.inner ≡ z ∷ zs → (ascends : Bool) → ascends ≡ false → (ascent : Option Ascent) → IsAscending d w.bytes.now ascent a.mark → TellsAscent d w.bytes.now ascent w.walk.offset ascends → IsOutOfOrder (forms_of d) d.layout.now.root.now w.bytes.now
-next_falls d w p a z zs names ascends no None h t = let q : true ≡ false = sym t ∙ no in cc
-next_falls d w p a z zs names ascends no (Some x) h t = go x.last h.1 t
+next_falls d w p a z zs names ascends off None h t = let q : true ≡ false = sym t ∙ off in cc
+next_falls d w p a z zs names ascends off (Some x) h t = go x.last h.1 t
   where
     go : (last : Option ℕ) → last ≡ a.mark.1 → MatchOption last (ascends ≡ true) (λ i. (k : List ℕ) (r : Ordering) → OrderedBy d k x.order → ValuesCompare d k (drop i w.bytes.now) (drop w.walk.offset w.bytes.now) r → Decides ascends (r ≡ Less)) → IsOutOfOrder (forms_of d) d.layout.now.root.now w.bytes.now
-    go None e t = let q : true ≡ false = sym t ∙ no in cc
+    go None e t = let q : true ≡ false = sym t ∙ off in cc
     go (Some i) e t =
         let F = forms_of d in
         let s = a.state in
@@ -439,7 +442,7 @@ next_falls d w p a z zs names ascends no (Some x) h t = go x.last h.1 t
         let left : w.walk.left.now ≡ drop w.walk.offset w.bytes.now = sym (ap (λ j. drop j w.bytes.now) (at_offset d w p a) ∙ last_there w.bytes.now s.done w.walk.left.now w.walk.left.now s.halved.joined refl) in
         let there = subst (λ b. ValuesCompare d k (drop i w.bytes.now) b n.0) left n.1 in
         let tells = t k n.0 h.0.1.2 there in
-        falls d w p a z zs names k x.order h.0.1 i (sym e) n.0 n.1 (λ l. let q : true ≡ false = sym (tells.1 l) ∙ no in cc)
+        falls d w p a z zs names k x.order h.0.1 i (sym e) n.0 n.1 (λ l. let q : true ≡ false = sym (tells.1 l) ∙ off in cc)
 
 -- a key that is no entry's was written, or none
 pub key_begun : (d : Definitions) (w new : Writing) (p : Place) (part : FoundPart) → IsWritingAt d w p → IsBegunOf d w.walk.offset p w.position.place part → ((es : FoundEntries) → part.key ≡ EntryOf es → ⊥)
@@ -501,11 +504,11 @@ module _ (d : Definitions) (w new : Writing) (p : Place) (part : FoundPart) (es 
         let m = opens_member (shapes F) (shape_of_form (form_of n.definition.now)) n.bytes.now [] [] (node_shape d w new.walk es.key t.key a.writer.layout t.key_named found n is g) o no_members in
         let k2 : Mark = (a.mark.0, Some (length v.done)) in
         let keyed : IsKeyed d w.bytes.now new.position.place.parts new.position.place.last k2 = λ fs c e.
-            (let q : EntryOf es ≡ EntryOf fs = sym entry ∙ its_entries d w.walk.offset p w.position.place part b v.inner fs c v.here (sym parts ∙ e) in
-            let same : es ≡ fs = cc in
-            let order = (a.here.1 fs c (sym parts ∙ e)).0 in
-            let there = subst (λ (fs : FoundEntries). IsLastKey d w.bytes.now fs (Some key) (Some (length v.done))) same (length v.done, t.key, t.keys, s, n.bytes.now, new.walk.left.now, refl, t.key_named, t.kind, k, says, last_there w.bytes.now v.done w.walk.left.now (n.bytes.now ++ new.walk.left.now) v.halved.joined node.bytes) in
-            (order, subst (λ (l : Option EntryKey). IsLastKey d w.bytes.now fs l (Some (length v.done))) (sym last) there)) in
+        (let q : EntryOf es ≡ EntryOf fs = sym entry ∙ its_entries d w.walk.offset p w.position.place part b v.inner fs c v.here (sym parts ∙ e) in
+        let same : es ≡ fs = cc in
+        let order = (a.here.1 fs c (sym parts ∙ e)).0 in
+        let there = subst (λ (fs : FoundEntries). IsLastKey d w.bytes.now fs (Some key) (Some (length v.done))) same (length v.done, t.key, t.keys, s, n.bytes.now, new.walk.left.now, refl, t.key_named, t.kind, k, says, last_there w.bytes.now v.done w.walk.left.now (n.bytes.now ++ new.walk.left.now) v.halved.joined node.bytes) in
+        (order, subst (λ (l : Option EntryKey). IsLastKey d w.bytes.now fs l (Some (length v.done))) (sym last) there)) in
         let here : IsMarked d w.bytes.now new.position.place k2 = (subst (λ (o : Option Ascent). IsAscending d w.bytes.now o k2) (sym ascent) (its_ascent d w.walk.offset p w.position.place part b w.bytes.now a.mark (length v.done) (at_offset d w p a) a.here.0), keyed) in
         let r = awaits_entry F ns root w.bytes.now p new.position.place w.position.outer.items a.mark a.marks w.walk.left.now (output_tokens w.out) (output_tokens new.out) v parts es part t n.bytes.now new.walk.left.now key s last k says above (subst (λ b. Member (shapes F) t.key b) (append-nil n.bytes.now) m) h adds.tokens in (
           t.value,

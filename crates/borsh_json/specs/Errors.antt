@@ -129,6 +129,10 @@ module _ (C : List ℕ → Option Shape) (root : List ℕ) where
   abbrev pub IsNoJsonReason : List ℕ → JsonError → Type 0
   IsNoJsonReason = IsReason IsUnwritable
 
+  -- why the bytes aren't known to be a member: no part of a member is refused
+  abbrev pub IsNoMemberReason : List ℕ → JsonError → Type 0
+  IsNoMemberReason = IsReason (λ _. ⊥)
+
   -- why the bytes have no rows: a member has them unless its parts nest too deep
   abbrev pub IsNoRowsReason : List ℕ → JsonError → Type 0
   IsNoRowsReason = IsReason IsTooDeep

@@ -18,6 +18,7 @@ pub mod Orders
 pub mod Reads
 pub mod Frames
 pub mod Leaves
+pub mod Printed
 pub mod Writes
 pub mod Rows
 pub mod Words

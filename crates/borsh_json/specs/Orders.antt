@@ -1,10 +1,11 @@
 -- What the code finds of the orders of names, and what is still to be compared.
-use Rattle.std.specs.Prelude.{◌≡◌, ⊤, ℕ, ◌*◌, ◌<◌, ◌≤◌, ◌^◌, All, Bool, List, [], ◌∷◌, ◌++◌, length, map, drop, reverse, Option, Some, Result, IfOk, IfSome, slice_get, MatchOption}
+use Rattle.std.specs.Prelude.{◌≡◌, ◌⊎◌, ⊤, ℕ, ◌*◌, ◌<◌, ◌≤◌, ◌^◌, ℤ, pos, All, Bool, true, Decides, List, [], ◌∷◌, ◌++◌, length, map, drop, reverse, Option, None, Some, Result, IfOk, IfSome, slice_get, MatchOption}
 use Rattle.std.specs.Borrow.{Bor}
-use Rattle.std.specs.Ordering.{MatchOrdering}
+use Rattle.std.specs.Cmp.Lexicographic.{slice_cmp}
+use Rattle.std.specs.Ordering.{MatchOrdering, int_cmp, nat_cmp}
 use Rattle.std.specs.declared.cmp.Ordering.{Ordering}
 use Rattle.std.specs.declared.cmp.Ordering.TheVariants.{Less, Greater}
-use Rattle.borsh_walks.specs.Container.{IsIn}
+use Rattle.borsh_walks.specs.Container.{IsIn, tag}
 use Rattle.borsh_walks.specs.declared.definition.Definition.{Definition}
 use Rattle.borsh_values.specs.declared.layout.Named.{Named}
 use Rattle.borsh_json.specs.declared.definitions.Definitions.{Definitions}
@@ -12,23 +13,26 @@ use Rattle.borsh_json.specs.declared.definitions.Known.{Known}
 use Rattle.borsh_json.specs.declared.definitions.Known.TheVariants.{Order as KnownOrder}
 use Rattle.borsh_json.specs.declared.error.PartError.{PartError}
 use Rattle.borsh_json.specs.declared.error.PartError.TheVariants.{OutOfMemory as NoMemory, Refused as RefusedPart}
+use Rattle.borsh_json.specs.declared.formats.Collection.{Collection}
 use Rattle.borsh_json.specs.declared.kinds.Elements.{Elements}
 use Rattle.borsh_json.specs.declared.kinds.KeyKind.{KeyKind}
 use Rattle.borsh_json.specs.declared.kinds.Kind.{Kind}
 use Rattle.borsh_json.specs.declared.kinds.Kind.TheVariants.{Number as NumberKind, Bool as Truth, Text as TextKind, Bytes, Float, ByteList, Numbers, List as ListKind, Map, Row, Newtype, Object, Optional, Choice, Repeated}
+use Rattle.borsh_json.specs.declared.order.Ascent.{Ascent}
 use Rattle.borsh_json.specs.declared.order.Next.{Next}
 use Rattle.borsh_json.specs.declared.order.Next.TheVariants.{Value, Decided}
 use Rattle.borsh_json.specs.declared.order.Ordered.{Ordered}
 use Rattle.borsh_json.specs.declared.order.Ordered.TheVariants.{Single, Number, Text, Array, List as Counted, Tuple}
+use Rattle.borsh_json.specs.declared.order.Pair.{Pair}
 use Rattle.borsh_json.specs.declared.order.Pending.{Pending}
 use Rattle.borsh_json.specs.declared.order.Pending.TheVariants.{Elements as TwoLists, Parts}
-use Rattle.borsh_json.specs.Forms.{Form, tuple}
+use Rattle.borsh_json.specs.Forms.{Form, sequence, tuple}
 use Rattle.borsh_json.specs.Descents.{HasKeys, NumbersDescend}
-use Rattle.borsh_json.specs.Found.{HasForm, forms_of, names_of}
+use Rattle.borsh_json.specs.Found.{HasForm, IsCollection, IsNamed, forms_of, names_of}
 use Rattle.borsh_json.specs.Known.{IsKnown}
 use Rattle.borsh_json.specs.Ordered.{Order, single, numbers, text, array, list, parts, needs, OrdersBytes, HasOrder, IsOrdered, Ranked, a_value, elements, Compare}
 use Rattle.borsh_json.specs.Places.{AreKeysOf, IsAt}
-use Rattle.borsh_json.specs.Table.{AreKeys, Keys}
+use Rattle.borsh_json.specs.Table.{AreKeys, InRange, Keys}
 
 module _ (F : List ℕ → Option Form) (ns : List Named) where
   -- what was found of the name is its order
@@ -148,7 +152,49 @@ IsNextValue d pending left right r (Decided o) = o ≡ r
 abbrev pub ValuesCompare : Definitions → List ℕ → List ℕ → List ℕ → Ordering → Type 0
 ValuesCompare d x left right r = Compare (forms_of d) (a_value x ∷ []) (a_value x ∷ []) left right r
 
+-- ---- what is taken of two byte strings that are being compared
+
+-- the first n bytes, and the others, if there are as many
+abbrev pub IsCut : ℕ → List ℕ → List ℕ → List ℕ → Type 0
+IsCut n bytes front rest = (xs bs : List ℕ) → bytes ≡ xs ++ bs → length xs ≡ n → (front ≡ xs) × (rest ≡ bs)
+
+-- the count of so many bytes that comes first
+abbrev pub TakesCount : ℕ → List ℕ → ℕ → List ℕ → Type 0
+TakesCount w old count new = (n : ℕ) (bs : List ℕ) → old ≡ tag w (pos n) ++ bs → (w ≡ 1) ⊎ (w ≡ 4) → n < 256 ^ w → (count ≡ n) × (new ≡ bs)
+
+-- the numbers of so many bytes that come first
+abbrev pub ComparesNumbers : ℕ → Bool → Pair → Pair → Ordering → Type 0
+ComparesNumbers n signed old new result = (y z : ℤ) (bs cs : List ℕ) → 0 < n → InRange n signed y → InRange n signed z → old.left.now ≡ tag n y ++ bs → old.right.now ≡ tag n z ++ cs → (result ≡ int_cmp y z) × (new.left.now ≡ bs) × (new.right.now ≡ cs)
+
+-- the texts that come first
+abbrev pub ComparesTexts : Pair → Pair → Ordering → Type 0
+ComparesTexts old new result = (s t bs cs : List ℕ) → length s < 256 ^ 4 → length t < 256 ^ 4 → old.left.now ≡ tag 4 (pos (length s)) ++ s ++ bs → old.right.now ≡ tag 4 (pos (length t)) ++ t ++ cs → (result ≡ slice_cmp nat_cmp s t) × (new.left.now ≡ bs) × (new.right.now ≡ cs)
+
+-- what comes next of what is pending
+abbrev pub FindsNext : {E : Type 0} → Definitions → List Pending → List Pending → Result Next E → Type 0
+FindsNext d old new result = (left right : List ℕ) (r : Ordering) → PendingCompares d old left right r → IfOk result (λ next. IsNextValue d new left right r next)
+
+-- what of two values of this order comes before their parts
+abbrev pub ComparesFronts : {E : Type 0} → Definitions → Ordered → List Pending → Pair → List Pending → Pair → Result Ordering E → Type 0
+ComparesFronts d order old from new to result = (x : List ℕ) → OrderedBy d x order → (r : Ordering) → ValueCompares d x old from.left.now from.right.now r → IfOk result (λ o. FrontCompares d new to.left.now to.right.now r o)
+
+-- whether the last of the elements that were begun is above the one before it
+abbrev pub DecidesAscent : {E : Type 0} → Definitions → Ascent → List ℕ → Result Bool E → Type 0
+DecidesAscent d a bytes result = (x : List ℕ) → OrderedBy d x a.order → (i j : ℕ) → a.earlier ≡ Some i → a.last ≡ Some j → (r : Ordering) → ValuesCompare d x (drop i bytes) (drop j bytes) r → IfOk result (λ ascends. Decides ascends (r ≡ Less))
+
 -- ---- orders that are being found
+
+-- how the values of the name at the place, which has this definition and some bytes, are ordered
+abbrev pub FindsBytesAt : Definitions → ℕ → Form → Option Ordered → Type 0
+FindsBytesAt d at f result = (x : List ℕ) → HasForm d at f x → IfSome result (λ found. FindsBytes (forms_of d) (names_of d) x found)
+
+-- what is known of a place; and of a place that there isn't, that the order isn't known
+abbrev pub IsKnownAt : List Known → ℕ → Known → Type 0
+IsKnownAt orders at result = ((known : Known) → slice_get orders at ≡ Some known → result ≡ known) × ((known : Known) → result ≡ known → (known ≡ KnownOrder None → ⊥) → slice_get orders at ≡ Some known)
+
+-- the order that was found there, if there is one
+abbrev pub IsFoundAt : List Known → ℕ → Option Ordered → Type 0
+IsFoundAt orders at result = ((found : Ordered) → slice_get orders at ≡ Some (KnownOrder (Some found)) → result ≡ Some found) × ((found : Ordered) → result ≡ Some found → slice_get orders at ≡ Some (KnownOrder (Some found)))
 
 -- a name whose order is known if those of its parts are: its place, the order, and how many of its parts were gone through
 abbrev pub Open : Type 0
@@ -182,13 +228,39 @@ KnowsMore d orders = AreOrders (forms_of d) (names_of d) orders × KeepsOrders d
 abbrev pub TellsOrder : Definitions → List Known → List ℕ → Ordered → Type 0
 TellsOrder d orders x found = IsOrderIn (forms_of d) (names_of d) orders x found × IsOrdered (forms_of d) x
 
+-- the order of the name is known, or waits for those of its parts
+abbrev pub BeginsOrder : Definitions → List Known → List Open → Bool → Type 0
+BeginsOrder d orders es more = KnowsMore d orders × (more ≡ true → AreOpenIn d orders es)
+
+-- the next name that is waited for, if there is one
+abbrev pub FindsNeeded : Definitions → List Known → List Open → Option ℕ → Type 0
+FindsNeeded d orders es next = KnowsMore d orders × IfSome next (λ k. AwaitsOrder d orders es k)
+
+-- an order was found of the name at the place, if it is known
+abbrev pub FindsOrderAt : {E : Type 0} → Definitions → List Known → ℕ → Result (Option Ordered) E → Type 0
+FindsOrderAt d orders at result = HasOrders d → (x : List ℕ) → IsAt (names_of d) at x → IfOk result (λ found. KnowsMore d orders × IfSome found (λ o. TellsOrder d orders x o))
+
 -- an order was found of a set's elements or a map's keys, if it is known
 abbrev pub FindsKeys : Definitions → List Known → List ℕ → Option Ordered → Type 0
 FindsKeys d orders x found = KnowsMore d orders × HasKeyOrder (forms_of d) (names_of d) orders x found
 
+abbrev pub FindsKeysOf : {E : Type 0} → Definitions → List Known → ℕ → Collection → Result (Option Ordered) E → Type 0
+FindsKeysOf d orders element c result = HasOrders d → (x e : List ℕ) (w lo hi : ℕ) → IsCollection (forms_of d) (names_of d) x c → IsAt (names_of d) element e → forms_of d x ≡ Some (sequence w lo hi e) → IfOk result (λ found. FindsKeys d orders x found)
+
 -- a kind was found, and its order, if it has one
 abbrev pub FindsKind : {E : Type 0} → Definitions → List Known → ℕ → Form → Result Kind E → Type 0
 FindsKind d orders at f result = HasOrders d → (x : List ℕ) → HasForm d at f x → IfOk result (λ kind. KnowsMore d orders × KindHasOrder (forms_of d) (names_of d) orders x kind)
+
+abbrev pub FindsKindAt : {E : Type 0} → Definitions → List Known → ℕ → Result (Option (Bor Definition × Kind)) E → Type 0
+FindsKindAt d orders at result = HasOrders d → (x : List ℕ) → IsAt (names_of d) at x → IfOk result (λ found. KnowsMore d orders × IfSome found (λ r. KindHasOrder (forms_of d) (names_of d) orders x r.1))
+
+-- the kind has the order of x
+abbrev pub HasOrderAt : Definitions → List ℕ → Option (Bor Definition × Kind) → Type 0
+HasOrderAt d x found = IfSome found (λ r. KindHasOrder (forms_of d) (names_of d) d.orders.items x r.1)
+
+-- the name at the place is that of the elements of a sequence
+abbrev pub HasElements : Definitions → ℕ → Form → Type 0
+HasElements d element f = (w : ℕ) × (lo : ℕ) × (hi : ℕ) × (e : List ℕ) × (f ≡ sequence w lo hi e) × IsNamed d element e
 
 -- the keys of an object are ordered so
 abbrev pub OrdersKeys : Ordered → KeyKind → Type 0

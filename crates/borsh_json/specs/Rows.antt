@@ -56,13 +56,13 @@ IsTruthText own v =
     ⊎ ((own ≡ 1 ∷ []) × (v ≡ codes "true"))
     ⊎ ((own ≡ 0 ∷ [] → ⊥) × (own ≡ 1 ∷ [] → ⊥) × (v ≡ codes "neither true nor false"))
 
--- what a primitive's bytes say: `bool`; a whole number in decimal, also 0 where the type has no 0. Of floats and others this tells nothing
+-- what a primitive's bytes say: `bool`; a whole number in decimal, also 0 where the type has no 0; nothing of others. Of floats this tells nothing
 abbrev pub IsPrimitiveText : Kind → List ℕ → List ℕ → Type 0
 IsPrimitiveText no_bytes own v = ⊤
 IsPrimitiveText truth own v = IsTruthText own v
 IsPrimitiveText (whole n signed non_zero) own v = IsWhole n signed false v own
 IsPrimitiveText (float n infinity) own v = ⊤
-IsPrimitiveText (raw n) own v = ⊤
+IsPrimitiveText (raw n) own v = v ≡ []
 IsPrimitiveText (utf8 l) own v = ⊤
 IsPrimitiveText (byte_list l e) own v = ⊤
 IsPrimitiveText (list l e) own v = ⊤
@@ -86,14 +86,14 @@ module _ (F : List ℕ → Option Form) where
   abbrev pub IsText : List ℕ → List ℕ → Type 0
   IsText x e = (x ≡ codes "String") × IsByte F e
 
-  -- what the own bytes of a part say, by its name and definition: a primitive, a text, the number of elements, or the name of a variant
+  -- what the own bytes of a part say, by its name and definition: a primitive, a text, the number of elements, or the name of a variant; nothing of others
   abbrev pub IsValueText : List ℕ → Form → List ℕ → List ℕ → Type 0
   IsValueText x (primitive n) own v = IsPrimitiveText (primitive_kind x n) own v
   IsValueText x (sequence w lo hi e) own v =
       (IsText x e × IsQuoted (drop w own) v)
       ⊎ ((IsText x e → ⊥) × (count : Option ℕ) × IsCountOf (counted_sequence w lo hi e) own count × MatchOption count (v ≡ []) (λ k. v ≡ counted k))
-  IsValueText x (tuple ps) own v = ⊤
-  IsValueText x (newtype p) own v = ⊤
-  IsValueText x (unnamed ps) own v = ⊤
-  IsValueText x (named fs) own v = ⊤
+  IsValueText x (tuple ps) own v = v ≡ []
+  IsValueText x (newtype p) own v = v ≡ []
+  IsValueText x (unnamed ps) own v = v ≡ []
+  IsValueText x (named fs) own v = v ≡ []
   IsValueText x (choice w vs) own v = (variant : Option ℕ) × IsVariantIndex (map (λ v. (v.0, v.2)) vs) (take w own) variant × MatchOption variant (v ≡ []) (λ i. (k : ℤ) × (p : List ℕ) × (slice_get vs i ≡ Some (k, v, p)))

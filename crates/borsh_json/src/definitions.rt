@@ -1,6 +1,6 @@
 // A layout, and what was found out about its names. Names are known by their places.
-ghost use Rattle.borsh_json.specs.Words.{AreOpenIn, AwaitsOrder, FindsOrder, Form, FoundOrder, HasOrders, IsNamed, KindHasOrder, KnowsMore, TellsOrder, forms_of, names_of, HasKinds, HasNoBytes, IsAlike, IsAt, IsKindAt, IsKnown, IsLaidOut, KnownAt, KnownOrder, KnowsSizes, form_of, forms_in, references, shape_of_form};
-ghost use Rattle.std.specs.Prelude.{◌≡◌, ℕ, List, Decides, IfOk, IfSome, None, OnOk, Some, option_map, slice_get, slice_set, true};
+ghost use Rattle.borsh_json.specs.Words.{AreOpenIn, AwaitsOrder, BeginsOrder, FindsKindAt, FindsNeeded, FindsOrder, FindsOrderAt, Form, HasKinds, HasNoBytes, HasOrderAt, HasOrders, IsAlike, IsAt, IsFoundAt, IsKindAt, IsKnown, IsKnownAt, IsLaidOut, IsNamed, KnownOrder, KnowsMore, KnowsSizes, form_of, forms_in, forms_of, names_of, references, shape_of_form};
+ghost use Rattle.std.specs.Prelude.{◌≡◌, ℕ, List, Decides, IfOk, IfSome, OnOk, Some, option_map, slice_get, slice_set};
 
 use crate::kinds::{Kind, kind_of};
 use crate::order::{Ordered, ordered_as};
@@ -63,9 +63,7 @@ impl<'a, 'l> Definitions<'a, 'l> {
         ensures kind { let ns = self.old.layout.now.names.items in let F = forms_in self.old.layout.now.map.now in
             IsKnown self.old → IfOk result (λ kind. IsKindAt F ns at kind) }
         ensures same { OnOk result (IsAlike self.old self.new) }
-        ensures orders { let ns = names_of self.old in let F = forms_of self.old in let os = self.new.orders.items in
-            HasOrders self.old → (x : List ℕ) → IsAt ns at x → IfOk result (λ found.
-            KnowsMore self.old os × IfSome found (λ r. KindHasOrder F ns os x r.1)) }
+        ensures orders { FindsKindAt self.old self.new.orders.items at result }
     {
         match self.get(at) {
             Some(definition) => {
@@ -134,8 +132,7 @@ impl<'a, 'l> Definitions<'a, 'l> {
     pub(crate) fn kind(&self, at: usize) -> Option<(&'a Definition, Kind<'a>)>
         ensures kind { let ns = self.now.layout.now.names.items in let F = forms_in self.now.layout.now.map.now in
             HasKinds self.now → IsKindAt F ns at result }
-        ensures order { let d = self.now in HasKinds d → (x : List ℕ) → IsAt (names_of d) at x →
-            IfSome result (λ r. KindHasOrder (forms_of d) (names_of d) d.orders.items x r.1) }
+        ensures order { HasKinds self.now → (x : List ℕ) → IsAt (names_of self.now) at x → HasOrderAt self.now x result }
     {
         match self.kinds.as_slice().get(at).copied() {
             Some(found) => found,
@@ -146,9 +143,7 @@ impl<'a, 'l> Definitions<'a, 'l> {
     /// How the values of the name at a place are ordered; none where that isn't known.
     pub(crate) fn order_of(&mut self, at: usize) -> Result<Option<Ordered>, AllocError>
         ensures same { OnOk result (IsAlike self.old self.new) }
-        ensures orders { HasOrders self.old → (x : List ℕ) → IsAt (names_of self.old) at x →
-            IfOk result (λ found. KnowsMore self.old self.new.orders.items ×
-            IfSome found (TellsOrder self.old self.new.orders.items x)) }
+        ensures orders { FindsOrderAt self.old self.new.orders.items at result }
     {
         self.begin_orders()?;
         self.find_order(at)?;
@@ -167,10 +162,7 @@ impl<'a, 'l> Definitions<'a, 'l> {
 
     /// How the values of the name are ordered, where [`Definitions::order_of`] found that for it or for a name that needs it.
     pub(crate) fn known_order(&self, at: usize) -> Option<Ordered>
-        ensures known { (found : FoundOrder) → slice_get self.now.orders.items at ≡ Some (KnownOrder (Some found)) →
-            result ≡ Some found }
-        ensures there { (found : FoundOrder) → result ≡ Some found →
-            slice_get self.now.orders.items at ≡ Some (KnownOrder (Some found)) }
+        ensures { IsFoundAt self.now.orders.items at result }
     {
         match self.known_at(at) {
             Known::Order(order) => order,
@@ -179,9 +171,7 @@ impl<'a, 'l> Definitions<'a, 'l> {
     }
 
     fn known_at(&self, at: usize) -> Known
-        ensures known { (known : KnownAt) → slice_get self.now.orders.items at ≡ Some known → result ≡ known }
-        ensures there { (known : KnownAt) → result ≡ known → (known ≡ KnownOrder None → ⊥) →
-            slice_get self.now.orders.items at ≡ Some known }
+        ensures { IsKnownAt self.now.orders.items at result }
     {
         self.orders
             .as_slice()
@@ -227,8 +217,7 @@ impl<'a, 'l> Definitions<'a, 'l> {
     ) -> Result<bool, AllocError>
         ensures same { OnOk result (IsAlike self.old self.new) }
         ensures orders { HasOrders self.old → AwaitsOrder self.old self.old.orders.items waiting.old.items at →
-            IfOk result (λ more. KnowsMore self.old self.new.orders.items ×
-            (more ≡ true → AreOpenIn self.old self.new.orders.items waiting.new.items)) }
+            IfOk result (BeginsOrder self.old self.new.orders.items waiting.new.items) }
     {
         match self.known_at(at) {
             Known::Order(Some(_)) => Ok(true),
@@ -253,8 +242,7 @@ impl<'a, 'l> Definitions<'a, 'l> {
     ) -> Result<Option<usize>, AllocError>
         ensures same { OnOk result (IsAlike self.old self.new) }
         ensures orders { HasOrders self.old → AreOpenIn self.old self.old.orders.items waiting.old.items →
-            IfOk result (λ next. KnowsMore self.old self.new.orders.items ×
-            IfSome next (AwaitsOrder self.old self.new.orders.items waiting.new.items)) }
+            IfOk result (FindsNeeded self.old self.new.orders.items waiting.new.items) }
     {
         for _ in 0..u64::MAX {
             let Some((at, order, index)) = waiting.pop() else {

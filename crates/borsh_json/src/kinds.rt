@@ -1,5 +1,5 @@
 // How the values of a name are written in JSON.
-ghost use Rattle.borsh_json.specs.Words.{AreEntries, AreKeys, AreKeysOf, FindsKeys, FindsKind, HasForm, HasNoBytes, HasOrders, IsAlike, IsAt, IsByte, IsCollection, IsKindOf, IsKnown, IsMap, IsNamed, IsNullable, IsPrimitiveKind, IsRefusedList, IsRepeated, Keys, MayBeNull, OrdersKeys, TellsKind, form_of, form_of_struct, forms_in, forms_of, names_of, packed_size, primitive_kind, sequence, shape_of_form, texts};
+ghost use Rattle.borsh_json.specs.Words.{AreEntries, AreKeys, AreKeysOf, FindsKeysOf, FindsKind, HasElements, HasForm, HasNoBytes, IsAlike, IsAt, IsByte, IsCollection, IsKindOf, IsKnown, IsMap, IsNamed, IsNullable, IsPrimitiveKind, IsRefusedList, IsRepeated, Keys, MayBeNull, OrdersKeys, TellsKind, form_of, form_of_struct, forms_in, forms_of, packed_size, primitive_kind, sequence, shape_of_form, texts};
 ghost use Rattle.std.specs.Prelude.{◌≡◌, ℕ, List, Decides, IfOk, MatchBool, MatchOption, OnOk, Some, map, option_map, string_bytes};
 
 use crate::definitions::Definitions;
@@ -235,8 +235,7 @@ fn kind_of_bytes<'a>(
         IsNamed definitions.old element e → IsByte (forms_of definitions.old) e →
         IfOk result (TellsKind definitions.old at (form_of definition.now)) }
     ensures same { OnOk result (IsAlike definitions.old definitions.new) }
-    ensures orders { (w lo hi : ℕ) (e : List ℕ) → form_of definition.now ≡ sequence w lo hi e →
-        IsNamed definitions.old element e →
+    ensures orders { HasElements definitions.old element (form_of definition.now) →
         FindsKind definitions.old definitions.new.orders.items at (form_of definition.now) result }
 {
     if definitions.name(at) == "String" {
@@ -262,8 +261,7 @@ fn kind_of_list<'a>(
         IsNamed definitions.old element e → (IsByte (forms_of definitions.old) e → ⊥) →
         IfOk result (TellsKind definitions.old at (form_of definition.now)) }
     ensures same { OnOk result (IsAlike definitions.old definitions.new) }
-    ensures orders { (w lo hi : ℕ) (e : List ℕ) → form_of definition.now ≡ sequence w lo hi e →
-        IsNamed definitions.old element e →
+    ensures orders { HasElements definitions.old element (form_of definition.now) →
         FindsKind definitions.old definitions.new.orders.items at (form_of definition.now) result }
 {
     let collection = collection_of(definitions, at, definition);
@@ -333,9 +331,7 @@ fn order_in(
     collection: Collection,
 ) -> Result<Option<Ordered>, AllocError>
     ensures same { OnOk result (IsAlike definitions.old definitions.new) }
-    ensures orders { let d = definitions.old in HasOrders d → (x e : List ℕ) (w lo hi : ℕ) →
-        IsCollection (forms_of d) (names_of d) x collection → IsAt (names_of d) element e →
-        forms_of d x ≡ Some (sequence w lo hi e) → IfOk result (FindsKeys d definitions.new.orders.items x) }
+    ensures orders { FindsKeysOf definitions.old definitions.new.orders.items element collection result }
 {
     match collection {
         Collection::List => Ok(None),

@@ -1,5 +1,5 @@
 // The order of the keys of maps and sets, where names and definitions tell it.
-ghost use Rattle.borsh_json.specs.Words.{AreNumbers, AreOrderedNumbers, Comparison, FindsBytes, FrontCompares, HasForm, HasFound, HasOrders, InRange, IsAt, IsKnown, IsNeeded, IsNextValue, IsOrderOf, IsSequenceName, IsTreeMapName, Less, NumberOrder, NumbersDescend, Order, OrderedBy, PendingCompares, ValueCompares, ValuesCompare, decimal, form_of, forms_of, int_cmp, is_below_zero, listed, low_bytes, names_of, nat_cmp, needs, primitive_kind, sequence, slice_cmp, tag, tuple, tuple_name};
+ghost use Rattle.borsh_json.specs.Words.{AreNumbers, AreOrderedNumbers, Comparison, ComparesFronts, ComparesNumbers, ComparesTexts, DecidesAscent, FindsBytesAt, FindsNext, HasFound, HasOrders, InRange, IsAt, IsCut, IsKnown, IsNeeded, IsOrderOf, IsSequenceName, IsTreeMapName, NumberOrder, NumbersDescend, Order, OrderedBy, TakesCount, ValuesCompare, decimal, form_of, forms_of, int_cmp, is_below_zero, listed, low_bytes, names_of, nat_cmp, needs, primitive_kind, sequence, tag, tuple, tuple_name};
 ghost use Rattle.std.specs.Prelude.{◌≡◌, ◌⊎◌, ◌+◌, ◌++◌, ◌∷◌, [], ◌<◌, ◌^◌, ℕ, ℤ, Bool, List, Decides, IfOk, IfSome, None, Some, codes, drop, length, map, option_map, pos, string_bytes, true};
 
 use crate::definitions::Definitions;
@@ -60,8 +60,7 @@ pub fn ordered_as(
     at: usize,
     definition: &Definition,
 ) -> Option<Ordered>
-    ensures { (x : List ℕ) → HasForm definitions.now at (form_of definition.now) x →
-        IfSome result (FindsBytes (forms_of definitions.now) (names_of definitions.now) x) }
+    ensures { FindsBytesAt definitions.now at (form_of definition.now) result }
 {
     let name = definitions.name(at);
     match definition {
@@ -69,21 +68,7 @@ pub fn ordered_as(
         Definition::Sequence { elements, .. } if is_list(definition) => {
             list_as(definitions, at, definition, elements.as_str())
         }
-        Definition::Sequence {
-            length_width,
-            length_range,
-            elements,
-        } => {
-            let (start, end) = (length_range.start, length_range.end);
-            array_as(
-                definitions,
-                at,
-                elements.as_str(),
-                *length_width,
-                start,
-                end,
-            )
-        }
+        Definition::Sequence { .. } => array_as(definitions, at, definition),
         Definition::Tuple { elements } => {
             if is_tuple_name(name, elements.as_slice()) {
                 Some(Ordered::Tuple(at, elements.len()))
@@ -116,9 +101,8 @@ fn list_as(
     definition: &Definition,
     element: &str,
 ) -> Option<Ordered>
-    ensures { (x e : List ℕ) → HasForm definitions.now at (form_of definition.now) x →
-        form_of definition.now ≡ sequence 4 0 4294967295 e → element.now ≡ e →
-        IfSome result (FindsBytes (forms_of definitions.now) (names_of definitions.now) x) }
+    ensures { (e : List ℕ) → form_of definition.now ≡ sequence 4 0 4294967295 e → element.now ≡ e →
+        FindsBytesAt definitions.now at (form_of definition.now) result }
 {
     if is_text(definitions, at, definition) {
         return Some(Ordered::Text);
@@ -138,19 +122,23 @@ fn list_as(
 fn array_as(
     definitions: &Definitions<'_, '_>,
     at: usize,
-    element: &str,
-    width: u8,
-    start: u64,
-    end: u64,
+    definition: &Definition,
 ) -> Option<Ordered>
-    ensures { (x e : List ℕ) → HasForm definitions.now at (sequence width start end e) x → element.now ≡ e →
-        IfSome result (FindsBytes (forms_of definitions.now) (names_of definitions.now) x) }
+    ensures { FindsBytesAt definitions.now at (form_of definition.now) result }
 {
-    if width != 0 || start != end {
+    let Definition::Sequence {
+        length_width: 0,
+        length_range: range,
+        elements,
+    } = definition
+    else {
+        return None;
+    };
+    if range.start != range.end {
         return None;
     }
-    if is_array_name(definitions.name(at), element, start) {
-        Some(Ordered::Array(start, definitions.part(at, 0)))
+    if is_array_name(definitions.name(at), elements.as_str(), range.start) {
+        Some(Ordered::Array(range.start, definitions.part(at, 0)))
     } else {
         None
     }
@@ -160,16 +148,10 @@ fn array_as(
 fn is_list_name(name: &str, element: &str) -> bool
     ensures { Decides result (IsSequenceName name.now element.now) }
 {
-    if is_composed(name, &["Vec<", element, ">"]) {
-        return true;
-    }
-    if is_composed(name, &["VecDeque<", element, ">"]) {
-        return true;
-    }
-    if is_composed(name, &["LinkedList<", element, ">"]) {
-        return true;
-    }
-    is_composed(name, &["BTreeSet<", element, ">"])
+    is_composed(name, &["Vec<", element, ">"])
+        || is_composed(name, &["VecDeque<", element, ">"])
+        || is_composed(name, &["LinkedList<", element, ">"])
+        || is_composed(name, &["BTreeSet<", element, ">"])
 }
 
 /// Whether a name is that of an ordered map, of whose entries this is the definition.
@@ -252,10 +234,8 @@ struct Pair<'b> {
 impl<'b> Pair<'b> {
     /// The next bytes of both. Where fewer are left these are all: then they are no encodings of the name.
     fn take(&mut self, left: usize, right: usize) -> (&'b [u8], &'b [u8])
-        ensures left { (xs bs : List ℕ) → self.old.left.now ≡ xs ++ bs → length xs ≡ left →
-            (result.0.now ≡ xs) × (self.new.left.now ≡ bs) }
-        ensures right { (xs bs : List ℕ) → self.old.right.now ≡ xs ++ bs → length xs ≡ right →
-            (result.1.now ≡ xs) × (self.new.right.now ≡ bs) }
+        ensures left { IsCut left self.old.left.now result.0.now self.new.left.now }
+        ensures right { IsCut right self.old.right.now result.1.now self.new.right.now }
     {
         let (left, left_after) = split(self.left, left);
         let (right, right_after) = split(self.right, right);
@@ -266,19 +246,15 @@ impl<'b> Pair<'b> {
 
     /// The counts, of so many bytes, that come next in both.
     fn take_counts(&mut self, width: usize) -> (u64, u64)
-        ensures left { (n : ℕ) (bs : List ℕ) → self.old.left.now ≡ tag width (pos n) ++ bs →
-            (width ≡ 1) ⊎ (width ≡ 4) → n < 256 ^ width → (result.0 ≡ n) × (self.new.left.now ≡ bs) }
-        ensures right { (n : ℕ) (bs : List ℕ) → self.old.right.now ≡ tag width (pos n) ++ bs →
-            (width ≡ 1) ⊎ (width ≡ 4) → n < 256 ^ width → (result.1 ≡ n) × (self.new.right.now ≡ bs) }
+        ensures left { TakesCount width self.old.left.now result.0 self.new.left.now }
+        ensures right { TakesCount width self.old.right.now result.1 self.new.right.now }
     {
         let (left, right) = self.take(width, width);
         (count_in(left), count_in(right))
     }
 
     fn compare_numbers(&mut self, size: u8, is_signed: bool) -> Ordering
-        ensures { (y z : ℤ) (bs cs : List ℕ) → 0 < size → InRange size is_signed y → InRange size is_signed z →
-            self.old.left.now ≡ tag size y ++ bs → self.old.right.now ≡ tag size z ++ cs →
-            (result ≡ int_cmp y z) × (self.new.left.now ≡ bs) × (self.new.right.now ≡ cs) }
+        ensures { ComparesNumbers size is_signed self.old self.new result }
     {
         let size = usize::from(size);
         let (left, right) = self.take(size, size);
@@ -286,10 +262,7 @@ impl<'b> Pair<'b> {
     }
 
     fn compare_texts(&mut self) -> Ordering
-        ensures { (s t bs cs : List ℕ) → length s < 256 ^ 4 → length t < 256 ^ 4 →
-            self.old.left.now ≡ tag 4 (pos (length s)) ++ s ++ bs →
-            self.old.right.now ≡ tag 4 (pos (length t)) ++ t ++ cs →
-            (result ≡ slice_cmp nat_cmp s t) × (self.new.left.now ≡ bs) × (self.new.right.now ≡ cs) }
+        ensures { ComparesTexts self.old self.new result }
     {
         let (left, right) = self.take_counts(4);
         let (left, right) = self.take(left as usize, right as usize);
@@ -298,8 +271,7 @@ impl<'b> Pair<'b> {
 }
 
 fn split<'b>(bytes: &'b [u8], count: usize) -> (&'b [u8], &'b [u8])
-    ensures { (xs bs : List ℕ) → bytes.now ≡ xs ++ bs → length xs ≡ count →
-        (result.0.now ≡ xs) × (result.1.now ≡ bs) }
+    ensures { IsCut count bytes.now result.0.now result.1.now }
 {
     bytes.split_at(count.min(bytes.len()))
 }
@@ -355,9 +327,7 @@ fn next_value(
     definitions: &Definitions<'_, '_>,
     pending: &mut Vec<Pending>,
 ) -> Result<Next, AllocError>
-    ensures { HasOrders definitions.now → (left right : List ℕ) (r : Comparison) →
-        PendingCompares definitions.now pending.old.items left right r →
-        IfOk result (IsNextValue definitions.now pending.new.items left right r) }
+    ensures { HasOrders definitions.now → FindsNext definitions.now pending.old.items pending.new.items result }
 {
     while let Some(next) = pending.pop() {
         match next {
@@ -396,9 +366,8 @@ fn compare_front(
     pair: &mut Pair<'_>,
     pending: &mut Vec<Pending>,
 ) -> Result<Ordering, AllocError>
-    ensures { HasOrders definitions.now → (x : List ℕ) → OrderedBy definitions.now x order → (r : Comparison) →
-        ValueCompares definitions.now x pending.old.items pair.old.left.now pair.old.right.now r →
-        IfOk result (FrontCompares definitions.now pending.new.items pair.new.left.now pair.new.right.now r) }
+    ensures { HasOrders definitions.now →
+        ComparesFronts definitions.now order pending.old.items pair.old pending.new.items pair.new result }
 {
     match order {
         Ordered::Single => Ok(Ordering::Equal),
@@ -497,10 +466,7 @@ impl Ascent {
         bytes: &[u8],
     ) -> Result<bool, AllocError>
         ensures first { self.now.earlier ≡ None → IfOk result (λ ascends. ascends ≡ true) }
-        ensures order { HasOrders definitions.now → (x : List ℕ) → OrderedBy definitions.now x self.now.order →
-            (i j : ℕ) → self.now.earlier ≡ Some i → self.now.last ≡ Some j → (r : Comparison) →
-            ValuesCompare definitions.now x (drop i bytes.now) (drop j bytes.now) r →
-            IfOk result (λ ascends. Decides ascends (r ≡ Less)) }
+        ensures order { HasOrders definitions.now → DecidesAscent definitions.now self.now bytes.now result }
     {
         let Some(earlier) = self.earlier else {
             return Ok(true);
@@ -526,7 +492,9 @@ pub fn first_descent(order: Ordered, size: usize, bytes: &[u8]) -> Option<usize>
     ensures { (signed : Bool) → AreOrderedNumbers order size signed bytes.now →
         IfSome result (NumbersDescend size signed bytes.now) }
 {
-    let is_signed = is_signed(order);
+    let Ordered::Number(_, is_signed) = order else {
+        return None;
+    };
     let mut rest = bytes;
     for index in 1..bytes.len() {
         if rest.len() <= size {
@@ -540,13 +508,4 @@ pub fn first_descent(order: Ordered, size: usize, bytes: &[u8]) -> Option<usize>
         rest = after;
     }
     None
-}
-
-fn is_signed(order: Ordered) -> bool
-    ensures { (n : ℕ) (signed : Bool) → order ≡ NumberOrder n signed → result ≡ signed }
-{
-    match order {
-        Ordered::Number(_, is_signed) => is_signed,
-        _ => false,
-    }
 }

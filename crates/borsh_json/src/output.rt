@@ -1,8 +1,8 @@
 // The JSON text that is being written.
-ghost use Rattle.borsh_json.specs.Leaves.{Adds, IsCompact, output_before, output_tokens};
-ghost use Rattle.borsh_json.specs.declared.output.Layout.TheVariants.{Compact as CompactLayout};
+ghost use Rattle.borsh_json.specs.Leaves.{Adds, output_before, output_tokens};
+ghost use Rattle.borsh_json.specs.Printed.{laid_out, layout_in};
 ghost use Rattle.json.specs.Lex.{tokens};
-ghost use Rattle.json.specs.Print.{IsPrintable, print};
+ghost use Rattle.json.specs.Print.{IsPrintable};
 ghost use Rattle.json.specs.Reads.{token_of};
 ghost use Rattle.std.specs.Prelude.{◌≡◌, ◌∷◌, [], IsUtf8, OnOk, true};
 
@@ -81,7 +81,7 @@ impl Output {
     pub fn into_bytes(self) -> Vec<u8>
         ensures tokens { output_before self ≡ [] → tokens result.items ≡ output_tokens self }
         ensures utf8 { output_before self ≡ [] → IsUtf8 result.items }
-        ensures compact { IsCompact self → output_before self ≡ [] → result.items ≡ print (output_tokens self) }
+        ensures layout { output_before self ≡ [] → result.items ≡ laid_out (layout_in self) (output_tokens self) }
     {
         match self {
             Output::Compact(writer) => writer.into_inner(),
@@ -91,7 +91,7 @@ impl Output {
 
     /// Whether the text is laid out so.
     pub fn is_in(&self, layout: Layout) -> bool
-        ensures { layout ≡ CompactLayout → result ≡ true → IsCompact self.now }
+        ensures { result ≡ true → layout_in self.now ≡ layout }
     {
         match self {
             Output::Compact(_) => layout == Layout::Compact,

@@ -1,5 +1,5 @@
 // What each of the bytes of a value is.
-ghost use Rattle.borsh_json.specs.Words.{IsLaidOut, IsNoRowsReason, IsWhole, KnowsSizes, Member, definitions_in, form_of, forms_in, IsPrimitiveKind, primitive_kind};
+ghost use Rattle.borsh_json.specs.Words.{IsLaidOut, IsNoMemberReason, IsNoRowsReason, IsWhole, KnowsSizes, Member, definitions_in, form_of, forms_in, IsPrimitiveKind, primitive_kind};
 ghost use Rattle.borsh_json.specs.Rows.{AreRows, BeginsRows, GivesRow, IsNoRow, IsPrimitiveText, IsQuoted, IsText, IsValueText, counted, rows_layout};
 ghost use Rattle.borsh_values.specs.Preorder.{GivesNext, IsInValue, layout_of};
 ghost use Rattle.std.specs.Prelude.{◌≡◌, ◌≤◌, [], false, ℕ, Decides, IfErr, IfOk, List, MatchOption, OnOk, string_bytes};
@@ -51,6 +51,7 @@ impl<'a, 'l, 'b> Rows<'a, 'l, 'b> {
         ensures member { OnOk result (Member (definitions_in layout.now.map.now) layout.now.root.now bytes.now) }
         ensures rows { IfOk result (BeginsRows layout.entry bytes.now) }
         ensures reason { IfErr result (IsNoRowsReason (definitions_in layout.now.map.now) layout.now.root.now bytes.now) }
+        ensures unrefused { IfErr result (IsNoMemberReason (definitions_in layout.now.map.now) layout.now.root.now bytes.now) }
     {
         match layout.is_member(alloc, bytes)? {
             Membership::Member => Ok(Rows {

@@ -1,13 +1,14 @@
 // A value as JSON.
-ghost use Rattle.borsh_json.specs.Words.{Adds, AreKeysOf, BeginsNext, EntryOf, Form, FoundElements, FoundKeyKind, FoundList, FoundNumbers, FoundPart, HasKinds, HasNode, IsAbove, IsAt, IsAwaitingAt, IsBegunOf, IsEntryKey, IsKeyPut, IsKindOf, IsLast, IsNoJsonReason, IsPartError, IsPartWritten, IsUnwritable, IsWalker, IsWritingAt, IsWrittenNext, Keys, KindHasOrder, Member, NamedPlace, Place, RefusesElements, SaysBy, ShowsNoJson, StopsBy, TellsAscent, TextSays, definitions_in, ends_of, forms_in, forms_of, names_of, shapes};
-ghost use Rattle.borsh_json.specs.Ascii.{IsInLine, IsPlain};
+ghost use Rattle.borsh_json.specs.Words.{Adds, AreKeysOf, BeginsNext, EntryOf, Form, FoundElements, FoundKeyKind, FoundList, FoundNumbers, FoundPart, HasKinds, HasNode, IsAbove, IsAt, IsAwaitingAt, IsBegunOf, IsEntryKey, IsKeyPut, IsKindOf, IsLast, IsNoJsonReason, IsPartWritten, IsWalker, IsWritingAt, IsWrittenNext, Keys, KindHasOrder, Member, NamedPlace, Place, RefusesElements, SaysBy, ShowsNoJson, StopsBy, TellsAscent, TextSays, definitions_in, ends_of, forms_in, forms_of, names_of, shapes};
+ghost use Rattle.borsh_json.specs.Ascii.{IsInLine, IsPlain, IsSameJson};
+ghost use Rattle.borsh_json.specs.Printed.{IsPrinted};
 ghost use Rattle.borsh_json.specs.declared.output.Layout.TheVariants.{Compact};
 ghost use Rattle.borsh_json.specs.declared.output.Characters.TheVariants.{Any, Ascii};
 ghost use Rattle.std.specs.Prelude.{◌≡◌, ◌<◌, ℕ, All, Decides, IfErr, IfOk, IfSome, IsUtf8, List, MatchResult, OnOk, Option, Some, length, string_bytes, true};
 
 use crate::ascii::{in_ascii, is_ascii};
 use crate::definitions::Definitions;
-use crate::error::{JsonError, PartError, PartResult, Refusal};
+use crate::error::{JsonError, PartResult, Refusal};
 use crate::kinds::{Entries, Kind};
 use crate::leaves::{is_above, write_key};
 use crate::order::Ordered;
@@ -15,7 +16,7 @@ use crate::output::{Characters, LongNumbers, Output, Style};
 use crate::position::{Key, Part, Parts, Place, Position};
 use crate::sources::EntryKey;
 use crate::values::{begin_struct, begin_value};
-use borsh_values::{Layout, Membership, Node, Path, Walker, elements_of};
+use borsh_values::{Layout, Membership, Node, Walker, elements_of};
 use borsh_walks::Definition;
 use json::Token;
 use std::alloc::{AllocError, Global};
@@ -39,11 +40,11 @@ use std::collections::BTreeMap;
 /// `bool`, texts, and of tuples, arrays, lists, ordered sets and maps, and options of these, and not of structs and enums.
 ///
 /// Determined: after `Ok` the text is JSON that says these bytes, of the characters of the style; a compact one is one line, without
-/// control characters. So no other bytes have it, they are a member of the root ([`crate::text_determines_bytes`]), and
+/// control characters; where any are allowed, it has no white space but that of its layout. So no other bytes have it, they are a member of the root ([`crate::text_determines_bytes`]), and
 /// [`crate::from_json`] gives them, if anything. `NoMember` and `Ambiguous` are as of [`borsh_values::is_member`], and `NoValue` and
-/// `NotJson` aren't returned. After `Refused` they are a member, and where the style allows any characters it has a reason:
-/// `TooDeep`, that a value begins in them inside of 128 others or more; others, that one begins there of which no JSON says these bytes.
-/// Left open: memory; the reason of `Descends`, and of refusals in ASCII; which of the texts that say the bytes: tested.
+/// `NotJson` aren't returned. After `Refused` they are a member, and it has a reason: `TooDeep`, that a value begins in them inside
+/// of 128 others or more; others, that one begins there of which no JSON says these bytes.
+/// Left open: memory; the reason of `Descends`; which of the texts that say the bytes: tested.
 ///
 /// ```
 /// let text = to_json(alloc, "(u8, bool)", &definitions, &[7, 1], Style::COMPACT)?;
@@ -60,9 +61,10 @@ pub fn to_json<'a>(
         IfOk result (λ text. TextSays F root.now (string_bytes text) bytes.now) }
     ensures ascii { style.characters ≡ Ascii → IfOk result (λ text. All IsPlain (string_bytes text)) }
     ensures line { style.layout ≡ Compact → IfOk result (λ text. All IsInLine (string_bytes text)) }
+    ensures printed { style.characters ≡ Any →
+        IfOk result (λ text. IsPrinted style.layout (string_bytes text)) }
     ensures reason { IfErr result (λ e. IsNoJsonReason (definitions_in map.now) root.now bytes.now e) }
-    ensures refused { style.characters ≡ Any →
-        IfErr result (λ e. ShowsNoJson (forms_in map.now) root.now bytes.now e) }
+    ensures refused { IfErr result (λ e. ShowsNoJson (forms_in map.now) root.now bytes.now e) }
 {
     let layout = Layout::new(alloc, root, map)?;
     let json = Definitions::new(alloc, &layout)?;
@@ -76,68 +78,35 @@ impl<'a, 'l> Definitions<'a, 'l> {
         ensures says { IfOk result (λ text. SaysBy self.now (string_bytes text) bytes.now) }
         ensures ascii { style.characters ≡ Ascii → IfOk result (λ text. All IsPlain (string_bytes text)) }
         ensures line { style.layout ≡ Compact → IfOk result (λ text. All IsInLine (string_bytes text)) }
+        ensures printed { style.characters ≡ Any →
+            IfOk result (λ text. IsPrinted style.layout (string_bytes text)) }
         ensures reason { let l = self.now.layout.now in
             IfErr result (λ e. IsNoJsonReason (definitions_in l.map.now) l.root.now bytes.now e) }
-        ensures refused { let l = self.now.layout.now in style.characters ≡ Any →
+        ensures refused { let l = self.now.layout.now in
             IfErr result (λ e. ShowsNoJson (forms_in l.map.now) l.root.now bytes.now e) }
     {
         match self.layout.is_member(self.alloc, bytes)? {
             Membership::Member => {
                 let text = text_of(write_value(self, bytes, style)?);
-                Ok(self.in_characters(text, bytes, style.characters)?)
+                Ok(in_characters(self.alloc, text, style.characters)?)
             }
             Membership::NoMember(fault) => Err(JsonError::NoMember(fault)),
             Membership::Ambiguous(name) => Err(JsonError::Ambiguous(name)),
         }
     }
+}
 
-    /// The text, with these characters alone.
-    fn in_characters(
-        &self,
-        text: String,
-        bytes: &[u8],
-        characters: Characters,
-    ) -> PartResult<'a, String>
-        requires { HasKinds self.now }
-        ensures says { SaysBy self.now (string_bytes text) bytes.now →
-            IfOk result (λ text. SaysBy self.now (string_bytes text) bytes.now) }
-        ensures ascii { characters ≡ Ascii → IfOk result (λ text. All IsPlain (string_bytes text)) }
-        ensures line { All IsInLine (string_bytes text) → IfOk result (λ text. All IsInLine (string_bytes text)) }
-        ensures any { characters ≡ Any → IfErr result (λ e. ⊥) }
-        ensures refusal { IfErr result (IsPartError IsUnwritable) }
-    {
-        if characters == Characters::Any || is_ascii(text.as_str()) {
-            return Ok(text);
-        }
-        match String::from_utf8(in_ascii(self.alloc, text.as_str())?) {
-            Ok(text) => {
-                self.check_text(text.as_str(), bytes)?;
-                Ok(text)
-            }
-            Err(_) => Err(no_json(self.alloc, self.layout.root)),
-        }
+/// The text, with these characters alone: it is read as the same JSON. Left open: memory.
+fn in_characters(alloc: Global, text: String, characters: Characters) -> Result<String, AllocError>
+    ensures same { IfOk result (λ new. IsSameJson (string_bytes text) (string_bytes new)) }
+    ensures kept { characters ≡ Any → IfOk result (λ kept. string_bytes kept ≡ string_bytes text) }
+    ensures ascii { characters ≡ Ascii → IfOk result (λ text. All IsPlain (string_bytes text)) }
+    ensures line { All IsInLine (string_bytes text) → IfOk result (λ text. All IsInLine (string_bytes text)) }
+{
+    if characters == Characters::Any || is_ascii(text.as_str()) {
+        return Ok(text);
     }
-
-    /// Refuses a text that doesn't say the bytes, by reading it.
-    fn check_text(&self, text: &str, bytes: &[u8]) -> PartResult<'a, ()>
-        requires { HasKinds self.now }
-        ensures says { let l = self.now.layout.now in Member (definitions_in l.map.now) l.root.now bytes.now →
-            OnOk result (SaysBy self.now text.now bytes.now) }
-        ensures refusal { IfErr result (IsPartError IsUnwritable) }
-    {
-        match self.read_text(text) {
-            Ok(read) => {
-                let is_same = read.as_slice() == bytes;
-                if is_same {
-                    Ok(())
-                } else {
-                    Err(no_json(self.alloc, self.layout.root))
-                }
-            }
-            Err(JsonError::OutOfMemory) => Err(PartError::OutOfMemory),
-            Err(_) => Err(no_json(self.alloc, self.layout.root)),
-        }
-    }
+    Ok(text_of(in_ascii(alloc, text.as_str())?))
 }
 
 /// The text of bytes, which are UTF-8.
@@ -151,14 +120,6 @@ fn text_of(bytes: Vec<u8>) -> String
     }
 }
 
-/// That a text in ASCII doesn't say the bytes.
-fn no_json<'a>(alloc: Global, root: &'a str) -> PartError<'a>
-    ensures { IsPartError IsUnwritable result }
-{
-    let steps = Vec::new(alloc);
-    PartError::Refused(Path { root, steps }, Refusal::OtherNodes)
-}
-
 /// The JSON text of a member.
 fn write_value<'a>(
     definitions: &Definitions<'a, '_>,
@@ -170,6 +131,7 @@ fn write_value<'a>(
     ensures says { IfOk result (λ text. SaysBy definitions.now text.items bytes.now) }
     ensures utf8 { IfOk result (λ text. IsUtf8 text.items) }
     ensures line { style.layout ≡ Compact → IfOk result (λ text. All IsInLine text.items) }
+    ensures printed { IfOk result (λ text. IsPrinted style.layout text.items) }
     ensures stops { IfErr result (StopsBy definitions.now bytes.now) }
 {
     let alloc = definitions.alloc;
@@ -219,7 +181,8 @@ impl<'a, 'l, 'b> Writing<'a, 'l, 'b> {
             return Ok(self.position.leave());
         };
         let place = &mut self.position.place;
-        if !ascends(definitions, place, self.walk.offset, self.bytes)? {
+        let is_above = ascends(definitions, place, self.walk.offset, self.bytes)?;
+        if !is_above {
             return Err(self.position.refused_element(Refusal::Descends).into());
         }
         self.write_key(definitions, part)?;

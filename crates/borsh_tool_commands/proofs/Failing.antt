@@ -24,7 +24,8 @@ use Rattle.borsh_json.specs.declared.error.JsonError.TheVariants.{OutOfMemory as
 use Rattle.borsh_walks.specs.declared.definition.Definition.{Definition}
 use Rattle.borsh_tool_commands.specs.declared.failure.Failure.{Failure}
 use Rattle.borsh_tool_commands.specs.declared.failure.Failure.TheVariants.{NoCommand, Unreadable, NotHexadecimal, NotContainer, NotValue, NotText, TwoInputs, RawOnTerminal, Unwritable, Unread, Unwritten, LongLine, OutOfMemory}
-use Rattle.borsh_tool_commands.specs.Failures.{BeginsWithContainer, HasReason, IsFailure, IsNoMemory}
+use Rattle.borsh_tool_commands.specs.Failures.{BeginsWithContainer, IsFailure, IsNoMemory}
+use Rattle.borsh_tool_commands.specs.Json.{HasReason}
 use Rattle.borsh_tool_commands.specs.declared.values.Schema.{Schema}
 use Rattle.borsh_tool_commands.specs.Sent.{IsContainer}
 

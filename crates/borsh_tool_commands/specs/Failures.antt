@@ -1,14 +1,16 @@
 -- When each failure may be returned.
-use Rattle.std.specs.Prelude.{◌≡◌, ⊤, ℕ, List, [], Option, IsUtf8}
+use Rattle.std.specs.Prelude.{◌≡◌, ⊤, ℕ, List, [], Option, IsUtf8, String}
+use Rattle.std.specs.BTreeMap.{BTreeMap}
+use Rattle.std.specs.Global.{Global}
 use Rattle.borsh_walks.specs.Container.{Shape}
 use Rattle.borsh_values.specs.Membership.{IsUndecided}
-use Rattle.borsh_json.specs.declared.error.JsonError.{JsonError}
-use Rattle.borsh_json.specs.declared.error.JsonError.TheVariants.{OutOfMemory as NoMemory}
-use Rattle.borsh_json.specs.Errors.{IsNoJsonReason, IsNoRowsReason, IsTextReason}
+use Rattle.borsh_walks.specs.declared.definition.Definition.{Definition}
+use Rattle.borsh_json.specs.Errors.{IsNoRowsReason}
 use Rattle.borsh_tool_commands.specs.declared.failure.Failure.{Failure}
 use Rattle.borsh_tool_commands.specs.declared.failure.Failure.TheVariants.{NoCommand, Unreadable, NotHexadecimal, NotContainer, NotValue, NotText, TwoInputs, RawOnTerminal, Unwritable, Unread, Unwritten, LongLine, OutOfMemory}
 use Rattle.borsh_tool_commands.specs.declared.values.Schema.{Schema}
-use Rattle.borsh_tool_commands.specs.Sent.{IsContainer, IsSent}
+use Rattle.borsh_tool_commands.specs.Json.{HasNoJson, HasReason, SaysNone}
+use Rattle.borsh_tool_commands.specs.Sent.{HasNoSchemaJson, IsContainer, IsSent}
 
 -- an allocation failed; or the failure is of this path, and is one of three kinds, each only where a fact holds that goes with it
 abbrev pub IsFailure : (path : List ℕ) (no_container no_value no_text : Type 0) → Failure → Type 0
@@ -44,28 +46,25 @@ BeginsWithContainer bytes = (s : Schema) × (value : List ℕ) × IsSent s value
 abbrev pub IsNoContainerInFront : List ℕ → List ℕ → Failure → Type 0
 IsNoContainerInFront path bytes = IsFailure path (BeginsWithContainer bytes → ⊥) ⊥ ⊥
 
--- no container only if the bytes are the encoding of none, and no JSON only if they are that of one
+-- no container only if the bytes are the encoding of none, and no JSON only if they are that of one that has none
 abbrev pub IsNoContainerJson : List ℕ → List ℕ → Failure → Type 0
-IsNoContainerJson path bytes = IsFailure path (IsContainer bytes → ⊥) (IsContainer bytes) ⊥
+IsNoContainerJson path bytes = IsFailure path (IsContainer bytes → ⊥) (IsContainer bytes × HasNoSchemaJson bytes) ⊥
 
 -- ---- values
 
--- there is a reason of this kind, and not only a failed allocation
-abbrev pub HasReason : (JsonError → Type 0) → Type 0
-HasReason Reason = (e : JsonError) × Reason e × (e ≡ NoMemory → ⊥)
+module _ (map : BTreeMap (String Global) Definition) (root path : List ℕ) where
+  -- no JSON only if the bytes have none
+  abbrev pub IsNoJson : List ℕ → Failure → Type 0
+  IsNoJson bytes = IsFailure path ⊥ (HasNoJson map root bytes) ⊥
+
+  -- no text only if the bytes aren't UTF-8, and no value only if they are a text that says none
+  abbrev pub IsNoValue : List ℕ → Failure → Type 0
+  IsNoValue json = IsFailure path ⊥ (IsUtf8 json × SaysNone map root json) (IsUtf8 json → ⊥)
 
 module _ (C : List ℕ → Option Shape) (root path : List ℕ) where
-  -- no JSON only if the bytes are no member, or the definitions are undecided, or they are a member, of which a part may be refused
-  abbrev pub IsNoJson : List ℕ → Failure → Type 0
-  IsNoJson bytes = IsFailure path ⊥ (HasReason (IsNoJsonReason C root bytes)) ⊥
-
   -- no rows only if the bytes are no member, or the definitions are undecided, or they are a member, which may be refused as too deep
   abbrev pub IsNotShown : List ℕ → Failure → Type 0
   IsNotShown bytes = IsFailure path ⊥ (HasReason (IsNoRowsReason C root bytes)) ⊥
-
-  -- no text only if the bytes aren't UTF-8, and no value only if they are a text for which `from_json` has a reason
-  abbrev pub IsNoValue : List ℕ → Failure → Type 0
-  IsNoValue json = IsFailure path ⊥ (IsUtf8 json × HasReason (IsTextReason C root json)) (IsUtf8 json → ⊥)
 
   -- neither yes nor no only if a definition is ambiguous or breaks a rule of widths
   abbrev pub IsNoAnswer : Failure → Type 0

@@ -1,16 +1,42 @@
 -- Which JSON is of which bytes.
-use Rattle.std.specs.Prelude.{◌≡◌, ℕ, List, String}
+use Rattle.std.specs.Prelude.{◌≡◌, ℕ, All, Bool, true, false, List, String}
 use Rattle.std.specs.Global.{Global}
 use Rattle.std.specs.BTreeMap.{BTreeMap}
+use Rattle.borsh_json.specs.Ascii.{IsInLine}
+use Rattle.borsh_json.specs.Errors.{DeniesValue, IsNoJsonReason, IsTextReason}
 use Rattle.borsh_json.specs.Forms.{forms_in}
 use Rattle.borsh_json.specs.Represents.{TextSays}
+use Rattle.borsh_json.specs.Words.{ShowsNoJson}
+use Rattle.borsh_json.specs.declared.error.JsonError.{JsonError}
+use Rattle.borsh_json.specs.declared.error.JsonError.TheVariants.{OutOfMemory as NoMemory}
+use Rattle.borsh_json.specs.declared.output.Layout.{Layout}
+use Rattle.borsh_json.specs.declared.output.Layout.TheVariants.{Compact, Pretty}
+use Rattle.borsh_walks.specs.Definitions.{definitions_in}
 use Rattle.borsh_walks.specs.declared.definition.Definition.{Definition}
 use Rattle.borsh_tool_commands.specs.Answers.{line_of}
 
--- the text is JSON that says the bytes, which are a member of the root
-abbrev pub IsJson : BTreeMap (String Global) Definition → List ℕ → List ℕ → List ℕ → Type 0
-IsJson map root text bytes = TextSays (forms_in map) root text bytes
+-- the layout that a request has
+abbrev pub layout_if : Bool → Layout
+layout_if true = Compact
+layout_if false = Pretty
 
--- such a text as a line
-abbrev pub IsJsonLine : BTreeMap (String Global) Definition → List ℕ → List ℕ → List ℕ → Type 0
-IsJsonLine map root bytes line = (text : List ℕ) × IsJson map root text bytes × (line ≡ line_of text)
+-- there is a reason of this kind, and not only a failed allocation
+abbrev pub HasReason : (JsonError → Type 0) → Type 0
+HasReason Reason = (e : JsonError) × Reason e × (e ≡ NoMemory → ⊥)
+
+module _ (map : BTreeMap (String Global) Definition) (root : List ℕ) where
+  -- the text is JSON that says the bytes, which are a member of the root
+  abbrev pub IsJson : List ℕ → List ℕ → Type 0
+  IsJson text bytes = TextSays (forms_in map) root text bytes
+
+  -- such a text with a line feed behind it, which is the only one if the text is compact
+  abbrev pub IsJsonLine : Layout → List ℕ → List ℕ → Type 0
+  IsJsonLine layout bytes line = (text : List ℕ) × IsJson text bytes × (layout ≡ Compact → All IsInLine text) × (line ≡ line_of text)
+
+  -- the bytes are no member, or the definitions are undecided, or a part of a member has no JSON
+  abbrev pub HasNoJson : List ℕ → Type 0
+  HasNoJson bytes = HasReason (λ e. IsNoJsonReason (definitions_in map) root bytes e × ShowsNoJson (forms_in map) root bytes e)
+
+  -- the text is no JSON, or the definitions are undecided, or a part of it says no value
+  abbrev pub SaysNone : List ℕ → Type 0
+  SaysNone text = HasReason (λ e. IsTextReason (definitions_in map) root text e × DeniesValue e ((bytes : List ℕ) × IsJson text bytes))

@@ -1,5 +1,5 @@
 -- What is written for many values.
-use Rattle.std.specs.Prelude.{◌≡◌, ◌⊎◌, ⊤, ℕ, ◌==◌, Bool, true, false, not, List, [], ◌∷◌, ◌++◌, drop, length, take, flat_map, if◌then◌else◌, codes, decimal, Option, IfSome, Result, Ok, Err, MatchResult, IfOk, OnOk, IsUtf8, Vec}
+use Rattle.std.specs.Prelude.{◌≡◌, ◌⊎◌, ⊤, ℕ, ◌==◌, All, Bool, true, false, not, List, [], ◌∷◌, ◌++◌, drop, length, take, flat_map, if◌then◌else◌, codes, decimal, Option, IfSome, Result, Ok, Err, MatchResult, IfOk, OnOk, IsUtf8, Vec}
 use Rattle.std.specs.Str.{IsTrimAscii, bytes_eq}
 use Rattle.std.specs.Global.{Global}
 use Rattle.hex.specs.Hex.{decode_of}
@@ -10,7 +10,8 @@ use Rattle.borsh_walks.specs.Definitions.{definitions_in}
 use Rattle.borsh_values.specs.Faults.{BeginsWith}
 use Rattle.borsh_values.specs.Next.{IsFirst}
 use Rattle.borsh_values.specs.declared.layout.Layout.{Layout}
-use Rattle.borsh_json.specs.Errors.{IsNoJsonReason, IsTextReason}
+use Rattle.borsh_json.specs.Ascii.{IsInLine}
+use Rattle.borsh_json.specs.declared.output.Layout.TheVariants.{Compact}
 use Rattle.borsh_tool_commands.specs.declared.command.Action.{Action}
 use Rattle.borsh_tool_commands.specs.declared.command.Action.TheVariants.{Decode, Encode, Member as AskMember, Show}
 use Rattle.borsh_tool_commands.specs.declared.command.Form.{Form}
@@ -20,8 +21,8 @@ use Rattle.borsh_tool_commands.specs.declared.failure.Failure.TheVariants.{Unwri
 use Rattle.borsh_tool_commands.specs.declared.many.Wanted.{Wanted}
 use Rattle.borsh_tool_commands.specs.declared.many.Wanted.TheVariants.{Json, Digits, Bytes}
 use Rattle.borsh_tool_commands.specs.Answers.{line_of}
-use Rattle.borsh_tool_commands.specs.Failures.{HasReason, IsFailure}
-use Rattle.borsh_tool_commands.specs.Json.{IsJson, IsJsonLine}
+use Rattle.borsh_tool_commands.specs.Failures.{IsFailure}
+use Rattle.borsh_tool_commands.specs.Json.{HasNoJson, IsJson, IsJsonLine, SaysNone}
 use Rattle.borsh_tool_commands.specs.Lines.{IsFirstLine}
 use Rattle.borsh_tool_commands.specs.Plain.{digits}
 
@@ -86,23 +87,24 @@ abbrev pub digits_line : List ℕ → List ℕ
 digits_line [] = line_of (codes "-")
 digits_line (b ∷ bs) = line_of (flat_map digits (b ∷ bs))
 
+-- one line that says why
 abbrev pub IsErrorLine : List ℕ → Type 0
-IsErrorLine out = (why : List ℕ) × (out ≡ codes "{\"error\":" ++ (why ++ line_of (codes "}")))
+IsErrorLine out = (why : List ℕ) × All IsInLine why × (out ≡ codes "{\"error\":" ++ (why ++ line_of (codes "}")))
 
 module _ (l : Layout) where
   -- the answer to a line: the JSON of the bytes that its digits say; the digits of the bytes that it is JSON of; or these bytes
   abbrev pub IsAnswer : Wanted → List ℕ → List ℕ → Type 0
-  IsAnswer Json text out = (bytes : List ℕ) × (said_by text ≡ Ok bytes) × IsJsonLine l.map.now l.root.now bytes out
+  IsAnswer Json text out = (bytes : List ℕ) × (said_by text ≡ Ok bytes) × IsJsonLine l.map.now l.root.now Compact bytes out
   IsAnswer Digits text out = (bytes : List ℕ) × IsJson l.map.now l.root.now text bytes × (out ≡ digits_line bytes)
   IsAnswer Bytes text out = IsJson l.map.now l.root.now text out
 
   -- the bytes are no text, or there is a reason why it says no value
   abbrev pub SaysNoValue : List ℕ → Type 0
-  SaysNoValue text = (IsUtf8 text → ⊥) ⊎ HasReason (IsTextReason (definitions_in l.map.now) l.root.now text)
+  SaysNoValue text = (IsUtf8 text → ⊥) ⊎ SaysNone l.map.now l.root.now text
 
   -- why a line has no such answer
   abbrev pub IsRefused : Wanted → List ℕ → Type 0
-  IsRefused Json text = ((e : FromHexError) × (said_by text ≡ Err e)) ⊎ ((bytes : List ℕ) × (said_by text ≡ Ok bytes) × HasReason (IsNoJsonReason (definitions_in l.map.now) l.root.now bytes))
+  IsRefused Json text = ((e : FromHexError) × (said_by text ≡ Err e)) ⊎ ((bytes : List ℕ) × (said_by text ≡ Ok bytes) × HasNoJson l.map.now l.root.now bytes)
   IsRefused Digits text = SaysNoValue text
   IsRefused Bytes text = SaysNoValue text
 
@@ -132,7 +134,7 @@ pub data IsCount (C : List ℕ → Option Shape) (root : List ℕ) (bytes : Opti
 
 -- the output and the result of a command over many values, by their layout and bytes. What `encode` writes one after another can be read so, since no value is without bytes; `show` takes one value
 abbrev pub AnswersMany : Action → Form → Bool → Layout → Option (List ℕ) → List ℕ → Result Bool Failure → Type 0
-AnswersMany Decode Records strict l bytes out result = AnswersEach (IsFirst (definitions_in l.map.now) l.root.now) (IsJsonLine l.map.now l.root.now) bytes out result
+AnswersMany Decode Records strict l bytes out result = AnswersEach (IsFirst (definitions_in l.map.now) l.root.now) (IsJsonLine l.map.now l.root.now Compact) bytes out result
 AnswersMany Decode Lines strict l bytes out result = AnswersEach IsFirstLine (AnswersLine l Json (not strict)) bytes out result
 AnswersMany Encode Records strict l bytes out result = AnswersEach IsFirstLine (AnswersLine l Bytes false) bytes out result × OnOk result (Member (definitions_in l.map.now) l.root.now [] → ⊥)
 AnswersMany Encode Lines strict l bytes out result = AnswersEach IsFirstLine (AnswersLine l Digits (not strict)) bytes out result

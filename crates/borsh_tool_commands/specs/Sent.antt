@@ -5,8 +5,9 @@ use Rattle.borsh_definitions.specs.Own.{container_definitions}
 use Rattle.borsh_schema.specs.Codecs.{container}
 use Rattle.borsh_schema.specs.Containers.{IsContainerOf}
 use Rattle.borsh_schema.specs.declared.container.BorshSchemaContainer.{BorshSchemaContainer}
+use Rattle.borsh_json.specs.declared.output.Layout.TheVariants.{Pretty}
 use Rattle.borsh_tool_commands.specs.declared.values.Schema.{Schema}
-use Rattle.borsh_tool_commands.specs.Json.{IsJson, IsJsonLine}
+use Rattle.borsh_tool_commands.specs.Json.{HasNoJson, IsJson, IsJsonLine}
 
 -- the bytes of a container
 abbrev pub schema_encoding : Schema → Option (List ℕ)
@@ -35,6 +36,10 @@ EncodesJson sent s text out = (value : List ℕ) × IsJson s.definitions (string
 abbrev pub IsOwnSchema : Schema → Type 0
 IsOwnSchema s = (c : BorshSchemaContainer) × IsContainerOf (codes "BorshSchemaContainer") container_definitions c × (schema_encoding s ≡ container.encoding c)
 
--- the JSON of a container's bytes by it, as a line
+-- the JSON of a container's bytes by it, and a line feed
 abbrev pub IsSchemaJson : List ℕ → List ℕ → Type 0
-IsSchemaJson bytes out = (s : Schema) × IsOwnSchema s × IsJsonLine s.definitions (string_bytes s.root) bytes out
+IsSchemaJson bytes out = (s : Schema) × IsOwnSchema s × IsJsonLine s.definitions (string_bytes s.root) Pretty bytes out
+
+-- a container's bytes have none
+abbrev pub HasNoSchemaJson : List ℕ → Type 0
+HasNoSchemaJson bytes = (s : Schema) × IsOwnSchema s × HasNoJson s.definitions (string_bytes s.root) bytes

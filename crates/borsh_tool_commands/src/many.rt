@@ -1,8 +1,9 @@
 // What is asked of values one after another, and of one value a line.
-ghost use Rattle.borsh_json.specs.Errors.{IsNoJsonReason};
-ghost use Rattle.borsh_json.specs.Known.{HasKinds};
+ghost use Rattle.borsh_json.specs.Ascii.{IsInLine};
+ghost use Rattle.borsh_json.specs.Orders.{HasKinds};
+ghost use Rattle.borsh_json.specs.declared.output.Layout.TheVariants.{Compact};
 ghost use Rattle.borsh_tool_commands.specs.Answers.{line_of};
-ghost use Rattle.borsh_tool_commands.specs.Failures.{HasReason, IsFailure};
+ghost use Rattle.borsh_tool_commands.specs.Failures.{IsNoJson};
 ghost use Rattle.borsh_tool_commands.specs.Json.{IsJson, IsJsonLine};
 ghost use Rattle.borsh_tool_commands.specs.Lines.{IsFirstLine, NextLine};
 ghost use Rattle.borsh_tool_commands.specs.Many.{AnswersEach, AnswersLine, AnswersMany, AnswersText, Flushes, IsCount, IsErrorLine, IsUnwritten, Writes, count_text, digits_line as line_of_digits, said_by as said_by_digits, unmarked as unmarked_digits};
@@ -14,7 +15,7 @@ ghost use Rattle.borsh_values.specs.Records.{Advances, SameRoot, ahead, layout_o
 ghost use Rattle.borsh_walks.specs.Container.{Member};
 ghost use Rattle.borsh_walks.specs.Definitions.{definitions_in};
 ghost use Rattle.hex.specs.declared.error.FromHexError.TheVariants.{OutOfMemory as NoDigitsMemory};
-ghost use Rattle.std.specs.Prelude.{[], IfErr, IfOk, List, Ok, Err, OnErr, OnOk, codes, false, true, ℕ, ◌≡◌, ◌++◌, ◌⊎◌};
+ghost use Rattle.std.specs.Prelude.{[], All, IfErr, IfOk, List, Ok, Err, OnErr, OnOk, codes, false, true, ℕ, ◌≡◌, ◌++◌, ◌⊎◌};
 
 use super::answers::{Answer, line};
 use super::command::{Action, Form};
@@ -24,7 +25,7 @@ use super::plain_text::{Added, PlainText};
 use super::progress::Progress;
 use super::values::{hex_line, no, no_value};
 use borsh::io::{Read, Write};
-use borsh_json::{Json, Style, in_ascii};
+use borsh_json::{Characters, Json, LongNumbers, Style, in_ascii};
 use borsh_values::{Buffered, Fault, MOST_BYTES, RecordError, Records};
 use hex::FromHexError;
 use json::Writer;
@@ -41,8 +42,8 @@ pub struct Many<'a, 'l, 's> {
     pub json: &'l Json<'s, 'l>,
     /// Where the values are from.
     pub path: &'a str,
-    /// How JSON is written: without white space, in ASCII.
-    pub style: Style,
+    /// How JSON has numbers of 64 bits. It is written in ASCII and on one line.
+    pub long_numbers: LongNumbers,
     /// Whether the first line that has no answer ends the run.
     pub is_strict: bool,
 }
@@ -67,8 +68,8 @@ pub enum Wanted {
 ///
 /// Determined: what was written is an answer to each of the first values or lines, in order and nothing else, and to all of them
 /// after `Ok`; unless the writer fails, none that was made is lost; an error line, only where there is a reason; the number of
-/// values, and that where it is no none begins there. Left open: memory; line feeds within a line of JSON, when a failure is
-/// returned, and texts of errors: tested; as of [`borsh_json`].
+/// values, and that where it is no none begins there. Each line has one line feed. Left open: memory; when a failure is returned, and
+/// texts of errors: tested; as of [`borsh_json`].
 ///
 /// ```
 /// answer_many(Action::Decode, Form::Records, &many, StdReader::new(rt.stdin(), 1000), &mut progress, &mut out)?;
@@ -107,23 +108,15 @@ fn make_answers<'a, E: Eprint, R: Read + Drop, W: Write>(
         Writes (AnswersMany action form many.now.is_strict l (R.stream input).bytes)
         W.writing out.old out.new made.new.items result }
 {
-    let is_lenient = !many.is_strict;
+    let lenient = !many.is_strict;
     match action {
         Action::Decode => match form {
             Form::Records => decode_records(many, input, progress, made, out),
-            Form::Lines => answer_lines(many, Wanted::Json, is_lenient, input, progress, made, out),
+            Form::Lines => answer_lines(many, Wanted::Json, lenient, input, progress, made, out),
         },
         Action::Encode => match form {
             Form::Records => encode_records(many, input, progress, made, out),
-            Form::Lines => answer_lines(
-                many,
-                Wanted::Digits,
-                is_lenient,
-                input,
-                progress,
-                made,
-                out,
-            ),
+            Form::Lines => answer_lines(many, Wanted::Digits, lenient, input, progress, made, out),
         },
         Action::Member => make_count(many, input, progress, made),
         Action::Show => Err(Failure::NoCommand),
@@ -179,11 +172,16 @@ fn encode_records<'a, E: Eprint, R: Read + Drop, W: Write>(
 fn json_line<'a>(many: &Many<'a, '_, '_>, value: &[u8]) -> Result<Vec<u8>, Failure<'a>>
     requires { HasKinds many.now.json.now }
     ensures ok { let l = many.now.json.now.layout.now in
-        IfOk result (λ line. IsJsonLine l.map.now l.root.now value.now line.items) }
-    ensures err { let l = many.now.json.now.layout.now in IfErr result (IsFailure many.now.path.now ⊥
-        (HasReason (IsNoJsonReason (definitions_in l.map.now) l.root.now value.now)) ⊥) }
+        IfOk result (λ line. IsJsonLine l.map.now l.root.now Compact value.now line.items) }
+    ensures err { let l = many.now.json.now.layout.now in
+        IfErr result (IsNoJson l.map.now l.root.now many.now.path.now value.now) }
 {
-    match many.json.to_json(value, many.style) {
+    let style = Style {
+        long_numbers: many.long_numbers,
+        characters: Characters::Ascii,
+        ..Style::COMPACT
+    };
+    match many.json.to_json(value, style) {
         Ok(text) => {
             let mut line = text.into_bytes();
             line.extend_from_slice(b"\n".as_slice())?;
@@ -410,7 +408,9 @@ fn error_line(alloc: Global, why: &str) -> Result<Vec<u8>, AllocError>
 }
 
 /// A text as JSON in ASCII.
-fn quoted(alloc: Global, text: &str) -> Result<Vec<u8>, AllocError> {
+fn quoted(alloc: Global, text: &str) -> Result<Vec<u8>, AllocError>
+    ensures { IfOk result (λ json. All IsInLine json.items) }
+{
     let mut writer = Writer::new(Vec::new(alloc));
     writer.string(text)?;
     match String::from_utf8(writer.into_inner()) {

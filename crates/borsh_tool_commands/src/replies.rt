@@ -1,5 +1,6 @@
 // What is replied to a request about a value.
 ghost use Rattle.std.specs.Prelude.{◌≡◌, IfErr, IfOk, true};
+ghost use Rattle.borsh_tool_commands.specs.Json.{layout_if};
 ghost use Rattle.borsh_tool_commands.specs.Replies.{IsNoReply, Replies};
 
 use super::answers::Answer;
@@ -19,10 +20,10 @@ pub struct Reply {
 /// What is replied to a request about a value, whose bytes or, for `encode`, whose JSON are given; `show`, which writes as it goes,
 /// is [`super::values::show`]. Errors have the path that the request has for it.
 ///
-/// Determined: of `decode` JSON of the bytes as a line; of `encode` the bytes that the JSON is of, behind their container if that
-/// is asked for, or their digits as a line; of `member` yes exactly for a member, but for one that `--strict` says isn't canonical,
-/// and the line up to where and why; `NotValue` and `NotText` only for a reason; `NoCommand` only of `show`. Left open: memory; which
-/// members aren't canonical, and where and why: tested; as of [`borsh_json`].
+/// Determined: of `decode` JSON of the bytes, on one line with `--compact`, and a line feed; of `encode` the bytes that the JSON is of,
+/// behind their container if that is asked for, or their digits as a line; of `member` yes exactly for a member, but for one that
+/// `--strict` says isn't canonical, and the line up to where and why; `NotValue` and `NotText` only for a reason; `NoCommand` only of
+/// `show`. Left open: memory; which members aren't canonical, and where and why: tested; as of [`borsh_json`].
 ///
 /// ```
 /// let reply = reply_to(alloc, &request, &schema, bytes.as_slice())?;
@@ -77,7 +78,9 @@ fn yes(output: Vec<u8>) -> Reply
 }
 
 /// How JSON is written.
-pub fn style_of(request: &ValueRequest<'_>) -> Style {
+pub fn style_of(request: &ValueRequest<'_>) -> Style
+    ensures { result.layout ≡ layout_if request.now.is_compact }
+{
     Style {
         layout: if request.is_compact {
             Layout::Compact

@@ -16,7 +16,7 @@ use super::values::{
     Schema, no_container, own_schema, schema_from, schema_in_front, schema_json, show,
 };
 use borsh::io::{StdReader, Write};
-use borsh_json::{Characters, Json, Layout, Style};
+use borsh_json::{Json, Style};
 use clap::ArgMatches;
 use hex::FromHexError;
 use std::alloc::{AllocError, Global};
@@ -174,11 +174,7 @@ fn perform_on_many<'a, R: Files + Input + Eprint + AllocGlobal + Drop, W: Write>
         alloc,
         json: &json,
         path: request.value,
-        style: Style {
-            layout: Layout::Compact,
-            characters: Characters::Ascii,
-            ..style_of(request)
-        },
+        long_numbers: style_of(request).long_numbers,
         is_strict: request.is_strict,
     };
     let is_shown = is_watched && form == Form::Records && !request.is_quiet;

@@ -91,7 +91,7 @@ pub fn own_schema<'a>(alloc: Global) -> Result<Schema, Failure<'a>>
 }
 
 /// The container whose encoding the bytes are as JSON by the container of containers, and a line feed. The errors are those of
-/// [`schema_from`]. Left open: memory; `NotValue` for any container; as of [`to_json`].
+/// [`schema_from`]. Left open: memory; as of [`to_json`].
 ///
 /// ```
 /// let text = schema_json(alloc, "readme.borsh", bytes.as_slice())?;
@@ -126,9 +126,9 @@ pub fn json_text<'a>(
     style: Style,
 ) -> Result<PlainText, Failure<'a>>
     ensures ok { IfOk result (λ t. IsJsonLine schema.now.definitions (string_bytes schema.now.root)
-        bytes.now (printed t)) }
-    ensures err { IfErr result (IsNoJson (definitions_in schema.now.definitions)
-        (string_bytes schema.now.root) path.now bytes.now) }
+        style.layout bytes.now (printed t)) }
+    ensures err { IfErr result (IsNoJson schema.now.definitions (string_bytes schema.now.root)
+        path.now bytes.now) }
 {
     let style = Style {
         characters: Characters::Ascii,
@@ -159,8 +159,8 @@ pub fn bytes_said<'a>(
 ) -> Result<Vec<u8>, Failure<'a>>
     ensures ok { IfOk result (λ bytes. IsJson schema.now.definitions (string_bytes schema.now.root)
         json.now bytes.items) }
-    ensures err { IfErr result (IsNoValue (definitions_in schema.now.definitions)
-        (string_bytes schema.now.root) path.now json.now) }
+    ensures err { IfErr result (IsNoValue schema.now.definitions (string_bytes schema.now.root)
+        path.now json.now) }
 {
     let Ok(text) = str::from_utf8(json) else {
         return Err(Failure::NotText(path));
@@ -180,8 +180,8 @@ pub fn encoded<'a>(
     json: &[u8],
 ) -> Result<Vec<u8>, Failure<'a>>
     ensures ok { IfOk result (λ out. EncodesJson is_sent schema.now json.now out.items) }
-    ensures err { IfErr result (IsNoValue (definitions_in schema.now.definitions)
-        (string_bytes schema.now.root) path.now json.now) }
+    ensures err { IfErr result (IsNoValue schema.now.definitions (string_bytes schema.now.root)
+        path.now json.now) }
 {
     let bytes = bytes_said(alloc, schema, path, json)?;
     if is_sent {

@@ -19,7 +19,7 @@ use Rattle.borsh_values.proofs.PrefixFree.{same_front}
 use Rattle.borsh_values.proofs.Packed.{no_more}
 use Rattle.borsh_values.proofs.NodesLaws.{opens_member, opened_zero}
 use Rattle.borsh_values.proofs.SizesLaws.{fits_small}
-use Rattle.borsh_walks.proofs.Laws.{one_definition}
+use Rattle.borsh_walks.proofs.Laws.{one_definition, zero_member}
 use Rattle.borsh_walks.specs.Container.{IsZeroSize}
 use Rattle.borsh_values.proofs.Required.{whole, unwhole, joined, parted}
 use Rattle.borsh_values.proofs.FreeLaws.{free_one}
@@ -70,6 +70,19 @@ module _ (C : List ℕ → Option Shape) where
 
   pub first_taken : {x : List ℕ} (d : Shape) (bytes : List ℕ) (n : ℕ) → C x ≡ Some d → Takes C d bytes n [] → AreFirst C (x ∷ []) bytes n
   first_taken {x} d bytes n c t = (t.within, subst (λ l. AreOnly C (x ∷ []) l) (append-nil (take n bytes)) (only_open d [] c t.opens t.once only_none))
+
+  -- its bytes are in one node
+  pub taken_node : {x : List ℕ} (d : Shape) (bytes : List ℕ) (n : ℕ) → C x ≡ Some d → Takes C d bytes n [] → 0 < n → HasOneNode C x (take n bytes)
+  taken_node {x} d bytes n c t some e f qs cs es m =
+      let own = take n bytes in
+      let long = length-take-le n bytes t.within in
+      let off : IsZeroSize C x → ⊥ = λ z. let k = ap (λ b. length b) (opened_zero C d own [] c z t.opens).0 in omega (arith, k, long, some) in
+      let same : d ≡ e = one_definition c f in
+      subst (λ s. Nodes C (x ∷ qs) (own ++ cs) ((x, s, own) ∷ es)) same (nodes_more d [] off c t.opens refl m)
+
+  -- bytes that aren't none are no member of a name of zero size
+  pub not_zero : {x own : List ℕ} → AreOnly C (x ∷ []) own → 0 < length own → IsZeroSize C x → ⊥
+  not_zero {x} {own} h some z = let k = ap (λ b. length b) (zero_member C (unwhole C h.members) z) in omega (arith, k, some)
 
   -- a definition whose parts are of free sizes
   pub first_packed : {x : List ℕ} (d : Shape) (bytes : List ℕ) (n m : ℕ) (ns : List (List ℕ)) → C x ≡ Some d → Takes C d bytes n ns → FreeSizes C ns m → n + m ≤ length bytes → All (λ b. b < 256) bytes → AreFirst C (x ∷ []) bytes (n + m)

@@ -1,11 +1,11 @@
 -- Values that are passed and listed.
 use Rattle.std.proofs.Common.{◌≡◌, ℕ, suc, zero, ◌+◌, ◌-◌, ◌<◌, ◌≤◌, List, [], ◌∷◌, ◌++◌, length, take, drop, replicate, Some, None, refl, sym, ◌∙◌, ap, subst, arith, add-one, append_assoc, append-nil, length-append, length-drop, length-take-le, take-add}
-use Rattle.std.specs.Prelude.{Option, MatchOption, String}
+use Rattle.std.specs.Prelude.{Option, MatchOption, String, option_map}
 use Rattle.std.specs.BTreeMap.{BTreeMap, get_by_text}
 use Rattle.std.proofs.Math.Nat.{mul-le-mul_left}
 use Rattle.borsh_walks.specs.declared.definition.Definition.{Definition}
-use Rattle.borsh_walks.specs.Container.{Shape}
-use Rattle.borsh_walks.specs.Definitions.{shape_of}
+use Rattle.borsh_walks.specs.Container.{Shape, product, IsZeroSize}
+use Rattle.borsh_walks.specs.Definitions.{definitions_in, shape_of}
 use Rattle.borsh_values.specs.declared.layout.Named.{Named}
 use Rattle.borsh_values.specs.declared.frames.Rest.TheVariants.{Copies}
 use Rattle.borsh_values.specs.declared.free.Passed.{Passed}
@@ -13,8 +13,9 @@ use Rattle.borsh_values.specs.declared.nodes.Node.{Node}
 use Rattle.borsh_values.specs.declared.runs.Run.{Run}
 use Rattle.borsh_values.specs.Layouts.{name_at}
 use Rattle.borsh_values.specs.Free.{HasOneNode, Passes}
-use Rattle.borsh_values.specs.Nodes.{NodeView, Nodes, views, view_of, joined_bytes, AreOffsets, HaveDefinitions}
-use Rattle.borsh_values.specs.Passing.{AllLike, ListsRun, ListsPassed}
+use Rattle.borsh_values.specs.Nodes.{NodeView, Nodes, nodes_more, views, view_of, joined_bytes, AreOffsets, HaveDefinitions}
+use Rattle.borsh_values.specs.Sizes.{known_sizes}
+use Rattle.borsh_values.specs.Passing.{Lists, ListsRun, ListsPassed}
 use Rattle.borsh_values.proofs.Measure.{opens}
 use Rattle.borsh_values.proofs.Offsets.{total, Placed}
 use Rattle.borsh_values.proofs.OnlyLaws.{copies_split}
@@ -28,87 +29,124 @@ joined_append : (es fs : List NodeView) → joined_bytes (es ++ fs) ≡ joined_b
 joined_append [] fs = refl
 joined_append (e ∷ es) fs = ap (λ l. e.2 ++ l) (joined_append es fs) ∙ sym (append_assoc e.2 (joined_bytes es) (joined_bytes fs))
 
-like_append : (n : Node) (xs ys : List Node) → AllLike n xs → AllLike n ys → AllLike n (xs ++ ys)
-like_append n [] ys h k = k
-like_append n (x ∷ xs) ys h k = (h.0, h.1, like_append n xs ys h.2 k)
-
 offsets_append : (k : ℕ) (xs ys : List Node) → AreOffsets k xs → AreOffsets (k + length (joined_bytes (views xs))) ys → AreOffsets k (xs ++ ys)
 offsets_append k [] ys a b = subst (λ i. AreOffsets i ys) {x = k + 0} {y = k} (omega arith) b
 offsets_append k (x ∷ xs) ys a b =
     let l = length-append x.bytes.now (joined_bytes (views xs)) in
     (a.0, offsets_append (k + length x.bytes.now) xs ys a.1 (subst (λ i. AreOffsets i ys) {x = k + length (x.bytes.now ++ joined_bytes (views xs))} {y = k + length x.bytes.now + length (joined_bytes (views xs))} (omega (arith, l)) b))
 
+defined_append : {A : Type 0} (m : BTreeMap (String A) Definition) (xs ys : List Node) → HaveDefinitions m xs → HaveDefinitions m ys → HaveDefinitions m (xs ++ ys)
+defined_append m [] ys h k = k
+defined_append m (x ∷ xs) ys h k = (h.0, defined_append m xs ys h.1 k)
+
 -- ---- a run
-module _ (C : List ℕ → Option Shape) (first : Node) (old : List Node) where
-  pub lists_none : (new : List Node) → new ≡ old → ListsRun C first 0 0 old new
+copies_end : (x : List ℕ) (k : ℕ) → replicate k x ++ x ∷ [] ≡ replicate (k + 1) x
+copies_end x k = on k ∙ ap (λ i. replicate i x) (sym (add-one k))
+  where
+    on : (k : ℕ) → replicate k x ++ x ∷ [] ≡ replicate (suc k) x
+    on zero = refl
+    on (suc k) = ap (λ l. x ∷ l) (on k)
+
+module _ {A : Type 0} (m : BTreeMap (String A) Definition) (bytes : List ℕ) (offset : ℕ) (old : List Node) where
+  pub lists_none : (new : List Node) → new ≡ old → Lists m [] bytes 0 offset 0 old new
   lists_none new e = record {
     added = [];
     all = e ∙ sym (append-nil old);
-    nodes = λ qs cs es m. m;
-    like = tt;
+    nodes = λ qs cs es n. n;
+    definitions = tt;
     placed = tt;
     long = refl;
     few = omega arith;
   }
 
-  copies_on : (x : List ℕ) (k : ℕ) (qs : List (List ℕ)) → replicate k x ++ (x ∷ qs) ≡ replicate (k + 1) x ++ qs
-  copies_on x k qs = on k ∙ ap (λ i. replicate i x ++ qs) (sym (add-one k))
-    where
-      on : (k : ℕ) → replicate k x ++ (x ∷ qs) ≡ replicate (suc k) x ++ qs
-      on zero = refl
-      on (suc k) = ap (λ l. x ∷ l) (on k)
+  -- a value that has one node
+  pub lists_one : (new : List Node) (n : Node) (k : ℕ) → get_by_text m n.name.now ≡ Some n.definition.now → HasOneNode (definitions_in m) n.name.now (take k bytes) → n.bytes.now ≡ take k bytes → k ≤ length bytes → n.offset ≡ offset → new ≡ old ++ n ∷ [] → Lists m (n.name.now ∷ []) bytes k offset 1 old new
+  lists_one new n k d one own low at e = record {
+    added = n ∷ [];
+    all = e;
+    nodes = λ qs cs es t. subst (λ b. Nodes (definitions_in m) (n.name.now ∷ qs) (take k bytes ++ cs) ((n.name.now, shape_of n.definition.now, b) ∷ es)) (sym own) (one (shape_of n.definition.now) (ap (λ o. option_map shape_of o) d) qs cs es t);
+    definitions = (d, tt);
+    placed = (at, tt);
+    long = ap (λ b. length b) (append-nil n.bytes.now ∙ own) ∙ length-take-le k bytes low;
+    few = omega arith;
+  }
 
-  pub lists_more : (mid new : List Node) (n : Node) (taken values k : ℕ) → C first.name.now ≡ Some (shape_of first.definition.now) → n.name ≡ first.name → n.definition ≡ first.definition → n.offset ≡ first.offset + taken → n.bytes.now ≡ take k (drop taken first.bytes.now) → HasOneNode C first.name.now (take k (drop taken first.bytes.now)) → 0 < k → k ≤ length (drop taken first.bytes.now) → new ≡ mid ++ n ∷ [] → ListsRun C first taken values old mid → ListsRun C first (taken + k) (values + 1) old new
-  lists_more mid new n taken values k c name definition offset own one some low e h =
-      let left = first.bytes.now in
-      let x = first.name.now in
-      let d = shape_of first.definition.now in
-      let bytes = take k (drop taken left) in
-      let view : view_of n ≡ (x, d, bytes) = ap (λ b. (b.now, shape_of n.definition.now, n.bytes.now)) name ∙ ap (λ b. (x, shape_of b.now, n.bytes.now)) definition ∙ ap (λ b. (x, d, b)) own in
-      let long : length n.bytes.now ≡ k = ap (λ b. length b) own ∙ length-take-le k (drop taken left) low in
-      let many = length-append h.added (n ∷ []) in
-      let was = h.long in
-      let few = h.few in
-      let joins : length (joined_bytes (views (h.added ++ n ∷ []))) ≡ taken + k = (
-      let a = ap (λ l. length (joined_bytes l)) (views_append h.added (n ∷ [])) ∙ ap (λ b. length b) (joined_append (views h.added) (view_of n ∷ [])) ∙ length-append (joined_bytes (views h.added)) (n.bytes.now ++ []) in
-      let b = ap (λ b. length b) (append-nil n.bytes.now) in
-      omega (arith, a, b, was, long)) in
+  -- others behind them
+  pub lists_more : (mid new : List Node) (ps qs : List (List ℕ)) (a b most more : ℕ) → Lists m ps bytes a offset most old mid → Lists m qs (drop a bytes) b (offset + a) more mid new → Lists m (ps ++ qs) bytes (a + b) offset (most + more) old new
+  lists_more mid new ps qs a b most more f g =
+      let many = length-append f.added g.added in
+      let was = f.long in
+      let now = g.long in
+      let low = f.few in
+      let less = g.few in
+      let joins : length (joined_bytes (views (f.added ++ g.added))) ≡ a + b = (
+      let l = ap (λ l. length (joined_bytes l)) (views_append f.added g.added) ∙ ap (λ b. length b) (joined_append (views f.added) (views g.added)) ∙ length-append (joined_bytes (views f.added)) (joined_bytes (views g.added)) in
+      omega (arith, l, was, now)) in
       record {
-        added = h.added ++ n ∷ [];
-        all = e ∙ ap (λ l. l ++ n ∷ []) h.all ∙ append_assoc old h.added (n ∷ []);
-        nodes = λ qs cs es m.
-            let one_more = h.nodes (x ∷ qs) (bytes ++ cs) ((x, d, bytes) ∷ es) (one d c qs cs es m) in
-            let es_are : views h.added ++ ((x, d, bytes) ∷ es) ≡ views (h.added ++ n ∷ []) ++ es = sym (append_assoc (views h.added) ((x, d, bytes) ∷ []) es) ∙ ap (λ v. (views h.added ++ v ∷ []) ++ es) (sym view) ∙ ap (λ l. l ++ es) (sym (views_append h.added (n ∷ []))) in
-            let cs_are : take taken left ++ (bytes ++ cs) ≡ take (taken + k) left ++ cs = sym (append_assoc (take taken left) bytes cs) ∙ ap (λ l. l ++ cs) (sym (take-add taken k left)) in
-            subst (λ l. Nodes C l (take (taken + k) left ++ cs) (views (h.added ++ n ∷ []) ++ es)) (copies_on x values qs)
-            (subst (λ l. Nodes C (replicate values x ++ (x ∷ qs)) l (views (h.added ++ n ∷ []) ++ es)) cs_are
-            (subst (λ l. Nodes C (replicate values x ++ (x ∷ qs)) (take taken left ++ (bytes ++ cs)) l) es_are one_more));
-        like = like_append first h.added (n ∷ []) h.like (name, definition, tt);
-        placed = offsets_append first.offset h.added (n ∷ []) h.placed (omega (arith, offset, was), tt);
+        added = f.added ++ g.added;
+        all = g.all ∙ ap (λ l. l ++ g.added) f.all ∙ append_assoc old f.added g.added;
+        nodes = λ rs cs es n.
+            let both = f.nodes (qs ++ rs) (take b (drop a bytes) ++ cs) (views g.added ++ es) (g.nodes rs cs es n) in
+            let es_are : views f.added ++ (views g.added ++ es) ≡ views (f.added ++ g.added) ++ es = sym (append_assoc (views f.added) (views g.added) es) ∙ ap (λ l. l ++ es) (sym (views_append f.added g.added)) in
+            let cs_are : take a bytes ++ (take b (drop a bytes) ++ cs) ≡ take (a + b) bytes ++ cs = sym (append_assoc (take a bytes) (take b (drop a bytes)) cs) ∙ ap (λ l. l ++ cs) (sym (take-add a b bytes)) in
+            subst (λ l. Nodes (definitions_in m) l (take (a + b) bytes ++ cs) (views (f.added ++ g.added) ++ es)) (sym (append_assoc ps qs rs))
+            (subst (λ l. Nodes (definitions_in m) (ps ++ (qs ++ rs)) l (views (f.added ++ g.added) ++ es)) cs_are
+            (subst (λ l. Nodes (definitions_in m) (ps ++ (qs ++ rs)) (take a bytes ++ (take b (drop a bytes) ++ cs)) l) es_are both));
+        definitions = defined_append m f.added g.added f.definitions g.definitions;
+        placed = offsets_append offset f.added g.added f.placed (subst (λ i. AreOffsets (offset + i) g.added) (sym was) g.placed);
         long = joins;
-        few = omega (arith, many, few, some);
+        few = omega (arith, many, low, less);
+      }
+
+  pub lists_fewer : (new : List Node) (ps : List (List ℕ)) (n most more : ℕ) → most ≤ more → Lists m ps bytes n offset most old new → Lists m ps bytes n offset more old new
+  lists_fewer new ps n most more low h = let few = h.few in record { added = h.added; all = h.all; nodes = h.nodes; definitions = h.definitions; placed = h.placed; long = h.long; few = omega (arith, few, low) }
+
+  -- another copy of the name
+  pub lists_copy : (mid new : List Node) (x : List ℕ) (k a b more : ℕ) → more ≤ b → Lists m (replicate k x) bytes a offset a old mid → Lists m (x ∷ []) (drop a bytes) b (offset + a) more mid new → Lists m (replicate (k + 1) x) bytes (a + b) offset (a + b) old new
+  lists_copy mid new x k a b more low f g = lists_fewer new (replicate (k + 1) x) (a + b) (a + more) (a + b) (omega (arith, low)) (subst (λ l. Lists m l bytes (a + b) offset (a + more) old new) (copies_end x k) (lists_more mid new (replicate k x) (x ∷ []) a b a more f g))
+
+  -- the nodes before them stay
+  pub lists_kept : (new : List Node) (node : Node) (ps : List (List ℕ)) (n most : ℕ) → Lists m ps bytes n offset most (old ++ node ∷ []) new → take (length old) new ≡ old
+  lists_kept new node ps n most h = ap (λ l. take (length old) l) (h.all ∙ append_assoc old (node ∷ []) h.added) ∙ front old
+    where
+      front : (xs : List Node) → take (length xs) (xs ++ (node ∷ h.added)) ≡ xs
+      front [] = refl
+      front (x ∷ xs) = ap (λ l. x ∷ l) (front xs)
+
+  -- a struct or tuple, whose node comes before those of its parts
+  pub lists_product : (mid new : List Node) (node : Node) (ps : List (List ℕ)) (n most : ℕ) → get_by_text m node.name.now ≡ Some node.definition.now → shape_of node.definition.now ≡ product ps → known_sizes (definitions_in m) ps ≡ 0 → (IsZeroSize (definitions_in m) node.name.now → ⊥) → node.bytes.now ≡ [] → node.offset ≡ offset → mid ≡ old ++ node ∷ [] → Lists m ps bytes n offset most mid new → Lists m (node.name.now ∷ []) bytes n offset (most + 1) old new
+  lists_product mid new node ps n most d s unknown off none at e h =
+      let few = h.few in
+      let x = node.name.now in
+      let c : definitions_in m x ≡ Some (product ps) = ap (λ o. option_map shape_of o) d ∙ ap (λ s. Some s) s in
+      let view : (x, product ps, []) ≡ view_of node = ap (λ s. (x, s, [])) (sym s) ∙ ap (λ b. (x, shape_of node.definition.now, b)) (sym none) in
+      let long = ap (λ b. length b) none in
+      record {
+        added = node ∷ h.added;
+        all = h.all ∙ ap (λ l. l ++ h.added) e ∙ append_assoc old (node ∷ []) h.added;
+        nodes = λ qs cs es t. subst (λ v. Nodes (definitions_in m) (x ∷ qs) (take n bytes ++ cs) (v ∷ (views h.added ++ es))) view (nodes_more (product ps) ps off c (refl, refl) unknown (h.nodes qs cs es t));
+        definitions = (d, h.definitions);
+        placed = (at, subst (λ i. AreOffsets i h.added) (omega (arith, long)) h.placed);
+        long = ap (λ b. length (b ++ joined_bytes (views h.added))) none ∙ h.long;
+        few = omega (arith, few);
       }
 
 -- ---- what is passed
-like_defined : {A : Type 0} (m : BTreeMap (String A) Definition) (n : Node) (ns : List Node) → get_by_text m n.name.now ≡ Some n.definition.now → AllLike n ns → HaveDefinitions m ns
-like_defined m n [] e h = tt
-like_defined m n (x ∷ xs) e h = (ap (λ b. get_by_text m b.now) h.0 ∙ e ∙ ap (λ b. Some b.now) (sym h.1), like_defined m n xs e h.2)
-
 nothing_added : (old new added : List Node) → new ≡ old ++ added → length added ≤ 0 → new ≡ old
 nothing_added old new [] e h = e ∙ append-nil old
 nothing_added old new (n ∷ ns) e h = absurd (omega arith)
 
-pub run_lists : {A : Type 0} (C : List ℕ → Option Shape) (m : BTreeMap (String A) Definition) (ns : List Named) (at count : ℕ) (first : Node) (old new : List Node) (r : Run) → first.name.now ≡ name_at ns at → get_by_text m first.name.now ≡ Some first.definition.now → r.values ≤ count → ListsRun C first r.taken r.values old new → (o : Option Passed) → MatchOption o (r.taken ≡ 0) (λ p. Passes at count r p) → MatchOption o (new ≡ old) (λ p. ListsPassed C m ns (Copies at count) first.bytes.now first.offset old new p)
-run_lists C m ns at count first old new r name defined few h None k = nothing_added old new h.added h.all (let a = h.few in omega (arith, a, k))
-run_lists C m ns at count first old new r name defined few h (Some p) k = subst (λ (p : Passed). ListsPassed C m ns (Copies at count) first.bytes.now first.offset old new p) (sym k.1) (record {
+pub run_lists : {A : Type 0} (m : BTreeMap (String A) Definition) (ns : List Named) (at count : ℕ) (first : Node) (old new : List Node) (r : Run) → first.name.now ≡ name_at ns at → r.values ≤ count → ListsRun m first r.taken r.values old new → (o : Option Passed) → MatchOption o (r.taken ≡ 0) (λ p. Passes at count r p) → MatchOption o (new ≡ old) (λ p. ListsPassed (definitions_in m) m ns (Copies at count) first.bytes.now first.offset old new p)
+run_lists m ns at count first old new r name low h None k = nothing_added old new h.added h.all (let a = h.few in omega (arith, a, k))
+run_lists m ns at count first old new r name low h (Some p) k = subst (λ (p : Passed). ListsPassed (definitions_in m) m ns (Copies at count) first.bytes.now first.offset old new p) (sym k.1) (record {
   added = h.added;
   all = h.all;
   nodes = λ qs cs es n.
       let x = first.name.now in
       let y = name_at ns at in
-      let same : replicate r.values x ++ (replicate (count - r.values) y ++ qs) ≡ replicate count y ++ qs = ap (λ z. replicate r.values z ++ (replicate (count - r.values) y ++ qs)) name ∙ sym (append_assoc (replicate r.values y) (replicate (count - r.values) y) qs) ∙ ap (λ l. l ++ qs) (sym (copies_split y count r.values few)) in
-      subst (λ l. Nodes C l (take r.taken first.bytes.now ++ cs) (views h.added ++ es)) same (h.nodes (replicate (count - r.values) y ++ qs) cs es n);
-  definitions = like_defined m first h.added defined h.like;
+      let same : replicate r.values x ++ (replicate (count - r.values) y ++ qs) ≡ replicate count y ++ qs = ap (λ z. replicate r.values z ++ (replicate (count - r.values) y ++ qs)) name ∙ sym (append_assoc (replicate r.values y) (replicate (count - r.values) y) qs) ∙ ap (λ l. l ++ qs) (sym (copies_split y count r.values low)) in
+      subst (λ l. Nodes (definitions_in m) l (take r.taken first.bytes.now ++ cs) (views h.added ++ es)) same (h.nodes (replicate (count - r.values) y ++ qs) cs es n);
+  definitions = h.definitions;
   placed = h.placed;
   long = h.long;
   few = h.few;
@@ -122,10 +160,6 @@ total_joined (n ∷ ns) = let r = total_joined ns in let l = length-append n.byt
 total_append : (xs ys : List Node) → total (xs ++ ys) ≡ total xs + total ys
 total_append [] ys = omega arith
 total_append (x ∷ xs) ys = let r = total_append xs ys in omega (arith, r)
-
-defined_append : {A : Type 0} (m : BTreeMap (String A) Definition) (xs ys : List Node) → HaveDefinitions m xs → HaveDefinitions m ys → HaveDefinitions m (xs ++ ys)
-defined_append m [] ys h k = k
-defined_append m (x ∷ xs) ys h k = (h.0, defined_append m xs ys h.1 k)
 
 many_on : (D a b idle v : ℕ) → v + a ≤ b → a < b → v + opens D a 0 ≤ opens D b idle
 many_on D a b idle zero h less =

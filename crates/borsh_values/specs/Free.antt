@@ -1,6 +1,6 @@
 -- Names whose members are all bytes of one length.
 use Rattle.std.specs.Prelude.{◌≡◌, ◌<◌, ◌≤◌, ◌-◌, ℕ, suc, List, [], ◌∷◌, ◌++◌, length, take, replicate, All, IfSome, Option, get_or, Some}
-use Rattle.borsh_walks.specs.Container.{Shape, Member, Members}
+use Rattle.borsh_walks.specs.Container.{Shape, product, Member, Members}
 use Rattle.borsh_walks.specs.Definitions.{definitions_in}
 use Rattle.borsh_values.specs.declared.layout.Layout.{Layout}
 use Rattle.borsh_values.specs.declared.layout.Named.{Named}
@@ -9,11 +9,11 @@ use Rattle.borsh_values.specs.declared.frames.Rest.TheVariants.{Copies}
 use Rattle.borsh_values.specs.declared.runs.Run.{Run}
 use Rattle.borsh_values.specs.declared.runs.TagLength.{TagLength}
 use Rattle.borsh_values.specs.declared.free.Passed.{Passed}
-use Rattle.borsh_values.specs.Layouts.{name_at}
+use Rattle.borsh_values.specs.Layouts.{name_at, parts_in, shape_at}
 use Rattle.borsh_values.specs.Nodes.{NodeView, Nodes}
 use Rattle.borsh_values.specs.Steps.{remaining, step_count, Fits, OnlyEmpty}
 use Rattle.borsh_values.specs.Zeros.{AreZeros}
-use Rattle.borsh_values.specs.Sizes.{AreSizes, known_size}
+use Rattle.borsh_values.specs.Sizes.{AreSizes, known_size, known_sizes}
 
 module _ (C : List ℕ → Option Shape) where
   -- each n bytes are a member of the name, and it has no others
@@ -70,6 +70,10 @@ module _ (C : List ℕ → Option Shape) where
     pub some : 0 < p.taken
     pub fits : Fits ns p.rest
     pub steps : step_count ns p.rest ≤ step_count ns r
+
+-- the values of the name at a place are structs or tuples, which have nodes of their own beside those of their parts
+abbrev pub HasParts : Layout → ℕ → Type 0
+HasParts l at = let s = shape_at l.names.items at in (s ≡ Some (product (parts_in s))) × (known_sizes (definitions_in l.map.now) (parts_in s) ≡ 0)
 
 -- what is passed of copies of the name at a place: a run of some bytes
 abbrev pub Passes : ℕ → ℕ → Run → Passed → Type 0

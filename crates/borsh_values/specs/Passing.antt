@@ -1,8 +1,9 @@
 -- Names of free size that are passed at once.
-use Rattle.std.specs.Prelude.{◌≡◌, ◌⊎◌, ⊤, ℕ, ◌+◌, ◌<◌, ◌≤◌, List, [], ◌∷◌, ◌++◌, All, length, take, drop, replicate, Bool, true, false, Option, String}
+use Rattle.std.specs.Prelude.{◌≡◌, ◌⊎◌, ℕ, ◌+◌, ◌<◌, ◌≤◌, List, [], ◌++◌, All, length, take, drop, replicate, Bool, true, false, Option, String}
 use Rattle.std.specs.BTreeMap.{BTreeMap}
 use Rattle.borsh_walks.specs.declared.definition.Definition.{Definition}
 use Rattle.borsh_walks.specs.Container.{Shape}
+use Rattle.borsh_walks.specs.Definitions.{definitions_in}
 use Rattle.borsh_values.specs.declared.layout.Named.{Named}
 use Rattle.borsh_values.specs.declared.frames.Rest.{Rest}
 use Rattle.borsh_values.specs.declared.free.Passed.{Passed}
@@ -13,20 +14,19 @@ use Rattle.borsh_values.specs.Free.{IsFreeFront}
 use Rattle.borsh_values.specs.Sizes.{known_sizes}
 use Rattle.borsh_values.specs.Steps.{remaining}
 
--- all nodes have the name and the definition of the first one
-abbrev pub AllLike : Node → List Node → Type 0
-AllLike n [] = ⊤
-AllLike n (m ∷ ms) = (m.name ≡ n.name) × (m.definition ≡ n.definition) × AllLike n ms
-
--- nodes were added, which the first of the bytes have, so many values of a name, each one node
-pub record ListsRun (C : List ℕ → Option Shape) (first : Node) (taken values : ℕ) (old new : List Node) : Type 0 where
+-- nodes were added, at most so many: those of members of the names, one after another, which are the first n of the bytes
+pub record Lists {A : Type 0} (m : BTreeMap (String A) Definition) (ps : List (List ℕ)) (bytes : List ℕ) (n offset most : ℕ) (old new : List Node) : Type 0 where
   pub added : List Node
   pub all : new ≡ old ++ added
-  pub nodes : (qs : List (List ℕ)) (cs : List ℕ) (es : List NodeView) → Nodes C qs cs es → Nodes C (replicate values first.name.now ++ qs) (take taken first.bytes.now ++ cs) (views added ++ es)
-  pub like : AllLike first added
-  pub placed : AreOffsets first.offset added
-  pub long : length (joined_bytes (views added)) ≡ taken
-  pub few : length added ≤ taken
+  pub nodes : (qs : List (List ℕ)) (cs : List ℕ) (es : List NodeView) → Nodes (definitions_in m) qs cs es → Nodes (definitions_in m) (ps ++ qs) (take n bytes ++ cs) (views added ++ es)
+  pub definitions : HaveDefinitions m added
+  pub placed : AreOffsets offset added
+  pub long : length (joined_bytes (views added)) ≡ n
+  pub few : length added ≤ most
+
+-- those of so many values of the name of the first one
+abbrev pub ListsRun : {A : Type 0} → BTreeMap (String A) Definition → Node → ℕ → ℕ → List Node → List Node → Type 0
+ListsRun m first taken values old new = Lists m (replicate values first.name.now) first.bytes.now taken first.offset taken old new
 
 -- nodes were added, which the bytes that are passed have
 pub record ListsPassed {A : Type 0} (C : List ℕ → Option Shape) (m : BTreeMap (String A) Definition) (ns : List Named) (r : Rest) (bytes : List ℕ) (offset : ℕ) (old new : List Node) (p : Passed) : Type 0 where

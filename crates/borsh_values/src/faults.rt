@@ -155,7 +155,7 @@ fn frame_step<'a>(layout: &Layout<'a>, bytes: &[u8], frame: &Frame) -> Option<Pa
     }
 }
 
-/// That no member of the next name begins where `left` bytes are left; `frame` is the last of the open frames, and
+/// That no member of the next name begins where the bytes `left` are left; `frame` is the last of the open frames, and
 /// `step` leads on from it.
 pub fn no_member<'a>(
     alloc: Global,
@@ -164,13 +164,13 @@ pub fn no_member<'a>(
     open: &Vec<Frame>,
     frame: Frame,
     step: Step,
-    left: usize,
+    left: &[u8],
     reason: Reason,
 ) -> Result<Front<'a>, AllocError>
-    requires { left ≤ length bytes.now }
+    requires { length left.now ≤ length bytes.now }
     ensures { let all = length bytes.now in
         let name = name_at layout.now.names.items step.at in
-        IfOk result (λ a. StopsAt all left name reason a) }
+        IfOk result (λ a. StopsAt all (length left.now) name reason a) }
 {
     let mut steps: Vec<PathStep<'a>> = Vec::new(alloc);
     for frame in open.as_slice() {
@@ -179,16 +179,15 @@ pub fn no_member<'a>(
         }
     }
     let last = Frame {
-        at: frame.at,
-        start: frame.start,
         rest: step.others,
+        ..frame
     };
     if let Some(step) = frame_step(layout, bytes, &last) {
         steps.push(step)?;
     }
     let root = layout.root;
     let fault = Fault {
-        offset: bytes.len() - left,
+        offset: bytes.len() - left.len(),
         name: name_of(&layout.names, step.at),
         reason,
         path: Path { root, steps },

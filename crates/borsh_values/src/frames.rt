@@ -44,10 +44,7 @@ fn listed_at(parts: &[Vec<usize>], at: usize, index: usize) -> Option<usize>
     ensures place { result ≡ slice_get (places_in (slice_get parts.now at)) index }
     ensures small { OnSome result (index < 18446744073709551615) }
 {
-    match parts.get(at) {
-        Some(own) => own.get(index).copied(),
-        None => None,
-    }
+    parts.get(at)?.get(index).copied()
 }
 
 /// The place of a part of the definition at a place.

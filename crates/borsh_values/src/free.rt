@@ -149,8 +149,8 @@ pub fn free_sizes(alloc: Global, layout: &Layout<'_>) -> Result<Vec<u64>, AllocE
     Ok(sizes)
 }
 
-// The size of the names that are still to be read together, where that of each is known; else 0.
-fn size_of_rest(layout: &Layout<'_>, rest: Rest) -> u64
+/// The size of the names that are still to be read together, where that of each is known; else 0.
+pub fn size_of_rest(layout: &Layout<'_>, rest: Rest) -> u64
     requires laid_out { IsLaidOut layout.now }
     requires sizes { KnowsSizes layout.now }
     requires fits { Fits layout.now.names.items rest }

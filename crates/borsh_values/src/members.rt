@@ -127,13 +127,11 @@ fn pass_free<'a>(
     if wanted {
         return None;
     }
-    match free_front(layout, rest, left) {
-        Some(passed) => Some(Behind {
-            rest: passed.rest,
-            left: after(left, passed.taken),
-        }),
-        None => None,
-    }
+    let passed = free_front(layout, rest, left)?;
+    Some(Behind {
+        rest: passed.rest,
+        left: after(left, passed.taken),
+    })
 }
 
 // Passes values of an enum at the front of a list that was begun, and lists their nodes, if nodes are wanted.
@@ -413,16 +411,7 @@ pub fn decide<'a, 'b>(
                 Some(step) => {
                     let Some(definition) = definition_at(&layout.names, step.at) else {
                         let why = Reason::MissingDefinition;
-                        return no_member(
-                            alloc,
-                            layout,
-                            bytes,
-                            &stack,
-                            frame,
-                            step,
-                            left.len(),
-                            why,
-                        );
+                        return no_member(alloc, layout, bytes, &stack, frame, step, left, why);
                     };
                     let name = name_of(&layout.names, step.at);
                     match open_definition(
@@ -430,16 +419,7 @@ pub fn decide<'a, 'b>(
                     )? {
                         Opened::Undecided => return Ok(Front::Ambiguous(name)),
                         Opened::Refused(why) => {
-                            return no_member(
-                                alloc,
-                                layout,
-                                bytes,
-                                &stack,
-                                frame,
-                                step,
-                                left.len(),
-                                why,
-                            );
+                            return no_member(alloc, layout, bytes, &stack, frame, step, left, why);
                         }
                         Opened::Taken(own, parts) => {
                             let packed = pack(layout, wanted, step.at, own, parts, left);
@@ -460,14 +440,7 @@ pub fn decide<'a, 'b>(
                                     Known::Recursive => {
                                         let why = Reason::Recursive;
                                         return no_member(
-                                            alloc,
-                                            layout,
-                                            bytes,
-                                            &stack,
-                                            frame,
-                                            step,
-                                            left.len(),
-                                            why,
+                                            alloc, layout, bytes, &stack, frame, step, left, why,
                                         );
                                     }
                                     Known::New => {

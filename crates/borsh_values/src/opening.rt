@@ -38,10 +38,7 @@ pub fn definition_at<'a>(names: &Vec<Named<'a>>, at: usize) -> Option<&'a Defini
     ensures definition { let named = slice_get names.now.items at in
         option_map (λ d. d.now) result ≡ named_definition named }
 {
-    match named_at(names, at) {
-        Some(named) => named.definition,
-        None => None,
-    }
+    named_at(names, at)?.definition
 }
 
 // How many bytes each element has, if they are listed with their sequence: primitives of some bytes; 0 for others.

@@ -1,15 +1,16 @@
 // Values one after another that are passed without a frame for each.
-ghost use Rattle.borsh_values.specs.Free.{AreFirst, IsFreeFront, IsPayload, IsRight, IsRun, IsTagLength, KnowsSizes, Passes};
+ghost use Rattle.borsh_values.specs.Free.{AreFirst, HasOneNode, HasParts, IsFreeFront, IsPayload, IsRight, IsRun, IsTagLength, KnowsSizes, Passes};
 ghost use Rattle.borsh_values.specs.Layouts.{IsLaidOut, name_at, parts_in, shape_at};
 ghost use Rattle.borsh_values.specs.declared.frames.Rest.TheVariants.{Copies};
 ghost use Rattle.borsh_walks.specs.Container.{choice, product};
-ghost use Rattle.borsh_values.specs.Passing.{ListsPassed, ListsRun};
+ghost use Rattle.borsh_values.specs.Passing.{Lists, ListsPassed, ListsRun};
 ghost use Rattle.borsh_values.specs.Steps.{Fits};
 ghost use Rattle.borsh_walks.specs.Definitions.{definitions_in, shape_of};
-ghost use Rattle.std.specs.Prelude.{All, IfOk, IfSome, MatchOption, Some, [], ◌∷◌, ◌+◌, ◌^◌, ◌≡◌, ◌<◌, ◌≤◌, ◌⊎◌, length, map, string_bytes, take};
+ghost use Rattle.std.specs.BTreeMap.{get_by_text};
+ghost use Rattle.std.specs.Prelude.{All, IfOk, IfSome, MatchOption, OnOk, Some, [], ◌∷◌, ◌+◌, ◌^◌, ◌≡◌, ◌<◌, ◌≤◌, ◌⊎◌, length, map, string_bytes, take};
 
 use crate::frames::{Opened, Rest, part_at};
-use crate::free::{Passed, size_at};
+use crate::free::{Passed, size_at, size_of_rest};
 use crate::layout::{Layout, name_of};
 use crate::members::{after, front};
 use crate::nodes::Node;
@@ -67,19 +68,13 @@ fn length_by_tag(layout: &Layout<'_>, at: usize, variants: &Variants, tag: u8) -
         IfSome result (λ n. IsTagLength (definitions_in layout.now.map.now) name tag n) }
 {
     let bytes = [tag];
-    match find_variant(variants, bytes.as_slice()) {
-        Found::One(index) => match part_at(layout, at, index) {
-            Some(part) => match payload_size(layout, part) {
-                Some(size) => match size.checked_add(1) {
-                    Some(length) => Some(length),
-                    None => None,
-                },
-                None => None,
-            },
-            None => None,
-        },
-        _ => None,
-    }
+    let Found::One(index) = find_variant(variants, bytes.as_slice()) else {
+        return None;
+    };
+    let part = part_at(layout, at, index)?;
+    let size = payload_size(layout, part)?;
+    let length = size.checked_add(1)?;
+    Some(length)
 }
 
 // The same, by what was found before where the byte is the same.
@@ -144,29 +139,16 @@ fn run_of_enums(layout: &Layout<'_>, at: usize, variants: &Variants, count: u64,
         let known = length_of(layout, at, variants, *tag, last, other);
         other = kept(known, last, other);
         last = known;
-        match known.length {
-            Some(length) => {
-                if length > next.len() as u64 {
-                    return Run { taken, values };
-                }
-                taken += length as usize;
-                values += 1;
-            }
-            None => return Run { taken, values },
+        let Some(length) = known.length else {
+            return Run { taken, values };
+        };
+        if length > next.len() as u64 {
+            return Run { taken, values };
         }
+        taken += length as usize;
+        values += 1;
     }
     Run { taken, values }
-}
-
-// At most so many values lie in the bytes, each of some of them.
-fn most_values(count: u64, left: &[u8]) -> usize
-    ensures { result ≤ count }
-{
-    if count < left.len() as u64 {
-        count as usize
-    } else {
-        left.len()
-    }
 }
 
 // Lists the nodes of values of the enum at a place, at most so many; the first has the name, the definition and all bytes.
@@ -184,16 +166,16 @@ fn list_enums<'a, 'b>(
     requires shape { let vs = map (λ v. (v.0, string_bytes v.2)) variants.now.items in
         shape_at layout.now.names.items at ≡ Some (choice 1 vs) }
     requires name { first.name.now ≡ name_at layout.now.names.items at }
-    requires definition { shape_at layout.now.names.items at ≡ Some (shape_of first.definition.now) }
+    requires definition { get_by_text layout.now.map.now first.name.now ≡ Some first.definition.now }
     requires room { first.offset + length first.bytes.now < 2 ^ 64 }
     requires small { All (λ b. b < 256) first.bytes.now }
     ensures run { let name = name_at layout.now.names.items at in
         IfOk result (λ r. IsRun (definitions_in layout.now.map.now) name first.entry.bytes.now count r) }
-    ensures listed { let C = definitions_in layout.now.map.now in
-        IfOk result (λ r. ListsRun C first.entry r.taken r.values nodes.old.items nodes.new.items) }
+    ensures listed { let m = layout.now.map.now in
+        IfOk result (λ r. ListsRun m first.entry r.taken r.values nodes.old.items nodes.new.items) }
 {
     let start = nodes.len();
-    let room = most_values(count, first.bytes);
+    let room = count.min(first.bytes.len() as u64) as usize;
     let Some(end) = start.checked_add(room) else {
         return Ok(Run {
             taken: 0,
@@ -223,15 +205,15 @@ fn put_enums<'a, 'b>(
     requires shape { let vs = map (λ v. (v.0, string_bytes v.2)) variants.now.items in
         shape_at layout.now.names.items at ≡ Some (choice 1 vs) }
     requires name { first.name.now ≡ name_at layout.now.names.items at }
-    requires definition { shape_at layout.now.names.items at ≡ Some (shape_of first.definition.now) }
+    requires definition { get_by_text layout.now.map.now first.name.now ≡ Some first.definition.now }
     requires bytes { first.offset + length first.bytes.now < 2 ^ 64 }
     requires small { All (λ b. b < 256) first.bytes.now }
     requires places { start + room ≤ length nodes.old.items }
     ensures run { let name = name_at layout.now.names.items at in
         IsRun (definitions_in layout.now.map.now) name first.entry.bytes.now room result }
-    ensures listed { let C = definitions_in layout.now.map.now in
+    ensures listed { let m = layout.now.map.now in
         let old = take start nodes.old.items in
-        ListsRun C first.entry result.taken result.values old (take (start + result.values) nodes.new.items) }
+        ListsRun m first.entry result.taken result.values old (take (start + result.values) nodes.new.items) }
 {
     let left = first.bytes;
     let length = length_by_tag(layout, at, variants, 0);
@@ -257,11 +239,9 @@ fn put_enums<'a, 'b>(
             return run_of(taken, values);
         }
         nodes[start + values] = Node {
-            name: first.name,
-            definition: first.definition,
             bytes: front(next, length as usize),
             offset: first.offset + taken,
-            depth: first.depth,
+            ..first
         };
         taken += length as usize;
         values += 1;
@@ -307,19 +287,6 @@ pub fn list_run<'a, 'b>(
     let Some(definition) = definition_at(&layout.names, at) else {
         return Ok(None);
     };
-    let Definition::Enum {
-        tag_width,
-        variants,
-    } = definition
-    else {
-        return Ok(None);
-    };
-    if *tag_width != 1 {
-        return Ok(None);
-    }
-    if !has_free_parts(layout, at) {
-        return Ok(None);
-    }
     let first = Node {
         name: name_of(&layout.names, at),
         definition,
@@ -327,8 +294,122 @@ pub fn list_run<'a, 'b>(
         offset,
         depth,
     };
-    let run = list_enums(layout, at, variants, count, first, nodes)?;
-    Ok(passed(at, count, run))
+    match definition {
+        Definition::Enum {
+            tag_width,
+            variants,
+        } => {
+            if *tag_width != 1 || !has_short_parts(layout, at, true) {
+                return Ok(None);
+            }
+            let run = list_enums(layout, at, variants, count, first, nodes)?;
+            Ok(passed(at, count, run))
+        }
+        Definition::Struct { .. } | Definition::Tuple { .. } => {
+            if size_of_rest(layout, Rest::Parts(at, 0)) > 0 {
+                return Ok(None);
+            }
+            let run = list_products(layout, at, count, first, nodes)?;
+            Ok(passed(at, count, run))
+        }
+        _ => Ok(None),
+    }
+}
+
+// Lists the nodes of values of the struct or tuple at a place, at most so many; the first has the name, the definition and all bytes.
+fn list_products<'a, 'b>(
+    layout: &Layout<'a>,
+    at: usize,
+    count: u64,
+    first: Node<'a, 'b>,
+    nodes: &mut Vec<Node<'a, 'b>>,
+) -> Result<Run, AllocError>
+    requires laid_out { IsLaidOut layout.now }
+    requires within { at < length layout.now.names.items }
+    requires parts { HasParts layout.now at }
+    requires name { first.name.now ≡ name_at layout.now.names.items at }
+    requires definition { get_by_text layout.now.map.now first.name.now ≡ Some first.definition.now }
+    requires room { first.offset + length first.bytes.now < 2 ^ 64 }
+    ensures run { let name = name_at layout.now.names.items at in
+        IfOk result (λ r. IsRun (definitions_in layout.now.map.now) name first.entry.bytes.now count r) }
+    ensures listed { let m = layout.now.map.now in
+        IfOk result (λ r. ListsRun m first.entry r.taken r.values nodes.old.items nodes.new.items) }
+{
+    let mut taken: usize = 0;
+    let mut values: u64 = 0;
+    while values < count {
+        let start = nodes.len();
+        let left = after(first.bytes, taken);
+        let own = Node {
+            bytes: front(left, 0),
+            offset: first.offset + taken,
+            ..first
+        };
+        let Some(length) = list_product(layout, at, own, left, nodes)? else {
+            nodes.truncate(start);
+            return Ok(Run { taken, values });
+        };
+        taken += length;
+        values += 1;
+    }
+    Ok(Run { taken, values })
+}
+
+// Lists the nodes of the value with which the bytes begin, its own first, if each of its parts is one node, and returns its length.
+fn list_product<'a, 'b>(
+    layout: &Layout<'a>,
+    at: usize,
+    own: Node<'a, 'b>,
+    left: &'b [u8],
+    nodes: &mut Vec<Node<'a, 'b>>,
+) -> Result<Option<usize>, AllocError>
+    requires laid_out { IsLaidOut layout.now }
+    requires within { at < length layout.now.names.items }
+    requires parts { HasParts layout.now at }
+    requires name { own.name.now ≡ name_at layout.now.names.items at }
+    requires definition { get_by_text layout.now.map.now own.name.now ≡ Some own.definition.now }
+    requires none { own.bytes.now ≡ [] }
+    requires room { own.offset + length left.now < 2 ^ 64 }
+    ensures first { let name = name_at layout.now.names.items at in
+        IfOk result (λ o. IfSome o (λ n. AreFirst (definitions_in layout.now.map.now) (name ∷ []) left.now n)) }
+    ensures listed { let m = layout.now.map.now in
+        let name = own.entry.name.now in
+        let old = nodes.old.items in
+        let new = nodes.new.items in
+        IfOk result (λ o. IfSome o (λ n. Lists m (name ∷ []) left.now n own.entry.offset n old new)) }
+    ensures kept { let old = nodes.old.items in
+        OnOk result (take (length old) nodes.new.items ≡ old) }
+{
+    nodes.push(own)?;
+    let depth = own.depth.saturating_add(1);
+    let mut taken: usize = 0;
+    let mut index: usize = 0;
+    while let Some(part) = part_at(layout, at, index) {
+        let Some(definition) = definition_at(&layout.names, part) else {
+            return Ok(None);
+        };
+        let next = after(left, taken);
+        let Some(length) = own_length(layout, part, definition, next) else {
+            return Ok(None);
+        };
+        if length == 0 {
+            return Ok(None);
+        }
+        let node = Node {
+            name: name_of(&layout.names, part),
+            definition,
+            bytes: front(next, length),
+            offset: own.offset + taken,
+            depth,
+        };
+        nodes.push(node)?;
+        taken += length;
+        index += 1;
+    }
+    if taken <= index {
+        return Ok(None);
+    }
+    Ok(Some(taken))
 }
 
 // How many of the first bytes are a value of the name at a place, where its size or count tells that.
@@ -346,25 +427,38 @@ fn value_length(layout: &Layout<'_>, at: usize, left: &[u8]) -> Option<usize>
         }
         return None;
     }
-    match definition_at(&layout.names, at) {
-        Some(
-            Definition::Sequence {
-                length_width,
-                length_range,
-                ..
-            },
-        ) => match part_at(layout, at, 0) {
-            Some(element) => match open_sequence(
-                layout,
-                *length_width,
-                length_range.start,
-                length_range.end,
-                element,
-                left,
-            ) {
-                Opened::Taken(taken, Rest::Copies(_, 0)) => Some(taken),
-                _ => None,
-            },
+    let definition = definition_at(&layout.names, at)?;
+    own_length(layout, at, definition, left)
+}
+
+// The same where the value is one node, which its definition tells: a primitive, or a list of primitives or of nothing.
+fn own_length(layout: &Layout<'_>, at: usize, definition: &Definition, left: &[u8]) -> Option<usize>
+    requires laid_out { IsLaidOut layout.now }
+    requires within { at < length layout.now.names.items }
+    requires shape { shape_at layout.now.names.items at ≡ Some (shape_of definition.now) }
+    ensures first { let name = name_at layout.now.names.items at in
+        IfSome result (λ n. AreFirst (definitions_in layout.now.map.now) (name ∷ []) left.now n) }
+    ensures node { let name = name_at layout.now.names.items at in
+        IfSome result (λ n. 0 < n → HasOneNode (definitions_in layout.now.map.now) name (take n left.now)) }
+{
+    match definition {
+        Definition::Primitive(size) => {
+            let size = usize::from(*size);
+            if size <= left.len() { Some(size) } else { None }
+        }
+        Definition::Sequence {
+            length_width,
+            length_range,
+            ..
+        } => match part_at(layout, at, 0) {
+            Some(element) => {
+                let start = length_range.start;
+                let end = length_range.end;
+                match open_sequence(layout, *length_width, start, end, element, left) {
+                    Opened::Taken(taken, Rest::Copies(_, 0)) => Some(taken),
+                    _ => None,
+                }
+            }
             None => None,
         },
         _ => None,
@@ -382,10 +476,8 @@ fn parts_length(layout: &Layout<'_>, at: usize, left: &[u8]) -> Option<usize>
     let mut taken: usize = 0;
     let mut index: usize = 0;
     while let Some(part) = part_at(layout, at, index) {
-        match value_length(layout, part, after(left, taken)) {
-            Some(length) => taken += length,
-            None => return None,
-        }
+        let length = value_length(layout, part, after(left, taken))?;
+        taken += length;
         index += 1;
     }
     Some(taken)
@@ -403,40 +495,26 @@ fn run_of_products(layout: &Layout<'_>, at: usize, count: u64, left: &[u8]) -> R
     let mut taken: usize = 0;
     let mut values: u64 = 0;
     while values < count {
-        match parts_length(layout, at, after(left, taken)) {
-            Some(length) => {
-                if length == 0 {
-                    return Run { taken, values };
-                }
-                taken += length;
-                values += 1;
-            }
-            None => return Run { taken, values },
+        let Some(length) = parts_length(layout, at, after(left, taken)) else {
+            return Run { taken, values };
+        };
+        if length == 0 {
+            return Run { taken, values };
         }
+        taken += length;
+        values += 1;
     }
     Run { taken, values }
 }
 
-// Whether each part of the struct or tuple at a place may be of a free size or a list of primitives.
-fn has_short_parts(layout: &Layout<'_>, at: usize) -> bool {
+// Whether each part of the definition at a place is of a free size, or may be a list of primitives or, in an enum, has no bytes.
+fn has_short_parts(layout: &Layout<'_>, at: usize, in_enum: bool) -> bool {
     match layout.parts.as_slice().get(at) {
         Some(parts) => parts.as_slice().iter().all(|part| {
+            let definition = definition_at(&layout.names, *part);
             size_at(&layout.sizes, *part) > 0
-                || matches!(
-                    definition_at(&layout.names, *part),
-                    Some(Definition::Sequence { .. })
-                )
-        }),
-        None => false,
-    }
-}
-
-// Whether what each variant of the enum at a place has is of a free size, as far as a look at each tells.
-fn has_free_parts(layout: &Layout<'_>, at: usize) -> bool {
-    match layout.parts.as_slice().get(at) {
-        Some(parts) => parts.as_slice().iter().all(|part| {
-            size_at(&layout.sizes, *part) > 0
-                || layout.zeros.as_slice().get(*part).copied() == Some(true)
+                || in_enum && layout.zeros.as_slice().get(*part).copied() == Some(true)
+                || !in_enum && matches!(definition, Some(Definition::Sequence { .. }))
         }),
         None => false,
     }
@@ -458,14 +536,14 @@ pub fn pass_run(layout: &Layout<'_>, at: usize, count: u64, left: &[u8]) -> Opti
             tag_width,
             variants,
         } => {
-            if *tag_width == 1 && has_free_parts(layout, at) {
+            if *tag_width == 1 && has_short_parts(layout, at, true) {
                 passed(at, count, run_of_enums(layout, at, variants, count, left))
             } else {
                 None
             }
         }
         Definition::Struct { .. } | Definition::Tuple { .. } => {
-            if has_short_parts(layout, at) {
+            if has_short_parts(layout, at, false) {
                 passed(at, count, run_of_products(layout, at, count, left))
             } else {
                 None

@@ -1,6 +1,6 @@
 // One call of the library at a type. What is checked of a type is made of these, so that only they are compiled for each type.
 use super::course::Course;
-use super::fault::{Fault, check};
+use super::fault::{Fault, Result, check};
 use super::heap::Refusal;
 use super::reader::TestReader;
 use super::writer::TestWriter;
@@ -29,6 +29,21 @@ pub enum How {
     Schema,
 }
 
+impl How {
+    /// Whether the call encodes a value.
+    pub(crate) fn encodes(self) -> bool {
+        matches!(
+            self,
+            How::ToVec | How::ObjectLength | How::Serialize | How::ToWriter | How::ToSlice
+        )
+    }
+
+    /// Whether the call decodes from a reader.
+    pub(crate) fn has_reader(self) -> bool {
+        self == How::FromReader || self == How::FromUnorderedReader
+    }
+}
+
 /// A call: the bytes that are decoded, or the encoding of the value that is encoded, and what the call meets.
 #[derive(Clone, Copy)]
 pub struct Call<'a> {
@@ -51,6 +66,16 @@ impl<'a> Call<'a> {
             room: usize::MAX,
             refusal: Refusal::None,
         }
+    }
+
+    /// The call over a reader or a writer that goes so.
+    pub(crate) fn on(self, course: Course) -> Call<'a> {
+        Call { course, ..self }
+    }
+
+    /// The call into a writer or a slice that takes so many bytes.
+    pub(crate) fn with_room(self, room: usize) -> Call<'a> {
+        Call { room, ..self }
     }
 }
 
@@ -77,20 +102,21 @@ pub struct Report {
 pub trait Subject {
     /// Makes the call at the type. Fails if there is no such type here, if the call has no answer that could be judged, or if a
     /// call fails that isn't the one to be judged.
-    fn call(&self, alloc: Global, call: &Call<'_>) -> Result<Report, Fault>;
+    fn call(&self, alloc: Global, call: &Call<'_>) -> Result<Report>;
 }
 
 /// Makes the call at the type, which may have no schema.
 pub fn call_at<T: BorshSerialize + BorshDeserialize>(
     alloc: Global,
     call: &Call<'_>,
-) -> Result<Report, Fault> {
-    match call.how {
-        How::ToVec | How::ObjectLength | How::Serialize | How::ToWriter | How::ToSlice => {
-            encode::<T>(alloc, call)
-        }
-        How::Schema => Err(Fault::Check("no schema", 0)),
-        _ => decode::<T>(alloc, call),
+) -> Result<Report> {
+    if call.how == How::Schema {
+        return Err(Fault::Check("no schema", 0));
+    }
+    if call.how.encodes() {
+        encode::<T>(alloc, call)
+    } else {
+        decode::<T>(alloc, call)
     }
 }
 
@@ -98,7 +124,7 @@ pub fn call_at<T: BorshSerialize + BorshDeserialize>(
 pub fn call_with_schema<T: BorshSerialize + BorshDeserialize + BorshSchema>(
     alloc: Global,
     call: &Call<'_>,
-) -> Result<Report, Fault> {
+) -> Result<Report> {
     if call.how == How::Schema {
         return schema::<T>(alloc, call);
     }
@@ -106,10 +132,7 @@ pub fn call_with_schema<T: BorshSerialize + BorshDeserialize + BorshSchema>(
 }
 
 /// Makes a call that decodes, and encodes the value again.
-fn decode<T: BorshSerialize + BorshDeserialize>(
-    alloc: Global,
-    call: &Call<'_>,
-) -> Result<Report, Fault> {
+fn decode<T: BorshSerialize + BorshDeserialize>(alloc: Global, call: &Call<'_>) -> Result<Report> {
     let mut rest = call.bytes;
     let mut reader = TestReader::new(call.bytes, call.course);
     call.refusal.begin(alloc);
@@ -147,10 +170,7 @@ fn from_unordered<R: Read, T: BorshDeserialize>(alloc: Global, reader: &mut R) -
 const FRONT: &[u8] = b"front";
 
 /// Makes a call that encodes the value whose encoding the bytes are.
-fn encode<T: BorshSerialize + BorshDeserialize>(
-    alloc: Global,
-    call: &Call<'_>,
-) -> Result<Report, Fault> {
+fn encode<T: BorshSerialize + BorshDeserialize>(alloc: Global, call: &Call<'_>) -> Result<Report> {
     let value: T = from_slice(alloc, call.bytes)?;
     match call.how {
         How::ToVec => {
@@ -224,14 +244,14 @@ fn reported(
 }
 
 /// The encoding of the type's container, and its greatest size; after an allocation failure, none.
-fn schema<T: BorshSchema>(alloc: Global, call: &Call<'_>) -> Result<Report, Fault> {
+fn schema<T: BorshSchema>(alloc: Global, call: &Call<'_>) -> Result<Report> {
     let (bytes, no_container) = container::<T>(alloc, call.refusal)?;
     let (size, no_size) = greatest_size::<T>(alloc, call.refusal)?;
     Ok(reported(None, bytes, size, no_container || no_size))
 }
 
 /// The encoding of the type's container, and whether a request was refused.
-fn container<T: BorshSchema>(alloc: Global, refusal: Refusal) -> Result<(Vec<u8>, bool), Fault> {
+fn container<T: BorshSchema>(alloc: Global, refusal: Refusal) -> Result<(Vec<u8>, bool)> {
     refusal.begin(alloc);
     let made = schema_container_of::<T>(alloc);
     let was_refused = refusal.end(alloc);
@@ -246,10 +266,7 @@ fn container<T: BorshSchema>(alloc: Global, refusal: Refusal) -> Result<(Vec<u8>
 }
 
 /// The greatest size of the type, and whether a request was refused.
-fn greatest_size<T: BorshSchema>(
-    alloc: Global,
-    refusal: Refusal,
-) -> Result<(Option<usize>, bool), Fault> {
+fn greatest_size<T: BorshSchema>(alloc: Global, refusal: Refusal) -> Result<(Option<usize>, bool)> {
     refusal.begin(alloc);
     let made = max_serialized_size::<T>(alloc);
     let was_refused = refusal.end(alloc);

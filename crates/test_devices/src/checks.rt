@@ -2,15 +2,16 @@
 use super::calls::How;
 use std::fmt;
 
-/// The calls whose refused requests are counted.
+/// The calls whose refused requests are counted: four that encode, then five that decode. The first of these leaves bytes that
+/// follow to its caller.
 pub const CALLS: [How; 9] = [
     How::ToVec,
     How::ObjectLength,
     How::Serialize,
     How::ToWriter,
+    How::Deserialize,
     How::FromSlice,
     How::FromSliceUnordered,
-    How::Deserialize,
     How::FromReader,
     How::FromUnorderedReader,
 ];
@@ -30,8 +31,8 @@ pub struct Checks {
     pub full: u64,
     /// Writers that failed.
     pub failed_writes: u64,
-    /// Refused requests for memory in each of the calls, in lines of the program, and in the two calls of a schema.
-    refused_requests: [u64; 9],
+    /// Refused requests for memory in each of [`CALLS`], in lines of the program, and in the two calls of a schema.
+    pub refused_requests: [u64; 9],
     pub refused_in_lines: u64,
     pub refused_in_schemas: u64,
     /// Calls that asked for no memory, with every request refused.
@@ -52,47 +53,11 @@ impl Checks {
         without_memory: 0,
     };
 
-    /// Adds the checks of another row.
-    pub fn add(&mut self, other: Checks) {
-        self.decoded = self.decoded.saturating_add(other.decoded);
-        self.beginnings = self.beginnings.saturating_add(other.beginnings);
-        self.failed_reads = self.failed_reads.saturating_add(other.failed_reads);
-        self.encoded = self.encoded.saturating_add(other.encoded);
-        self.full = self.full.saturating_add(other.full);
-        self.failed_writes = self.failed_writes.saturating_add(other.failed_writes);
-        self.refused_in_lines = self.refused_in_lines.saturating_add(other.refused_in_lines);
-        self.refused_in_schemas = self
-            .refused_in_schemas
-            .saturating_add(other.refused_in_schemas);
-        self.without_memory = self.without_memory.saturating_add(other.without_memory);
-        for (i, &count) in other.refused_requests.iter().enumerate() {
-            self.add_refused(i, count);
-        }
-    }
-
     /// Counts a request for memory that was refused in this call.
     pub fn count_refused(&mut self, how: How) {
-        if let Some(i) = CALLS.iter().position(|&call| call == how) {
-            self.add_refused(i, 1);
-        }
-    }
-
-    /// How many requests for memory were refused in this call.
-    pub fn refused_in(&self, how: How) -> u64 {
-        match CALLS.iter().position(|&call| call == how) {
-            Some(i) => self
-                .refused_requests
-                .as_slice()
-                .get(i)
-                .copied()
-                .unwrap_or(0),
-            None => 0,
-        }
-    }
-
-    fn add_refused(&mut self, i: usize, count: u64) {
-        if let Some(sum) = self.refused_requests.as_mut_slice().get_mut(i) {
-            *sum = sum.saturating_add(count);
+        let place = CALLS.iter().position(|&call| call == how).unwrap_or(9);
+        if let Some(count) = self.refused_requests.as_mut_slice().get_mut(place) {
+            *count = count.saturating_add(1);
         }
     }
 }

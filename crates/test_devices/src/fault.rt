@@ -18,8 +18,10 @@ pub enum Fault {
     TooLong,
 }
 
+pub type Result<T> = std::result::Result<T, Fault>;
+
 /// Fails unless the condition holds, with the name of the check and a number that says which one it is.
-pub fn check(holds: bool, name: &'static str, number: usize) -> Result<(), Fault> {
+pub fn check(holds: bool, name: &'static str, number: usize) -> Result<()> {
     if holds {
         Ok(())
     } else {

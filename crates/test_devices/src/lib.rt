@@ -23,6 +23,6 @@ pub use checks::{CALLS, Checks};
 pub use course::{ABORTED, Course, Failure, courses};
 pub use fault::Fault;
 pub use reader::TestReader;
-pub use rows::{AnyOrder, Heap, Memory, judge_refused, judge_unordered, judge_value};
+pub use rows::{AnyOrder, Heap, Judge, Memory};
 pub use sections::{Section, sections_of};
 pub use writer::TestWriter;

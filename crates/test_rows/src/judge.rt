@@ -2,15 +2,15 @@
 use super::names::Named;
 use super::row::{bytes_of, first_of, is_answer};
 use borsh_check_lines::answer;
-use std::alloc::{AllocError, Global};
+use std::alloc::Global;
 use std::str;
-use test_devices::fault::{Fault, check};
+use test_devices::fault::{Fault, Result, check};
 use test_devices::heap::Refusal;
-use test_devices::{
-    AnyOrder, Call, Checks, Heap, How, Memory, Subject, judge_refused, judge_unordered, judge_value,
-};
+use test_devices::{AnyOrder, Call, Checks, Heap, How, Memory, Subject};
 
-/// Checks what a row says, and returns how many checks were made. Its columns are
+type Judge<'a> = test_devices::Judge<'a, Named<'a>>;
+
+/// Checks what a row says, and returns how many checks were made till then. Its columns are
 ///
 /// - `read` TYPE HEX, and `ok HEX`, the encoding of the value, or `error TEXT`; then for which calls the type needs no memory,
 ///   `free` or `free to encode`, or how much a refusal may ask for, `at most N`
@@ -19,23 +19,29 @@ use test_devices::{
 /// - `schema` TYPE, and the greatest size, `-` for none, a space, and the encoding of the container
 /// - `check` HEX, `size` HEX, `counts` HEX: a question about a container, and the answers that are right
 /// - `line` LINE: a line of the program `borsh_check`, and the answers that are right
-pub fn judge(alloc: Global, heap: Heap, row: &str) -> Result<Checks, Fault> {
+pub fn judge(alloc: Global, heap: Heap, row: &str, checks: Checks) -> Result<Checks> {
     let (kind, columns) = first_of(row)?;
     let (first, columns) = first_of(columns)?;
     let named = Named { name: first };
+    let mut judge = Judge {
+        alloc,
+        heap,
+        subject: &named,
+        checks,
+    };
     match kind {
         "read" => {
             let (digits, columns) = first_of(columns)?;
             let (answer, memory) = columns.split_once('\t').unwrap_or((columns, ""));
-            judge_read(alloc, heap, &named, digits, answer, memory)
+            judge_read(&mut judge, digits, answer, memory)?;
         }
         "canon" => {
             let (digits, columns) = first_of(columns)?;
             let (answer, strict) = columns.split_once('\t').unwrap_or((columns, columns));
-            judge_canon(alloc, heap, &named, digits, answer, strict)
+            judge_canon(&mut judge, digits, answer, strict)?;
         }
-        "schema" => judge_schema(alloc, heap, &named, columns),
-        "line" => judge_line(alloc, heap, first, columns),
+        "schema" => judge_schema(&mut judge, columns)?,
+        "line" => judge_line(&mut judge, first, columns)?,
         "check" | "size" | "counts" => {
             let bytes = bytes_of(alloc, first)?;
             let line = if bytes.is_empty() {
@@ -44,37 +50,27 @@ pub fn judge(alloc: Global, heap: Heap, row: &str) -> Result<Checks, Fault> {
                 let digits = hex::encode(alloc, bytes.as_slice())?;
                 format!(in alloc; "{kind} {digits}")?
             };
-            judge_line(alloc, heap, line.as_str(), columns)
+            judge_line(&mut judge, line.as_str(), columns)?;
         }
-        _ => Err(Fault::NoRow),
+        _ => return Err(Fault::NoRow),
     }
+    Ok(judge.checks)
 }
 
-fn judge_read(
-    alloc: Global,
-    heap: Heap,
-    named: &Named<'_>,
-    digits: &str,
-    answer: &str,
-    memory: &str,
-) -> Result<Checks, Fault> {
-    let bytes = bytes_of(alloc, digits)?;
+fn judge_read(judge: &mut Judge<'_>, digits: &str, answer: &str, memory: &str) -> Result<()> {
+    let bytes = bytes_of(judge.alloc, digits)?;
     let bytes = bytes.as_slice();
     match answer.split_once(' ') {
         Some(("ok", again)) => {
-            let encoding = bytes_of(alloc, again)?;
-            let (encoding, memory) = (encoding.as_slice(), memory_of(memory)?);
-            judge_value(alloc, heap, named, bytes, encoding, memory)
+            let encoding = bytes_of(judge.alloc, again)?;
+            judge.judge_value(bytes, encoding.as_slice(), memory_of(memory)?)
         }
-        Some(("error", text)) => {
-            let most = most_of(memory)?;
-            judge_refused(alloc, heap, named, bytes, text, most)
-        }
+        Some(("error", text)) => judge.judge_refused(bytes, text, most_of(memory)?),
         _ => Err(Fault::NoRow),
     }
 }
 
-fn memory_of(column: &str) -> Result<Memory, Fault> {
+fn memory_of(column: &str) -> Result<Memory> {
     match column {
         "" => Ok(Memory::Taken),
         "free to encode" => Ok(Memory::FreeToEncode),
@@ -84,7 +80,7 @@ fn memory_of(column: &str) -> Result<Memory, Fault> {
 }
 
 /// How many bytes a request for memory may be for, if that is said.
-fn most_of(column: &str) -> Result<Option<u32>, Fault> {
+fn most_of(column: &str) -> Result<Option<u32>> {
     if column.is_empty() {
         return Ok(None);
     }
@@ -92,72 +88,51 @@ fn most_of(column: &str) -> Result<Option<u32>, Fault> {
     Ok(Some(number.parse::<u32>().ok().ok_or(Fault::NoRow)?))
 }
 
-fn judge_canon(
-    alloc: Global,
-    heap: Heap,
-    named: &Named<'_>,
-    digits: &str,
-    answer: &str,
-    strict: &str,
-) -> Result<Checks, Fault> {
+fn judge_canon(judge: &mut Judge<'_>, digits: &str, answer: &str, strict: &str) -> Result<()> {
     if answer == strict {
-        return judge_read(alloc, heap, named, digits, answer, "");
+        return judge_read(judge, digits, answer, "");
     }
-    let bytes = bytes_of(alloc, digits)?;
+    let bytes = bytes_of(judge.alloc, digits)?;
+    let bytes = bytes.as_slice();
     let text = strict.strip_prefix("error ").ok_or(Fault::NoRow)?;
     match answer.split_once(' ') {
         Some(("ok", again)) => {
-            let encoding = bytes_of(alloc, again)?;
-            let unordered = AnyOrder::Value(encoding.as_slice());
-            judge_unordered(alloc, heap, named, bytes.as_slice(), unordered, text)
+            let encoding = bytes_of(judge.alloc, again)?;
+            judge.judge_unordered(bytes, AnyOrder::Value(encoding.as_slice()), text)
         }
-        Some(("error", other)) => {
-            let unordered = AnyOrder::Refused(other);
-            judge_unordered(alloc, heap, named, bytes.as_slice(), unordered, text)
-        }
+        Some(("error", other)) => judge.judge_unordered(bytes, AnyOrder::Refused(other), text),
         _ => Err(Fault::NoRow),
     }
 }
 
 /// Checks the container and the greatest size of a type; over a heap that takes orders, that with each request for memory refused,
 /// alone or with all later ones, they are answered so or not at all.
-fn judge_schema(
-    alloc: Global,
-    heap: Heap,
-    named: &Named<'_>,
-    answer: &str,
-) -> Result<Checks, Fault> {
-    let mut checks = Checks::NONE;
+fn judge_schema(judge: &mut Judge<'_>, answer: &str) -> Result<()> {
     let (size, digits) = answer.split_once(' ').ok_or(Fault::NoRow)?;
-    let container = bytes_of(alloc, digits)?;
-    check_schema(alloc, named, Refusal::None, size, container.as_slice())?;
-    if heap == Heap::Ordinary {
-        return Ok(checks);
+    let container = bytes_of(judge.alloc, digits)?;
+    let container = container.as_slice();
+    check_schema(judge, Refusal::None, size, container)?;
+    if judge.heap == Heap::Ordinary {
+        return Ok(());
     }
     for n in 1..MOST {
-        let all = check_schema(alloc, named, Refusal::Rest(n), size, container.as_slice())?;
-        let one = check_schema(alloc, named, Refusal::One(n), size, container.as_slice())?;
+        let all = check_schema(judge, Refusal::Rest(n), size, container)?;
+        let one = check_schema(judge, Refusal::One(n), size, container)?;
         if !all && !one {
             break;
         }
-        checks.refused_in_schemas = checks.refused_in_schemas.saturating_add(2);
+        judge.checks.refused_in_schemas = judge.checks.refused_in_schemas.saturating_add(2);
     }
-    Ok(checks)
+    Ok(())
 }
 
 /// Whether a request was refused.
-fn check_schema(
-    alloc: Global,
-    named: &Named<'_>,
-    refusal: Refusal,
-    size: &str,
-    container: &[u8],
-) -> Result<bool, Fault> {
+fn check_schema(judge: &Judge<'_>, refusal: Refusal, size: &str, container: &[u8]) -> Result<bool> {
     let call = Call {
         refusal,
         ..Call::new(How::Schema, b"")
     };
-    let report = named.call(alloc, &call)?;
+    let report = judge.subject.call(judge.alloc, &call)?;
     let is_size = match report.count {
         Some(count) => size.parse::<usize>() == Ok(count),
         None => size == "-" || report.was_refused,
@@ -174,34 +149,34 @@ const MOST: u32 = 100000;
 
 /// Checks that the line is answered so; over a heap that takes orders, that with each request for memory and all later ones
 /// refused it is answered so or not at all.
-fn judge_line(alloc: Global, heap: Heap, line: &str, answers: &str) -> Result<Checks, Fault> {
-    let mut checks = Checks::NONE;
-    let answered = answer(alloc, line.as_bytes());
+fn judge_line(judge: &mut Judge<'_>, line: &str, answers: &str) -> Result<()> {
+    let alloc = judge.alloc;
+    let answered = answer(alloc, line.as_bytes()).ok();
     check(is_right(&answered, false, answers), "answer", 0)?;
-    if heap == Heap::Ordinary {
-        return Ok(checks);
+    if judge.heap == Heap::Ordinary {
+        return Ok(());
     }
     for n in 1..MOST {
         let refusal = Refusal::Rest(n);
         refusal.begin(alloc);
-        let answered = answer(alloc, line.as_bytes());
+        let answered = answer(alloc, line.as_bytes()).ok();
         let was_refused = refusal.end(alloc);
         let holds = is_right(&answered, was_refused, answers);
         check(holds, "answer", n as usize)?;
         if !was_refused {
             break;
         }
-        checks.refused_in_lines = checks.refused_in_lines.saturating_add(1);
+        judge.checks.refused_in_lines = judge.checks.refused_in_lines.saturating_add(1);
     }
-    Ok(checks)
+    Ok(())
 }
 
-fn is_right(answered: &Result<Vec<u8>, AllocError>, was_refused: bool, answers: &str) -> bool {
+fn is_right(answered: &Option<Vec<u8>>, was_refused: bool, answers: &str) -> bool {
     match answered {
-        Ok(bytes) => match str::from_utf8(bytes.as_slice()) {
+        Some(bytes) => match str::from_utf8(bytes.as_slice()) {
             Ok(text) => is_answer(answers, text),
             Err(_) => false,
         },
-        Err(_) => was_refused,
+        None => was_refused,
     }
 }

@@ -4,7 +4,6 @@
 //! refused in turn too, and each block of memory is freed once.
 #![tactic(auto)]
 
-mod generated_types;
 mod judge;
 mod names;
 mod row;
@@ -39,7 +38,7 @@ const FILES: &[&str] = &[
 /// Judges a row, which frees each block of memory once.
 fn judge_row(alloc: Global, heap: Heap, row: &str, checks: &mut Checks) -> Result<(), Fault> {
     note_blocks(alloc);
-    checks.add(judge(alloc, heap, row)?);
+    *checks = judge(alloc, heap, row, *checks)?;
     check(!are_other_blocks(alloc), "blocks of memory", 0)
 }
 
@@ -79,8 +78,7 @@ fn main(rt: HostRuntime) -> io::Result<()> {
     if heap == Heap::Ordinary {
         return Ok(());
     }
-    for how in CALLS {
-        let count = checks.refused_in(how);
+    for (how, count) in CALLS.iter().zip(checks.refused_requests.iter()) {
         println!(rt; "{how:?}: {count} requests refused")?;
     }
     let lines = checks.refused_in_lines;

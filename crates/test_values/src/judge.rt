@@ -262,6 +262,7 @@ impl<'a> Root<'a> {
     pub fn judge_nodes(&self, bytes: &[u8], wanted: &[&str]) -> Result<(), Wrong> {
         let alloc = self.alloc;
         self.judge_member(bytes)?;
+        self.judge_depths(bytes, wanted)?;
         let layout = Layout::new(alloc, self.name, self.map)?;
         let Membership::Member = layout.is_member(alloc, bytes)? else {
             return check(alloc, false, "is_member", "no member");
@@ -279,6 +280,21 @@ impl<'a> Root<'a> {
             expect(alloc, "a node", line.as_str(), wanted)?;
         }
         check(alloc, matches!(nodes.next(), Ok(None)), "nodes", "too many")
+    }
+
+    /// That the nodes of `decode` are among these, in order, each at its depth and offset.
+    fn judge_depths(&self, bytes: &[u8], wanted: &[&str]) -> Result<(), Wrong> {
+        let alloc = self.alloc;
+        let Decoded::Nodes(nodes) = decode(alloc, self.name, self.map, bytes)? else {
+            return check(alloc, false, "decode", "no nodes");
+        };
+        let mut wanted = wanted.iter();
+        for node in nodes.iter() {
+            let place = format!(in alloc; "{} {} ", node.depth, node.offset)?;
+            let is_there = wanted.any(|line| line.starts_with(place.as_str()));
+            check(alloc, is_there, "a node of decode", place.as_str())?;
+        }
+        Ok(())
     }
 }
 

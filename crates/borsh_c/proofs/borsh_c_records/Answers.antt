@@ -14,7 +14,7 @@ returns-in-Ok-Values-clause-answer c =
 pub returns-in-Ok-Short-clause-answer : goal.returns-in-Ok-Short-clause-answer
 returns-in-Ok-Short-clause-answer c =
     let is_cut = rw c.in-Ok-Short.field-0-is at c.in-Ok-Short.ensures.ok in
-    (string_bytes c.in-Ok-Short.said.text, cut (subst (λ (o : Option ℕ). About c.args.schema.now (IsCut c.args.bytes.now o)) (sym c.tell.ensures.offset) is_cut) refl, c.tell.ensures.given)
+    (string_bytes c.in-Ok-Short.said.text, cut (subst (λ (o : Option ℕ). About c.args.schema.now (IsCut c.args.bytes.now o (string_bytes c.in-Ok-Short.said.text))) (sym c.tell.ensures.offset) is_cut) refl, c.tell.ensures.given)
 
 pub returns-in-Err-clause-answer : goal.returns-in-Err-clause-answer
 returns-in-Err-clause-answer c =

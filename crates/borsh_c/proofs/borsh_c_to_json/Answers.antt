@@ -1,9 +1,11 @@
-use Rattle.borsh_c.specs.Answers.{HasNoJson, IsJsonOf, IsUnclear}
+use Rattle.std.proofs.Common.{string_bytes, subst}
+use Rattle.borsh_json.specs.declared.output.Layout.{Layout}
+use Rattle.borsh_c.specs.Answers.{About, HasNoJson, IsJsonOf, IsUnclear, layout_if}
 use Rattle.borsh_c.proofs.Told.{refused_answers, yes_given}
 use Rattle.borsh_c.proofs.borsh_c_to_json.Goals as goal
 
 pub returns-in-Ok-clause-answer : goal.returns-in-Ok-clause-answer
-returns-in-Ok-clause-answer c = yes_given (IsJsonOf c.args.value.now) _ IsUnclear c.in-Ok.ensures.ok c.as_bytes.ensures.value c.give.ensures.given
+returns-in-Ok-clause-answer c = yes_given (IsJsonOf (layout_if c.args.is_compact) c.args.value.now) _ IsUnclear (subst (λ (l : Layout). About c.args.schema.now (IsJsonOf l c.args.value.now (string_bytes c.in-Ok.json))) c.style.ensures.0 c.in-Ok.ensures.ok) c.as_bytes.ensures.value c.give.ensures.given
 
 pub returns-in-Err-clause-answer : goal.returns-in-Err-clause-answer
 returns-in-Err-clause-answer c = refused_answers c.args.schema.now _ (HasNoJson c.args.value.now) IsUnclear c.in-Err.refusal c.in-Err.ensures.err c.tell.ensures.code c.tell.ensures.offset c.tell.ensures.given

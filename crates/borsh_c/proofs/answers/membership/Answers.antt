@@ -15,7 +15,7 @@ pub returns-in-NoMember-clause-err : goal.returns-in-NoMember-clause-err
 returns-in-NoMember-clause-err c =
     let m = subst (IsAnswer (definitions_in c.in_ok-root.definitions) c.as_str.result.now c.args.value.now) c.in-NoMember.is c.in_ok-is_member.ensures.answer in
     fault_told (c.in_ok-root.root, c.in_ok-root.definitions) c.in_ok-root.ensures.ok c.as_str.result.now c.as_str.ensures.value (IsNoMember c.args.value.now) IsUnclear
-    c.in_ok-said_of-in-NoMember.field-0 c.in_ok-said_of-in-NoMember.ensures (m.0, (c.in-NoMember.fault, m.1, refl))
+    c.in_ok-said_of-in-NoMember.field-0 c.in_ok-said_of-in-NoMember.ensures.0 (m.0, (c.in-NoMember.fault, m.1, refl), c.in_ok-said_of-in-NoMember.ensures.1)
 
 pub returns-clause-err : goal.returns-clause-err
 returns-clause-err c =

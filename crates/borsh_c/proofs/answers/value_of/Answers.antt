@@ -15,4 +15,4 @@ returns-in-Ok-from_json-clause-ok c =
 pub returns-clause-err : goal.returns-clause-err
 returns-clause-err c =
     subst (λ (text : List ℕ). IsRefused c.args.schema.now (IsNoText text) IsUnclear c.in_ok-no_value-in-Err.field-0) c.in-Ok.ensures.cases.0
-    (text_refused (c.in_ok-root.root, c.in_ok-root.definitions) c.in_ok-root.ensures.ok c.as_str.result.now c.as_str.ensures.value c.in-Ok.text.now c.in-Err.error c.in-Err.ensures.reason c.in_ok-no_value-in-Err.field-0 c.in_ok-no_value-in-Err.ensures)
+    (text_refused (c.in_ok-root.root, c.in_ok-root.definitions) c.in_ok-root.ensures.ok c.as_str.result.now c.as_str.ensures.value c.in-Ok.text.now c.in-Err.error c.in-Err.ensures.reason c.in-Err.ensures.denies c.in_ok-no_value-in-Err.field-0 c.in_ok-no_value-in-Err.ensures)

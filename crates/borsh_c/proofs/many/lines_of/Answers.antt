@@ -15,19 +15,23 @@ write_lines-requires-clause-kinds c =
 pub returns-then-count-gt0-clause-ok : goal.returns-then-count-gt0-clause-ok
 returns-then-count-gt0-clause-ok c =
     let w = c.in_ok-written.written in
-    let P : Saying = AreLines c.args.values.now c.args.lengths.now w.count w.text.items in
-    let lines = by_layout (λ m root. HaveLines m root (take w.count c.args.lengths.now) c.args.values.now w.text.items) c.in_ok-layout.layout c.in_ok-layout.ensures.same (by_json (λ m root. HaveLines m root (take w.count c.args.lengths.now) c.args.values.now w.text.items) c.in_ok-json.json c.in_ok-layout.layout c.in_ok-json.ensures.layout c.in_ok-written.ensures.lines) in
-    about_told (c.in_ok-root.root, c.in_ok-root.definitions) c.in_ok-root.ensures.ok c.as_str.result.now c.as_str.ensures.value P
-    (record { room = c.in_ok-written.ensures.room; lines = lines; some = λ h. c.if-count-gt0.true })
+    let lengths = c.args.lengths.now in
+    let values = c.args.values.now in
+    let written : Saying = λ m root. HaveLines m root (take w.count lengths) values w.text.items × IsNoLine m root lengths values w.count w.stop in
+    let told = by_layout written c.in_ok-layout.layout c.in_ok-layout.ensures.same (by_json written c.in_ok-json.json c.in_ok-layout.layout c.in_ok-json.ensures.layout (c.in_ok-written.ensures.lines, c.in_ok-written.ensures.stop)) in
+    about_told (c.in_ok-root.root, c.in_ok-root.definitions) c.in_ok-root.ensures.ok c.as_str.result.now c.as_str.ensures.value (AreLines values lengths w.count w.text.items)
+    (record { room = c.in_ok-written.ensures.room; lines = told.0; some = λ h. c.if-count-gt0.true; last = (w.stop, told.1) })
 
 pub returns-in-None-clause-ok : goal.returns-in-None-clause-ok
 returns-in-None-clause-ok c =
     let w = c.in_ok-written.written in
-    let P : Saying = AreLines c.args.values.now c.args.lengths.now w.count w.text.items in
-    let lines = by_layout (λ m root. HaveLines m root (take w.count c.args.lengths.now) c.args.values.now w.text.items) c.in_ok-layout.layout c.in_ok-layout.ensures.same (by_json (λ m root. HaveLines m root (take w.count c.args.lengths.now) c.args.values.now w.text.items) c.in_ok-json.json c.in_ok-layout.layout c.in_ok-json.ensures.layout c.in_ok-written.ensures.lines) in
-    let all = subst (IsNoLine c.in_ok-json.json.layout.now.map.now c.in_ok-json.json.layout.now.root.now c.args.lengths.now c.args.values.now w.count) c.in-None.is c.in_ok-written.ensures.stop in
-    about_told (c.in_ok-root.root, c.in_ok-root.definitions) c.in_ok-root.ensures.ok c.as_str.result.now c.as_str.ensures.value P
-    (record { room = c.in_ok-written.ensures.room; lines = lines; some = λ h. omega (arith, all) })
+    let lengths = c.args.lengths.now in
+    let values = c.args.values.now in
+    let written : Saying = λ m root. HaveLines m root (take w.count lengths) values w.text.items × IsNoLine m root lengths values w.count w.stop in
+    let told = by_layout written c.in_ok-layout.layout c.in_ok-layout.ensures.same (by_json written c.in_ok-json.json c.in_ok-layout.layout c.in_ok-json.ensures.layout (c.in_ok-written.ensures.lines, c.in_ok-written.ensures.stop)) in
+    let all = subst (IsNoLine c.in_ok-root.definitions c.as_str.result.now lengths values w.count) c.in-None.is told.1 in
+    about_told (c.in_ok-root.root, c.in_ok-root.definitions) c.in_ok-root.ensures.ok c.as_str.result.now c.as_str.ensures.value (AreLines values lengths w.count w.text.items)
+    (record { room = c.in_ok-written.ensures.room; lines = told.0; some = λ h. omega (arith, all); last = (w.stop, told.1) })
 
 pub returns-clause-err : goal.returns-clause-err
 returns-clause-err c =

@@ -36,16 +36,17 @@ pub returns-in-Short-clause-ok : goal.returns-in-Short-clause-ok
 returns-in-Short-clause-ok c =
     let stop = stopped c.in_ok-layout.layout c.in_ok-layout.ensures.same c.measure.new.lengths c.args.bytes.now c.in_ok-measured.measured.count c.if-measured-gt0.false c.in-Short.is c.in_ok-measured.ensures.stop in
     let said = c.in_ok-said-in-Short.said in
-    let offset = rw c.in-Short.is at c.in_ok-said-in-Short.ensures in
+    let told = rw c.in-Short.is at c.in_ok-said-in-Short.ensures in
     let m = c.in_ok-root.definitions in
-    about_told (c.in_ok-root.root, m) c.in_ok-root.ensures.ok c.as_str.result.now c.as_str.ensures.value (IsCut c.args.bytes.now said.offset)
-    (subst (λ (o : Option ℕ). IsCut c.args.bytes.now o m c.as_str.result.now) (sym offset) (c.in-Short.fault, refl, stop))
+    about_told (c.in_ok-root.root, m) c.in_ok-root.ensures.ok c.as_str.result.now c.as_str.ensures.value (IsCut c.args.bytes.now said.offset (string_bytes said.text))
+    (subst (λ (o : Option ℕ). IsCut c.args.bytes.now o (string_bytes said.text) m c.as_str.result.now) (sym told.0) (told.1, c.in-Short.fault, refl, stop))
 
 pub returns-in-NoMember-clause-err : goal.returns-in-NoMember-clause-err
 returns-in-NoMember-clause-err c =
     let stop = stopped c.in_ok-layout.layout c.in_ok-layout.ensures.same c.measure.new.lengths c.args.bytes.now c.in_ok-measured.measured.count c.if-measured-gt0.false c.in-NoMember.is c.in_ok-measured.ensures.stop in
+    let told = rw c.in-NoMember.is at c.in_ok-said_of-in-NoMember.ensures in
     fault_told (c.in_ok-root.root, c.in_ok-root.definitions) c.in_ok-root.ensures.ok c.as_str.result.now c.as_str.ensures.value (IsNoRecord c.args.bytes.now) IsUnclear
-    c.in_ok-said_of-in-NoMember.field-0 (rw c.in-NoMember.is at c.in_ok-said_of-in-NoMember.ensures) (c.in-NoMember.fault, refl, stop)
+    c.in_ok-said_of-in-NoMember.field-0 told.0 (told.1, c.in-NoMember.fault, refl, stop)
 
 pub returns-clause-err : goal.returns-clause-err
 returns-clause-err c =

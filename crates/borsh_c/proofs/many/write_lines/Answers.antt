@@ -1,7 +1,7 @@
 use Rattle.std.proofs.Common.{◌∙◌, ◌+◌, ◌++◌, ◌∷◌, [], List, ℕ, ap, arith, string_bytes, subst, sym, take}
-use Rattle.borsh_json.specs.Forms.{forms_in}
-use Rattle.borsh_json.specs.Represents.{TextSays}
-use Rattle.borsh_c.specs.Many.{HaveLines}
+use Rattle.borsh_json.specs.Printed.{IsPrinted}
+use Rattle.borsh_json.specs.declared.output.Layout.{Layout}
+use Rattle.borsh_c.specs.Many.{HaveLines, IsLineOf}
 use Rattle.borsh_c.proofs.Records.{lined, passed}
 use Rattle.borsh_c.proofs.many.write_lines.Goals as goal
 
@@ -13,7 +13,9 @@ loop-count-preserved c =
     let text = c.loop-count.text.items in
     let line = ap (λ (bytes : List ℕ). text ++ bytes) c.as_bytes.ensures.value in
     let items = c.in_ok-push-in-Ok.ensures.items ∙ ap (λ (bytes : List ℕ). bytes ++ (10 ∷ [])) (c.in_ok-extend_from_slice-in-Ok.ensures.items ∙ line) in
-    let says = subst (λ (bytes : List ℕ). TextSays (forms_in m) root (string_bytes c.in-Ok.line) bytes) c.first.ensures c.in-Ok.ensures.says in
+    let json = c.in-Ok.ensures in
+    let printed = subst (λ (layout : Layout). IsPrinted layout (string_bytes c.in-Ok.line)) c.requires.style.0 (json.printed c.requires.style.1) in
+    let says = subst (λ (bytes : List ℕ). IsLineOf m root bytes (string_bytes c.in-Ok.line)) c.first.ensures ((json.says, printed), json.line c.requires.style.0) in
     record {
       within = omega arith;
       lines = subst (HaveLines m root (take (c.loop-count.count + 1) lengths) c.args.values.now) (sym items)

@@ -27,9 +27,9 @@ returns-clause-kind c = λ w lo hi e q i b x h full.
     )
 
 pub returns-then-eq-clause-orders : goal.returns-then-eq-clause-orders
-returns-then-eq-clause-orders c = λ w lo hi e q i h x f. ((h.1, λ k z. z), tt)
+returns-then-eq-clause-orders c = λ s h x f. ((h.1, λ k z. z), tt)
 
 pub returns-clause-orders : goal.returns-clause-orders
-returns-clause-orders c = λ w lo hi e q i h x f.
-    let o = c.in_ok-order.ensures.orders h x e w lo hi (c.collection_of-collection.ensures x f) i.1 (f.2 ∙ ap (λ f. Some f) q) in
+returns-clause-orders c = λ s h x f.
+    let o = c.in_ok-order.ensures.orders h x s.3 s.0 s.1 s.2 (c.collection_of-collection.ensures x f) s.5.1 (f.2 ∙ ap (λ f. Some f) s.4) in
     (o.0, (refl, o.1))

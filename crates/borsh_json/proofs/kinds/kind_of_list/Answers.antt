@@ -68,28 +68,28 @@ returns-else-size-eq0-clause-kind c = λ w lo hi e q i b x h full.
     numbers_found F d.layout.now.names.items x (form_of c.args.definition.now) e es i.1 kind refl (c.size_of_primitive-size.result - 1) (omega arith) size
 
 pub returns-then-is_zero_size-clause-orders : goal.returns-then-is_zero_size-clause-orders
-returns-then-is_zero_size-clause-orders c = λ w lo hi e q i h x f.
+returns-then-is_zero_size-clause-orders c = λ s h x f.
     let d = c.args.definitions.now in
     ((h.1, λ k z. z), refused_order (forms_of d) (names_of d) d.orders.items x c.refused_list.result c.refused_list.ensures)
 
 pub returns-then-has_empty_keys-clause-orders : goal.returns-then-has_empty_keys-clause-orders
-returns-then-has_empty_keys-clause-orders c = λ w lo hi e q i h x f.
+returns-then-has_empty_keys-clause-orders c = λ s h x f.
     let d = c.args.definitions.now in
     ((h.1, λ k z. z), refused_order (forms_of d) (names_of d) d.orders.items x c.refused_list-then-has_empty_keys.result c.refused_list-then-has_empty_keys.ensures)
 
 pub returns-in-Some-clause-orders : goal.returns-in-Some-clause-orders
-returns-in-Some-clause-orders c = λ w lo hi e q i h x f.
+returns-in-Some-clause-orders c = λ s h x f.
     let d = c.args.definitions.now in
     let F = forms_of d in
     let ns = names_of d in
-    let s = c.in-Some.ensures h.0 x (c.collection_of-collection.ensures x f) in
-    let t = c.order_of_keys.ensures F ns d.orders.items s.0 (form_of c.in-Some.entries.key_definition.now) s.5.0 s.5.2 s.5.3 in
-    ((h.1, λ k z. z), (s.0, s.2, key_found F ns x s.0 s.1 d.orders.items c.order_of_keys.result s.4 t.0 t.1))
+    let m = c.in-Some.ensures h.0 x (c.collection_of-collection.ensures x f) in
+    let t = c.order_of_keys.ensures F ns d.orders.items m.0 (form_of c.in-Some.entries.key_definition.now) m.5.0 m.5.2 m.5.3 in
+    ((h.1, λ k z. z), (m.0, m.2, key_found F ns x m.0 m.1 d.orders.items c.order_of_keys.result m.4 t.0 t.1))
 
 pub returns-then-size-eq0-clause-orders : goal.returns-then-size-eq0-clause-orders
-returns-then-size-eq0-clause-orders c = λ w lo hi e q i h x f.
-    c.in_ok-order.ensures.orders h x e w lo hi (c.collection_of-collection.ensures x f) i.1 (f.2 ∙ ap (λ f. Some f) q)
+returns-then-size-eq0-clause-orders c = λ s h x f.
+    c.in_ok-order.ensures.orders h x s.3 s.0 s.1 s.2 (c.collection_of-collection.ensures x f) s.5.1 (f.2 ∙ ap (λ f. Some f) s.4)
 
 pub returns-else-size-eq0-clause-orders : goal.returns-else-size-eq0-clause-orders
-returns-else-size-eq0-clause-orders c = λ w lo hi e q i h x f.
-    c.in_ok-order.ensures.orders h x e w lo hi (c.collection_of-collection.ensures x f) i.1 (f.2 ∙ ap (λ f. Some f) q)
+returns-else-size-eq0-clause-orders c = λ s h x f.
+    c.in_ok-order.ensures.orders h x s.3 s.0 s.1 s.2 (c.collection_of-collection.ensures x f) s.5.1 (f.2 ∙ ap (λ f. Some f) s.4)

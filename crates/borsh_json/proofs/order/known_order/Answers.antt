@@ -7,5 +7,5 @@ use Rattle.borsh_json.proofs.order.known_order.Goals as goal
 
 pub returns : goal.returns
 returns c h f x i =
-    let e = c.unwrap_or.ensures ∙ ap (λ o. unwrap_or o Single) (c.known_order.ensures.known f.0 f.1) in
+    let e = c.unwrap_or.ensures ∙ ap (λ o. unwrap_or o Single) (c.known_order.ensures.0 f.0 f.1) in
     subst (λ (found : Ordered). OrderedBy c.args.definitions.now x found) (sym e) (h.1 c.args.at x f.0 f.1 i).0

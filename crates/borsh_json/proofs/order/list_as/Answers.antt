@@ -5,14 +5,14 @@ use Rattle.borsh_json.specs.Ordered.{list, IsSequenceName, IsTreeMapName}
 use Rattle.borsh_json.proofs.order.list_as.Goals as goal
 
 pub returns-then-is_list_name : goal.returns-then-is_list_name
-returns-then-is_list_name c x e h f g =
+returns-then-is_list_name c e f g x h =
     let s : forms_of c.args.definitions.now x ≡ Some (sequence 4 0 4294967295 e) = h.2 ∙ ap (λ f. Some f) f in
     let i = c.part-part.ensures h.0 x e (sequence 4 0 4294967295 e) h.1 s refl in
     let n = subst (λ y. IsSequenceName y e) (c.name-name.ensures h.0 x h.1) (subst (λ e. IsSequenceName c.name-name.result.now e) g (c.is_list_name.ensures.0 c.if-is_list_name.true)) in
     (list 4 e, inl (refl, (s, inl n)), (e, i, refl))
 
 pub returns-then-is_tree_map : goal.returns-then-is_tree_map
-returns-then-is_tree_map c x e h f g =
+returns-then-is_tree_map c e f g x h =
     let s : forms_of c.args.definitions.now x ≡ Some (sequence 4 0 4294967295 e) = h.2 ∙ ap (λ f. Some f) f in
     let i = c.part-part.ensures h.0 x e (sequence 4 0 4294967295 e) h.1 s refl in
     let m = c.is_tree_map.ensures c.if-is_tree_map.true in

@@ -3,7 +3,7 @@ use Rattle.borsh_json.specs.Forms.{form_of, forms_in}
 use Rattle.borsh_json.specs.Rows.{IsText, IsValueText}
 use Rattle.borsh_json.proofs.FoundLaws.{got, got_at}
 use Rattle.std.specs.Option.{option_copied}
-use Rattle.borsh_json.proofs.RowsLaws.{primitive_value, text_value, count_value, variant_value, variant_there, if_same}
+use Rattle.borsh_json.proofs.RowsLaws.{primitive_value, text_value, count_value, variant_value, variant_there, nothing_value, if_same}
 use Rattle.borsh_json.proofs.rows.value_of.Goals as goal
 
 pub returns-in-Primitive : goal.returns-in-Primitive
@@ -43,3 +43,8 @@ returns-in-None c =
     let n = c.args.node.now in
     let g = sym (got c.in-Enum.variants.items c.deref.result.now c.in-Some.index c.get.result c.deref.ensures.value c.get.ensures.lookup.3) ∙ ap (λ o. option_copied o) c.in-None.is in
     absurd (variant_there (forms_in c.args.map.now) n.name.now n.bytes.now n.definition.now _ _ c.in-Enum.is c.in-Some.index c.in-Some.ensures g)
+
+pub returns-in_default : goal.returns-in_default
+returns-in_default c =
+    let n = c.args.node.now in
+    nothing_value (forms_in c.args.map.now) n.name.now n.bytes.now n.definition.now c.in_default.not-Primitive c.in_default.not-Sequence c.in_default.not-Enum (string_bytes c.new-in_default.result) c.new-in_default.ensures.bytes

@@ -1,10 +1,12 @@
-use Rattle.std.proofs.Common.{◌≡◌, ◌+◌, List, [], length, None, ℕ, refl, sym, ◌∙◌, ap, subst, false, All}
+use Rattle.std.proofs.Common.{◌≡◌, List, [], length, None, ℕ, refl, sym, ◌∙◌, ap, subst, arith, false, All}
 use Rattle.std.specs.Prelude.{Bool}
 use Rattle.json.specs.Print.{print}
 use Rattle.borsh_json.specs.Ascii.{IsInLine}
 use Rattle.borsh_json.specs.Found.{forms_of, names_of}
 use Rattle.borsh_json.specs.Leaves.{output_tokens}
-use Rattle.borsh_json.specs.Writes.{IsWhole, IsWriting, IsWrittenOn}
+use Rattle.borsh_json.specs.Printed.{laid_out}
+use Rattle.borsh_json.specs.declared.position.Place.{Place}
+use Rattle.borsh_json.specs.Writes.{AreEach, IsMarked, IsWhole, IsWriting, IsWrittenOn}
 use Rattle.borsh_json.proofs.LineLaws.{compact_line}
 use Rattle.borsh_json.proofs.WritingLaws.{whole_read}
 use Rattle.borsh_json.proofs.WriterLaws.{root_marked}
@@ -25,13 +27,13 @@ loop-init c =
           layout = ap (λ l. l.now) c.new-walk.ensures.layout;
           walk = c.new-walk.ensures.walk;
           fresh = o.ensures.0;
-          offset = ap (λ n. n + length c.new-walk.result.left.now) c.new-walk.ensures.offset ∙ ap (λ b. length b) c.new-walk.ensures.left;
+          offset = (let z = c.new-walk.ensures.offset in let l = ap (λ b. length b) c.new-walk.ensures.left in omega (arith, z, l));
         };
         mark = ([], None);
         marks = [];
         state = subst (λ (l : List ℕ). IsWriting F ns root c.args.bytes.now p.result.place p.result.outer.items ([], None) [] l (output_tokens o.result)) (sym c.new-walk.ensures.left) s;
         here = root_marked d c.args.bytes.now p.result.place p.ensures.place.0 p.ensures.place.2;
-        around = p.ensures.outer;
+        around = subst (λ (ps : List Place). AreEach (IsMarked d c.args.bytes.now) ps []) (sym p.ensures.outer) refl;
       },
       refl,
     )
@@ -57,5 +59,13 @@ returns-then-is_in-clause-line c = λ q.
     let e : c.in_ok-more.more ≡ false = cc in
     let h = subst (λ (more : Bool). IsWrittenOn c.args.definitions.now new more) e c.in_ok-more.ensures.state in
     let w = h.whole in
-    let p = c.into_bytes.ensures.compact (c.is_in.ensures q c.if-is_in.true) h.fresh in
+    let p = c.into_bytes.ensures.layout h.fresh ∙ ap (λ l. laid_out l (output_tokens new.out)) (c.is_in.ensures c.if-is_in.true ∙ q) in
     subst (λ (l : List ℕ). All IsInLine l) (sym (p ∙ ap (λ ts. print ts) w.1)) (compact_line w.0 w.2)
+
+pub returns-then-is_in-clause-printed : goal.returns-then-is_in-clause-printed
+returns-then-is_in-clause-printed c =
+    let new = c.write_next.new.self in
+    let e : c.in_ok-more.more ≡ false = cc in
+    let h = subst (λ (more : Bool). IsWrittenOn c.args.definitions.now new more) e c.in_ok-more.ensures.state in
+    let tokens = c.into_bytes.ensures.tokens h.fresh in
+    c.into_bytes.ensures.layout h.fresh ∙ ap (λ l. laid_out l (output_tokens new.out)) (c.is_in.ensures c.if-is_in.true) ∙ ap (λ ts. laid_out c.args.style.layout ts) (sym tokens)

@@ -6,4 +6,4 @@ pub returns-clause-ok : goal.returns-clause-ok
 returns-clause-ok c = IfOk-weaker c.json_text.result _ _ (λ t j. ((c.in_ok-_schema._schema, c.in_ok-_schema.ensures.ok), (c.in_ok-own.own, c.in_ok-own.ensures.ok, j))) c.json_text.ensures.ok
 
 pub returns-clause-err : goal.returns-clause-err
-returns-clause-err c = led_result _ (λ h. absurd h) (λ _. (c.in_ok-_schema._schema, c.in_ok-_schema.ensures.ok)) (λ h. h) c.json_text.result c.json_text.ensures.err
+returns-clause-err c = led_result _ (λ h. absurd h) (λ h. ((c.in_ok-_schema._schema, c.in_ok-_schema.ensures.ok), (c.in_ok-own.own, c.in_ok-own.ensures.ok, h))) (λ h. h) c.json_text.result c.json_text.ensures.err

@@ -10,17 +10,17 @@ use Rattle.borsh_values.proofs.Going.{defined_in}
 use Rattle.borsh_values.proofs.OnlyLaws.{tag_length}
 use Rattle.borsh_values.proofs.runs.length_by_tag.Goals as goal
 
-pub returns-in-Some-checked_add : goal.returns-in-Some-checked_add
-returns-in-Some-checked_add c =
+pub returns : goal.returns
+returns c =
     let l = c.args.layout.now in
     let C = definitions_in l.map.now in
     let ns = l.names.items in
     let vs = unnamed c.args.variants.now.items in
     let i = c.in-One.index in
     let x = name_at ns c.args.at in
-    let p = name_at ns c.in-Some.part in
-    let size = c.in-Some-payload_size.size in
+    let p = name_at ns c.in_ok-part.part in
+    let size = c.in_ok-size.size in
     let found = subst (λ b. FoundAs vs b (One i)) c.as_slice.ensures (subst (λ f. FoundAs vs c.as_slice.result.now f) c.in-One.is c.find_variant.ensures) in
-    let at = ap (λ s. slice_get (parts_in s) i) (sym c.requires.shape) ∙ c.in-Some.ensures.place.1 in
-    let sum = c.in-Some-checked_add.ensures in
-    subst (λ n. IsTagLength C x c.args.tag n) {x = size + 1} {y = c.in-Some-checked_add.length} (omega (arith, sum)) (tag_length C c.args.tag i size p vs (defined_in l c.requires.laid_out c.args.at c.requires.within ∙ c.requires.shape) found at c.in-Some-payload_size.ensures (omega (arith, sum)))
+    let at = ap (λ s. slice_get (parts_in s) i) (sym c.requires.shape) ∙ c.in_ok-part.ensures.place.1 in
+    let sum = c.in_ok-length.ensures in
+    subst (λ n. IsTagLength C x c.args.tag n) {x = size + 1} {y = c.in_ok-length.length} (omega (arith, sum)) (tag_length C c.args.tag i size p vs (defined_in l c.requires.laid_out c.args.at c.requires.within ∙ c.requires.shape) found at c.in_ok-size.ensures (omega (arith, sum)))

@@ -22,8 +22,8 @@ loop-part-preserved c =
     let ns = c.args.layout.now.names.items in
     let ps = parts_in (shape_at ns c.args.at) in
     let x = name_at ns c.in-Some.part in
-    let n = c.in-Some-value_length.length in
-    let f = subst (λ b. AreFirst C (x ∷ []) b n) c.after.ensures c.in-Some-value_length.ensures in
+    let n = c.in_ok-length.length in
+    let f = subst (λ b. AreFirst C (x ∷ []) b n) c.after.ensures c.in_ok-length.ensures in
     subst (λ l. AreFirst C l c.args.left.now (c.loop-part.taken + n)) (sym (take_more ps c.loop-part.index c.in-Some.ensures.place.1)) (first_more C c.args.left.now c.loop-part.taken n c.loop-part.invariant f)
 
 pub returns : goal.returns

@@ -12,7 +12,7 @@ invariant-loop-values l = record {
   first : AreFirst (definitions_in l.layout.map.now) (replicate l.values (name_at l.layout.names.items l.at)) l.first.bytes.now l.taken;
   last : IsRight (definitions_in l.layout.map.now) (name_at l.layout.names.items l.at) l.last;
   other : IsRight (definitions_in l.layout.map.now) (name_at l.layout.names.items l.at) l.other;
-  listed : ListsRun (definitions_in l.layout.map.now) l.first l.taken l.values (take l.start l.fn.nodes.items) (take (l.start + l.values) l.nodes.items);
+  listed : ListsRun l.layout.map.now l.first l.taken l.values (take l.start l.fn.nodes.items) (take (l.start + l.values) l.nodes.items);
 }
 
 abbrev pub decreases-loop-values : goal.decreases-loop-values

@@ -1,14 +1,10 @@
-use Rattle.std.proofs.Common.{◌∙◌, ap, subst, sym, arith}
-use Rattle.borsh_walks.specs.Definitions.{definitions_in, shape_of}
-use Rattle.borsh_values.specs.declared.frames.Rest.TheVariants.{Copies}
-use Rattle.borsh_values.specs.Layouts.{name_at, IsPlaceOf}
-use Rattle.borsh_values.specs.Steps.{OpensAs, Takes, remaining}
+use Rattle.std.proofs.Common.{subst, sym, arith}
+use Rattle.borsh_walks.specs.Definitions.{definitions_in}
+use Rattle.borsh_values.specs.Layouts.{name_at}
 use Rattle.borsh_values.specs.Free.{FreeSize}
 use Rattle.borsh_values.proofs.Bytes.{small_bytes}
 use Rattle.borsh_values.proofs.FreeLaws.{free_one}
-use Rattle.borsh_values.proofs.Going.{defined_in}
-use Rattle.borsh_values.proofs.OnlyLaws.{first_free, first_taken}
-use Rattle.borsh_values.proofs.TakesLaws.{opens_sequence}
+use Rattle.borsh_values.proofs.OnlyLaws.{first_free}
 use Rattle.borsh_values.proofs.runs.value_length.Goals as goal
 
 pub returns-then-size-left : goal.returns-then-size-left
@@ -21,18 +17,3 @@ returns-then-size-left c =
     let some = c.if-size-gt0.true in
     let f : FreeSize C x size = subst (λ i. FreeSize C x i) (sym e) (c.requires.sizes.free c.args.at c.requires.within (omega (arith, e, some))) in
     first_free C c.args.left.now size (free_one C size f) c.if-size-left.true (small_bytes c.args.left.now (λ k. let b = c.type_inv.left k in omega (arith, b)))
-
-pub returns-in-Taken-default-Copies-default-eq0 : goal.returns-in-Taken-default-Copies-default-eq0
-returns-in-Taken-default-Copies-default-eq0 c =
-    let l = c.args.layout.now in
-    let C = definitions_in l.map.now in
-    let ns = l.names.items in
-    let d = c.in-Some-Sequence in
-    let t = c.in-Taken-default-Copies-default-eq0 in
-    let s = shape_of d.field-0.now in
-    let left = c.args.left.now in
-    let p = subst (λ o. IsPlaceOf ns c.args.at 0 o) c.in-Some.is c.part_at.ensures.place in
-    let o = opens_sequence C ns c.args.at c.requires.within _ _ _ c.in-Some.element _ s left c.open_sequence.result (ap (λ d. shape_of d) d.field-0-is) (sym d.ensures.shape) p c.open_sequence.ensures.opened in
-    let q = subst (λ o. OpensAs C ns s left o) t.is o in
-    let none = ap (λ r. remaining ns r) (t.field-1-is ∙ ap (λ k. Copies t.field-1-0 k) t.field-1-1-test) in
-    first_taken C s left t.taken (defined_in l c.requires.laid_out c.args.at c.requires.within ∙ sym d.ensures.shape) (subst (λ r. Takes C s left t.taken r) none q.0)

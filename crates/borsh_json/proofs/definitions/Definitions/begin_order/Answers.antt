@@ -14,7 +14,7 @@ returns-in_ok-push-in-Some-clause-orders c h w =
     let s = c.set_order.new.self in
     let x = w.0.0 in
     let same = c.set_order.ensures.same in
-    let e = c.known_at.ensures.there Nothing c.in-Nothing.is (λ q. cc) in
+    let e = c.known_at.ensures.1 Nothing c.in-Nothing.is (λ q. cc) in
     let i = subst (λ (l : Bor Layout). IsAt l.now.names.items c.args.at x) (sym same.0) w.0.1 in
     let f = subst (λ (l : Bor Layout). FindsOrder (forms_in l.now.map.now) l.now.names.items x c.in-Some.order) same.0 (c.in-Some.ensures x (known_alike d s same.0 same.1 h.0, i)) in
     (unknown d d.orders.items c.args.at s.orders.items (h.1, λ k z. z) e c.set_order.ensures.set, λ t. opened d d.orders.items c.args.waiting.now.items c.push.new.self.items c.args.at x c.in-Some.order s.orders.items h.1 e c.set_order.ensures.set w.0.1 f c.in_ok-push-in-Some.ensures.items w)
@@ -22,5 +22,5 @@ returns-in_ok-push-in-Some-clause-orders c h w =
 pub returns-in-None-clause-orders : goal.returns-in-None-clause-orders
 returns-in-None-clause-orders c h w =
     let d = c.args.self.now in
-    let e = c.known_at.ensures.there Nothing c.in-Nothing.is (λ q. cc) in
+    let e = c.known_at.ensures.1 Nothing c.in-Nothing.is (λ q. cc) in
     (unknown d d.orders.items c.args.at c.set_order.new.self.orders.items (h.1, λ k z. z) e c.set_order.ensures.set, λ t. cc)

@@ -13,15 +13,18 @@ loop-preserved c =
     let g = c.next_needed.new.self in
     let v = c.loop.invariant in
     let s = c.in_ok-begin_order.ensures.same in
-    let t = c.in_ok-needed.ensures.same in
-    (t.0 ∙ s.0 ∙ v.0, t.1 ∙ s.1 ∙ v.1, λ h x a.
-      (let i = v.2 h x a in
-      let he = knows_more d e v.0 v.1 h i.0 in
-      let b = c.in_ok-begin_order.ensures.orders he (awaits_at d e e.orders.items c.loop.waiting.items c.loop.at (sym v.0) i.1) in
-      let hf = knows_more e f s.0 s.1 he b.0 in
-      let n = c.in_ok-needed.ensures.orders hf (open_at e f f.orders.items c.begin_order.new.waiting.items (sym s.0) (b.1 c.if-not-branch.false)) in
-      let w = subst (λ (o : Option ℕ). IfSome o (λ k. AwaitsOrder f g.orders.items c.next_needed.new.waiting.items k)) c.in-Some.is n.1 in
-      (knows_then d e g.orders.items v.0 i.0 (knows_then e f g.orders.items s.0 b.0 n.0), awaits_at f d g.orders.items c.next_needed.new.waiting.items c.in-Some.needed (s.0 ∙ v.0) w)))
+    let t = c.in_ok-needed.ensures.same in (
+      t.0 ∙ s.0 ∙ v.0,
+      t.1 ∙ s.1 ∙ v.1,
+      λ h x a.
+          (let i = v.2 h x a in
+          let he = knows_more d e v.0 v.1 h i.0 in
+          let b = c.in_ok-begin_order.ensures.orders he (awaits_at d e e.orders.items c.loop.waiting.items c.loop.at (sym v.0) i.1) in
+          let hf = knows_more e f s.0 s.1 he b.0 in
+          let n = c.in_ok-needed.ensures.orders hf (open_at e f f.orders.items c.begin_order.new.waiting.items (sym s.0) (b.1 c.if-not-branch.false)) in
+          let w = subst (λ (o : Option ℕ). IfSome o (λ k. AwaitsOrder f g.orders.items c.next_needed.new.waiting.items k)) c.in-Some.is n.1 in
+          (knows_then d e g.orders.items v.0 i.0 (knows_then e f g.orders.items s.0 b.0 n.0), awaits_at f d g.orders.items c.next_needed.new.waiting.items c.in-Some.needed (s.0 ∙ v.0) w)),
+    )
 
 pub returns-clause-orders : goal.returns-clause-orders
 returns-clause-orders c h x a =

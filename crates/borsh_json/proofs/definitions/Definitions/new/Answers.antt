@@ -13,11 +13,15 @@ loop-at-init c =
     let ns = y.names.items in (
       refl,
       ap (λ xs. length xs) c.in_ok-kinds.ensures.items,
-      λ a z. (record {
-        laid_out = a;
-        sizes = z;
-        kinds = kinds_none F ns _ c.in_ok-kinds.ensures.items;
-      }, no_orders F ns _ c.new.ensures.items, no_kinds F ns _ _ c.in_ok-kinds.ensures.items),
+      λ a z. (
+        record {
+          laid_out = a;
+          sizes = z;
+          kinds = kinds_none F ns _ c.in_ok-kinds.ensures.items;
+        },
+        no_orders F ns _ c.new.ensures.items,
+        no_kinds F ns _ _ c.in_ok-kinds.ensures.items,
+      ),
     )
 
 pub loop-at-preserved : goal.loop-at-preserved
@@ -30,8 +34,8 @@ loop-at-preserved c =
       ap (λ l. l.now) same.0 ∙ v.0,
       (let n = ap (λ xs. length xs) items ∙ length_push d.kinds.items kind in let m = v.1 in omega arith),
       λ a z. (let k = v.2 a z in
-        let low : c.loop-at.at < length (names_of d) = (let m = c.loop-at-test.true in let n = ap (λ l. length l.names.items) v.0 in let l = c.len-count.ensures in let q = c.args.layout.now.names.ok.0 in omega arith) in
-        more_known d _ c.loop-at.at kind same.0 k.0 k.1 k.2 items v.1 low (c.in_ok-kind.ensures.kind k.0) (c.in_ok-kind.ensures.orders (k.0, k.1))),
+          let low : c.loop-at.at < length (names_of d) = (let m = c.loop-at-test.true in let n = ap (λ l. length l.names.items) v.0 in let l = c.len-count.ensures in let q = c.args.layout.now.names.ok.0 in omega arith) in
+          more_known d _ c.loop-at.at kind same.0 k.0 k.1 k.2 items v.1 low (c.in_ok-kind.ensures.kind k.0) (c.in_ok-kind.ensures.orders (k.0, k.1))),
     )
 
 pub returns-clause-known : goal.returns-clause-known

@@ -6,13 +6,16 @@ use Rattle.borsh_json.proofs.definitions.Definitions.next_needed.Goals as goal
 pub loop-preserved : goal.loop-preserved
 loop-preserved c =
     let v = c.loop.invariant in
-    let s = c.set_order.ensures.same in
-    (s.0 ∙ v.0, s.1 ∙ v.1, λ h w.
-      (let d = c.args.self.now in
-      let g = v.2 h w in
-      let part = part_for d c.loop.self c.in-Some.index c.in-Some.order c.part.result v.0 (c.part.ensures.part (known_alike d c.loop.self v.0 v.1 h.0)) in
-      let f = last_found d c.loop.self.orders.items h.0 g.0.0 c.loop.waiting.items c.pop.new.self.items c.in-Some.at c.in-Some.index c.in-Some.order c.part.result c.set_order.new.self.orders.items c.in-Some.ensures.items g.1 part c.in_default-part.is c.set_order.ensures.set in
-      ((f.0, λ k z. f.1 k (g.0.1 k z)), f.2)))
+    let s = c.set_order.ensures.same in (
+      s.0 ∙ v.0,
+      s.1 ∙ v.1,
+      λ h w.
+          (let d = c.args.self.now in
+          let g = v.2 h w in
+          let part = part_for d c.loop.self c.in-Some.index c.in-Some.order c.part.result v.0 (c.part.ensures.part (known_alike d c.loop.self v.0 v.1 h.0)) in
+          let f = last_found d c.loop.self.orders.items h.0 g.0.0 c.loop.waiting.items c.pop.new.self.items c.in-Some.at c.in-Some.index c.in-Some.order c.part.result c.set_order.new.self.orders.items c.in-Some.ensures.items g.1 part c.in_default-part.is c.set_order.ensures.set in
+          ((f.0, λ k z. f.1 k (g.0.1 k z)), f.2)),
+    )
 
 pub returns-in-Some-part-clause-orders : goal.returns-in-Some-part-clause-orders
 returns-in-Some-part-clause-orders c h w =

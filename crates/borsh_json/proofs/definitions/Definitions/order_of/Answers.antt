@@ -15,4 +15,4 @@ returns-clause-orders c h x a =
     let he = knows_more d e s.0 s.1 h k in
     let t = c.in_ok-find_order.ensures.orders he x (subst (λ (l : Bor Layout). IsAt l.now.names.items c.args.at x) (sym s.0) a) in
     let m = knows_then d e f.orders.items s.0 k t in
-    (m, told d f.orders.items c.args.at x c.known_order.result m.0 a c.known_order.ensures.there)
+    (m, told d f.orders.items c.args.at x c.known_order.result m.0 a c.known_order.ensures.1)

@@ -20,8 +20,8 @@ returns-in_default-clause-state c =
     let new : Writing = record { walk = w.walk; position = c.leave.new.self; out = c.write_end.new.out; bytes = w.bytes; long_numbers = w.long_numbers } in
     place_ended d w new p c.requires.state (c.in_default.ensures.part c.requires.known.known) (subst (λ (k : Parts). Adds (ends_of k) w.out c.write_end.new.out) c.next_part.ensures.same.0 c.in_ok-write_end.ensures) refl refl c.leave.result c.leave.ensures.left c.leave.ensures.all
 
-pub returns-then-not-ascends-clause-state : goal.returns-then-not-ascends-clause-state
-returns-then-not-ascends-clause-state c =
+pub returns-then-not-is_above-clause-state : goal.returns-then-not-is_above-clause-state
+returns-then-not-is_above-clause-state c =
     let d = c.args.definitions.now in
     let w = c.args.self.now in
     let k = c.requires.known in
@@ -32,7 +32,7 @@ returns-then-not-ascends-clause-state c =
     let b = begun_still d w.walk.offset p c.next_part.new.self c.ascends.new.place c.in-Some.part (c.in-Some.ensures.part k.known) s.0 s.1 s.2 o.0 o.1 o.2 c.ascends.ensures.begins in
     let z = next_name d w.walk.offset p c.ascends.new.place c.in-Some.part b a.state.inner a.state.here c.in-Some.part.key refl in
     let h = subst (λ (x : Option Ascent). IsAscending d w.bytes.now x a.mark) (sym s.2) a.here.0 in
-    subst (λ (e : JsonError). Stops (forms_of d) d.layout.now.root.now w.bytes.now e) (sym c.into.ensures) (stops_descends (forms_of d) d.layout.now.root.now w.bytes.now c.refused_element.result c.refused_element.ensures.same (next_falls d w p a z.0 z.1 z.2 c.in_ok-ascends.ascends c.if-not-ascends.true c.next_part.new.self.ascent h (c.in_ok-ascends.ensures.tells k)))
+    subst (λ (e : JsonError). Stops (forms_of d) d.layout.now.root.now w.bytes.now e) (sym c.into.ensures) (stops_descends (forms_of d) d.layout.now.root.now w.bytes.now c.refused_element.result c.refused_element.ensures.same (next_falls d w p a z.0 z.1 z.2 c.in_ok-is_above.is_above c.if-not-is_above.true c.next_part.new.self.ascent h (c.in_ok-is_above.ensures.tells k)))
 
 pub returns-in_err-write_key-clause-state : goal.returns-in_err-write_key-clause-state
 returns-in_err-write_key-clause-state c =
