@@ -20,6 +20,7 @@ pub mod WholeLaws
 pub mod StopLaws
 pub mod NullLaws
 pub mod PartsLaws
+pub mod BytesFall
 pub mod LoopLaws
 pub mod ReadingLaws
 pub mod WritingLaws

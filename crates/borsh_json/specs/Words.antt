@@ -3,12 +3,12 @@ pub use Rattle.borsh_json.specs.Descents.{HasDescent, HasKeys, NumbersDescend}
 pub use Rattle.borsh_json.specs.Errors.{IsNoJsonReason, IsNoMemberReason, IsNoRowsReason, IsPartError, IsReadRefusal, IsTextReason, IsTooDeep, IsUnreadable, IsUnwritable}
 pub use Rattle.borsh_json.specs.Forms.{Form, HasNoBytes, IsByte, IsMap, IsOption, choice, form_of, form_of_struct, forms_in, newtype, sequence, shape_of_form, shapes, tuple}
 pub use Rattle.borsh_json.specs.Found.{AreEntries, HasForm, IsAlike, IsCollection, IsMapName, IsNamed, IsPrimitiveKind, IsRefusedList, IsRepeated, IsSetName, TellsKind, forms_of, joined, names_of}
-pub use Rattle.borsh_json.specs.Frames.{AddsList, AreKeyed, AreSorted, DeniesRead, GivesPart, HasEntries, HasFields, HasItems, HasLeft, HasRead, HaveLeft, HaveNumbers, HaveOneEach, IsArrayOf, IsEntryKey, IsExpected, IsKey, IsNext, IsNextEntry, IsOf, IsOfRead, IsOpened, IsRank, IsText, IsUnread, IsVariantAt, IsWanted, NamesVariant, NoneLeft, Opens, ReadsOn, SaysArray, Wanted}
+pub use Rattle.borsh_json.specs.Frames.{AddsList, AddsOrFalls, AreKeyed, AreSorted, DeniesRead, ElementsFall, GivesPart, HasEntries, HasFields, HasItems, HasLeft, HasRead, HaveLeft, HaveNumbers, HaveOneEach, IsArrayOf, IsEntryKey, IsExpected, IsKey, IsNext, IsNextEntry, IsOf, IsOfRead, IsOpened, IsOpenedOrFalls, IsRank, IsText, IsUnread, IsVariantAt, IsWanted, MayFall, NamesVariant, NoneLeft, Opens, ReadsOn, SaysArray, Wanted}
 pub use Rattle.borsh_json.specs.Known.{IsKnown, SaysBy}
 pub use Rattle.borsh_json.specs.NoJson.{ShowsNoJson}
 pub use Rattle.borsh_json.specs.NoValue.{ShowsNoValue}
 pub use Rattle.borsh_json.specs.Ordered.{AreNumbers, IsSequenceName, IsTreeMapName, Order, is_below_zero, listed, needs, tuple_name}
-pub use Rattle.borsh_json.specs.Orders.{AreOpenIn, AreOrderedNumbers, AwaitsOrder, BeginsOrder, ComparesFronts, ComparesNumbers, ComparesTexts, FindsBytesAt, FindsKeysOf, FindsKind, FindsKindAt, FindsNeeded, FindsNext, FindsOrder, FindsOrderAt, HasElements, HasFound, HasKinds, HasOrderAt, HasOrders, IsCut, IsElementFall, IsFoundAt, IsKnownAt, IsNeeded, IsOrderOf, KindHasOrder, KnowsMore, OrderedBy, OrdersKeys, TakesCount, DecidesAscent, ValuesCompare}
+pub use Rattle.borsh_json.specs.Orders.{AreOpenIn, AreOrderedNumbers, AwaitsOrder, BeginsOrder, ComparesFronts, ComparesNumbers, ComparesTexts, FindsBytesAt, FindsKeysOf, FindsKind, FindsKindAt, FindsNeeded, FindsNext, FindsOrder, FindsOrderAt, HasElements, HasFound, HasKeyOrder, HasKinds, HasOrderAt, HasOrders, IsCut, IsElementFall, IsFoundAt, IsKnownAt, IsNeeded, IsOrderOf, KindHasOrder, KnowsMore, OrderedBy, OrdersKeys, TakesCount, DecidesAscent, ValuesCompare}
 pub use Rattle.borsh_json.specs.Places.{AreKeysOf, IsAt, IsInfinity, IsKindAt, IsKindOf, IsListOf, lengths_of}
 pub use Rattle.borsh_json.specs.Ranks.{HasRank, IsLeading, IsPlain, magnitude, number_found, rank_of}
 pub use Rattle.borsh_json.specs.Reads.{AreRead, Before, Left, PartsOfAll, SaysFirst, SaysSome, entries_left}
@@ -17,6 +17,7 @@ pub use Rattle.borsh_json.specs.Table.{AreKeys, Entry, HasKind, InRange, IsHex, 
 pub use Rattle.borsh_json.specs.Leaves.{Adds, IsOpenedAs, output_before, output_tokens}
 pub use Rattle.borsh_json.specs.Writes.{ArePartsOf, AscendsFrom, BeginsAt, BeginsNext, BeginsStruct, HasNode, IsAbove, IsAwaitingAt, IsBegunOf, IsFull, IsKeyPut, IsLast, IsOfWrite, IsPartWritten, IsWritingAt, IsWrittenNext, IsWrittenOn, RefusesElements, StopsBy, TellsAscent, WritesStruct, WritesValueOf, ends_of, leaf_depth}
 pub use Rattle.borsh_json.specs.declared.definitions.Known.TheVariants.{Order as KnownOrder}
+pub use Rattle.borsh_json.specs.declared.definitions.Known.{Known as KnownAt}
 pub use Rattle.borsh_json.specs.declared.error.ReadError.TheVariants.{OutOfMemory}
 pub use Rattle.borsh_json.specs.declared.error.Refusal.TheVariants.{TooDeep}
 pub use Rattle.borsh_json.specs.declared.kinds.Elements.{Elements as FoundElements}
