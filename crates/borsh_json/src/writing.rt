@@ -39,12 +39,12 @@ use std::collections::BTreeMap;
 /// elements and maps whose keys have no bytes, and values that nest more than 128 deep. The order of keys is known of numbers,
 /// `bool`, texts, and of tuples, arrays, lists, ordered sets and maps, and options of these, and not of structs and enums.
 ///
-/// Determined: after `Ok` the text is JSON that says these bytes, of the characters of the style; a compact one is one line, without
-/// control characters; where any are allowed, it has no white space but that of its layout. So no other bytes have it, they are a member of the root ([`crate::text_determines_bytes`]), and
-/// [`crate::from_json`] gives them, if anything. `NoMember` and `Ambiguous` are as of [`borsh_values::is_member`], and `NoValue` and
-/// `NotJson` aren't returned. After `Refused` they are a member, and it has a reason: `TooDeep`, that a value begins in them inside
-/// of 128 others or more; `Descends`, that a set or a map begins there, of which two neighbours don't ascend in the known order of its
-/// keys; others, that a value begins there of which no JSON says these bytes. Left open: memory; which of the texts that say them: tested.
+/// Determined: after `Ok` the text is JSON that says these bytes, of the characters of the style; a compact one is one line,
+/// without control characters; where any are allowed, it has no white space but that of its layout. So no other bytes have it, they
+/// are a member of the root ([`crate::text_determines_bytes`]), and [`crate::from_json`] gives them, if anything. `NoMember` and
+/// `Ambiguous` are as of [`borsh_values::is_member`], and `NoValue` and `NotJson` aren't returned. After `Refused` they are a
+/// member with a part of this kind: `TooDeep`, a value inside of 128 others; `Descends`, a set or map of which two neighbours don't
+/// ascend in the known order of its keys; others, a value that no JSON says. Left open: memory; which of such texts: tested.
 ///
 /// ```
 /// let text = to_json(alloc, "(u8, bool)", &definitions, &[7, 1], Style::COMPACT)?;
