@@ -1,5 +1,5 @@
 -- Sets of bytes as digits, of which two neighbours don't ascend; and sets and maps as arrays, of which they may not.
-use Rattle.std.proofs.Common.{◌≡◌, ℕ, ◌<◌, ◌≤◌, ◌*◌, List, [], ◌∷◌, ◌++◌, length, drop, Bool, true, false, Option, Some, None, refl, sym, ◌∙◌, ap, subst, arith}
+use Rattle.std.proofs.Common.{◌≡◌, ℕ, ◌<◌, ◌≤◌, List, [], ◌++◌, length, drop, Bool, true, false, Option, Some, None, refl, sym, ◌∙◌, ap, subst, arith}
 use Rattle.std.specs.Prelude.{Result, Ok, Err, pos, is_some, All, IfSome}
 use Rattle.json.specs.Json.{Json, string, array, Items}
 use Rattle.borsh_walks.specs.Container.{tag}
@@ -12,7 +12,7 @@ use Rattle.borsh_json.specs.declared.kinds.Elements.{Elements}
 use Rattle.borsh_json.specs.declared.order.Ascent.{Ascent}
 use Rattle.borsh_json.specs.declared.order.Ordered.{Ordered}
 use Rattle.borsh_json.specs.Descents.{NumbersDescend}
-use Rattle.borsh_json.specs.Forms.{Form, sequence, primitive, shapes}
+use Rattle.borsh_json.specs.Forms.{Form, sequence, shapes}
 use Rattle.borsh_json.specs.Frames.{AddsList, AddsOrFalls, DeniesOr, DeniesRead, ElementsFall, FallsFirst}
 use Rattle.borsh_json.specs.NoValue.{HasNeighbours}
 use Rattle.borsh_json.specs.Orders.{AreOrderedNumbers, HasKeyOrder}

@@ -1,6 +1,6 @@
 -- Neighbours of a set or a map that don't ascend.
-use Rattle.std.proofs.Common.{◌≡◌, ◌⊎◌, inl, inr, ℕ, suc, zero, ◌+◌, ◌-◌, ◌*◌, ◌<◌, ◌≤◌, ◌^◌, List, [], ◌∷◌, ◌++◌, length, map, take, drop, replicate, Bool, Option, Some, refl, sym, ◌∙◌, ap, subst, arith, append_assoc, append-nil, length-append, length-drop, length-take-le, take-append-drop}
-use Rattle.std.specs.Prelude.{ℤ, pos, All, codes}
+use Rattle.std.proofs.Common.{◌≡◌, inl, inr, ℕ, suc, zero, ◌+◌, ◌-◌, ◌*◌, ◌<◌, ◌≤◌, ◌^◌, List, [], ◌∷◌, ◌++◌, length, take, drop, Bool, Option, Some, refl, sym, ◌∙◌, ap, subst, arith, append_assoc, length-append, length-drop, length-take-le, take-append-drop}
+use Rattle.std.specs.Prelude.{ℤ, pos, All}
 use Rattle.std.specs.Ordering.{nat_cmp, int_cmp, ordering_then}
 use Rattle.std.specs.Cmp.Lexicographic.{slice_cmp}
 use Rattle.std.specs.declared.cmp.Ordering.{Ordering}
@@ -10,9 +10,9 @@ use Rattle.borsh_walks.specs.Container.{Member, of_primitive, Members, tag}
 use Rattle.borsh_walks.specs.Container as shape
 use Rattle.borsh_values.proofs.Packed.{copies_of}
 use Rattle.borsh_json.specs.Descents.{NumbersDescend, HasKeys, HasDescent}
-use Rattle.borsh_json.specs.Forms.{Form, primitive, tuple, sequence, shapes}
+use Rattle.borsh_json.specs.Forms.{Form, primitive, shapes}
 use Rattle.borsh_json.specs.Table.{InRange}
-use Rattle.borsh_json.specs.Ordered.{Order, numbers, text, HasOrder, IsOrdered, Ranked, a_value, Rank, no_rank, more_rank, Compare}
+use Rattle.borsh_json.specs.Ordered.{numbers, text, HasOrder, IsOrdered, a_value, Rank, no_rank, more_rank, Compare}
 use Rattle.borsh_json.proofs.IntegerLaws.{number_there}
 use Rattle.borsh_json.proofs.OrderLaws.{clash, marked, marked_cmp}
 use Rattle.borsh_json.proofs.OrderNumbers.{long_tag}

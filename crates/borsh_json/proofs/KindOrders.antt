@@ -1,5 +1,5 @@
 -- The orders of sets and maps, as they are found with kinds.
-use Rattle.std.proofs.Common.{◌≡◌, inl, inr, ℕ, ◌<◌, List, [], ◌∷◌, ◌++◌, length, Option, Some, None, IfSome, refl, sym, ◌∙◌, ap, subst}
+use Rattle.std.proofs.Common.{◌≡◌, inl, inr, ℕ, ◌<◌, List, [], ◌∷◌, ◌++◌, length, Option, Some, None, IfSome, refl, sym, ◌∙◌, subst}
 use Rattle.std.specs.Prelude.{Bool, reverse, slice_get}
 use Rattle.std.specs.Borrow.{Bor}
 use Rattle.borsh_walks.specs.declared.definition.Definition.{Definition}
@@ -9,8 +9,8 @@ use Rattle.borsh_values.specs.Layouts.{name_at}
 use Rattle.borsh_values.proofs.Places.{name_there}
 use Rattle.borsh_json.specs.declared.definitions.Definitions.{Definitions}
 use Rattle.borsh_json.specs.declared.definitions.Known.{Known}
-use Rattle.borsh_json.specs.declared.definitions.Known.TheVariants.{Nothing, Order as KnownOrder}
-use Rattle.borsh_json.specs.declared.formats.Collection.TheVariants.{Set, Map as MapCollection}
+use Rattle.borsh_json.specs.declared.definitions.Known.TheVariants.{Order as KnownOrder}
+use Rattle.borsh_json.specs.declared.formats.Collection.TheVariants.{Set}
 use Rattle.borsh_json.specs.declared.kinds.KeyKind.TheVariants.{Text as TextKeys, Number as NumberKeys}
 use Rattle.borsh_json.specs.declared.kinds.Kind.{Kind}
 use Rattle.borsh_json.specs.declared.kinds.Kind.TheVariants.{Number, Bool as Truth, Text as TextKind, Bytes, Float, ByteList, Numbers, List as ListKind, Map, Row, Newtype, Object, Optional, Choice, Repeated}
@@ -23,7 +23,7 @@ use Rattle.borsh_json.specs.Known.{IsKnown}
 use Rattle.borsh_json.specs.Ordered.{numbers, text, HasOrder, IsOrdered, ordered}
 use Rattle.borsh_json.specs.Orders.{HasFound, KeepsOrders, Open, AreOpen, AreOpenIn, AwaitsOrder, TellsOrder, IsOrderIn, AreOrders, HasOrders, KnowsMore, KeysAscend, HasKeyOrder, KindHasOrder, KindsHaveOrders}
 use Rattle.borsh_json.specs.Places.{AreKeysOf, IsAt, IsKindAt}
-use Rattle.borsh_json.specs.Table.{Keys, AreKeys, Kind as TableKind, no_bytes, whole, primitive_kind, HasKind, DefinedKind, texts, numbers as number_keys}
+use Rattle.borsh_json.specs.Table.{Keys, AreKeys, Kind as TableKind, whole, primitive_kind, HasKind, DefinedKind, texts, numbers as number_keys}
 use Rattle.borsh_json.proofs.FoundLaws.{full_list}
 use Rattle.borsh_json.proofs.OrderedLaws.{still}
 use Rattle.borsh_json.proofs.PlaceLaws.{get_pushed, kinds_pushed}

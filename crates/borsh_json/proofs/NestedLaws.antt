@@ -1,5 +1,5 @@
 -- Where in a value the writer is.
-use Rattle.std.proofs.Common.{◌≡◌, ℕ, suc, ◌≤◌, List, [], ◌∷◌, ◌++◌, length, Option, Some, None, refl, sym, ◌∙◌, ap, subst, arith, append_assoc, append-nil}
+use Rattle.std.proofs.Common.{◌≡◌, ℕ, suc, ◌≤◌, List, [], ◌∷◌, ◌++◌, length, Option, Some, refl, sym, ◌∙◌, ap, subst, arith, append_assoc, append-nil}
 use Rattle.borsh_walks.specs.Container.{Shape, IsIn, first, later, Member, Members, no_members, more_members, IsZeroSize}
 use Rattle.borsh_walks.proofs.Laws.{zero_member}
 use Rattle.borsh_values.specs.Nodes.{Opens}

@@ -1,12 +1,12 @@
 -- The orders of names, as names and definitions tell them.
-use Rattle.std.proofs.Common.{◌≡◌, ◌⊎◌, inl, inr, ℕ, suc, zero, ◌+◌, ◌<◌, ◌≤◌, List, [], ◌∷◌, ◌++◌, length, map, take, get_or, set, Bool, true, false, Option, Some, None, IfSome, String, refl, sym, ◌∙◌, ap, subst, arith, append_assoc}
+use Rattle.std.proofs.Common.{◌≡◌, inl, inr, ℕ, suc, zero, ◌+◌, ◌<◌, ◌≤◌, List, [], ◌∷◌, ◌++◌, length, map, take, get_or, set, Bool, true, false, Option, Some, None, IfSome, String, refl, sym, ◌∙◌, ap, subst, arith, append_assoc}
 use Rattle.std.specs.Prelude.{◌==◌, Decides, codes, reverse, slice_get, string_bytes}
 use Rattle.std.specs.Global.{Global}
 use Rattle.std.specs.Ordering.{is_lt}
 use Rattle.std.specs.declared.cmp.Ordering.{Ordering}
 use Rattle.std.specs.declared.cmp.Ordering.TheVariants.{Less, Equal, Greater}
 use Rattle.std.proofs.lemmas.Bool.{cases_eq}
-use Rattle.std.proofs.lemmas.List.{reverse-append, length-set}
+use Rattle.std.proofs.lemmas.List.{reverse-append}
 use Rattle.borsh_walks.specs.Container.{IsIn, first, later}
 use Rattle.borsh_values.specs.declared.layout.Named.{Named}
 use Rattle.borsh_json.specs.declared.definitions.Known.{Known}
@@ -15,10 +15,9 @@ use Rattle.borsh_json.specs.declared.order.Ordered.{Ordered}
 use Rattle.borsh_json.specs.declared.order.Ordered.TheVariants.{Number}
 use Rattle.borsh_json.specs.Forms.{Form, primitive, HasNoBytes}
 use Rattle.borsh_json.specs.Table.{primitive_kind}
-use Rattle.borsh_json.specs.Ordered.{Order, numbers, needs, AreNumbers, HasOrder, IsOrdered, ordered, listed, tuple_name}
-use Rattle.borsh_json.specs.Orders.{IsOrderOf, FindsOrder, FindsBytes, HasFound, KeepsOrders, AreFound, IsOrderIn, AreOrders, Open, IsOpen, AreOpen}
+use Rattle.borsh_json.specs.Ordered.{numbers, needs, AreNumbers, IsOrdered, ordered, listed, tuple_name}
+use Rattle.borsh_json.specs.Orders.{IsOrderOf, FindsOrder, FindsBytes, HasFound, KeepsOrders, IsOrderIn, AreOrders, Open, IsOpen, AreOpen}
 use Rattle.borsh_json.specs.Places.{IsAt}
-use Rattle.borsh_json.proofs.PendingLaws.{in_list}
 
 pub less_tested : (r o : Ordering) (b : Bool) → b ≡ is_lt o → o ≡ r → Decides b (r ≡ Less)
 less_tested r o b e q = subst (λ r. Decides b (r ≡ Less)) q (subst (λ b. Decides b (o ≡ Less)) (sym e) (by o))

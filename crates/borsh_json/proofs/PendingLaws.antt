@@ -1,5 +1,5 @@
 -- What is still to be compared.
-use Rattle.std.proofs.Common.{◌≡◌, ◌⊎◌, inl, inr, ℕ, suc, zero, ◌+◌, ◌-◌, ◌<◌, ◌≤◌, ◌^◌, List, [], ◌∷◌, ◌++◌, length, map, drop, Bool, Option, Some, None, refl, sym, ◌∙◌, ap, subst, arith}
+use Rattle.std.proofs.Common.{◌≡◌, ◌⊎◌, inl, inr, ℕ, suc, zero, ◌+◌, ◌-◌, ◌<◌, ◌≤◌, ◌^◌, List, [], ◌∷◌, ◌++◌, length, map, drop, Bool, Option, Some, refl, sym, ◌∙◌, ap, subst, arith}
 use Rattle.std.specs.Prelude.{ℤ, pos, reverse, option_map, slice_get}
 use Rattle.std.specs.Ordering.{nat_cmp, int_cmp, MatchOrdering}
 use Rattle.std.specs.Cmp.Lexicographic.{slice_cmp}
@@ -11,14 +11,13 @@ use Rattle.borsh_walks.specs.Container.{tag, IsIn, first, later, zeroed}
 use Rattle.borsh_walks.specs.Container as shape
 use Rattle.borsh_values.specs.declared.layout.Named.{Named}
 use Rattle.borsh_json.specs.declared.definitions.Known.{Known}
-use Rattle.borsh_json.specs.declared.order.Ordered.{Ordered}
 use Rattle.borsh_json.specs.declared.order.Ordered.TheVariants.{Single, Number, Text, Array, List as Counted, Tuple}
 use Rattle.borsh_json.specs.declared.order.Pending.{Pending}
 use Rattle.borsh_json.specs.declared.order.Pending.TheVariants.{Elements, Parts}
-use Rattle.borsh_json.specs.Forms.{Form, primitive, tuple, shape_of_form, HasNoBytes}
+use Rattle.borsh_json.specs.Forms.{Form, tuple, shape_of_form, HasNoBytes}
 use Rattle.borsh_json.specs.Table.{InRange}
 use Rattle.borsh_json.specs.Ordered.{Order, single, numbers, text, array, list, parts, HasOrder, Ranked, a_value, elements, Compare, Continues}
-use Rattle.borsh_json.specs.Orders.{HasFound, AreFound, IsOrderOf, IsOrderIn, IsPending, ArePending}
+use Rattle.borsh_json.specs.Orders.{HasFound, AreFound, IsOrderIn, IsPending, ArePending}
 use Rattle.borsh_json.specs.Places.{IsAt}
 use Rattle.borsh_json.proofs.OrderLaws.{single_step, numbers_step, text_step, array_step, list_step, parts_step, end_step, element_step, empty_step, all_compared}
 

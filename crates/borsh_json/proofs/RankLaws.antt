@@ -1,7 +1,6 @@
 -- Values of names whose order is known have numbers by which they compare.
-use Rattle.std.proofs.Common.{◌≡◌, ◌⊎◌, inl, inr, ℕ, suc, zero, ◌*◌, ◌<◌, ◌≤◌, ◌^◌, List, [], ◌∷◌, ◌++◌, length, map, drop, get_or, replicate, Bool, true, false, Option, Some, refl, sym, ◌∙◌, ap, subst, arith, append_assoc, append-nil}
+use Rattle.std.proofs.Common.{◌≡◌, ◌⊎◌, inl, inr, ℕ, suc, zero, ◌<◌, ◌^◌, List, [], ◌∷◌, ◌++◌, length, map, replicate, Option, Some, refl, sym, ◌∙◌, ap, subst, arith, append_assoc, append-nil}
 use Rattle.std.specs.Prelude.{ℤ, pos, codes, option_map}
-use Rattle.std.proofs.lemmas.Bool.{cases_lt}
 use Rattle.std.specs.Ordering.{int_cmp}
 use Rattle.std.specs.Cmp.Lexicographic.{slice_cmp}
 use Rattle.std.specs.declared.cmp.Ordering.{Ordering}
@@ -14,8 +13,7 @@ use Rattle.borsh_values.proofs.Packed.{copies_are}
 use Rattle.borsh_values.proofs.PrefixFree.{member_as}
 use Rattle.borsh_values.proofs.Required.{joined, parted}
 use Rattle.borsh_json.specs.Descents.{HasKeys}
-use Rattle.borsh_json.specs.Forms.{Form, primitive, sequence, tuple, choice, shape_of_form, shapes, HasNoBytes, IsOption}
-use Rattle.borsh_json.specs.Table.{InRange}
+use Rattle.borsh_json.specs.Forms.{Form, shape_of_form, shapes}
 use Rattle.borsh_json.specs.Ordered.{Order, single, numbers, text, array, list, parts, needs, HasOrder, OrdersBytes, IsOrdered, ordered, Ranked, a_value, elements, Rank, no_rank, more_rank, Compare}
 use Rattle.borsh_json.proofs.IntegerLaws.{number_there}
 

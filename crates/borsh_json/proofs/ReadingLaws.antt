@@ -25,7 +25,7 @@ use Rattle.borsh_json.specs.Errors.{IsUnreadable}
 use Rattle.borsh_json.specs.Frames.{DeniesOr, FallsFirst, IsUnread, IsOf, IsOfRead, IsReading, IsReadOn, MayFall, HasLeft, HaveLeft, IsFound}
 use Rattle.borsh_json.specs.NoValue.{RefusesJson}
 use Rattle.borsh_json.specs.Places.{IsAt}
-use Rattle.borsh_json.specs.Reads.{Left, items_left, PartsOfAll, Before, SaysFirst, SaysSome, AreRead}
+use Rattle.borsh_json.specs.Reads.{Left, items_left, PartsOfAll, Before, SaysSome, AreRead}
 use Rattle.borsh_json.specs.Represents.{HaveBytes}
 use Rattle.borsh_json.specs.Table.{Part as JsonPart}
 use Rattle.borsh_json.specs.Writes.{IsFull}

@@ -1,6 +1,6 @@
 -- The names whose orders are being found.
-use Rattle.std.proofs.Common.{◌≡◌, ℕ, ◌+◌, ◌<◌, ◌≤◌, List, [], ◌∷◌, ◌++◌, length, set, Option, Some, None, IfSome, refl, sym, ◌∙◌, ap, subst, arith}
-use Rattle.std.specs.Prelude.{MatchOption, reverse, slice_get}
+use Rattle.std.proofs.Common.{◌≡◌, ℕ, ◌+◌, List, [], ◌∷◌, ◌++◌, set, Option, Some, None, refl, sym, ◌∙◌, subst, arith}
+use Rattle.std.specs.Prelude.{slice_get}
 use Rattle.std.specs.Borrow.{Bor}
 use Rattle.std.proofs.lemmas.List.{length-set}
 use Rattle.borsh_values.specs.declared.layout.Layout.{Layout}
@@ -14,7 +14,7 @@ use Rattle.borsh_json.specs.Forms.{forms_in}
 use Rattle.borsh_json.specs.Found.{forms_of, names_of}
 use Rattle.borsh_json.specs.Known.{IsKnown}
 use Rattle.borsh_json.specs.Ordered.{Order, needs}
-use Rattle.borsh_json.specs.Orders.{FindsOrder, HasFound, KeepsOrders, AreOrders, IsOrderOf, IsNeeded, Open, IsOpen, AreOpen, AreOpenIn, AwaitsOrder, KnowsMore, HasOrders}
+use Rattle.borsh_json.specs.Orders.{FindsOrder, HasFound, KeepsOrders, AreOrders, IsOrderOf, IsNeeded, Open, AreOpenIn, AwaitsOrder, KnowsMore}
 use Rattle.borsh_json.specs.Places.{IsAt, AreKinds}
 use Rattle.borsh_json.proofs.OrderedLaws.{in_range, unknown_orders, found_orders, last_open, more_open, part_open}
 

@@ -1,5 +1,5 @@
 -- Where the writer is after each step.
-use Rattle.std.proofs.Common.{◌≡◌, ℕ, suc, ◌+◌, ◌-◌, ◌<◌, ◌≤◌, List, [], ◌∷◌, ◌++◌, length, replicate, Option, Some, None, refl, sym, ◌∙◌, ap, subst, arith, append_assoc, append-nil}
+use Rattle.std.proofs.Common.{◌≡◌, ℕ, ◌+◌, ◌-◌, ◌<◌, ◌≤◌, List, [], ◌∷◌, ◌++◌, length, replicate, Option, Some, None, refl, sym, ◌∙◌, ap, subst, arith, append_assoc, append-nil}
 use Rattle.json.specs.Token.{Token}
 use Rattle.json.specs.Tree.{json_tokens}
 use Rattle.borsh_walks.specs.Container.{Shape, product, IsIn, first, later, Member}
@@ -21,7 +21,7 @@ use Rattle.borsh_json.specs.Places.{IsAt}
 use Rattle.borsh_json.specs.Reads.{SaysFirst}
 use Rattle.borsh_json.specs.Represents.{HaveBytes, next_part}
 use Rattle.borsh_json.specs.Table.{Part, key_json}
-use Rattle.borsh_json.specs.Writes.{Rest, value_rest, entries_rest, names_of_rest, names_of_all, IsAbove, MayFollow, MayFollowAll, IsLast, IsWhole, Begins, Level, opened, Nested, unread, entered, passed, Mark, AreLevels, no_levels, level, no_place, IsHalved, IsRestOf, IsRest, AreRests, IsWriting, IsAwaiting, WritesFront}
+use Rattle.borsh_json.specs.Writes.{Rest, value_rest, entries_rest, names_of_rest, names_of_all, IsAbove, MayFollow, MayFollowAll, IsLast, IsWhole, Begins, opened, Nested, unread, entered, passed, Mark, AreLevels, no_levels, level, no_place, IsHalved, IsRestOf, IsRest, AreRests, IsWriting, IsAwaiting, WritesFront}
 use Rattle.borsh_json.proofs.WritingLaws.{begins, ends, key_written, leaf_written, front_written, end_written, entry_taken}
 use Rattle.borsh_json.proofs.NestedLaws.{settled}
 use Rattle.borsh_json.proofs.WritingPlaces.{key_tokens, TakesPart, TakesEntry, each_pushed, each_popped}

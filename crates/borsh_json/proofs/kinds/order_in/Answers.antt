@@ -1,4 +1,4 @@
-use Rattle.std.proofs.Common.{◌≡◌, Option, IfSome, subst}
+use Rattle.std.proofs.Common.{Option, IfSome, subst}
 use Rattle.borsh_json.specs.declared.formats.Collection.{Collection}
 use Rattle.borsh_json.specs.declared.order.Ordered.{Ordered}
 use Rattle.borsh_json.specs.Found.{IsCollection, forms_of, names_of}

@@ -2,9 +2,6 @@ use Rattle.std.proofs.Common.{subst}
 use Rattle.borsh_json.specs.declared.kinds.KeyKind.{KeyKind}
 use Rattle.borsh_json.specs.Places.{AreKeysOf}
 use Rattle.borsh_json.proofs.KindOrders.{keys_text, keys_number}
-use Rattle.borsh_json.proofs.KeyRanks.{keys_compare}
-use Rattle.borsh_json.proofs.PackedDescent.{packed_descent}
-use Rattle.borsh_json.proofs.RankLaws.{compares}
 use Rattle.borsh_json.proofs.kinds.order_of_keys.Goals as goal
 
 pub returns-in-Text : goal.returns-in-Text

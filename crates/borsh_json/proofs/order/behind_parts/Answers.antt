@@ -1,5 +1,4 @@
-use Rattle.std.proofs.Common.{◌≡◌, ◌∙◌, Some, map, string_bytes, ap, sym, arith, rules}
-use Rattle.std.specs.Prelude.{slice_get}
+use Rattle.std.proofs.Common.{◌∙◌, Some, map, string_bytes, ap, sym, rules}
 use Rattle.borsh_json.proofs.OrderedLaws.{named_get, listed_more}
 use Rattle.borsh_json.proofs.order.behind_parts.Goals as goal
 

@@ -1,4 +1,4 @@
-use Rattle.std.proofs.Common.{◌≡◌, List, ℕ, subst}
+use Rattle.std.proofs.Common.{subst}
 use Rattle.std.specs.declared.cmp.Ordering.{Ordering}
 use Rattle.borsh_json.specs.declared.order.Next.{Next}
 use Rattle.borsh_json.specs.Found.{forms_of, names_of}

@@ -1,4 +1,4 @@
-use Rattle.std.proofs.Common.{◌≡◌, ◌∙◌, ◌-◌, suc, ℕ, drop, ap, sym, subst, arith}
+use Rattle.std.proofs.Common.{◌≡◌, ◌∙◌, ◌-◌, suc, drop, subst, arith}
 use Rattle.borsh_json.proofs.OrderNumbers.{bytes_cmp, same_cmp, all_dropped, more_dropped, long_low}
 use Rattle.borsh_json.proofs.order.compare_bytes.Goals as goal
 

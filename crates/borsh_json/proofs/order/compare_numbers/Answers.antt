@@ -1,4 +1,4 @@
-use Rattle.std.proofs.Common.{◌≡◌, ◌∙◌, true, false, ap, sym, subst}
+use Rattle.std.proofs.Common.{◌≡◌, ◌∙◌, true, ap, sym, subst}
 use Rattle.std.specs.Ordering.{bool_cmp}
 use Rattle.borsh_json.specs.Table.{InRange}
 use Rattle.borsh_json.specs.Ordered.{is_below_zero}

@@ -1,4 +1,4 @@
-use Rattle.std.proofs.Common.{◌≡◌, ◌∙◌, [], take, drop, length, refl, sym, ap, subst, arith}
+use Rattle.std.proofs.Common.{◌≡◌, ◌∙◌, [], take, drop, refl, sym, subst, arith}
 use Rattle.std.specs.Ordering.{int_cmp}
 use Rattle.std.proofs.Math.Nat.{zero-mul}
 use Rattle.borsh_json.specs.declared.order.Ordered.TheVariants.{Number as NumberOrder}

@@ -1,4 +1,4 @@
-use Rattle.std.proofs.Common.{◌≡◌, ◌∙◌, Some, ap, sym, subst}
+use Rattle.std.proofs.Common.{◌∙◌, ap, sym, subst}
 use Rattle.std.specs.Prelude.{unwrap_or}
 use Rattle.borsh_json.specs.declared.order.Ordered.{Ordered}
 use Rattle.borsh_json.specs.declared.order.Ordered.TheVariants.{Single}

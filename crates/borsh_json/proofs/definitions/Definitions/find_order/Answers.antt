@@ -1,4 +1,4 @@
-use Rattle.std.proofs.Common.{◌≡◌, ◌∙◌, ℕ, List, Option, IfSome, sym, subst}
+use Rattle.std.proofs.Common.{◌∙◌, ℕ, Option, IfSome, sym, subst}
 use Rattle.borsh_json.specs.declared.definitions.Definitions.{Definitions}
 use Rattle.borsh_json.specs.Orders.{AwaitsOrder, KnowsMore}
 use Rattle.borsh_json.proofs.KindOrders.{knows_more, knows_then, awaits_at, open_at}

@@ -1,5 +1,4 @@
-use Rattle.std.proofs.Common.{◌≡◌, ◌∙◌, refl, sym, ap}
-use Rattle.borsh_json.specs.Found.{forms_of, names_of}
+use Rattle.std.proofs.Common.{◌∙◌}
 use Rattle.borsh_json.proofs.WaitingLaws.{known_alike, awaits_part, last_found, part_for}
 use Rattle.borsh_json.proofs.definitions.Definitions.next_needed.Goals as goal
 

@@ -1,4 +1,4 @@
-use Rattle.std.proofs.Common.{◌≡◌, ◌∙◌, ℕ, None, Some, drop, sym, ap, subst}
+use Rattle.std.proofs.Common.{◌≡◌, ◌∙◌, None, Some, drop, sym, ap, subst}
 use Rattle.borsh_json.specs.Orders.{ValuesCompare}
 use Rattle.borsh_json.proofs.OrderedLaws.{less_tested}
 use Rattle.borsh_json.proofs.order.Ascent.ascends.Goals as goal
