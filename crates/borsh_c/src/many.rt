@@ -1,7 +1,7 @@
 // Many values of one schema, which is decoded once.
 ghost use Rattle.borsh_c.specs.Answers.{About, IsRefused, IsUnclear};
 ghost use Rattle.borsh_c.specs.Many.{AreLines, BeginWith, HaveLines, HasNoLine, IsNoLine, IsNoRecord, IsStop, IsWhole, behind};
-ghost use Rattle.borsh_json.specs.Known.{HasKinds};
+ghost use Rattle.borsh_json.specs.Orders.{HasKinds};
 ghost use Rattle.borsh_json.specs.declared.output.Characters.TheVariants.{Any};
 ghost use Rattle.borsh_json.specs.declared.output.Layout.TheVariants.{Compact};
 ghost use Rattle.borsh_values.specs.Free.{KnowsSizes};

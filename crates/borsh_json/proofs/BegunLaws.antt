@@ -49,15 +49,15 @@ module _ (F : List ℕ → Option Form) (ns : List Named) (x : List ℕ) (f : Fo
       (subst (λ (l : Option EntryKey). IsRestOf F ns parts 0 l r) (sym c) i))
 
   -- the bracket of a place was written, or there was no memory for it
-  pub value_begun : (n : ℕ) (own : List ℕ) (parts : Parts) (r : Rest) (old new : Output) (result : Result (Option Place) WriteError) → IsRestOf F ns parts 0 None r → IsFront F x own r (begins_of parts) → Opens (shapes F) (shape_of_form f) own (names_of_rest r) → BeginsAt parts old new result → WritesValue F ns n x f own old new result
-  value_begun n own parts r old new (Ok None) i w o b = absurd b
-  value_begun n own parts r old new (Ok (Some p)) i w o b = (r, new_place parts p r b.0 b.1 b.2 i, front_written F x own r (begins_of parts) old new w b.3, o)
-  value_begun n own parts r old new (Err e) i w o b = subst (λ (e : WriteError). RefusesValue F x own e) (sym b) tt
+  pub value_begun : (kind : Found) (own : List ℕ) (parts : Parts) (r : Rest) (old new : Output) (result : Result (Option Place) WriteError) → ((es : FoundEntries) (n : ℕ) → parts ≡ MapEntries es n → (order : Ordered) × (kind ≡ MapKind es order)) → IsRestOf F ns parts 0 None r → IsFront F x own r (begins_of parts) → Opens (shapes F) (shape_of_form f) own (names_of_rest r) → BeginsAt parts old new result → WritesValue F ns kind x f own old new result
+  value_begun kind own parts r old new (Ok None) m i w o b = absurd b
+  value_begun kind own parts r old new (Ok (Some p)) m i w o b = (r, new_place parts p r b.0 b.1 b.2 i, front_written F x own r (begins_of parts) old new w b.3, o, (b.4, b.2, λ es n e. m es n (sym b.0 ∙ e)))
+  value_begun kind own parts r old new (Err e) m i w o b = subst (λ (e : WriteError). RefusesValue F x own e) (sym b) tt
 
-  struct_begun : (kind : Found) (parts : Parts) (r : Rest) (old new : Output) (result : Result (Option Place) WriteError) → IsRestOf F ns parts 0 None r → IsFront F x [] r (begins_of parts) → shape_of_form f ≡ product (names_of_rest r) → BeginsAt parts old new result → WritesStruct F ns x f kind old new result
-  struct_begun kind parts r old new (Ok None) i w s b = absurd b
-  struct_begun kind parts r old new (Ok (Some p)) i w s b = (r, new_place parts p r b.0 b.1 b.2 i, front_written F x [] r (begins_of parts) old new w b.3, s)
-  struct_begun kind parts r old new (Err e) i w s b = subst (λ (e : WriteError). RefusesValue F x [] e) (sym b) tt
+  struct_begun : (kind : Found) (parts : Parts) (r : Rest) (old new : Output) (result : Result (Option Place) WriteError) → ((es : FoundEntries) (n : ℕ) → parts ≡ MapEntries es n → ⊥) → IsRestOf F ns parts 0 None r → IsFront F x [] r (begins_of parts) → shape_of_form f ≡ product (names_of_rest r) → BeginsAt parts old new result → WritesStruct F ns x f kind old new result
+  struct_begun kind parts r old new (Ok None) m i w s b = absurd b
+  struct_begun kind parts r old new (Ok (Some p)) m i w s b = (r, new_place parts p r b.0 b.1 b.2 i, front_written F x [] r (begins_of parts) old new w b.3, s, (b.4, b.2, λ es n e. absurd (m es n (sym b.0 ∙ e))))
+  struct_begun kind parts r old new (Err e) m i w s b = subst (λ (e : WriteError). RefusesValue F x [] e) (sym b) tt
 
   -- ---- structs and tuples
   module _ (at : ℕ) (i : IsAt ns at x) (d : F x ≡ Some f) (old new : Output) (result : Result (Option Place) WriteError) where
@@ -66,14 +66,14 @@ module _ (F : List ℕ → Option Form) (ns : List Named) (x : List ℕ) (f : Fo
         let refs = references (shape_of_form f) in
         let r = items_rest (map (λ (w : Wanted). w.1) (map (λ y. ([], y)) refs)) in
         let same = second_map refs in
-        struct_begun (RowKind n) (Row at n) r old new result
+        struct_begun (RowKind n) (Row at n) r old new result (λ es n e. cc)
         (map (λ y. ([], y)) refs, (x, f, i, d, k.1, refl), refl)
         (subst (λ (xs : List (List ℕ)). IsFront F x [] (items_rest xs) (Token.begin_array ∷ [])) (sym same) (row_front F x [] refs k.0 refl))
         (form_known F (row refs) f k.0 d (λ e. cc) ∙ ap product (sym same)) b
 
     newtype_begun : (p : ℕ) → IsKindOf F ns x f (NewtypeKind p) → BeginsAt (Newtype p) old new result → WritesStruct F ns x f (NewtypeKind p) old new result
     newtype_begun p k b =
-        struct_begun (NewtypeKind p) (Newtype p) (value_rest (k.0 ∷ [])) old new result
+        struct_begun (NewtypeKind p) (Newtype p) (value_rest (k.0 ∷ [])) old new result (λ es n e. cc)
         (([], k.0) ∷ [], (k.0, k.1, refl), refl)
         (newtype_front F x [] k.0 k.2 refl)
         (ap shape_of_form (form_known F (inner k.0) f k.2 d (λ e. cc))) b
@@ -83,7 +83,7 @@ module _ (F : List ℕ → Option Form) (ns : List Named) (x : List ℕ) (f : Fo
         let all : List Wanted = map (λ f. (string_bytes f.0, string_bytes f.1)) fs.now.items in
         let g = form_known F (fields all) f k.0 d (λ e. cc) in
         let u = subst (λ (l : List (List ℕ)). IsDistinct bytes_eq l) (sym (names_of (λ (f : String Global × String Global). string_bytes f.0) (λ f. string_bytes f.1) fs.now.items)) k.1 in
-        struct_begun (ObjectKind fs) (Object at fs) (members_rest all) old new result
+        struct_begun (ObjectKind fs) (Object at fs) (members_rest all) old new result (λ es n e. cc)
         (all, (x, i, d ∙ ap (λ f. Some f) g, refl), refl)
         (object_front F x [] all k.0 u refl)
         (ap shape_of_form g) b
@@ -110,23 +110,23 @@ module _ (F : List ℕ → Option Form) (ns : List Named) (x : List ℕ) (f : Fo
         let u = subst (λ (n : ℕ). OpensElements n e t.0 (drop l.width own) parts) z t.5 in
         (t.0, t.1, t.2, t.3, t.4 ∙ ap (λ bs. tag l.width (pos t.0) ++ bs) u.0, subst (λ (ps : List (List ℕ)). Opens (shapes F) (shape_of_form f) own ps) u.1 o.1)
 
-    pub list_begun : (n : ℕ) (es : FoundElements) (count : ℕ) (found : Option ℕ) (old new : Output) (result : Result (Option Place) WriteError) → IsKindOf F ns x f (ListKind es) → es.is_refused ≡ false → IsCountOf (shape_of_form f) own found → ((k : ℕ) → found ≡ Some k → count ≡ k) → BeginsAt (Elements es.at count) old new result → WritesValue F ns n x f own old new result
-    list_begun n es count found old new result k off c same b =
+    pub list_begun : (es : FoundElements) (count : ℕ) (found : Option ℕ) (old new : Output) (result : Result (Option Place) WriteError) → IsKindOf F ns x f (ListKind es) → es.is_refused ≡ false → IsCountOf (shape_of_form f) own found → ((k : ℕ) → found ≡ Some k → count ≡ k) → BeginsAt (Elements es.at count) old new result → WritesValue F ns (ListKind es) x f own old new result
+    list_begun es count found old new result k off c same b =
         let l = lengths_of f in
         let t = subst (λ (r : Bool). IsListOf F ns x f es.at r) off k.0 in
         let e = t.0 in
         let m = counted l e found (form_known F (list l e) f t.2 o.0 (λ e. cc)) (k.1 off e t.1) c in
         let copies : map (λ (w : Wanted). w.1) (replicate count ([], e)) ≡ replicate m.0 e = second_copies count e ∙ ap (λ (i : ℕ). replicate i e) (same m.0 m.1) in
         let none : count ≡ count - 0 = omega arith in
-        value_begun n own (Elements es.at count) (items_rest (replicate m.0 e)) old new result
+        value_begun (ListKind es) own (Elements es.at count) (items_rest (replicate m.0 e)) old new result (λ es n e. cc)
         (replicate count ([], e), (e, t.1, ap (λ (i : ℕ). replicate i ([], e)) none), ap items_rest (sym copies))
         (list_front F x own l e m.0 t.2 m.2 m.3 m.4) m.5 b
 
-    pub list_refused : (n : ℕ) (es : FoundElements) (old new : Output) → IsKindOf F ns x f (ListKind es) → es.is_refused ≡ true → WritesValue F ns n x f own old new (Err (Refused EmptyElements))
-    list_refused n es old new k on = none_says own (subst (λ (r : Bool). IsListOf F ns x f es.at r) on k.0)
+    pub list_refused : (es : FoundElements) (old new : Output) → IsKindOf F ns x f (ListKind es) → es.is_refused ≡ true → WritesValue F ns (ListKind es) x f own old new (Err (Refused EmptyElements))
+    list_refused es old new k on = none_says own (subst (λ (r : Bool). IsListOf F ns x f es.at r) on k.0)
 
-    pub map_begun : (n : ℕ) (es : FoundEntries) (order : Ordered) (count : ℕ) (found : Option ℕ) (old new : Output) (result : Result (Option Place) WriteError) → IsKindOf F ns x f (MapKind es order) → IsCountOf (shape_of_form f) own found → ((k : ℕ) → found ≡ Some k → count ≡ k) → BeginsAt (MapEntries es count) old new result → WritesValue F ns n x f own old new result
-    map_begun n es order count found old new result h c same b =
+    pub map_begun : (es : FoundEntries) (order : Ordered) (count : ℕ) (found : Option ℕ) (old new : Output) (result : Result (Option Place) WriteError) → IsKindOf F ns x f (MapKind es order) → IsCountOf (shape_of_form f) own found → ((k : ℕ) → found ≡ Some k → count ≡ k) → BeginsAt (MapEntries es count) old new result → WritesValue F ns (MapKind es order) x f own old new result
+    map_begun es order count found old new result h c same b =
         let l = lengths_of f in
         let k = h.0 in
         let v = h.1 in
@@ -137,6 +137,6 @@ module _ (F : List ℕ → Option Form) (ns : List Named) (x : List ℕ) (f : Fo
         let ws : List Wanted = replicate count ([], v) in
         let many : length ws ≡ m.0 = copies count ([], v) ∙ same m.0 m.1 in
         let none : count ≡ count - 0 = omega arith in
-        value_begun n own (MapEntries es count) (entries_rest keys k v g.0 m.0 None) old new result
+        value_begun (MapKind es order) own (MapEntries es count) (entries_rest keys k v g.0 m.0 None) old new result (λ fs n e. (let q : es ≡ fs = cc in (order, ap (λ es. MapKind es order) q)))
         (k, v, g.0, keys, None, ws, h.3, h.4, pair, h.6, refl, (v, h.4, ap (λ (i : ℕ). replicate i ([], v)) none), ap (λ (i : ℕ). entries_rest keys k v g.0 i None) (sym many))
         (map_front F x own l keys k v g.0 m.0 h.5 m.2 m.3 m.4) m.5 b

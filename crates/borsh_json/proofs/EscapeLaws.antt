@@ -1,18 +1,18 @@
 -- JSON in ASCII is read as the same JSON.
-use Rattle.std.proofs.Common.{◌≡◌, ◌⊎◌, inl, inr, ℕ, suc, ◌+◌, ◌-◌, ◌<◌, ◌≤◌, Bool, true, false, cond, ◌&&◌, ◌||◌, ◌==◌, nat_lt, List, [], ◌∷◌, ◌++◌, length, drop, get_or, encode_utf8, IsUtf8, All, refl, sym, ◌∙◌, ap, ap₂, subst, arith, append_assoc, length-append, eqb-true, ltb-true, ltb-false, lt-ltb, le-ltb, le-leb, ne_eqb}
+use Rattle.std.proofs.Common.{◌≡◌, ◌⊎◌, inl, inr, ℕ, ◌<◌, ◌≤◌, Bool, true, false, cond, ◌&&◌, ◌||◌, ◌==◌, nat_lt, List, [], ◌∷◌, ◌++◌, length, drop, get_or, encode_utf8, IsUtf8, All, refl, sym, ◌∙◌, ap, ap₂, subst, arith, append_assoc, length-append, eqb-true, lt-ltb, le-ltb, ne_eqb}
 use Rattle.std.specs.Prelude.{⊤, Option, Some, None, option_and_then}
-use Rattle.std.specs.Char.{IsScalar, digit_value, is_digit}
-use Rattle.std.specs.List.{list_all}
+use Rattle.std.specs.Char.{IsScalar, is_digit}
 use lib.Utf8.{encode, scalars}
-use Rattle.std.proofs.lemmas.Bool.{and_parts, and_from, and_cases, and_right, or_cases, or_parts, cases_lt, eqb-false, leb-false, true≢false, false≢true}
+use Rattle.std.proofs.lemmas.Bool.Decides.{nat_tests}
+use Rattle.std.proofs.lemmas.Bool.{and_parts, and_from, or_cases, or_parts, true≢false, false≢true}
 use Rattle.std.proofs.lemmas.List.Elements.{All-head, All-tail}
 use Rattle.std.proofs.lemmas.Str.{cons_from_encodes, encode_ascii, length-encode, len_utf8_bounds}
 use Rattle.json.specs.Token.{Token, begin_object, end_object, begin_array, end_array, key, string, number, boolean, null, bad}
 use Rattle.json.specs.Align.{is_good}
 use Rattle.json.specs.Text.{Within, content, plain, after_backslash, after_u, after_high, code_unit, short_escape, prepend, is_high_surrogate, is_low_surrogate, surrogate_pair}
-use Rattle.json.specs.Word.{is_operator, is_space, ends_word, word}
+use Rattle.json.specs.Word.{ends_word, word}
 use Rattle.json.specs.Lex.{Lexeme, token, comma, colon, Class, quote, backslash, operator, space, other, class, operator_lexeme, string_token, Mode, between, in_word, in_string, in_escape, lex_byte, lex}
-use Rattle.json.specs.Lex.{Place, fresh, after_value, after_comma, after_key, begins_colon, may_begin, may_close, if_allowed, place_token, punctuate, tokens}
+use Rattle.json.specs.Lex.{Place, fresh, after_value, after_comma, after_key, begins_colon, may_begin, may_close, if_allowed, place_token, punctuate}
 use Rattle.json.specs.Json.{Json, value, if_last, max_depth, document}
 use Rattle.json.specs.Print.{ArePrintable}
 use Rattle.json.proofs.Found.{not_found}
@@ -27,14 +27,14 @@ use Rattle.borsh_json.proofs.WordLaws.{Printed, Stops, word_stops}
 -- ---- printable bytes
 
 small : (b : ℕ) → is_plain b ≡ true → b < 127
-small b e = elim (or_cases (b == 10) _ e) [ inl f ↦ omega (arith, eqb-true b 10 f) | inr f ↦ ltb-true b 127 (and_parts _ _ f).1 ]
+small b e = grind (arith, nat_tests)
 
 high_printed : (b : ℕ) → 127 ≤ b → is_printable b ≡ false
-high_printed b h = and_right _ _ (le-ltb b 127 h)
+high_printed b h = grind (arith, nat_tests)
 
 -- other bytes are control characters or no ASCII
 ranges : (b : ℕ) → is_printable b ≡ false → (b < 32) ⊎ (127 ≤ b)
-ranges b e = elim (and_cases _ _ e) [ inl f ↦ inl (leb-false 32 b f) | inr f ↦ inr (ltb-false b 127 f) ]
+ranges b e = grind (arith, nat_tests)
 
 pub plain_utf8 : (bs : List ℕ) → All IsPlain bs → IsUtf8 bs
 plain_utf8 bs h = IsUtf8-are_ascii bs (ascii bs h)
@@ -86,16 +86,7 @@ abbrev Begins : ℕ → List ℕ → Type 0
 Begins n t = (w : List ℕ) × (r : List ℕ) × (length w ≡ n) × Printed w × (t ≡ w ++ r)
 
 digit_printed : (a : ℕ) → is_digit a 16 ≡ true → is_printable a ≡ true
-digit_printed a e = by (is_printable a) refl
-  where
-    not_digit : (a < 32) ⊎ (127 ≤ a) → is_digit a 16 ≡ false
-    not_digit (inl h) = ap (λ t. nat_lt (cond t 36 (cond (nat_lt a 58) (a - 48) (cond (nat_lt a 65) 36 (cond (nat_lt a 91) (a - 55) (cond (nat_lt a 97) 36 (cond (nat_lt a 123) (a - 87) 36)))))) 16) (lt-ltb a 48 (omega arith))
-    not_digit (inr h) =
-        λ i. nat_lt (cond (le-ltb a 48 (omega arith) i) 36 (cond (le-ltb a 58 (omega arith) i) (a - 48) (cond (le-ltb a 65 (omega arith) i) 36 (cond (le-ltb a 91 (omega arith) i) (a - 55) (cond (le-ltb a 97 (omega arith) i) 36 (cond (le-ltb a 123 (omega arith) i) (a - 87) 36)))))) 16
-
-    by : (p : Bool) → is_printable a ≡ p → p ≡ true
-    by true f = refl
-    by false f = absurd (true≢false (sym e ∙ not_digit (ranges a f)))
+digit_printed a e = grind (arith, nat_tests)
 
 -- where a code unit is read, there are four digits
 four : (a b c d : ℕ) (f : ℕ → Option (List ℕ)) (s : List ℕ) → option_and_then f (code_unit a b c d) ≡ Some s → Printed (a ∷ b ∷ c ∷ d ∷ [])
@@ -353,16 +344,8 @@ high c (f ∷ fs) r s e h =
 control : (c : ℕ) (r : List ℕ) → c < 32 → is_plain c ≡ false → (c == 9 || c == 13) ≡ false → Stands (c ∷ r) (units_text c ++ r)
 unfolding content
 control c r l n b =
-    let p = or_parts (c == 9) (c == 13) b in
-    let q = or_parts (c == 10) _ n in
-    let a : c ≡ 9 → ⊥ = eqb-false c 9 p.0 in
-    let d : c ≡ 13 → ⊥ = eqb-false c 13 p.1 in
-    let e : c ≡ 10 → ⊥ = eqb-false c 10 q.0 in
-    let o : IsOther c = elim (cases_lt c 9) [
-      | inl h ↦ inr (inr (inr (inl h)))
-      | inr h ↦ elim (cases_lt c 13) [ inl k ↦ inr (inr (inr (inr (inl (omega arith, k))))) | inr k ↦ inr (inr (inr (inr (inr (omega arith, l))))) ]
-    ] in
-    foreign c c [] r q.1 (o, tt) (rw (ne_eqb c 34 (λ e. omega arith), ne_eqb c 92 (λ e. omega arith), lt-ltb c 32 l) tt)
+    let o : IsOther c = grind (arith, nat_tests) in
+    foreign c c [] r (or_parts (c == 10) _ n).1 (o, tt) (rw (ne_eqb c 34 (λ e. omega arith), ne_eqb c 92 (λ e. omega arith), lt-ltb c 32 l) tt)
 
 -- a character of JSON, and what stands for it
 pub kept_character : (p : List ℕ) (c : ℕ) (r : List ℕ) (j : Json) → IsScalar c → document (p ++ (encode_utf8 c ++ r)) ≡ Some j → document (p ++ (character_text c ++ r)) ≡ Some j

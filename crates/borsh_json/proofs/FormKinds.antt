@@ -3,8 +3,8 @@ use Rattle.std.proofs.Common.{◌≡◌, inl, inr, ℕ, List, [], ◌∷◌, Boo
 use Rattle.std.specs.Prelude.{⊤, ◌&&◌, ◌==◌, if◌then◌else◌, codes}
 use Rattle.std.specs.Str.{bytes_eq}
 use Rattle.borsh_walks.specs.Container.{product}
-use Rattle.borsh_json.specs.Forms.{Form, primitive, sequence, tuple, newtype, unnamed, named, choice, shape_of_form, IsMap}
-use Rattle.borsh_json.specs.Table.{Lengths, Kind, no_bytes, truth, whole, float, raw, utf8, byte_list, list, row, inner, fields, optional, variants, entries, number_types, number_kind, primitive_kind, a_text, some_bytes, an_object, some_elements, IsNullable, nullable, by_name, DefinedKind, HasKind}
+use Rattle.borsh_json.specs.Forms.{Form, primitive, sequence, tuple, newtype, unnamed, named, choice, shape_of_form, IsByte, IsMap}
+use Rattle.borsh_json.specs.Table.{Lengths, Kind, no_bytes, truth, whole, float, raw, utf8, byte_list, list, row, inner, fields, optional, variants, entries, number_types, number_kind, primitive_kind, a_text, some_bytes, an_object, some_elements, IsNullable, nullable, by_name, AreKeys, DefinedKind, HasKind}
 
 -- a sequence of these lengths
 abbrev IsSequence : Lengths → List ℕ → Form → Type 0
@@ -19,14 +19,14 @@ module _ (F : List ℕ → Option Form) where
   IsFormOf x (float n infinity) d = ⊤
   IsFormOf x (raw n) d = ⊤
   IsFormOf x (utf8 l) d = (e : List ℕ) × IsSequence l e d
-  IsFormOf x (byte_list l e) d = IsSequence l e d
+  IsFormOf x (byte_list l e) d = IsSequence l e d × IsByte F e
   IsFormOf x (list l e) d = IsSequence l e d
   IsFormOf x (row xs) d = shape_of_form d ≡ product xs
   IsFormOf x (inner p) d = d ≡ newtype p
   IsFormOf x (fields fs) d = d ≡ named fs
   IsFormOf x (optional p) d = IsNullable F x p
   IsFormOf x (variants w vs) d = d ≡ choice w vs
-  IsFormOf x (entries l keys k v) d = (e : List ℕ) × IsSequence l e d × (F e ≡ Some (tuple (k ∷ v ∷ [])))
+  IsFormOf x (entries l keys k v) d = (e : List ℕ) × IsSequence l e d × (F e ≡ Some (tuple (k ∷ v ∷ []))) × AreKeys F k keys
 
   formed_if : (x : List ℕ) (d : Form) (b : Bool) (k l : Kind) → IsFormOf x k d → IsFormOf x l d → IsFormOf x (if b then k else l) d
   formed_if x d true k l p q = p
@@ -52,8 +52,8 @@ module _ (F : List ℕ → Option Form) where
   pub formed : {x : List ℕ} (kind : Kind) (d : Form) → F x ≡ Some d → DefinedKind F x d kind → IsFormOf x kind d
   formed {x = x} kind (primitive n) c p = subst (λ k. IsFormOf x k (primitive n)) (sym p) (primitive_formed x (primitive n) n)
   formed kind (sequence w lo hi e) c (a_text s b) = (e, refl)
-  formed kind (sequence w lo hi e) c (some_bytes s b) = refl
-  formed kind (sequence w lo hi e) c (an_object m k) = (e, refl, map_elements w lo hi e c m)
+  formed kind (sequence w lo hi e) c (some_bytes s b) = (refl, b)
+  formed kind (sequence w lo hi e) c (an_object m k) = (e, refl, map_elements w lo hi e c m, k)
   formed kind (sequence w lo hi e) c (some_elements s b m k) = refl
   formed {x = x} kind (tuple ps) c p = subst (λ k. IsFormOf x k (tuple ps)) (sym p) refl
   formed {x = x} kind (newtype y) c p = subst (λ k. IsFormOf x k (newtype y)) (sym p) refl

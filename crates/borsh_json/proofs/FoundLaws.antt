@@ -154,7 +154,7 @@ decides_either r d n = ((λ e. inr (d.0 e)), (λ c. elim c [ inl p ↦ absurd (n
 pub not_true : {P : Type 0} (r : Bool) → Decides r P → r ≡ false → P → ⊥
 not_true r d e p = let q = d.1 p in cc
 
-inner : (k v : List ℕ) → k ++ (44 ∷ 32 ∷ (v ++ 62 ∷ [])) ≡ ((k ++ 44 ∷ 32 ∷ []) ++ v) ++ 62 ∷ []
+pub inner : (k v : List ℕ) → k ++ (44 ∷ 32 ∷ (v ++ 62 ∷ [])) ≡ ((k ++ 44 ∷ 32 ∷ []) ++ v) ++ 62 ∷ []
 inner k v = sym (append_assoc (k ++ 44 ∷ 32 ∷ []) v (62 ∷ []) ∙ append_assoc k (44 ∷ 32 ∷ []) (v ++ 62 ∷ []))
 
 abbrev Pieces : List ℕ → List ℕ → List ℕ → List ℕ

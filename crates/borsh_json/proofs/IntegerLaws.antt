@@ -1,7 +1,8 @@
 -- Whole numbers and the bytes that encode them.
-use Rattle.std.proofs.Common.{◌≡◌, ℕ, suc, zero, ◌+◌, ◌-◌, ◌*◌, ◌%◌, ◌^◌, ◌<◌, ◌≤◌, Bool, true, false, List, [], ◌∷◌, length, map, drop, get_or, refl, sym, ◌∙◌, ap, subst, arith, pow-suc, length-drop}
+use Rattle.std.proofs.Common.{◌≡◌, inl, inr, ℕ, suc, zero, ◌+◌, ◌-◌, ◌*◌, ◌%◌, ◌^◌, ◌<◌, ◌≤◌, Bool, true, false, List, [], ◌∷◌, length, map, drop, get_or, refl, sym, ◌∙◌, ap, subst, arith, pow-suc, length-drop}
 use Rattle.std.proofs.lemmas.Int.{to_z-of_z}
-use Rattle.std.specs.Prelude.{pos, negsuc}
+use Rattle.std.specs.Prelude.{ℤ, pos, negsuc, All}
+use Rattle.std.proofs.lemmas.Bool.{cases_lt}
 use Rattle.std.specs.Int.{cast_signed, w128}
 use Rattle.borsh_walks.specs.Container.{low_bytes}
 use Rattle.borsh_values.specs.Numbers.{value_of}
@@ -118,3 +119,17 @@ negative_rank n true m h r = let p = power_most n h in omega arith
 
 pub positive_rank : (n m : ℕ) → n ≤ 16 → InRange n true (pos m) → (2 ^ 127 + m) % 2 ^ 128 ≡ 2 ^ 127 + m
 positive_rank n m h r = let p = power_most n h in omega arith
+
+-- bytes are those of a number that has as many
+pub number_there : (signed : Bool) (n : ℕ) (bs : List ℕ) → length bs ≡ n → All (λ b. b < 256) bs → (z : ℤ) × IsEncoded n signed z bs
+number_there signed n bs e small = subst (λ n. (z : ℤ) × IsEncoded n signed z bs) e (by signed)
+  where
+    f : Bytes bs
+    f i h = small i 0 h
+
+    by : (signed : Bool) → (z : ℤ) × IsEncoded (length bs) signed z bs
+    by false = (pos (value_of (map (turned false) bs)), decoded false false bs (value_of (map (turned false) bs)) f (λ t. cc) (λ t u. cc) refl)
+    by true = elim (cases_lt (get_or bs (length bs - 1) 0) 128) [
+      | inl h ↦ (pos (value_of (map (turned false) bs)), decoded true false bs (value_of (map (turned false) bs)) f (λ t. cc) (λ t u. h) refl)
+      | inr h ↦ (negsuc (value_of (map (turned true) bs)), decoded true true bs (value_of (map (turned true) bs)) f (λ t. (refl, omega arith)) (λ t. cc) refl)
+    ]

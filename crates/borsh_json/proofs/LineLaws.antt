@@ -1,7 +1,8 @@
 -- JSON without white space is one line.
-use Rattle.std.proofs.Common.{◌≡◌, ◌⊎◌, inl, inr, ℕ, suc, zero, ◌+◌, ◌<◌, ◌≤◌, Bool, true, false, cond, ◌&&◌, ◌||◌, ◌==◌, nat_le, leb, ltb, leb-true, List, [], ◌∷◌, ◌++◌, encode_utf8, All, refl, sym, ◌∙◌, ap, subst, arith}
+use Rattle.std.proofs.Common.{◌≡◌, inl, inr, ℕ, suc, zero, ◌+◌, ◌-◌, ◌/◌, ◌%◌, ◌<◌, ◌≤◌, Bool, true, false, cond, ◌&&◌, ◌||◌, ◌==◌, nat_le, ltb, List, [], ◌∷◌, ◌++◌, encode_utf8, All, refl, sym, ◌∙◌, ap, subst, arith}
 use Rattle.std.specs.List.{list_all}
-use Rattle.std.proofs.lemmas.Bool.{and_parts, cases_eq, cases_lt}
+use Rattle.std.specs.Char.{digit_char}
+use Rattle.std.proofs.lemmas.Bool.{and_from, and_parts, or_right, cases_eq, cases_lt}
 use Rattle.std.proofs.lemmas.Bool.Decides.{nat_tests}
 use Rattle.std.proofs.lemmas.List.Elements.{All-nil, All-cons, All-head, All-tail, All-append}
 use Rattle.std.proofs.lemmas.Str.{encode_ascii}
@@ -11,7 +12,7 @@ use Rattle.json.specs.Print.{ArePrintable, IsPrintable, ends, escape, escape_byt
 use Rattle.json.specs.Tree.{HasNumbers, json_tokens}
 use Rattle.json.proofs.Printed.Strings.{escape_byte_plain}
 use Rattle.json.proofs.Printed.Trees.{ArePrintable-json_tokens}
-use Rattle.borsh_json.specs.Ascii.{IsInLine, is_printable}
+use Rattle.borsh_json.specs.Ascii.{IsInLine, IsPlain, character_text, is_plain, is_printable, unit_text}
 use Rattle.borsh_json.proofs.WordLaws.{number_printed}
 
 abbrev InLine : List ℕ → Type 0
@@ -25,6 +26,16 @@ none = All-nil IsInLine
 
 both : (xs ys : List ℕ) → InLine xs → InLine ys → InLine (xs ++ ys)
 both xs ys a b = All-append IsInLine xs ys a b
+
+-- ---- printable bytes
+all_printed : (P : ℕ → Type 0) → ((b : ℕ) → is_printable b ≡ true → P b) → (bs : List ℕ) → list_all is_printable bs ≡ true → All P bs
+all_printed P printable [] e = All-nil P
+all_printed P printable (b ∷ bs) e =
+    let p = and_parts (is_printable b) (list_all is_printable bs) e in
+    All-cons P b bs (printable b p.0) (all_printed P printable bs p.1)
+
+printed_line : (b : ℕ) → is_printable b ≡ true → 32 ≤ b
+printed_line b e = grind (arith, nat_tests)
 
 -- ---- strings
 abbrev are_high : List ℕ → Bool
@@ -62,13 +73,6 @@ all_escaped : (bs : List ℕ) → InLine (escape bs)
 all_escaped [] = none
 all_escaped (b ∷ bs) = both (escape_byte b) (escape bs) (escaped b) (all_escaped bs)
 
--- ---- numbers
-shown : (bs : List ℕ) → list_all is_printable bs ≡ true → InLine bs
-shown [] e = none
-shown (b ∷ bs) e =
-    let p = and_parts (is_printable b) (list_all is_printable bs) e in
-    more b bs (leb-true 32 b (and_parts (leb 32 b) (ltb b 127) p.0).0) (shown bs p.1)
-
 -- ---- tokens
 quoted_line : (s : List ℕ) → InLine (34 ∷ (escape s ++ 34 ∷ []))
 quoted_line s = more 34 (escape s ++ 34 ∷ []) (omega arith) (both (escape s) (34 ∷ []) (all_escaped s) (high (34 ∷ []) refl))
@@ -80,7 +84,7 @@ token_line begin_array h = high (91 ∷ []) refl
 token_line end_array h = high (93 ∷ []) refl
 token_line (key s) h = both (34 ∷ (escape s ++ 34 ∷ [])) (58 ∷ []) (quoted_line s) (high (58 ∷ []) refl)
 token_line (string s) h = quoted_line s
-token_line (number s) h = shown s (number_printed s h)
+token_line (number s) h = all_printed IsInLine printed_line s (number_printed s h)
 token_line (boolean true) h = high (116 ∷ 114 ∷ 117 ∷ 101 ∷ []) refl
 token_line (boolean false) h = high (102 ∷ 97 ∷ 108 ∷ 115 ∷ 101 ∷ []) refl
 token_line null h = high (110 ∷ 117 ∷ 108 ∷ 108 ∷ []) refl
@@ -109,3 +113,30 @@ character_line c all rest e l = elim (cases_lt c 128) [
   | inl h ↦ (let m = subst InLine (e ∙ ap (λ l. l ++ rest) (encode_ascii c h)) l in (All-head IsInLine c rest m, All-tail IsInLine c rest m))
   | inr h ↦ (omega arith, all_behind (encode_utf8 c) rest (subst InLine e l))
 ]
+
+-- ---- what stands for a character
+unit_printed : (u : ℕ) → list_all is_printable (unit_text u) ≡ true
+unit_printed u =
+    let digit : (d : ℕ) → d < 16 → is_printable (digit_char d) ≡ true = λ d h. grind (arith, nat_tests) in
+    and_from _ _ (digit (u / 4096 % 16) (omega arith)) (and_from _ _ (digit (u / 256 % 16) (omega arith)) (and_from _ _ (digit (u / 16 % 16) (omega arith)) (and_from _ _ (digit (u % 16) (omega arith)) refl)))
+
+-- P holds of what stands for a character if it does of printable ASCII and, where that stands for itself, of the character
+module _ (P : ℕ → Type 0) (printable : (b : ℕ) → is_printable b ≡ true → P b) where
+  all_character : (c : ℕ) → (is_plain c ≡ true → P c) → All P (character_text c)
+  all_character c own = by (is_plain c) refl (c == 9 || c == 13) (ltb c 65536)
+    where
+      by : (a : Bool) → is_plain c ≡ a → (b d : Bool)
+          → All P (cond a (c ∷ []) (cond b (32 ∷ []) (cond d (unit_text c) (unit_text (55296 + (c - 65536) / 1024) ++ unit_text (56320 + c % 1024)))))
+      by true e b d = All-cons P c [] (own e) (All-nil P)
+      by false e true d = all_printed P printable (32 ∷ []) refl
+      by false e false true = all_printed P printable (unit_text c) (unit_printed c)
+      by false e false false =
+          let a = 55296 + (c - 65536) / 1024 in
+          let b = 56320 + c % 1024 in
+          All-append P (unit_text a) (unit_text b) (all_printed P printable (unit_text a) (unit_printed a)) (all_printed P printable (unit_text b) (unit_printed b))
+
+pub added_plain : (c : ℕ) (old : List ℕ) → All IsPlain old → All IsPlain (old ++ character_text c)
+added_plain c old h = All-append IsPlain old (character_text c) h (all_character IsPlain (λ b e. or_right (b == 10) _ e) c (λ e. e))
+
+pub added_line : (c : ℕ) (old : List ℕ) → 32 ≤ c → All IsInLine old → All IsInLine (old ++ character_text c)
+added_line c old l h = All-append IsInLine old (character_text c) h (all_character IsInLine printed_line c (λ e. l))

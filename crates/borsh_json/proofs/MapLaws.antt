@@ -37,7 +37,7 @@ use Rattle.borsh_json.proofs.EachLaws.{sorted_each}
 use Rattle.borsh_json.proofs.KeyJson.{key_number, tells}
 use Rattle.borsh_json.proofs.MemberLaws.{keyed_length, sorted_keyed, text_cmp}
 use Rattle.borsh_json.proofs.NumberLaws.{ranks_compare}
-use Rattle.borsh_json.proofs.OpeningLaws.{denies_read, framed, said}
+use Rattle.borsh_json.proofs.OpeningLaws.{no_ascent, denies_read, framed, said}
 use Rattle.borsh_json.proofs.ReaderLaws.{split, uncons}
 use Rattle.borsh_json.proofs.RepresentsLaws.{IsAmong, moved, kind_one, number_one}
 
@@ -164,8 +164,8 @@ module _ (F : List ℕ → Option Form) (ns : List Named) (x : List ℕ) (j : Js
 
   -- ---- its frame
   module _ (kind : KeyKind) (s : Source) (n : ℕ) (t : AreSorted keys kind j (s, n)) where
-    pub map_opened : (m : FoundEntries) (place : Place) (old new : List ℕ) → IsAt ns m.key k → IsAt ns m.value v → AreKeysOf F ns k (form_of m.key_definition.now) m.key_kind keys → m.key_kind ≡ kind → place.parts ≡ MapEntries m n → place.begun ≡ 0 → l.least ≤ n → n ≤ l.greatest → new ≡ old ++ tag l.width (pos n) → IsOpened F ns x j old new (Ok (Some (record { place = place; source = s })))
-    map_opened m place old new a b c d p g low high o =
+    pub map_opened : (m : FoundEntries) (place : Place) (old new : List ℕ) → IsAt ns m.key k → IsAt ns m.value v → AreKeysOf F ns k (form_of m.key_definition.now) m.key_kind keys → m.key_kind ≡ kind → place.parts ≡ MapEntries m n → place.begun ≡ 0 → l.least ≤ n → n ≤ l.greatest → new ≡ old ++ tag l.width (pos n) → place.ascent ≡ None → IsOpened F ns x j old new (Ok (Some (record { place = place; source = s })))
+    map_opened m place old new a b c d p g low high o none =
         let es = t.1 in
         let z = t.6 in
         let ps = entry_parts keys k v es in
@@ -175,7 +175,7 @@ module _ (F : List ℕ → Option Form) (ns : List Named) (x : List ℕ) (j : Js
         let w : Wanted = ([], v) in
         let there : HasLeft F ns (MapEntries m n) 0 s left = (replicate n w, (v, b, ap (λ (i : ℕ). replicate i w) least), copies_length n w ∙ z, (a, b, c, subst (λ (kind : KeyKind). HasEntries kind s es) (sym d) t.5)) in
         let q : own ≡ tag l.width (pos n) = append-nil (tag l.width (pos (length es))) ∙ ap (λ i. tag l.width (pos i)) (sym z) in
-        (own, o ∙ ap (λ y. old ++ y) (sym q), (left, subst (λ (q : Parts). HasLeft F ns q place.begun s left) (sym p) (subst (λ (i : ℕ). HasLeft F ns (MapEntries m n) i s left) (sym g) there), framed F ns x j (entries l keys k v) own left ps h (t.0, es, t.2, t.3, t.4, (omega (arith, z, low), omega (arith, z, high), refl), refl) refl (λ qs y. y)))
+        (own, o ∙ ap (λ y. old ++ y) (sym q), (left, subst (λ (q : Parts). HasLeft F ns q place.begun s left) (sym p) (subst (λ (i : ℕ). HasLeft F ns (MapEntries m n) i s left) (sym g) there), framed F ns x j (entries l keys k v) own left ps h (t.0, es, t.2, t.3, t.4, (omega (arith, z, low), omega (arith, z, high), refl), refl) refl (λ qs y. y), no_ascent F x j place none))
 
     pub map_range : (e : ReadError) → DeniesRead e ((l.least ≤ n) × (n ≤ l.greatest)) → DeniesRead e (SaysSome F x j)
     map_range e d = denies_read e (λ y.

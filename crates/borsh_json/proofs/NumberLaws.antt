@@ -264,7 +264,7 @@ module _ (n : ℕ) (signed non_zero : Bool) (s : List ℕ) (small : n ≤ 16) wh
     unsigned_found t m e i = (pos m, e, subst (λ b. InRange n b (pos m)) (sym t) i, no_zero (pos m) e, ap (λ b. rank_of b (pos m)) (sym t))
 
 -- ---- the order of ranks is that of the numbers
-value_of : (z : ℤ) → IsShort z → signed_digits_value 10 (signed_decimal z) ≡ z
+pub value_of : (z : ℤ) → IsShort z → signed_digits_value 10 (signed_decimal z) ≡ z
 value_of (pos m) h =
     let k = decimal_is_IsNumeral_wide m (omega arith) in
     numeral_value (decimal m) k.0 ∙ ap (λ m. pos m) k.1

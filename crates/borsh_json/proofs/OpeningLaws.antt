@@ -1,6 +1,6 @@
 -- What JSON of a kind opens.
-use Rattle.std.proofs.Common.{◌≡◌, inl, inr, ℕ, suc, zero, List, [], ◌∷◌, ◌++◌, length, map, replicate, drop, Bool, true, Option, Some, None, refl, sym, ◌∙◌, ap, subst, arith, append-nil}
-use Rattle.std.specs.Prelude.{Result, Ok, Err, ℤ, slice_get, MatchOption}
+use Rattle.std.proofs.Common.{◌≡◌, inl, inr, ℕ, suc, zero, List, [], ◌∷◌, ◌++◌, length, map, replicate, drop, Bool, true, false, Option, Some, None, refl, sym, ◌∙◌, ap, subst, arith, append-nil}
+use Rattle.std.specs.Prelude.{Result, Ok, Err, ℤ, slice_get, is_some, MatchOption}
 use Rattle.json.specs.Token.{Token}
 use Rattle.json.specs.Json.{Json, null, boolean, number, string, array, object, Items, no_items, item}
 use Rattle.json.specs.Find.{BeginsWith, is_null, as_bool, as_str, as_number}
@@ -12,13 +12,15 @@ use Rattle.borsh_json.specs.declared.error.ReadError.TheVariants.{OutOfMemory, R
 use Rattle.borsh_json.specs.declared.error.Refusal.{Refusal}
 use Rattle.borsh_json.specs.declared.error.Refusal.TheVariants.{TooDeep, RepeatedName, EmptyElements, NotBool, NotUtf8, Zero, NotNumber, Descends, OtherNodes, Expected, MissingField, UnknownName, RepeatedKey, Undefined}
 use Rattle.borsh_json.specs.declared.opening.Frame.{Frame}
+use Rattle.borsh_json.specs.declared.order.Ascent.{Ascent}
 use Rattle.borsh_json.specs.declared.position.Parts.{Parts}
+use Rattle.borsh_json.specs.declared.position.Place.{Place}
 use Rattle.borsh_json.specs.declared.sources.Source.{Source}
 use Rattle.borsh_json.specs.declared.sources.Source.TheVariants.{One}
 use Rattle.borsh_json.specs.Errors.{Denies, IsUnreadable}
 use Rattle.borsh_json.specs.Forms.{Form}
-use Rattle.borsh_json.specs.Frames.{DeniesRead, DeniesPart, IsUnread, IsOf, IsOfRead, IsExpected, IsFound, IsOpened, HasLeft, IsWanted, IsMapPlace, Wanted}
-use Rattle.borsh_json.specs.NoValue.{RefusesJson}
+use Rattle.borsh_json.specs.Frames.{DeniesRead, DeniesPart, IsUnread, IsOf, IsOfRead, IsExpected, IsFound, IsOpened, IsOpenedOrFalls, HasLeft, IsWanted, IsMapPlace, Wanted}
+use Rattle.borsh_json.specs.NoValue.{HasNeighbours, RefusesJson}
 use Rattle.borsh_json.specs.Reads.{Left, items_left, PartsOf, SaysFirst, SaysSome, IsOnly}
 use Rattle.borsh_json.specs.Table.{Kind, HasKind, Part, row_parts, list_parts, IsVariant, this, that, Says}
 use Rattle.borsh_json.proofs.FrameLaws.{drop_at}
@@ -68,7 +70,7 @@ denies_from NotBool P Q f d = d
 denies_from NotUtf8 P Q f d = d
 denies_from Zero P Q f d = d
 denies_from NotNumber P Q f d = λ q. d (f q)
-denies_from Descends P Q f d = tt
+denies_from Descends P Q f d = λ q. d (f q)
 denies_from OtherNodes P Q f d = λ q. d (f q)
 denies_from (Expected w) P Q f d = λ q. d (f q)
 denies_from MissingField P Q f d = λ q. d (f q)
@@ -79,7 +81,7 @@ denies_from (Undefined n) P Q f d = λ q. d (f q)
 pub denies_read : (e : ReadError) {P Q : Type 0} → (Q → P) → DeniesRead e P → DeniesRead e Q
 denies_read OutOfMemory f d = tt
 denies_read (Refused r) {P} {Q} f d = denies_from r P Q f d
-denies_read (DescendsAt i) f d = tt
+denies_read (DescendsAt i) f d = d
 
 pub denies_of : (r : Refusal) (e : PartError) (P : Type 0) → IsOf r e → Denies r P → DeniesPart e P
 denies_of r NoMemory P i d = tt
@@ -88,7 +90,7 @@ denies_of r (RefusedPart path other) P i d = subst (λ (r : Refusal). Denies r P
 pub denies_part : (r : ReadError) (e : PartError) (P : Type 0) → IsOfRead r e → DeniesRead r P → DeniesPart e P
 denies_part OutOfMemory e P i d = subst (λ (e : PartError). DeniesPart e P) (sym i) tt
 denies_part (Refused r) e P i d = denies_of r e P i d
-denies_part (DescendsAt k) e P i d = denies_of Descends e P i tt
+denies_part (DescendsAt k) e P i d = absurd d
 
 pub denies_expected : (e : ReadError) {P : Type 0} → IsExpected e → (P → ⊥) → DeniesRead e P
 denies_expected e {P} (inl i) d = subst (λ (e : ReadError). DeniesRead e P) (sym i) tt
@@ -104,7 +106,7 @@ module _ (F : List ℕ → Option Form) (root : List ℕ) (j : Json) where
   unread NotUtf8 d = absurd d
   unread Zero d = absurd d
   unread NotNumber d = (tt, λ bs h. d (bs, h))
-  unread Descends d = (tt, λ bs h. tt)
+  unread Descends d = (tt, λ bs h. absurd (d (bs, h)))
   unread OtherNodes d = (tt, λ bs h. d (bs, h))
   unread (Expected w) d = (tt, λ bs h. d (bs, h))
   unread MissingField d = (tt, λ bs h. d (bs, h))
@@ -118,6 +120,10 @@ module _ (F : List ℕ → Option Form) (root : List ℕ) (j : Json) where
 
   pub unread_of : (r : ReadError) (e : PartError) → IsOfRead r e → DeniesRead r (SaysSome F root j) → IsUnread F root j e
   unread_of r e i d = unread_part e (denies_part r e (SaysSome F root j) i d)
+
+-- parts that need not ascend
+pub no_ascent : (F : List ℕ → Option Form) (x : List ℕ) (j : Json) (p : Place) → p.ascent ≡ None → is_some p.ascent ≡ true → HasNeighbours F x j
+no_ascent F x j p e t = (let q : is_some p.ascent ≡ false = ap (λ (a : Option Ascent). is_some a) e in let z : true ≡ false = sym t ∙ q in cc)
 
 module _ (F : List ℕ → Option Form) (ns : List Named) (x : List ℕ) (j : Json) where
   first_one : {a b : List ℕ} {ps qs : List Part} → SaysFirst F x j a ps → SaysFirst F x j b qs → (a ≡ b) × (ps ≡ qs)
@@ -153,6 +159,13 @@ module _ (F : List ℕ → Option Form) (ns : List Named) (x : List ℕ) (j : Js
 
   pub opened_leaf : (kind : Kind) (old new own : List ℕ) → HasKind F x kind → new ≡ old ++ own → Says F kind j own [] → IsOpened F ns x j old new (Ok None)
   opened_leaf kind old new own h e s = (own, e, leaf kind own h s)
+
+  -- what is opened doesn't fall
+  pub opened : (old new : List ℕ) (r : Result (Option Frame) ReadError) → IsOpened F ns x j old new r → IsOpenedOrFalls F ns x j old new r
+  opened old new (Ok found) o = o
+  opened old new (Err OutOfMemory) o = o
+  opened old new (Err (Refused r)) o = o
+  opened old new (Err (DescendsAt i)) o = absurd o
 
   -- without own bytes the output may be any
   pub unmoved : (out : List ℕ) (r : Result (Option Frame) ReadError) → IsOpened F ns x j [] [] r → IsOpened F ns x j out out r
@@ -218,10 +231,10 @@ no_variant k v p vs e h = elim (subst (λ (l : List (ℤ × List ℕ × List ℕ
 -- ---- a value whose only part is another
 module _ (F : List ℕ → Option Form) (ns : List Named) (x : List ℕ) (j : Json) where
   -- where the place wants one part
-  pub only_found : (kind : Kind) (own : List ℕ) (p : Parts) (y : List ℕ) (i : Json) (e : List Token) (o : Option Frame) → MatchOption o ⊥ (λ f. (f.place.parts ≡ p) × (f.place.begun ≡ 0) × (f.source ≡ One (Some e))) → ((b : ℕ) → (z : List ℕ) × (z ≡ y) × ((ws : List Wanted) → ws ≡ drop b (([], z) ∷ []) → IsWanted F ns p b ws)) → (IsMapPlace p → ⊥) → HasKind F x kind → BeginsWith e i → Says F kind j own ((y, i) ∷ []) → IsFound F ns (SaysFirst F x j) own o
+  pub only_found : (kind : Kind) (own : List ℕ) (p : Parts) (y : List ℕ) (i : Json) (e : List Token) (o : Option Frame) → MatchOption o ⊥ (λ f. (f.place.parts ≡ p) × (f.place.begun ≡ 0) × (f.source ≡ One (Some e)) × (f.place.ascent ≡ None)) → ((b : ℕ) → (z : List ℕ) × (z ≡ y) × ((ws : List Wanted) → ws ≡ drop b (([], z) ∷ []) → IsWanted F ns p b ws)) → (IsMapPlace p → ⊥) → HasKind F x kind → BeginsWith e i → Says F kind j own ((y, i) ∷ []) → IsFound F ns x j own o
   only_found kind own p y i e None o g n h b s = absurd o
   only_found kind own p y i e (Some f) o g n h b s =
       let w = g 0 in
       let l = items_left (y ∷ []) (item i no_items) in
       let there : HasLeft F ns p 0 (One (Some e)) l = (([], y) ∷ [], w.2 (([], y) ∷ []) (ap (λ (z : List ℕ). ([], z) ∷ []) (sym w.1)), refl, (i, refl, b), (y, i) ∷ [], refl, n) in
-      (l, subst (λ (q : Parts). HasLeft F ns q f.place.begun f.source l) (sym o.0) (subst (λ (k : ℕ). HasLeft F ns p k f.source l) (sym o.1) (subst (λ (t : Source). HasLeft F ns p 0 t l) (sym o.2) there)), framed F ns x j kind own l ((y, i) ∷ []) h s refl (λ qs q. some_one ((y, i) ∷ []) qs q))
+      (l, subst (λ (q : Parts). HasLeft F ns q f.place.begun f.source l) (sym o.0) (subst (λ (k : ℕ). HasLeft F ns p k f.source l) (sym o.1) (subst (λ (t : Source). HasLeft F ns p 0 t l) (sym o.2) there)), framed F ns x j kind own l ((y, i) ∷ []) h s refl (λ qs q. some_one ((y, i) ∷ []) qs q), no_ascent F x j f.place o.3)

@@ -52,7 +52,7 @@ module _ (l : Layout) (laid : IsLaidOut l) where
       subst (λ (C : List ℕ → Option Shape). Decides b (IsZeroSize C x)) (sym (shapes_are l.map.now)) (subst (λ b. Decides b (IsZeroSize (definitions_in l.map.now) x)) (sym e) (subst (λ x. Decides (get_or l.zeros.items at false) (IsZeroSize (definitions_in l.map.now) x)) i.1 (sizes.zeros at i.0)))
 
 -- the kind of one name more is known
-get_pushed : {X : Type 0} (xs : List X) (y : X) (i : ℕ) (o : X) → slice_get (xs ++ y ∷ []) i ≡ Some o → (slice_get xs i ≡ Some o) ⊎ ((i ≡ length xs) × (y ≡ o))
+pub get_pushed : {X : Type 0} (xs : List X) (y : X) (i : ℕ) (o : X) → slice_get (xs ++ y ∷ []) i ≡ Some o → (slice_get xs i ≡ Some o) ⊎ ((i ≡ length xs) × (y ≡ o))
 get_pushed [] y zero o e = inr (refl, (let q : y ≡ o = cc in q))
 get_pushed [] y (suc i) o e = cc
 get_pushed (x ∷ xs) y zero o e = inl e

@@ -1,10 +1,11 @@
 -- Steps of the reader.
-use Rattle.std.proofs.Common.{◌≡◌, ℕ, suc, ◌≤◌, List, [], ◌∷◌, ◌++◌, length, Option, refl, sym, ◌∙◌, ap, subst, arith, append_assoc, append-nil}
+use Rattle.std.proofs.Common.{◌≡◌, ◌⊎◌, ℕ, suc, ◌≤◌, List, [], ◌∷◌, ◌++◌, length, Option, refl, sym, ◌∙◌, ap, subst, arith, append_assoc, append-nil}
 use Rattle.json.specs.Json.{Json}
-use Rattle.borsh_json.specs.declared.error.Refusal.TheVariants.{TooDeep}
+use Rattle.borsh_json.specs.declared.error.Refusal.TheVariants.{TooDeep, Descends}
 use Rattle.borsh_json.specs.Forms.{Form}
 use Rattle.borsh_json.specs.Table.{Part, Says}
-use Rattle.borsh_json.specs.NoValue.{IsPartInside, outermost, inside, RefusesJson}
+use Rattle.borsh_json.specs.Descents.{HasDescent}
+use Rattle.borsh_json.specs.NoValue.{HasNeighbours, IsPartInside, outermost, inside, RefusesJson}
 use Rattle.borsh_json.specs.Represents.{HaveBytes, none_left, next_part}
 use Rattle.borsh_json.specs.Reads.{Left, PartsOfAll, joined_parts, Before, SaysFirst, SaysSome, IsOnly, LeadTo, to_root, into_parts, past_part, to_end, AreRead}
 
@@ -115,6 +116,15 @@ module _ (F : List ℕ → Option Form) where
     -- no parts at all
     pub read_bottom : (out : List ℕ) (P : List (List Part) → Type 0) → AreRead F root j out P → ((pss : List (List Part)) → P pss → ⊥) → (all : List ℕ) → HaveBytes F ((root, j) ∷ []) all → ⊥
     read_bottom out P r d all h = let c = r.complete all h in d c.0 c.2
+
+    -- the next part is a set or a map whose elements don't ascend, or may not
+    pub read_falls : (x : List ℕ) (i : Json) (out : List ℕ) (R : List (List Part) → Type 0) → AreRead F root j out (Before (x, i) R) → ((own : List ℕ) (ps : List Part) → SaysFirst F x i own ps → (rest : List ℕ) → HasDescent F x (own ++ rest) ⊎ HasNeighbours F x i) → RefusesJson F root j Descends
+    read_falls x i out R r f = λ all h.
+        let c = r.complete all h in
+        let q = c.2 in
+        let s = inside_of (subst (λ l. LeadTo F root j out l) q.3 c.5) in
+        let u = uncons (subst (λ l. HaveBytes F (joined_parts l) c.1) q.3 c.4) in
+        (length q.1, out, c.1, x, i, c.3, s, subst (λ b. HasDescent F x b ⊎ HasNeighbours F x i) (sym u.3) (f u.0 u.1 u.4 u.2))
 
     -- a part inside of 128 others or more
     pub read_deep : (p : Part) (out : List ℕ) (l : Left) (ls : List Left) → 128 ≤ length ls → AreRead F root j out (Before p (PartsOfAll (l ∷ ls))) → RefusesJson F root j TooDeep

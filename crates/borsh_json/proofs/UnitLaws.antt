@@ -1,13 +1,13 @@
 -- What the reader makes of characters that aren't printable ASCII, and of `\u` and four digits.
-use Rattle.std.proofs.Common.{◌≡◌, ◌≢◌, ◌⊎◌, inl, inr, ℕ, ◌+◌, ◌-◌, ◌*◌, ◌/◌, ◌%◌, ◌<◌, ◌≤◌, Bool, true, false, cond, ◌&&◌, ◌||◌, ◌==◌, nat_lt, nat_le, List, [], ◌∷◌, ◌++◌, encode_utf8, refl, sym, ◌∙◌, ap, arith, ltb, ltb-true, ltb-false, lt-ltb, le-ltb, le-leb, ne_eqb}
-use Rattle.std.specs.Prelude.{⊤, Option, Some, None, option_and_then}
-use Rattle.std.specs.Char.{IsScalar, digit_char, digit_value, is_digit}
-use Rattle.std.proofs.lemmas.Bool.{and_from, and_left, and_right, cases_lt, lt-leb}
+use Rattle.std.proofs.Common.{◌≡◌, ◌⊎◌, inl, inr, ℕ, ◌+◌, ◌-◌, ◌*◌, ◌/◌, ◌%◌, ◌<◌, ◌≤◌, Bool, true, false, cond, ◌&&◌, ◌||◌, nat_lt, List, [], ◌∷◌, ◌++◌, encode_utf8, refl, ◌∙◌, ap, arith, ltb, ltb-true, ltb-false, lt-ltb}
+use Rattle.std.specs.Prelude.{⊤, Some, None, option_and_then}
+use Rattle.std.specs.Char.{IsScalar, digit_char, is_digit}
+use Rattle.std.proofs.lemmas.Bool.Decides.{nat_tests}
 use Rattle.std.proofs.lemmas.Str.{digit_value-digit_char}
 use lib.Utf8.{scalar_cases}
 use Rattle.json.specs.Text.{content, plain, after_high, code_unit, prepend, is_high_surrogate, is_low_surrogate, surrogate_pair}
 use Rattle.json.specs.Word.{is_operator, is_space}
-use Rattle.json.specs.Lex.{Lexeme, Class, quote, backslash, operator, space, other, class, Mode, in_word, in_string, in_escape, lex_byte, lex}
+use Rattle.json.specs.Lex.{Lexeme, other, class, Mode, in_word, in_string, in_escape, lex_byte, lex}
 use Rattle.borsh_json.specs.Ascii.{unit_text, units_text}
 
 -- ---- which bytes have no meaning to the lexer
@@ -17,31 +17,10 @@ abbrev pub IsOther : ℕ → Type 0
 IsOther x = ((48 ≤ x) × (x < 58)) ⊎ (((97 ≤ x) × (x < 103)) ⊎ ((127 ≤ x) ⊎ ((x < 9) ⊎ (((11 ≤ x) × (x < 13)) ⊎ ((14 ≤ x) × (x < 32))))))
 
 pub no_end : (x : ℕ) → IsOther x → (is_operator x || is_space x) ≡ false
-no_end x h =
-    let ne : (k : ℕ) → (x ≡ k → ⊥) → (x == k) ≡ false = λ k f. ne_eqb x k f in
-    rw (
-      ne 123 (λ e. omega (arith, h)),
-      ne 125 (λ e. omega (arith, h)),
-      ne 91 (λ e. omega (arith, h)),
-      ne 93 (λ e. omega (arith, h)),
-      ne 58 (λ e. omega (arith, h)),
-      ne 44 (λ e. omega (arith, h)),
-      ne 32 (λ e. omega (arith, h)),
-      ne 9 (λ e. omega (arith, h)),
-      ne 10 (λ e. omega (arith, h)),
-      ne 13 (λ e. omega (arith, h)),
-    )
+no_end x h = grind (arith, nat_tests)
 
 pub other_class : (x : ℕ) → IsOther x → class x ≡ other
-other_class x h =
-    let q : (x == 34) ≡ false = ne_eqb x 34 (λ e. omega (arith, h)) in
-    let b : (x == 92) ≡ false = ne_eqb x 92 (λ e. omega (arith, h)) in
-    rw (q, b) (by (is_operator x) (is_space x) (no_end x h))
-  where
-    by : (o s : Bool) → (o || s) ≡ false → cond o operator (cond s space other) ≡ other
-    by true s e = absurd cc
-    by false true e = absurd cc
-    by false false e = refl
+other_class x h = grind (arith, nat_tests)
 
 abbrev pub Others : List ℕ → Type 0
 Others [] = ⊤
@@ -63,11 +42,7 @@ past_in_word = past in_word (λ x xs k. refl)
 -- ---- the digits of a code unit
 
 digit_other : (d : ℕ) → d < 16 → IsOther (digit_char d)
-digit_other d h = by (nat_lt d 10) refl
-  where
-    by : (b : Bool) → nat_lt d 10 ≡ b → IsOther (cond b (48 + d) (87 + d))
-    by true e = inl (omega arith, omega (arith, ltb-true d 10 e))
-    by false e = inr (inl (omega (arith, ltb-false d 10 e), omega arith))
+digit_other d h = grind (arith, nat_tests)
 
 digits : ℕ → List ℕ
 digits u = digit_char (u / 4096 % 16) ∷ digit_char (u / 256 % 16) ∷ digit_char (u / 16 % 16) ∷ digit_char (u % 16) ∷ []
@@ -96,13 +71,6 @@ unit_read u h =
 
 -- ---- what `\u` and four digits say
 
-between : (a b c : ℕ) → a ≤ c → c < b → (nat_le a c && nat_lt c b) ≡ true
-between a b c p q = and_from _ _ (le-leb a c p) (lt-ltb c b q)
-
-outside : (a b c : ℕ) → (c < a) ⊎ (b ≤ c) → (nat_le a c && nat_lt c b) ≡ false
-outside a b c (inl h) = and_left _ _ (lt-leb a c h)
-outside a b c (inr h) = and_right _ _ (le-ltb c b h)
-
 one_unit : (u : ℕ) (r : List ℕ) → u < 65536
     → content plain (unit_text u ++ r) ≡ cond (is_high_surrogate u) (content (after_high u) r) (cond (is_low_surrogate u) None (prepend (encode_utf8 u) (content plain r)))
 unfolding content
@@ -115,22 +83,23 @@ second_unit h l r small = ap (option_and_then (λ l. cond (is_low_surrogate l) (
 
 low_character : (c : ℕ) (r : List ℕ) → IsScalar c → c < 65536 → content plain (unit_text c ++ r) ≡ prepend (encode_utf8 c) (content plain r)
 low_character c r s h =
-    let not_high : is_high_surrogate c ≡ false = outside 0xd800 0xdc00 c (elim (scalar_cases c s) [ inl a ↦ inl a | inr b ↦ inr (omega (arith, b.0)) ]) in
-    let not_low : is_low_surrogate c ≡ false = outside 0xdc00 0xe000 c (elim (scalar_cases c s) [ inl a ↦ inl (omega arith) | inr b ↦ inr b.0 ]) in
-    one_unit c r h ∙ (λ i. cond (not_high i) (content (after_high c) r) (cond (not_low i) None (prepend (encode_utf8 c) (content plain r))))
+    let range = scalar_cases c s in
+    let high : is_high_surrogate c ≡ false = grind (arith, nat_tests) in
+    let low : is_low_surrogate c ≡ false = grind (arith, nat_tests) in
+    one_unit c r h ∙ (λ i. cond (high i) (content (after_high c) r) (cond (low i) None (prepend (encode_utf8 c) (content plain r))))
 
 high_character : (c : ℕ) (r : List ℕ) → IsScalar c → 65536 ≤ c → content plain (unit_text (55296 + (c - 65536) / 1024) ++ (unit_text (56320 + c % 1024) ++ r)) ≡ prepend (encode_utf8 c) (content plain r)
 high_character c r s h =
     let a = 55296 + (c - 65536) / 1024 in
     let b = 56320 + c % 1024 in
     let below : c < 1114112 = elim (scalar_cases c s) [ inl a ↦ omega arith | inr b ↦ b.1 ] in
-    let a_small : a < 56320 = omega arith in
-    let b_small : b < 57344 = omega arith in
+    let first : (x : ℕ) → 55296 ≤ x → x < 56320 → is_high_surrogate x ≡ true = λ x p q. grind (arith, nat_tests) in
+    let second : (x : ℕ) → 56320 ≤ x → x < 57344 → is_low_surrogate x ≡ true = λ x p q. grind (arith, nat_tests) in
     let same : surrogate_pair a b ≡ c = omega arith in
     one_unit a (unit_text b ++ r) (omega arith)
-    ∙ ap (λ t. cond t (content (after_high a) (unit_text b ++ r)) (cond (is_low_surrogate a) None (prepend (encode_utf8 a) (content plain (unit_text b ++ r))))) (between 0xd800 0xdc00 a (omega arith) a_small)
+    ∙ ap (λ t. cond t (content (after_high a) (unit_text b ++ r)) (cond (is_low_surrogate a) None (prepend (encode_utf8 a) (content plain (unit_text b ++ r))))) (first a (omega arith) (omega arith))
     ∙ second_unit a b r (omega arith)
-    ∙ (λ i. cond (between 0xdc00 0xe000 b (omega arith) b_small i) (prepend (encode_utf8 (same i)) (content plain r)) None)
+    ∙ (λ i. cond (second b (omega arith) (omega arith) i) (prepend (encode_utf8 (same i)) (content plain r)) None)
 
 pub units_read : (c : ℕ) (r : List ℕ) → IsScalar c → content plain (units_text c ++ r) ≡ prepend (encode_utf8 c) (content plain r)
 units_read c r s = by (ltb c 65536) refl

@@ -57,8 +57,8 @@ module _ (F : List ℕ → Option Form) (x own : List ℕ) where
   leaf_refused (Element i r) a = leaf_own r a.0 a.1 a.2 a.3
 
   module _ (ns : List Named) (f : Form) where
-    pub leaf_whole : (n : ℕ) (parts : List (List ℕ)) (old new : Output) → IsOpenedAs F x f own parts → parts ≡ [] → WritesLeaf F n x own old new → IsWrittenAs F ns n x f own old new None
-    leaf_whole n parts old new o e w = (w, parts, o.1, λ y i. elim (subst (λ (l : List (List ℕ)). IsIn y l) e i) [ ])
+    pub leaf_whole : (kind : Found) (parts : List (List ℕ)) (old new : Output) → IsOpenedAs F x f own parts → parts ≡ [] → WritesLeaf F (leaf_depth kind) x own old new → IsWrittenAs F ns kind x f own old new None
+    leaf_whole kind parts old new o e w = (w, parts, o.1, λ y i. elim (subst (λ (l : List (List ℕ)). IsIn y l) e i) [ ])
 
     -- a primitive's kind, of which the JSON has no brackets
     abbrev IsPrimitive : Found → Type 0

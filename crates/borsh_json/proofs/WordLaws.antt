@@ -1,14 +1,15 @@
 -- What a word of JSON is read from: printable ASCII, and then where it ends.
-use Rattle.std.proofs.Common.{◌≡◌, ◌⊎◌, inl, inr, ℕ, suc, ◌+◌, ◌-◌, ◌<◌, ◌≤◌, Bool, true, false, cond, ◌&&◌, ◌||◌, ◌==◌, nat_eq, nat_le, List, [], ◌∷◌, ◌++◌, length, take, drop, get_or, refl, sym, ◌∙◌, ap, ap₂, subst, arith, append-nil, append_assoc, length-append, take_at, take-append-drop, eqb-true, leb-true, le-leb, lt-ltb}
+use Rattle.std.proofs.Common.{◌≡◌, inl, inr, ℕ, suc, ◌+◌, ◌-◌, Bool, true, false, cond, ◌&&◌, ◌||◌, ◌==◌, nat_eq, List, [], ◌∷◌, ◌++◌, length, take, drop, get_or, refl, sym, ◌∙◌, ap, subst, arith, append-nil, append_assoc, length-append, take_at, take-append-drop, eqb-true}
 use Rattle.std.specs.Prelude.{⊤, Option, Some, None, option_and_then}
 use Rattle.std.specs.List.{list_all, prefix_len, starts_with}
 use Rattle.std.specs.Char.{is_ascii_digit}
+use Rattle.std.proofs.lemmas.Bool.Decides.{nat_tests}
 use Rattle.std.proofs.lemmas.Bool.{and_parts, and_from, or_cases, false≢true}
 use Rattle.std.proofs.lemmas.Slice.Eq.{bytes_eq-Decides}
 use Rattle.json.specs.Token.{Token, boolean, null, number, bad}
 use Rattle.json.specs.Align.{is_good}
 use Rattle.json.specs.Word.{head, ends_word, after_digits, after_minus, after_sign, after_whole, after_fraction, after_exponent, after_number, number_before, literal, word}
-use Rattle.json.specs.Lex.{Lexeme, token, comma, colon, Class, other, class, between, lex_byte, lex}
+use Rattle.json.specs.Lex.{Lexeme, token, comma, colon, other, class, between, lex_byte, lex}
 use Rattle.json.specs.Print.{IsNumber}
 use Rattle.json.proofs.Found.{not_found}
 use Rattle.json.proofs.Printed.Numbers.{number_alone, lex-number}
@@ -51,9 +52,7 @@ skipped t true f = f refl
 skipped t false f = nothing t
 
 digit_printed : (b : ℕ) → is_ascii_digit b ≡ true → is_printable b ≡ true
-digit_printed b e =
-    let p = and_parts (nat_le 48 b) (nat_le b 57) e in
-    and_from _ _ (le-leb 32 b (omega (arith, leb-true 48 b p.0))) (lt-ltb b 127 (omega (arith, leb-true b 57 p.1)))
+digit_printed b e = grind (arith, nat_tests)
 
 run : (t : List ℕ) → Takes t (Some (drop (prefix_len is_ascii_digit t) t))
 run [] = nothing []
@@ -122,9 +121,9 @@ ends_literal t name k p again =
     let rest = drop (length name) t in
     choose t (starts_with nat_eq t name && ends_word rest) k bad
     (λ e g.
-      let a = and_parts (starts_with nat_eq t name) (ends_word rest) e in
-      let front : name ≡ take (length name) t = (bytes_eq-Decides name (take (length name) t)).0 a.0 in
-      (name, rest, sym (take-append-drop (length name) t) ∙ ap (λ l. l ++ rest) (sym front), p, a.1, again))
+    let a = and_parts (starts_with nat_eq t name) (ends_word rest) e in
+    let front : name ≡ take (length name) t = (bytes_eq-Decides name (take (length name) t)).0 a.0 in
+    (name, rest, sym (take-append-drop (length name) t) ∙ ap (λ l. l ++ rest) (sym front), p, a.1, again))
     (λ e g. absurd (false≢true g))
 
 first_token : List Lexeme → Token

@@ -1,6 +1,8 @@
 -- What the writer's calls give.
-use Rattle.std.proofs.Common.{◌≡◌, inl, inr, ℕ, suc, zero, ◌+◌, ◌-◌, ◌<◌, ◌≤◌, List, [], ◌∷◌, ◌++◌, length, replicate, Option, Some, None, refl, sym, ◌∙◌, ap, subst, arith, append-nil}
-use Rattle.std.specs.Prelude.{ℤ, String, option_map, Result, Ok, Err, IfErr, Bool, true, false, Decides}
+use Rattle.std.proofs.Common.{◌≡◌, inl, inr, ℕ, suc, ◌+◌, ◌-◌, ◌<◌, ◌≤◌, List, [], ◌∷◌, ◌++◌, length, replicate, drop, Option, Some, None, refl, sym, ◌∙◌, ap, subst, arith, append-nil, length-append}
+use Rattle.std.proofs.Math.Seq.{drop-append_seam}
+use Rattle.std.specs.Prelude.{String, option_map, IfSome, MatchOption, Bool, true, false, Decides}
+use Rattle.std.specs.declared.cmp.Ordering.{Ordering}
 use Rattle.std.specs.declared.cmp.Ordering.TheVariants.{Less}
 use Rattle.std.specs.BTreeMap.{BTreeMap}
 use Rattle.std.specs.Borrow.{Bor}
@@ -30,10 +32,14 @@ use Rattle.borsh_json.specs.declared.kinds.Kind.TheVariants.{Number, Bool as Tru
 use Rattle.borsh_json.specs.declared.kinds.Entries.{Entries as FoundEntries}
 use Rattle.borsh_json.specs.declared.kinds.KeyKind.{KeyKind}
 use Rattle.borsh_json.specs.declared.kinds.KeyKind.TheVariants.{Text as TextKeys, Number as NumberKeys}
+use Rattle.borsh_json.specs.declared.order.Ascent.{Ascent}
+use Rattle.borsh_json.specs.declared.order.Ordered.{Ordered}
 use Rattle.borsh_json.specs.declared.output.Output.{Output}
-use Rattle.borsh_json.specs.declared.position.Key.TheVariants.{Entry as EntryOf}
+use Rattle.borsh_json.specs.declared.position.Key.{Key}
+use Rattle.borsh_json.specs.declared.position.Key.TheVariants.{None as NoKey, Name, Entry as EntryOf}
 use Rattle.borsh_json.specs.declared.position.Part.{Part as FoundPart}
 use Rattle.borsh_json.specs.declared.position.Parts.{Parts}
+use Rattle.borsh_json.specs.declared.position.Parts.TheVariants.{Root, Entries as MapEntries}
 use Rattle.borsh_json.specs.declared.position.Place.{Place}
 use Rattle.borsh_json.specs.declared.position.Position.{Position}
 use Rattle.borsh_json.specs.declared.sources.EntryKey.{EntryKey}
@@ -42,10 +48,12 @@ use Rattle.borsh_json.specs.Errors.{error_of}
 use Rattle.borsh_json.specs.Forms.{Form, form_of, forms_in, shape_of_form, shapes, HasNoBytes}
 use Rattle.borsh_json.specs.Found.{forms_of, names_of}
 use Rattle.borsh_json.specs.Frames.{Wanted, IsWanted, GivesPart, IsKey, IsEntryKey, IsOf}
+use Rattle.borsh_json.specs.Descents.{HasDescent}
 use Rattle.borsh_json.specs.Inside.{IsInside}
-use Rattle.borsh_json.specs.NoJson.{IsNoJson, HasNoJsonPart, RefusesBytes}
-use Rattle.borsh_json.specs.Leaves.{output_tokens, Adds, IsOpenedAs, WritesLeaf, RefusesLeaf}
-use Rattle.borsh_json.specs.Places.{IsAt, AreKeysOf, lengths_of}
+use Rattle.borsh_json.specs.NoJson.{IsNoJson, HasNoJsonPart, IsOutOfOrder, RefusesBytes}
+use Rattle.borsh_json.specs.Orders.{HasKeyOrder, KindHasOrder, OrderedBy, ValuesCompare}
+use Rattle.borsh_json.specs.Leaves.{output_tokens, output_before, Adds, IsOpenedAs, WritesLeaf, RefusesLeaf}
+use Rattle.borsh_json.specs.Places.{IsAt, AreKeysOf, IsKindOf, lengths_of}
 use Rattle.borsh_json.specs.Reads.{SaysFirst}
 use Rattle.borsh_json.specs.Represents.{next_part}
 use Rattle.borsh_json.specs.Table.{Keys, no_bytes, utf8, HasKind, key_order, key_json}
@@ -53,10 +61,11 @@ use Rattle.borsh_walks.proofs.Laws.{zero_member}
 use Rattle.borsh_values.proofs.NodesLaws.{opens_member}
 use Rattle.borsh_values.proofs.Required.{members_head}
 use Rattle.borsh_values.proofs.WalkedLaws.{read_product}
-use Rattle.borsh_json.specs.Writes.{IsAbove, IsLast, IsBegunOf, IsWhole, IsWrittenOn, ends_of, Rest, IsRest, WritesFront, names_of_rest, names_of_all, leaf_depth, Nested, passed, IsHalved, IsWriting, IsAwaiting, RefusesOwn, RefusesValue, IsWrittenAs, Stops, IsWritingAt, IsAwaitingAt, IsFull, IsFullOrDescends, IsOfWrite}
+use Rattle.borsh_json.specs.Writes.{IsAbove, IsLast, IsBegunOf, IsWhole, IsWrittenOn, ends_of, Rest, IsRest, WritesFront, names_of_rest, names_of_all, leaf_depth, opened, Nested, passed, Mark, AreEach, IsNewPlace, IsAscending, IsKeyed, IsLastKey, IsMarked, IsRestOf, BeginsNext, TellsAscent, IsWriterOf, IsHalved, IsWriting, IsAwaiting, RefusesOwn, RefusesValue, IsWrittenAs, Stops, IsWritingAt, IsAwaitingAt, IsFull, IsFullOrFalls, AscendsFrom, IsOfWrite}
 use Rattle.borsh_json.proofs.FormsLaws.{shape_is, shapes_are}
+use Rattle.borsh_json.proofs.FallLaws.{neighbours, falls}
 use Rattle.borsh_json.proofs.NestedLaws.{read_leaf, inside_of, as_deep}
-use Rattle.borsh_json.proofs.WritingPlaces.{as_many, key_tokens, TakesPart, TakesEntry, takes_part, takes_entry, place_ends}
+use Rattle.borsh_json.proofs.WritingPlaces.{as_many, each_pushed, each_popped, key_tokens, TakesPart, TakesEntry, takes_part, takes_entry, place_ends}
 use Rattle.borsh_json.proofs.FormKinds.{form_known}
 use Rattle.borsh_json.proofs.WholeLaws.{leaf_refused}
 use Rattle.borsh_json.proofs.WritingSteps.{only_in, halved_on, leaf_writes, front_writes, awaits, entry_halved, entry_nested, awaits_entry, end_writes, end_whole}
@@ -99,7 +108,7 @@ module _ (F : List ℕ → Option Form) (root bytes : List ℕ) where
   refuses_bytes x own NotUtf8 g h = g h
   refuses_bytes x own Zero g h = g h
   refuses_bytes x own NotNumber g h = g h
-  refuses_bytes x own Descends g h = tt
+  refuses_bytes x own Descends g h = absurd h
   refuses_bytes x own OtherNodes g h = absurd h
   refuses_bytes x own (Expected wanted) g h = absurd h
   refuses_bytes x own MissingField g h = absurd h
@@ -116,8 +125,8 @@ module _ (F : List ℕ → Option Form) (root bytes : List ℕ) where
   stops_value x own (Refused r) e i g h = stops_as r e i (refuses_bytes x own r g h)
   stops_value x own (Element k r) e i g h = stops_as r e i (refuses_bytes x own r g h)
 
-  pub stops_descends : (e : PartError) → IsOf Descends e → Stops F root bytes (error_of e)
-  stops_descends e i = stops_as Descends e i tt
+  pub stops_descends : (e : PartError) → IsOf Descends e → IsOutOfOrder F root bytes → Stops F root bytes (error_of e)
+  stops_descends e i h = stops_as Descends e i h
 
   -- a value begins behind these bytes, inside of at least so many others
   pub record IsDeep (n : ℕ) (done left x : List ℕ) : Type 0 where
@@ -130,26 +139,36 @@ module _ (F : List ℕ → Option Form) (root bytes : List ℕ) where
   stops_full n done left x NoPartMemory d f = tt
   stops_full n done left x (RefusedPart path r) d f = subst (λ (r : Refusal). RefusesBytes F root bytes r) (sym f.0) (d.depth, done, left, x, d.joined, (let a = f.1 in let l = d.deep in omega (arith, a, l)), d.inside)
 
-  pub stops_either : (n : ℕ) (done left x : List ℕ) (e : PartError) → IsDeep n done left x → IsFullOrDescends n e → Stops F root bytes (error_of e)
-  stops_either n done left x NoPartMemory d f = tt
-  stops_either n done left x (RefusedPart path r) d (inl f) = stops_full n done left x (RefusedPart path r) d f
-  stops_either n done left x (RefusedPart path r) d (inr f) = stops_descends (RefusedPart path r) f
+  pub stops_either : (n : ℕ) (done own after left x : List ℕ) → left ≡ own ++ after → (e : PartError) → IsDeep n done left x → IsFullOrFalls n (HasDescent F x (own ++ after)) e → Stops F root bytes (error_of e)
+  stops_either n done own after left x l NoPartMemory d f = tt
+  stops_either n done own after left x l (RefusedPart path r) d (inl f) = stops_full n done left x (RefusedPart path r) d f
+  stops_either n done own after left x l (RefusedPart path r) d (inr f) = stops_descends (RefusedPart path r) f.0 (d.depth, done, own ++ after, x, d.joined ∙ ap (λ b. done ++ b) l, d.inside, f.1)
 
   -- bytes that no JSON says
   pub no_json_part : (n : ℕ) (done own after left x : List ℕ) → left ≡ own ++ after → IsDeep n done left x → IsNoJson F x own → HasNoJsonPart F root bytes
   no_json_part n done own after left x e d j = (d.depth, done, own, after, x, d.joined ∙ ap (λ l. done ++ l) e, d.inside, j)
 
-pub full_either : (n : ℕ) (e : PartError) → IsFull n e → IsFullOrDescends n e
-full_either n NoPartMemory f = tt
-full_either n (RefusedPart path r) f = inl f
+-- a want of room
+pub room_only : (n : ℕ) (P : Type 0) (e : PartError) → IsFull n e → IsFullOrFalls n P e
+room_only n P NoPartMemory f = tt
+room_only n P (RefusedPart path r) f = inl f
 
-pub descends_either : (n : ℕ) (e : PartError) → IsOf Descends e → IsFullOrDescends n e
-descends_either n NoPartMemory f = tt
-descends_either n (RefusedPart path r) f = inr f
+-- ---- order
+-- a place that was begun, in the order of its kind
+pub in_order : (d : Definitions) (bytes x : List ℕ) (kind : Found) (o : Option Ordered) (new : Option Ascent) → KindHasOrder (forms_of d) (names_of d) d.orders.items x kind → IfSome o (λ order. (es : FoundElements) × (kind ≡ ListKind es) × (es.order ≡ Some order)) → AscendsFrom o new → IsAscending d bytes new (x, None)
+in_order d bytes x kind None new k h a = subst (λ (a : Option Ascent). IsAscending d bytes a (x, None)) (sym a) tt
+in_order d bytes x kind (Some order) new k h a =
+    let F = forms_of d in
+    let ns = names_of d in
+    let l = subst (λ (kind : Found). KindHasOrder F ns d.orders.items x kind) h.1 k in
+    let o = subst (λ (o : Option Ordered). HasKeyOrder F ns d.orders.items x o) (h.2 ∙ ap (λ o. Some o) (sym a.2)) l in
+    subst (λ (a : Option Ascent). IsAscending d bytes a (x, None)) (sym a.1) (o, a.3)
 
-pub descends_or_not : {T : Type 0} (n : ℕ) (r : Result T PartError) → IfErr r (λ e. IsOf Descends e) → IfErr r (IsFullOrDescends n)
-descends_or_not n (Ok t) f = tt
-descends_or_not n (Err e) f = descends_either n e f
+pub still_rest : (F : List ℕ → Option Form) (ns : List Named) (p q : Place) (r : Rest) → q.parts ≡ p.parts → q.begun ≡ p.begun → q.last ≡ p.last → IsRest F ns p r → IsRest F ns q r
+still_rest F ns p q r a b c h =
+    subst (λ (parts : Parts). IsRestOf F ns parts q.begun q.last r) (sym a)
+    (subst (λ (n : ℕ). IsRestOf F ns p.parts n q.last r) (sym b)
+    (subst (λ (l : Option EntryKey). IsRestOf F ns p.parts p.begun l r) (sym c) h))
 
 -- ---- room
 pub leaf_room : (kind : Found) (n l : ℕ) → n + l ≡ 128 → ((es : FoundElements) → kind ≡ Numbers es → l < 128) → leaf_depth kind ≤ n
@@ -169,45 +188,85 @@ leaf_room (Optional at) n l e g = omega arith
 leaf_room (Choice m vs) n l e g = omega arith
 leaf_room (Repeated name) n l e g = omega arith
 
+abbrev pub IsPlaceBegun : (List ℕ → Option Form) → List Named → List ℕ → Form → List ℕ → Output → Output → Place → Type 0
+IsPlaceBegun F ns x f own old new q = (r : Rest) × IsRest F ns q r × WritesFront F x own r old new × Opens (shapes F) (shape_of_form f) own (names_of_rest r)
+
+-- the root's place has no order
+pub root_marked : (d : Definitions) (bytes : List ℕ) (p : Place) → p.parts ≡ Root → p.ascent ≡ None → IsMarked d bytes p ([], None)
+root_marked d bytes p r a = (subst (λ (a : Option Ascent). IsAscending d bytes a ([], None)) (sym a) tt, λ es n e. let q : Root ≡ MapEntries es n = sym r ∙ e in cc)
+
+-- the offset after some bytes
+moved : (w new : Writing) (own : List ℕ) → w.walk.offset + length w.walk.left.now ≡ length w.bytes.now → new.bytes ≡ w.bytes → w.walk.left.now ≡ own ++ new.walk.left.now → new.walk.offset ≡ w.walk.offset + length own → new.walk.offset + length new.walk.left.now ≡ length new.bytes.now
+moved w new own a same bytes next =
+    let b = ap (λ (b : Bor (List ℕ)). length b.now) same in
+    let l = ap (λ (b : List ℕ). length b) bytes in
+    let j = length-append own new.walk.left.now in
+    omega (arith, a, b, l, j, next)
+
+-- what is known of places is still known
+module _ (d : Definitions) (b c : Bor (List ℕ)) (same : c ≡ b) where
+  still_marked : (p q : Place) (m : Mark) → q ≡ p → IsMarked d b.now p m → IsMarked d c.now q m
+  still_marked p q m e h = subst (λ (b : Bor (List ℕ)). IsMarked d b.now q m) (sym same) (subst (λ (p : Place). IsMarked d b.now p m) (sym e) h)
+
+  still_around : (ps qs : List Place) (ms : List Mark) → qs ≡ ps → AreEach (IsMarked d b.now) ps ms → AreEach (IsMarked d c.now) qs ms
+  still_around ps qs ms e h = subst (λ (b : Bor (List ℕ)). AreEach (IsMarked d b.now) qs ms) (sym same) (subst (λ (ps : List Place). AreEach (IsMarked d b.now) ps ms) (sym e) h)
+
 -- ---- a value was written
 module _ (d : Definitions) (w new : Writing) (x : List ℕ) (f : Form) (own : List ℕ) (a : IsAwaitingAt d w x) (same : new.bytes ≡ w.bytes) (layout : new.walk.layout.now ≡ d.layout.now) (walk : IsWalker new.walk)
-    (bytes : w.walk.left.now ≡ own ++ new.walk.left.now)
+    (bytes : w.walk.left.now ≡ own ++ new.walk.left.now) (next : new.walk.offset ≡ w.walk.offset + length own)
     (onward : (done : List ℕ) (parts ps : List (List ℕ)) → Opens (shapes (forms_of d)) (shape_of_form f) own parts → IsReadTo (shapes (forms_of d)) d.layout.now.root.now done (x ∷ ps) w.walk.left.now → IsReadTo (shapes (forms_of d)) d.layout.now.root.now (done ++ own) (parts ++ ps) new.walk.left.now) where
   -- the writer is in front of the next part of the place
-  pub leaf_begun : (m : ℕ) → shapes (forms_of d) x ≡ Some (shape_of_form f) → m ≤ a.room → IsWrittenAs (forms_of d) (names_of d) m x f own w.out new.out None → new.position.place ≡ w.position.place → new.position.outer.items ≡ w.position.outer.items → IsWritingAt d new new.position.place
-  leaf_begun m c l h p o =
+  pub leaf_begun : (kind : Found) → shapes (forms_of d) x ≡ Some (shape_of_form f) → leaf_depth kind ≤ a.room → IsWrittenAs (forms_of d) (names_of d) kind x f own w.out new.out None → new.position.place ≡ w.position.place → new.position.outer.items ≡ w.position.outer.items → IsWritingAt d new new.position.place
+  leaf_begun kind c l h p o =
       let F = forms_of d in
       let ns = names_of d in
       let root = d.layout.now.root.now in
       let s = a.state in
       let k = halved_on F ns root w.bytes.now x (shape_of_form f) s.done w.walk.left.now own new.walk.left.now h.1 (names_of_all (s.inner ∷ s.around)) bytes (λ r. onward s.done h.1 (names_of_all (s.inner ∷ s.around)) h.2 r) s.halved in
       let n = read_leaf (shapes F) root own (names_of_all (s.inner ∷ s.around)) (shape_of_form f) s.nested c h.2 h.3 k.read.1 in
-      let t = leaf_writes F ns root w.bytes.now x a.room w.position.place w.position.outer.items w.walk.left.now w.out s own new.walk.left.now new.out m h.1 l n h.0 h.3 k in
+      let t = leaf_writes F ns root w.bytes.now x a.room w.position.place w.position.outer.items a.mark a.marks w.walk.left.now w.out s own new.walk.left.now new.out (leaf_depth kind) h.1 l n h.0 h.3 k in
       record {
-        writer = record { layout = layout; walk = walk; fresh = h.0.adds.before ∙ a.writer.fresh };
+        writer = record { layout = layout; walk = walk; fresh = h.0.adds.before ∙ a.writer.fresh; offset = moved w new own a.writer.offset same bytes next };
+        mark = a.mark;
+        marks = a.marks;
         state =
-            subst (λ (b : Bor (List ℕ)). IsWriting F ns root b.now new.position.place new.position.outer.items new.walk.left.now (output_tokens new.out)) (sym same)
-            (subst (λ (q : Place). IsWriting F ns root w.bytes.now q new.position.outer.items new.walk.left.now (output_tokens new.out)) (sym p)
-            (subst (λ (qs : List Place). IsWriting F ns root w.bytes.now w.position.place qs new.walk.left.now (output_tokens new.out)) (sym o) t));
+            subst (λ (b : Bor (List ℕ)). IsWriting F ns root b.now new.position.place new.position.outer.items a.mark a.marks new.walk.left.now (output_tokens new.out)) (sym same)
+            (subst (λ (q : Place). IsWriting F ns root w.bytes.now q new.position.outer.items a.mark a.marks new.walk.left.now (output_tokens new.out)) (sym p)
+            (subst (λ (qs : List Place). IsWriting F ns root w.bytes.now w.position.place qs a.mark a.marks new.walk.left.now (output_tokens new.out)) (sym o) t));
+        here = still_marked d w.bytes new.bytes same w.position.place new.position.place a.mark p a.here;
+        around = still_around d w.bytes new.bytes same w.position.outer.items new.position.outer.items a.marks o a.around;
       }
 
   -- or of the first part of another place
-  pub place_begun : (m : ℕ) (q : Place) → shapes (forms_of d) x ≡ Some (shape_of_form f) → length w.position.outer.items < 128 → IsWrittenAs (forms_of d) (names_of d) m x f own w.out new.out (Some q) → new.position.place ≡ q → new.position.outer.items ≡ w.position.outer.items ++ w.position.place ∷ [] → IsWritingAt d new new.position.place
-  place_begun m q c room h p o =
+  pub place_begun : (q : Place) → shapes (forms_of d) x ≡ Some (shape_of_form f) → length w.position.outer.items < 128 → IsPlaceBegun (forms_of d) (names_of d) x f own w.out new.out q → IsMarked d w.bytes.now q (x, None) → new.position.place ≡ q → new.position.outer.items ≡ w.position.outer.items ++ w.position.place ∷ [] → IsWritingAt d new new.position.place
+  place_begun q c room h z p o =
       let F = forms_of d in
       let ns = names_of d in
       let root = d.layout.now.root.now in
       let s = a.state in
       let r = h.0 in
       let k = halved_on F ns root w.bytes.now x (shape_of_form f) s.done w.walk.left.now own new.walk.left.now (names_of_rest r) (names_of_all (s.inner ∷ s.around)) bytes (λ t. onward s.done (names_of_rest r) (names_of_all (s.inner ∷ s.around)) h.3 t) s.halved in
-      let l = as_many F ns w.position.outer.items s.around s.there in
-      let t = front_writes F ns root w.bytes.now x a.room w.position.place w.position.outer.items w.walk.left.now w.out s own new.walk.left.now new.out (shape_of_form f) r q new.position.outer.items (omega (arith, l, room)) c h.3 h.1 h.2 o k in
+      let l = as_many (IsRest F ns) w.position.outer.items s.around s.there in
+      let t = front_writes F ns root w.bytes.now x a.room w.position.place w.position.outer.items a.mark a.marks w.walk.left.now w.out s own new.walk.left.now new.out (shape_of_form f) r q new.position.outer.items (omega (arith, l, room)) c h.3 h.1 h.2 o k in
       record {
-        writer = record { layout = layout; walk = walk; fresh = h.2.adds.before ∙ a.writer.fresh };
+        writer = record { layout = layout; walk = walk; fresh = h.2.adds.before ∙ a.writer.fresh; offset = moved w new own a.writer.offset same bytes next };
+        mark = (x, None);
+        marks = a.mark ∷ a.marks;
         state =
-            subst (λ (b : Bor (List ℕ)). IsWriting F ns root b.now new.position.place new.position.outer.items new.walk.left.now (output_tokens new.out)) (sym same)
-            (subst (λ (z : Place). IsWriting F ns root w.bytes.now z new.position.outer.items new.walk.left.now (output_tokens new.out)) (sym p) t);
+            subst (λ (b : Bor (List ℕ)). IsWriting F ns root b.now new.position.place new.position.outer.items (x, None) (a.mark ∷ a.marks) new.walk.left.now (output_tokens new.out)) (sym same)
+            (subst (λ (z : Place). IsWriting F ns root w.bytes.now z new.position.outer.items (x, None) (a.mark ∷ a.marks) new.walk.left.now (output_tokens new.out)) (sym p) t);
+        here = still_marked d w.bytes new.bytes same q new.position.place (x, None) p z;
+        around = still_around d w.bytes new.bytes same (w.position.outer.items ++ w.position.place ∷ []) new.position.outer.items (a.mark ∷ a.marks) o (each_pushed (IsMarked d w.bytes.now) w.position.outer.items a.marks w.position.place a.mark a.around a.here);
       }
+
+-- of a place that is begun nothing is known of parts yet
+pub new_marked : (d : Definitions) (bytes x : List ℕ) (f : Form) (kind : Found) (p q : Place) → IsNewPlace kind p → IsKindOf (forms_of d) (names_of d) x f kind → KindHasOrder (forms_of d) (names_of d) d.orders.items x kind → q.parts ≡ p.parts → q.last ≡ p.last → IsAscending d bytes q.ascent (x, None) → IsMarked d bytes q (x, None)
+new_marked d bytes x f kind p q h i k a b c = (
+  c,
+  λ es n e.
+      let t = h.2 es n (sym a ∙ e) in
+      ((t.0, f, subst (λ (kind : Found). IsKindOf (forms_of d) (names_of d) x f kind) t.1 i, subst (λ (kind : Found). KindHasOrder (forms_of d) (names_of d) d.orders.items x kind) t.1 k), subst (λ (l : Option EntryKey). IsLastKey d bytes es l None) (sym (b ∙ h.1)) tt),
+)
 
 -- ---- a node was found of the name that is awaited
 some_form : (f g : Form) → Some f ≡ Some g → f ≡ g
@@ -234,12 +293,21 @@ module _ (d : Definitions) (w : Writing) (x : List ℕ) (a : IsAwaitingAt d w x)
   pub is_deep : IsDeep (forms_of d) d.layout.now.root.now w.bytes.now (length w.position.outer.items) a.state.done w.walk.left.now x
   is_deep =
       let s = a.state in
-      let l = as_many (forms_of d) (names_of d) w.position.outer.items s.around s.there in
+      let l = as_many (IsRest (forms_of d) (names_of d)) w.position.outer.items s.around s.there in
       let m = as_deep s.levels in
       record { joined = s.halved.joined; depth = length s.outer; deep = omega (arith, l, m); inside = inside_of (shapes (forms_of d)) d.layout.now.root.now s.nested }
 
   pub room_awaiting : a.room + length w.position.outer.items ≡ 128
-  room_awaiting = let l = as_many (forms_of d) (names_of d) w.position.outer.items a.state.around a.state.there in let m = a.state.room in omega (arith, l, m)
+  room_awaiting = let l = as_many (IsRest (forms_of d) (names_of d)) w.position.outer.items a.state.around a.state.there in let m = a.state.room in omega (arith, l, m)
+
+-- nothing was walked
+writer_still : (d : Definitions) (w new : Writing) → IsWriterOf d w → new.walk ≡ w.walk → new.bytes ≡ w.bytes → output_before new.out ≡ [] → IsWriterOf d new
+writer_still d w new a walk same fresh = record {
+  layout = subst (λ (k : Walker). k.layout.now ≡ d.layout.now) (sym walk) a.layout;
+  walk = subst (λ (k : Walker). IsWalker k) (sym walk) a.walk;
+  fresh = fresh;
+  offset = subst (λ (k : Walker). k.offset + length k.left.now ≡ length new.bytes.now) (sym walk) (a.offset ∙ ap (λ (b : Bor (List ℕ)). length b.now) (sym same));
+}
 
 -- ---- a name whose values have no bytes, or none of their own
 undefined_first : (C : List ℕ → Option Shape) (x bs : List ℕ) → Member C x bs → C x ≡ None → ⊥
@@ -264,14 +332,18 @@ module _ (d : Definitions) (w new : Writing) (x : List ℕ) (a : IsAwaitingAt d 
       let h = subst (λ b. IsHalved F root w.bytes.now b w.walk.left.now (x ∷ names)) (sym (append-nil s.done)) s.halved in
       let head = members_head (shapes F) s.halved.read.1 in
       let n = passed s.nested (subst (λ b. Member (shapes F) x b) (zero_member (shapes F) head.2 z) head.2) in
-      let k = leaf_writes F ns root w.bytes.now x a.room w.position.place w.position.outer.items w.walk.left.now w.out s [] w.walk.left.now new.out 0 (x ∷ []) (omega arith) n leaf (λ y i. subst (λ y. HasNoBytes F y) (only_in y x i) z) h in
+      let k = leaf_writes F ns root w.bytes.now x a.room w.position.place w.position.outer.items a.mark a.marks w.walk.left.now w.out s [] w.walk.left.now new.out 0 (x ∷ []) (omega arith) n leaf (λ y i. subst (λ y. HasNoBytes F y) (only_in y x i) z) h in
       record {
-        writer = record { layout = subst (λ (k : Walker). k.layout.now ≡ d.layout.now) (sym walk) a.writer.layout; walk = subst (λ (k : Walker). IsWalker k) (sym walk) a.writer.walk; fresh = t.before ∙ a.writer.fresh };
+        writer = writer_still d w new a.writer walk same (t.before ∙ a.writer.fresh);
+        mark = a.mark;
+        marks = a.marks;
         state =
-            subst (λ (b : Bor (List ℕ)). IsWriting F ns root b.now new.position.place new.position.outer.items new.walk.left.now (output_tokens new.out)) (sym same)
-            (subst (λ (k : Walker). IsWriting F ns root w.bytes.now new.position.place new.position.outer.items k.left.now (output_tokens new.out)) (sym walk)
-            (subst (λ (q : Place). IsWriting F ns root w.bytes.now q new.position.outer.items w.walk.left.now (output_tokens new.out)) (sym p)
-            (subst (λ (qs : List Place). IsWriting F ns root w.bytes.now w.position.place qs w.walk.left.now (output_tokens new.out)) (sym o) k)));
+            subst (λ (b : Bor (List ℕ)). IsWriting F ns root b.now new.position.place new.position.outer.items a.mark a.marks new.walk.left.now (output_tokens new.out)) (sym same)
+            (subst (λ (k : Walker). IsWriting F ns root w.bytes.now new.position.place new.position.outer.items a.mark a.marks k.left.now (output_tokens new.out)) (sym walk)
+            (subst (λ (q : Place). IsWriting F ns root w.bytes.now q new.position.outer.items a.mark a.marks w.walk.left.now (output_tokens new.out)) (sym p)
+            (subst (λ (qs : List Place). IsWriting F ns root w.bytes.now w.position.place qs a.mark a.marks w.walk.left.now (output_tokens new.out)) (sym o) k)));
+        here = still_marked d w.bytes new.bytes same w.position.place new.position.place a.mark p a.here;
+        around = still_around d w.bytes new.bytes same w.position.outer.items new.position.outer.items a.marks o a.around;
       }
 
 struct_on : (C : List ℕ → Option Shape) (root x left : List ℕ) (names : List (List ℕ)) (s : Shape) → C x ≡ Some s → s ≡ product names → (done : List ℕ) (parts ps : List (List ℕ)) → Opens C s [] parts → IsReadTo C root done (x ∷ ps) left → IsReadTo C root (done ++ []) (parts ++ ps) left
@@ -282,23 +354,23 @@ struct_on C root x left names s c e done parts ps o r =
 module _ (d : Definitions) (w new : Writing) (x : List ℕ) (a : IsAwaitingAt d w x) (f : Form) (e : forms_of d x ≡ Some f) where
   -- the beginning of a struct was written
   pub struct_begun : (q : Place) → new.walk ≡ w.walk → new.bytes ≡ w.bytes → length w.position.outer.items < 128
-      → (r : Rest) → IsRest (forms_of d) (names_of d) q r → WritesFront (forms_of d) x [] r w.out new.out → shape_of_form f ≡ product (names_of_rest r)
+      → (kind : Found) → IsKindOf (forms_of d) (names_of d) x f kind → KindHasOrder (forms_of d) (names_of d) d.orders.items x kind → (r : Rest) → IsRest (forms_of d) (names_of d) q r → WritesFront (forms_of d) x [] r w.out new.out → shape_of_form f ≡ product (names_of_rest r) → IsNewPlace kind q
       → new.position.place ≡ q → new.position.outer.items ≡ w.position.outer.items ++ w.position.place ∷ [] → IsWritingAt d new new.position.place
-  struct_begun q walk same room r h t s p o =
+  struct_begun q walk same room kind i k r h t s z p o =
       let F = forms_of d in
       let root = d.layout.now.root.now in
       let c : shapes F x ≡ Some (shape_of_form f) = ap (λ o. option_map shape_of_form o) e in
       let opens : Opens (shapes F) (shape_of_form f) [] (names_of_rest r) = subst (λ s. Opens (shapes F) s [] (names_of_rest r)) (sym s) (refl, refl) in
-      place_begun d w new x f [] a same (subst (λ (k : Walker). k.layout.now ≡ d.layout.now) (sym walk) a.writer.layout) (subst (λ (k : Walker). IsWalker k) (sym walk) a.writer.walk) (ap (λ (k : Walker). k.left.now) (sym walk))
-      (λ done parts ps n g. subst (λ (k : Walker). IsReadTo (shapes F) root (done ++ []) (parts ++ ps) k.left.now) (sym walk) (struct_on (shapes F) root x w.walk.left.now (names_of_rest r) (shape_of_form f) c s done parts ps n g)) 0 q c room (r, h, t, opens) p o
+      place_begun d w new x f [] a same (subst (λ (k : Walker). k.layout.now ≡ d.layout.now) (sym walk) a.writer.layout) (subst (λ (k : Walker). IsWalker k) (sym walk) a.writer.walk) (ap (λ (k : Walker). k.left.now) (sym walk)) (let e = ap (λ (k : Walker). k.offset) walk in omega (arith, e))
+      (λ done parts ps n g. subst (λ (k : Walker). IsReadTo (shapes F) root (done ++ []) (parts ++ ps) k.left.now) (sym walk) (struct_on (shapes F) root x w.walk.left.now (names_of_rest r) (shape_of_form f) c s done parts ps n g)) q c room (r, h, t, opens) (new_marked d w.bytes.now x f kind q q z i k refl refl (subst (λ (l : Option Ascent). IsAscending d w.bytes.now l (x, None)) (sym z.0) tt)) p o
 
 -- ---- parts and their keys
--- the key is above the last one
-pub first_above : (kind : KeyKind) (keys : Keys) (o : Option (List ℕ)) (s : List ℕ) → IsLast kind None o → IsAbove keys o s
-first_above kind keys o s e = subst (λ o. IsAbove keys o s) (sym e) tt
+-- whether a key is above the last one
+pub first_above : (kind : KeyKind) (keys : Keys) (o : Option (List ℕ)) (s : List ℕ) → IsLast kind None o → Decides true (IsAbove keys o s)
+first_above kind keys o s e = (λ t. subst (λ o. IsAbove keys o s) (sym e) tt, λ t. refl)
 
-pub next_above : (kind : KeyKind) (keys : Keys) (o : Option (List ℕ)) (s : List ℕ) (last : EntryKey) (b : Bool) → (l : IsLast kind (Some last) o) → Decides b (key_order keys (l.0, null) (s, null) ≡ Less) → b ≡ true → IsAbove keys o s
-next_above kind keys o s last b l d e = subst (λ o. IsAbove keys o s) (sym l.1) (d.0 e)
+pub next_above : (kind : KeyKind) (keys : Keys) (o : Option (List ℕ)) (s : List ℕ) (last : EntryKey) (b : Bool) → (l : IsLast kind (Some last) o) → Decides b (key_order keys (l.0, null) (s, null) ≡ Less) → Decides b (IsAbove keys o s)
+next_above kind keys o s last b l d = subst (λ o. Decides b (IsAbove keys o s)) (sym l.1) d
 
 -- the kind of keys, by the definition that their name has
 keys_of_form : (F : List ℕ → Option Form) (ns : List Named) (k : List ℕ) (g f : Form) (kind : KeyKind) (keys : Keys) → AreKeysOf F ns k g kind keys → F k ≡ Some f → AreKeysOf F ns k f kind keys
@@ -308,7 +380,7 @@ keys_of_form F ns k g f TextKeys keys a c =
     (a.0, subst (λ l. HasKind F k (utf8 l)) (sym (ap lengths_of h.1)) a.1)
 keys_of_form F ns k g f (NumberKeys n) keys a c = a
 
-module _ (d : Definitions) (p q : Place) (part : FoundPart) (b : IsBegunOf d p q part) where
+module _ (d : Definitions) (i : ℕ) (p q : Place) (part : FoundPart) (b : IsBegunOf d i p q part) where
   -- the first of what was wanted of the place
   wanted_first : (ws : List Wanted) → IsWanted (forms_of d) (names_of d) p.parts p.begun ws → (w : Wanted) × (rest : List Wanted) × (ws ≡ w ∷ rest) × IsAt (names_of d) part.at w.1 × IsKey p.parts part.key w.0 × IsWanted (forms_of d) (names_of d) p.parts q.begun rest
   wanted_first ws h = let g = b.0 ws h in (g.0, g.1, g.2, g.3, g.4, subst (λ (k : Parts). IsWanted (forms_of d) (names_of d) k q.begun g.1) b.1 g.5)
@@ -316,14 +388,64 @@ module _ (d : Definitions) (p q : Place) (part : FoundPart) (b : IsBegunOf d p q
   pub entry_of : (es : FoundEntries) (r : Rest) → part.key ≡ EntryOf es → IsRest (forms_of d) (names_of d) p r → TakesEntry (forms_of d) (names_of d) es p.parts q.begun p.last part r
   entry_of es r k h = takes_entry (forms_of d) (names_of d) es p.parts p.begun q.begun p.last part r k h wanted_first
 
+  -- it is that of an entry, if the parts are entries
+  its_entries : (r : Rest) (es : FoundEntries) (n : ℕ) → IsRest (forms_of d) (names_of d) p r → p.parts ≡ MapEntries es n → part.key ≡ EntryOf es
+  its_entries r es n h e =
+      let k = subst (λ (parts : Parts). IsRestOf (forms_of d) (names_of d) parts p.begun p.last r) e h in
+      let w = wanted_first k.5 (subst (λ (parts : Parts). IsWanted (forms_of d) (names_of d) parts p.begun k.5) (sym e) k.11) in
+      subst (λ (parts : Parts). IsKey parts part.key w.0.0) e w.4
+
+  -- it begins at the offset
+  its_ascent : (bytes : List ℕ) (m : Mark) (done : ℕ) → i ≡ done → IsAscending d bytes p.ascent m → IsAscending d bytes q.ascent (m.0, Some done)
+  its_ascent bytes m done e h = next_ascent p.ascent q.ascent h b.3
+    where
+      next_ascent : (old new : Option Ascent) → IsAscending d bytes old m → BeginsNext old i new → IsAscending d bytes new (m.0, Some done)
+      next_ascent None new h n = subst (λ (a : Option Ascent). IsAscending d bytes a (m.0, Some done)) (sym n) tt
+      next_ascent (Some a) new h n = subst (λ (a : Option Ascent). IsAscending d bytes a (m.0, Some done)) (sym n.1) (subst (λ (o : Ordered). HasKeyOrder (forms_of d) (names_of d) d.orders.items m.0 (Some o)) (sym n.2) h.0, n.3 ∙ ap (λ i. Some i) e)
+
   pub part_of : (r : Rest) → ((es : FoundEntries) → part.key ≡ EntryOf es → ⊥) → IsRest (forms_of d) (names_of d) p r → TakesPart (forms_of d) (names_of d) p.parts q.begun p.last part r
   part_of r n h = takes_part (forms_of d) (names_of d) p.parts p.begun q.begun p.last part r n h wanted_first
+
+  -- a name is left
+  pub next_name : (r : Rest) → IsRest (forms_of d) (names_of d) p r → (key : Key) → part.key ≡ key → (z : List ℕ) × (zs : List (List ℕ)) × (names_of_rest r ≡ z ∷ zs)
+  next_name r h NoKey e = let t = part_of r (λ es k. let q : NoKey ≡ EntryOf es = sym e ∙ k in cc) h in (t.name, names_of_rest t.rest, t.names)
+  next_name r h (Name n) e = let t = part_of r (λ es k. let q : Name n ≡ EntryOf es = sym e ∙ k in cc) h in (t.name, names_of_rest t.rest, t.names)
+  next_name r h (EntryOf es) e = let t = entry_of es r e h in (t.pair, replicate t.count t.pair, ap names_of_rest t.is)
 
 pub none_added : (out : Output) → Adds [] out out
 none_added out = record { before = refl; tokens = sym (append-nil (output_tokens out)) }
 
+last_there : (bytes done left rest : List ℕ) → bytes ≡ done ++ left → left ≡ rest → drop (length done) bytes ≡ rest
+last_there bytes done left rest e f = ap (λ b. drop (length done) b) e ∙ drop-append_seam done left ∙ f
+
+-- the writer's offset is that of the bytes that are read
+at_offset : (d : Definitions) (w : Writing) (p : Place) (a : IsWritingAt d w p) → w.walk.offset ≡ length a.state.done
+at_offset d w p a =
+    let s = a.state in
+    let o = a.writer.offset in
+    let b = ap (λ (b : List ℕ). length b) s.halved.joined in
+    let l = length-append s.done w.walk.left.now in
+    omega (arith, o, b, l)
+
+-- the next part isn't above the last one
+pub next_falls : (d : Definitions) (w : Writing) (p : Place) (a : IsWritingAt d w p) (z : List ℕ) (zs : List (List ℕ)) → names_of_rest a.state.inner ≡ z ∷ zs → (ascends : Bool) → ascends ≡ false → (ascent : Option Ascent) → IsAscending d w.bytes.now ascent a.mark → TellsAscent d w.bytes.now ascent w.walk.offset ascends → IsOutOfOrder (forms_of d) d.layout.now.root.now w.bytes.now
+next_falls d w p a z zs names ascends off None h t = let q : true ≡ false = sym t ∙ off in cc
+next_falls d w p a z zs names ascends off (Some x) h t = go x.last h.1 t
+  where
+    go : (last : Option ℕ) → last ≡ a.mark.1 → MatchOption last (ascends ≡ true) (λ i. (k : List ℕ) (r : Ordering) → OrderedBy d k x.order → ValuesCompare d k (drop i w.bytes.now) (drop w.walk.offset w.bytes.now) r → Decides ascends (r ≡ Less)) → IsOutOfOrder (forms_of d) d.layout.now.root.now w.bytes.now
+    go None e t = let q : true ≡ false = sym t ∙ off in cc
+    go (Some i) e t =
+        let F = forms_of d in
+        let s = a.state in
+        let k = h.0.0 in
+        let n = neighbours d w p a z zs names k x.order h.0.1 i (sym e) in
+        let left : w.walk.left.now ≡ drop w.walk.offset w.bytes.now = sym (ap (λ j. drop j w.bytes.now) (at_offset d w p a) ∙ last_there w.bytes.now s.done w.walk.left.now w.walk.left.now s.halved.joined refl) in
+        let there = subst (λ b. ValuesCompare d k (drop i w.bytes.now) b n.0) left n.1 in
+        let tells = t k n.0 h.0.1.2 there in
+        falls d w p a z zs names k x.order h.0.1 i (sym e) n.0 n.1 (λ l. let q : true ≡ false = sym (tells.1 l) ∙ off in cc)
+
 -- a key that is no entry's was written, or none
-pub key_begun : (d : Definitions) (w new : Writing) (p : Place) (part : FoundPart) → IsWritingAt d w p → IsBegunOf d p w.position.place part → ((es : FoundEntries) → part.key ≡ EntryOf es → ⊥)
+pub key_begun : (d : Definitions) (w new : Writing) (p : Place) (part : FoundPart) → IsWritingAt d w p → IsBegunOf d w.walk.offset p w.position.place part → ((es : FoundEntries) → part.key ≡ EntryOf es → ⊥)
     → Adds (key_tokens part.key) w.out new.out → new.walk ≡ w.walk → new.position ≡ w.position → new.bytes ≡ w.bytes → (x : List ℕ) × IsAt (names_of d) part.at x × IsAwaitingAt d new x
 key_begun d w new p part a b n t walk position bytes =
     let F = forms_of d in
@@ -331,27 +453,33 @@ key_begun d w new p part a b n t walk position bytes =
     let root = d.layout.now.root.now in
     let s = a.state in
     let q = w.position.place in
-    let h = part_of d p q part b s.inner n s.here in
-    let r = awaits F ns root w.bytes.now p q w.position.outer.items w.walk.left.now (output_tokens w.out) (output_tokens new.out) s b.1 part b.2 h t.tokens in (
+    let m : Mark = (a.mark.0, Some (length s.done)) in
+    let h = part_of d w.walk.offset p q part b s.inner n s.here in
+    let r = awaits F ns root w.bytes.now p q w.position.outer.items a.mark a.marks w.walk.left.now (output_tokens w.out) (output_tokens new.out) s b.1 part b.2 h t.tokens in
+    let here : IsMarked d w.bytes.now q m = (its_ascent d w.walk.offset p q part b w.bytes.now a.mark (length s.done) (at_offset d w p a) a.here.0, λ es k e. absurd (n es (its_entries d w.walk.offset p q part b s.inner es k s.here (sym b.1 ∙ e)))) in (
       h.name,
       h.named,
       record {
-        writer = record { layout = subst (λ (k : Walker). k.layout.now ≡ d.layout.now) (sym walk) a.writer.layout; walk = subst (λ (k : Walker). IsWalker k) (sym walk) a.writer.walk; fresh = t.before ∙ a.writer.fresh };
+        writer = writer_still d w new a.writer walk bytes (t.before ∙ a.writer.fresh);
         room = 128 - length s.around;
+        mark = m;
+        marks = a.marks;
         state =
-            subst (λ (b : Bor (List ℕ)). IsAwaiting F ns root b.now h.name (128 - length s.around) new.position.place new.position.outer.items new.walk.left.now (output_tokens new.out)) (sym bytes)
-            (subst (λ (k : Walker). IsAwaiting F ns root w.bytes.now h.name (128 - length s.around) new.position.place new.position.outer.items k.left.now (output_tokens new.out)) (sym walk)
-            (subst (λ (k : Position). IsAwaiting F ns root w.bytes.now h.name (128 - length s.around) k.place k.outer.items w.walk.left.now (output_tokens new.out)) (sym position) r));
+            subst (λ (b : Bor (List ℕ)). IsAwaiting F ns root b.now h.name (128 - length s.around) new.position.place new.position.outer.items m a.marks new.walk.left.now (output_tokens new.out)) (sym bytes)
+            (subst (λ (k : Walker). IsAwaiting F ns root w.bytes.now h.name (128 - length s.around) new.position.place new.position.outer.items m a.marks k.left.now (output_tokens new.out)) (sym walk)
+            (subst (λ (k : Position). IsAwaiting F ns root w.bytes.now h.name (128 - length s.around) k.place k.outer.items m a.marks w.walk.left.now (output_tokens new.out)) (sym position) r));
+        here = still_marked d w.bytes new.bytes bytes q new.position.place m (ap (λ (k : Position). k.place) position) here;
+        around = still_around d w.bytes new.bytes bytes w.position.outer.items new.position.outer.items a.marks (ap (λ (k : Position). k.outer.items) position) a.around;
       },
     )
 
 module _ (d : Definitions) (w new : Writing) (p : Place) (part : FoundPart) (es : FoundEntries) (a : IsWritingAt d w p) (parts : new.position.place.parts ≡ p.parts)
     (t : TakesEntry (forms_of d) (names_of d) es p.parts new.position.place.begun p.last part a.state.inner) where
   pub entry_next : IsHalved (forms_of d) d.layout.now.root.now w.bytes.now a.state.done w.walk.left.now (t.key ∷ t.value ∷ (replicate t.count t.pair ++ names_of_all a.state.around))
-  entry_next = entry_halved (forms_of d) (names_of d) d.layout.now.root.now w.bytes.now p new.position.place w.position.outer.items w.walk.left.now (output_tokens w.out) (output_tokens new.out) a.state parts es part t
+  entry_next = entry_halved (forms_of d) (names_of d) d.layout.now.root.now w.bytes.now p new.position.place w.position.outer.items a.mark a.marks w.walk.left.now (output_tokens w.out) (output_tokens new.out) a.state parts es part t
 
-  entry_open : Nested (shapes (forms_of d)) d.layout.now.root.now ((t.key ∷ t.value ∷ []) ∷ replicate t.count t.pair ∷ a.state.outer) a.state.done
-  entry_open = entry_nested (forms_of d) (names_of d) d.layout.now.root.now w.bytes.now p new.position.place w.position.outer.items w.walk.left.now (output_tokens w.out) (output_tokens new.out) a.state parts es part t
+  entry_open : Nested (shapes (forms_of d)) d.layout.now.root.now (opened t.pair None (t.key ∷ t.value ∷ []) ∷ opened a.mark.0 (Some (length a.state.done)) (replicate t.count t.pair) ∷ a.state.outer) a.state.done
+  entry_open = entry_nested (forms_of d) (names_of d) d.layout.now.root.now w.bytes.now p new.position.place w.position.outer.items a.mark a.marks w.walk.left.now (output_tokens w.out) (output_tokens new.out) a.state parts es part t
 
   module _ (found : Option Node) (n : Node) (is : found ≡ Some n) (g : FindsAt es.key w.walk new.walk found) where
     pub entry_opened : IsOpenedAs (forms_of d) t.key (form_of n.definition.now) n.bytes.now (node_is d w new.walk es.key t.key a.writer.layout t.key_named found n is g).parts
@@ -361,10 +489,10 @@ module _ (d : Definitions) (w new : Writing) (p : Place) (part : FoundPart) (es 
     entry_keys = keys_of_form (forms_of d) (names_of d) t.key (form_of es.key_definition.now) (form_of n.definition.now) es.key_kind t.keys t.kind entry_opened.0
 
     -- the key was written
-    pub entry_awaits : (key : EntryKey) (names : List (List ℕ)) (s : List ℕ) → new.walk.layout.now ≡ d.layout.now → IsWalker new.walk → new.bytes ≡ w.bytes → new.position.outer.items ≡ w.position.outer.items → new.position.place.last ≡ Some key
+    pub entry_awaits : (key : EntryKey) (names : List (List ℕ)) (s : List ℕ) → IsBegunOf d w.walk.offset p w.position.place part → part.key ≡ EntryOf es → new.position.place.ascent ≡ w.position.place.ascent → new.walk.layout.now ≡ d.layout.now → IsWalker new.walk → new.bytes ≡ w.bytes → new.position.outer.items ≡ w.position.outer.items → new.position.place.last ≡ Some key
         → Opens (shapes (forms_of d)) (shape_of_form (form_of n.definition.now)) n.bytes.now names → names ≡ [] → IsEntryKey es.key_kind key s → Adds (Token.key s ∷ []) w.out new.out → SaysFirst (forms_of d) t.key (key_json t.keys s) n.bytes.now [] → IsAbove t.keys t.before s
         → (x : List ℕ) × IsAt (names_of d) part.at x × IsAwaitingAt d new x
-    entry_awaits key names s layout walk bytes outer last opens none k adds says above =
+    entry_awaits key names s b entry ascent layout walk bytes outer last opens none k adds says above =
         let F = forms_of d in
         let ns = names_of d in
         let root = d.layout.now.root.now in
@@ -374,15 +502,27 @@ module _ (d : Definitions) (w new : Writing) (p : Place) (part : FoundPart) (es 
         let o = subst (λ l. Opens (shapes F) (shape_of_form (form_of n.definition.now)) n.bytes.now l) none opens in
         let h = halved_on F ns root w.bytes.now t.key (shape_of_form (form_of n.definition.now)) v.done w.walk.left.now n.bytes.now new.walk.left.now [] rest node.bytes (λ r. node_on d w new.walk es.key t.key a.writer.layout t.key_named found n is g v.done [] rest o r) entry_next in
         let m = opens_member (shapes F) (shape_of_form (form_of n.definition.now)) n.bytes.now [] [] (node_shape d w new.walk es.key t.key a.writer.layout t.key_named found n is g) o no_members in
-        let r = awaits_entry F ns root w.bytes.now p new.position.place w.position.outer.items w.walk.left.now (output_tokens w.out) (output_tokens new.out) v parts es part t n.bytes.now new.walk.left.now key s last k says above (subst (λ b. Member (shapes F) t.key b) (append-nil n.bytes.now) m) h adds.tokens in (
+        let k2 : Mark = (a.mark.0, Some (length v.done)) in
+        let keyed : IsKeyed d w.bytes.now new.position.place.parts new.position.place.last k2 = λ fs c e.
+        (let q : EntryOf es ≡ EntryOf fs = sym entry ∙ its_entries d w.walk.offset p w.position.place part b v.inner fs c v.here (sym parts ∙ e) in
+        let same : es ≡ fs = cc in
+        let order = (a.here.1 fs c (sym parts ∙ e)).0 in
+        let there = subst (λ (fs : FoundEntries). IsLastKey d w.bytes.now fs (Some key) (Some (length v.done))) same (length v.done, t.key, t.keys, s, n.bytes.now, new.walk.left.now, refl, t.key_named, t.kind, k, says, last_there w.bytes.now v.done w.walk.left.now (n.bytes.now ++ new.walk.left.now) v.halved.joined node.bytes) in
+        (order, subst (λ (l : Option EntryKey). IsLastKey d w.bytes.now fs l (Some (length v.done))) (sym last) there)) in
+        let here : IsMarked d w.bytes.now new.position.place k2 = (subst (λ (o : Option Ascent). IsAscending d w.bytes.now o k2) (sym ascent) (its_ascent d w.walk.offset p w.position.place part b w.bytes.now a.mark (length v.done) (at_offset d w p a) a.here.0), keyed) in
+        let r = awaits_entry F ns root w.bytes.now p new.position.place w.position.outer.items a.mark a.marks w.walk.left.now (output_tokens w.out) (output_tokens new.out) v parts es part t n.bytes.now new.walk.left.now key s last k says above (subst (λ b. Member (shapes F) t.key b) (append-nil n.bytes.now) m) h adds.tokens in (
           t.value,
           t.named,
           record {
-            writer = record { layout = layout; walk = walk; fresh = adds.before ∙ a.writer.fresh };
+            writer = record { layout = layout; walk = walk; fresh = adds.before ∙ a.writer.fresh; offset = moved w new n.bytes.now a.writer.offset bytes node.bytes node.next };
             room = 128 - length v.around;
+            mark = k2;
+            marks = a.marks;
             state =
-                subst (λ (b : Bor (List ℕ)). IsAwaiting F ns root b.now t.value (128 - length v.around) new.position.place new.position.outer.items new.walk.left.now (output_tokens new.out)) (sym bytes)
-                (subst (λ (l : List Place). IsAwaiting F ns root w.bytes.now t.value (128 - length v.around) new.position.place l new.walk.left.now (output_tokens new.out)) (sym outer) r);
+                subst (λ (b : Bor (List ℕ)). IsAwaiting F ns root b.now t.value (128 - length v.around) new.position.place new.position.outer.items k2 a.marks new.walk.left.now (output_tokens new.out)) (sym bytes)
+                (subst (λ (l : List Place). IsAwaiting F ns root w.bytes.now t.value (128 - length v.around) new.position.place l k2 a.marks new.walk.left.now (output_tokens new.out)) (sym outer) r);
+            here = still_marked d w.bytes new.bytes bytes new.position.place new.position.place k2 refl here;
+            around = still_around d w.bytes new.bytes bytes w.position.outer.items new.position.outer.items a.marks outer a.around;
           },
         )
 
@@ -404,12 +544,17 @@ place_ended d w new p a g t walk bytes true left all =
     let root = d.layout.now.root.now in
     let s = a.state in
     let e = place_ends F ns p.parts p.begun (128 - length s.around) p.last s.inner s.here g in
-    let r = end_writes F ns root w.bytes.now p w.position.outer.items w.walk.left.now (output_tokens w.out) (output_tokens new.out) (ends_of p.parts) s e.0 e.1 t.tokens new.position.place new.position.outer.items (left refl) in
+    let f = each_popped (IsMarked d w.bytes.now) new.position.outer.items a.marks new.position.place (subst (λ (ps : List Place). AreEach (IsMarked d w.bytes.now) ps a.marks) (left refl) a.around) in
+    let r = end_writes F ns root w.bytes.now p w.position.outer.items a.mark a.marks w.walk.left.now (output_tokens w.out) (output_tokens new.out) (ends_of p.parts) s e.0 e.1 t.tokens new.position.place new.position.outer.items f.0 f.1 (left refl) f.4 in
     record {
-      writer = record { layout = subst (λ (k : Walker). k.layout.now ≡ d.layout.now) (sym walk) a.writer.layout; walk = subst (λ (k : Walker). IsWalker k) (sym walk) a.writer.walk; fresh = t.before ∙ a.writer.fresh };
+      writer = writer_still d w new a.writer walk bytes (t.before ∙ a.writer.fresh);
+      mark = f.0;
+      marks = f.1;
       state =
-          subst (λ (b : Bor (List ℕ)). IsWriting F ns root b.now new.position.place new.position.outer.items new.walk.left.now (output_tokens new.out)) (sym bytes)
-          (subst (λ (k : Walker). IsWriting F ns root w.bytes.now new.position.place new.position.outer.items k.left.now (output_tokens new.out)) (sym walk) r);
+          subst (λ (b : Bor (List ℕ)). IsWriting F ns root b.now new.position.place new.position.outer.items f.0 f.1 new.walk.left.now (output_tokens new.out)) (sym bytes)
+          (subst (λ (k : Walker). IsWriting F ns root w.bytes.now new.position.place new.position.outer.items f.0 f.1 k.left.now (output_tokens new.out)) (sym walk) r);
+      here = still_marked d w.bytes new.bytes bytes new.position.place new.position.place f.0 refl f.2;
+      around = still_around d w.bytes new.bytes bytes new.position.outer.items new.position.outer.items f.1 refl f.3;
     }
 place_ended d w new p a g t walk bytes false left all =
     let F = forms_of d in
@@ -417,13 +562,13 @@ place_ended d w new p a g t walk bytes false left all =
     let root = d.layout.now.root.now in
     let s = a.state in
     let e = place_ends F ns p.parts p.begun (128 - length s.around) p.last s.inner s.here g in
-    let r = end_whole F ns root w.bytes.now p w.position.outer.items w.walk.left.now (output_tokens w.out) (output_tokens new.out) (ends_of p.parts) s e.0 e.1 t.tokens (all refl) in
+    let r = end_whole F ns root w.bytes.now p w.position.outer.items a.mark a.marks w.walk.left.now (output_tokens w.out) (output_tokens new.out) (ends_of p.parts) s e.0 e.1 t.tokens (all refl) in
     record {
       fresh = t.before ∙ a.writer.fresh;
       whole = subst (λ (b : Bor (List ℕ)). IsWhole F root (output_tokens new.out) b.now) (sym bytes) r;
     }
 
 -- the order of a place was looked at
-pub begun_still : (d : Definitions) (p q r : Place) (part : FoundPart) → GivesPart d p.parts p.begun q.parts q.begun (Some part) → q.parts ≡ p.parts → q.last ≡ p.last → r.parts ≡ q.parts → r.begun ≡ q.begun → r.last ≡ q.last → IsBegunOf d p r part
-begun_still d p q r part g e f a b l =
-    (subst (λ (k : Parts). GivesPart d p.parts p.begun k r.begun (Some part)) (sym a) (subst (λ (n : ℕ). GivesPart d p.parts p.begun q.parts n (Some part)) (sym b) g), a ∙ e, l ∙ f)
+pub begun_still : (d : Definitions) (i : ℕ) (p q r : Place) (part : FoundPart) → GivesPart d p.parts p.begun q.parts q.begun (Some part) → q.parts ≡ p.parts → q.last ≡ p.last → q.ascent ≡ p.ascent → r.parts ≡ q.parts → r.begun ≡ q.begun → r.last ≡ q.last → BeginsNext q.ascent i r.ascent → IsBegunOf d i p r part
+begun_still d i p q r part g e f o a b l n =
+    (subst (λ (k : Parts). GivesPart d p.parts p.begun k r.begun (Some part)) (sym a) (subst (λ (n : ℕ). GivesPart d p.parts p.begun q.parts n (Some part)) (sym b) g), a ∙ e, l ∙ f, subst (λ (a : Option Ascent). BeginsNext a i r.ascent) o n)

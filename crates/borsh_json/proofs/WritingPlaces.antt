@@ -16,7 +16,7 @@ use Rattle.borsh_json.specs.Forms.{Form, form_of, shapes}
 use Rattle.borsh_json.specs.Frames.{Wanted, IsWanted, IsKey}
 use Rattle.borsh_json.specs.Places.{IsAt, AreKeysOf}
 use Rattle.borsh_json.specs.Table.{Keys}
-use Rattle.borsh_json.specs.Writes.{Rest, items_rest, members_rest, value_rest, entries_rest, names_of_rest, MayFollow, IsLast, IsRestOf, IsRest, AreRests, ends_of}
+use Rattle.borsh_json.specs.Writes.{Rest, items_rest, members_rest, value_rest, entries_rest, names_of_rest, MayFollow, IsLast, IsRestOf, AreEach, ends_of}
 use Rattle.borsh_json.proofs.WritingLaws.{IsTaken, item_taken, member_taken, value_taken}
 
 -- the tokens of a key, unless it is that of an entry
@@ -108,6 +108,7 @@ module _ (F : List ℕ → Option Form) (ns : List Named) where
     pub defined : shapes F pair ≡ Some (product (key ∷ value ∷ []))
     pub kind : AreKeysOf F ns key (form_of es.key_definition.now) es.key_kind keys
     pub is_last : IsLast es.key_kind last before
+    pub entries : (n : ℕ) × (parts ≡ MapEntries es n)
     pub is : r ≡ entries_rest keys key value pair (suc count) before
     pub here : (new : Option EntryKey) (s : Option (List ℕ)) → IsLast es.key_kind new s → IsRestOf F ns parts c new (entries_rest keys key value pair count s)
 
@@ -144,6 +145,7 @@ module _ (F : List ℕ → Option Form) (ns : List Named) where
         defined = h.8;
         kind = h.9;
         is_last = h.10;
+        entries = (m, refl);
         is = h.12 ∙ ap (λ n. entries_rest h.3 h.0 h.1 h.2 n h.4) (ap (λ (l : List Wanted). length l) w.2);
         here = λ new s l. (h.0, h.1, h.2, h.3, s, w.1, h.6, h.7, h.8, h.9, l, w.5, refl);
       })
@@ -163,21 +165,22 @@ module _ (F : List ℕ → Option Form) (ns : List Named) where
   place_ends (Present at) b n last r h g = subst (λ r. (names_of_rest r ≡ []) × MayFollow r n [] []) (sym (h.2 ∙ ap (λ (l : List Wanted). value_rest (map (λ (w : Wanted). w.1) l)) (g h.0 h.1))) (refl, (refl, refl))
   place_ends (Variant v at) b n last r h g = subst (λ r. (names_of_rest r ≡ []) × MayFollow r n (Token.end_object ∷ []) []) (sym (h.2 ∙ ap (λ (l : List Wanted). members_rest (map (λ (w : Wanted). (v.now, w.1)) l)) (g h.0 h.1))) (refl, (no_members, refl, (refl, refl), tt, omega arith))
 
-  -- ---- the places around
-  pub rest_pushed : (ps : List Place) (rs : List Rest) (p : Place) (r : Rest) → AreRests F ns ps rs → IsRest F ns p r → AreRests F ns (ps ++ p ∷ []) (r ∷ rs)
-  rest_pushed [] rs p r h k = (r, [], k, refl, ap (λ l. r ∷ l) h)
-  rest_pushed (q ∷ ps) rs p r h k = (h.0, r ∷ h.1, h.2, rest_pushed ps h.1 p r h.3 k, ap (λ l. r ∷ l) h.4)
+-- ---- what each of some places has
+module _ {A : Type 0} (P : Place → A → Type 0) where
+  pub each_pushed : (ps : List Place) (xs : List A) (p : Place) (x : A) → AreEach P ps xs → P p x → AreEach P (ps ++ p ∷ []) (x ∷ xs)
+  each_pushed [] xs p x h k = (x, [], k, refl, ap (λ l. x ∷ l) h)
+  each_pushed (q ∷ ps) xs p x h k = (h.0, x ∷ h.1, h.2, each_pushed ps h.1 p x h.3 k, ap (λ l. x ∷ l) h.4)
 
-  pub rest_popped : (ps : List Place) (rs : List Rest) (p : Place) → AreRests F ns (ps ++ p ∷ []) rs → (r : Rest) × (outer : List Rest) × IsRest F ns p r × AreRests F ns ps outer × (rs ≡ r ∷ outer)
-  rest_popped [] rs p h = (h.0, [], h.2, refl, h.4 ∙ ap (λ l. l ++ h.0 ∷ []) h.3)
-  rest_popped (q ∷ ps) rs p h =
-      let t = rest_popped ps h.1 p h.3 in
+  pub each_popped : (ps : List Place) (xs : List A) (p : Place) → AreEach P (ps ++ p ∷ []) xs → (x : A) × (outer : List A) × P p x × AreEach P ps outer × (xs ≡ x ∷ outer)
+  each_popped [] xs p h = (h.0, [], h.2, refl, h.4 ∙ ap (λ l. l ++ h.0 ∷ []) h.3)
+  each_popped (q ∷ ps) xs p h =
+      let t = each_popped ps h.1 p h.3 in
       (t.0, t.1 ++ h.0 ∷ [], t.2, (h.0, t.1, h.2, t.3, refl), h.4 ∙ ap (λ l. l ++ h.0 ∷ []) t.4)
 
-  pub as_many : (ps : List Place) (rs : List Rest) → AreRests F ns ps rs → length rs ≡ length ps
-  as_many [] rs h = ap (λ (l : List Rest). length l) h
-  as_many (p ∷ ps) rs h =
-      let a = ap (λ (l : List Rest). length l) h.4 in
+  pub as_many : (ps : List Place) (xs : List A) → AreEach P ps xs → length xs ≡ length ps
+  as_many [] xs h = ap (λ (l : List A). length l) h
+  as_many (p ∷ ps) xs h =
+      let a = ap (λ (l : List A). length l) h.4 in
       let b = length-append h.1 (h.0 ∷ []) in
       let c = as_many ps h.1 h.3 in
       omega (arith, a, b, c)

@@ -1,5 +1,5 @@
 -- Where the writer is after each step.
-use Rattle.std.proofs.Common.{◌≡◌, ℕ, suc, ◌+◌, ◌-◌, ◌<◌, ◌≤◌, List, [], ◌∷◌, ◌++◌, length, replicate, Option, Some, refl, sym, ◌∙◌, ap, subst, arith, append_assoc, append-nil}
+use Rattle.std.proofs.Common.{◌≡◌, ℕ, ◌+◌, ◌-◌, ◌<◌, ◌≤◌, List, [], ◌∷◌, ◌++◌, length, replicate, Option, Some, None, refl, sym, ◌∙◌, ap, subst, arith, append_assoc, append-nil}
 use Rattle.json.specs.Token.{Token}
 use Rattle.json.specs.Tree.{json_tokens}
 use Rattle.borsh_walks.specs.Container.{Shape, product, IsIn, first, later, Member}
@@ -21,10 +21,10 @@ use Rattle.borsh_json.specs.Places.{IsAt}
 use Rattle.borsh_json.specs.Reads.{SaysFirst}
 use Rattle.borsh_json.specs.Represents.{HaveBytes, next_part}
 use Rattle.borsh_json.specs.Table.{Part, key_json}
-use Rattle.borsh_json.specs.Writes.{Rest, value_rest, entries_rest, names_of_rest, names_of_all, IsAbove, MayFollow, MayFollowAll, IsLast, IsWhole, Begins, Nested, unread, entered, passed, AreLevels, no_levels, level, no_place, IsHalved, IsRestOf, IsRest, AreRests, IsWriting, IsAwaiting, WritesFront}
+use Rattle.borsh_json.specs.Writes.{Rest, value_rest, entries_rest, names_of_rest, names_of_all, IsAbove, MayFollow, MayFollowAll, IsLast, IsWhole, Begins, opened, Nested, unread, entered, passed, Mark, AreLevels, no_levels, level, no_place, IsHalved, IsRestOf, IsRest, AreRests, IsWriting, IsAwaiting, WritesFront}
 use Rattle.borsh_json.proofs.WritingLaws.{begins, ends, key_written, leaf_written, front_written, end_written, entry_taken}
 use Rattle.borsh_json.proofs.NestedLaws.{settled}
-use Rattle.borsh_json.proofs.WritingPlaces.{key_tokens, TakesPart, TakesEntry, rest_pushed, rest_popped}
+use Rattle.borsh_json.proofs.WritingPlaces.{key_tokens, TakesPart, TakesEntry, each_pushed, each_popped}
 
 pub not_in : (x : List ℕ) → IsIn x [] → ⊥
 not_in x i = elim i [ ]
@@ -44,7 +44,7 @@ module _ (F : List ℕ → Option Form) (root : List ℕ) where
 
 module _ (F : List ℕ → Option Form) (ns : List Named) (root bytes : List ℕ) where
   -- in front of the root
-  pub writing_start : (p : Place) (ps : List Place) (written : List Token) → p.parts ≡ Root → p.begun ≡ 0 → ps ≡ [] → written ≡ [] → IsAt ns 0 root → Member (shapes F) root bytes → IsWriting F ns root bytes p ps bytes written
+  pub writing_start : (p : Place) (ps : List Place) (written : List Token) → p.parts ≡ Root → p.begun ≡ 0 → ps ≡ [] → written ≡ [] → IsAt ns 0 root → Member (shapes F) root bytes → IsWriting F ns root bytes p ps ([], None) [] bytes written
   writing_start p ps written e f g t i m =
       let inner = value_rest (root ∷ []) in
       record {
@@ -61,12 +61,12 @@ module _ (F : List ℕ → Option Form) (ns : List Named) (root bytes : List ℕ
         begun = begun_so F root (MayFollowAll (inner ∷ [])) [] written [] [] t refl (begins F root);
       }
 
-  module _ (p q : Place) (ps : List Place) (left : List ℕ) (written new : List Token) (w : IsWriting F ns root bytes p ps left written) (parts : q.parts ≡ p.parts) where
+  module _ (p q : Place) (ps : List Place) (m : Mark) (ms : List Mark) (left : List ℕ) (written new : List Token) (w : IsWriting F ns root bytes p ps m ms left written) (parts : q.parts ≡ p.parts) where
     room_for : (128 - length w.around) + length w.around ≡ 128
     room_for = let r = w.room in omega (arith, r)
 
     -- a part comes next, whose key was written
-    pub awaits : (part : FoundPart) → q.last ≡ p.last → (t : TakesPart F ns p.parts q.begun p.last part w.inner) → new ≡ written ++ key_tokens part.key → IsAwaiting F ns root bytes t.name (128 - length w.around) q ps left new
+    pub awaits : (part : FoundPart) → q.last ≡ p.last → (t : TakesPart F ns p.parts q.begun p.last part w.inner) → new ≡ written ++ key_tokens part.key → IsAwaiting F ns root bytes t.name (128 - length w.around) q ps (m.0, Some (length w.done)) ms left new
     awaits part last t e =
         record {
           inner = t.rest;
@@ -76,10 +76,12 @@ module _ (F : List ℕ → Option Form) (ns : List Named) (root bytes : List ℕ
           there = w.there;
           room = room_for;
           halved = subst (λ l. IsHalved F root bytes w.done left l) (ap (λ l. l ++ names_of_all w.around) t.names) w.halved;
+          value = m.0;
+          before = m.1;
           beside = names_of_rest t.rest;
           outer = w.outer;
-          levels = level t.rest w.levels;
-          nested = subst (λ l. Nested (shapes F) root (l ∷ w.outer) w.done) t.names w.nested;
+          levels = level t.rest (m.0, Some (length w.done)) w.levels;
+          nested = subst (λ l. Nested (shapes F) root (opened m.0 m.1 l ∷ w.outer) w.done) t.names w.nested;
           begun = begun_so F root _ _ new _ w.done e (sym (append-nil w.done)) (key_written F root w.inner t.rest w.around t.name (key_tokens part.key) [] [] (128 - length w.around) written w.done room_for t.taken (λ ps bs h. h) w.begun);
         }
 
@@ -94,15 +96,17 @@ module _ (F : List ℕ → Option Form) (ns : List Named) (root bytes : List ℕ
           let h = subst (λ l. IsHalved F root bytes w.done left l) (ap (λ l. l ++ names_of_all w.around) names_there) w.halved in
           record { joined = h.joined; read = read_product (shapes F) t.defined h.read }
 
-      pub entry_nested : Nested (shapes F) root ((t.key ∷ t.value ∷ []) ∷ replicate t.count t.pair ∷ w.outer) w.done
+      pub pair_nested : Nested (shapes F) root (opened m.0 m.1 (t.pair ∷ replicate t.count t.pair) ∷ w.outer) w.done
+      pair_nested = subst (λ l. Nested (shapes F) root (opened m.0 m.1 l ∷ w.outer) w.done) names_there w.nested
+
+      pub entry_nested : Nested (shapes F) root (opened t.pair None (t.key ∷ t.value ∷ []) ∷ opened m.0 (Some (length w.done)) (replicate t.count t.pair) ∷ w.outer) w.done
       entry_nested =
-          let n = subst (λ l. Nested (shapes F) root (l ∷ w.outer) w.done) names_there w.nested in
-          subst (λ b. Nested (shapes F) root ((t.key ∷ t.value ∷ []) ∷ replicate t.count t.pair ∷ w.outer) b) (append-nil w.done) (entered (product (t.key ∷ t.value ∷ [])) [] n t.defined (refl, refl))
+          subst (λ b. Nested (shapes F) root (opened t.pair None (t.key ∷ t.value ∷ []) ∷ opened m.0 (Some (length w.done)) (replicate t.count t.pair) ∷ w.outer) b) (append-nil w.done) (entered (product (t.key ∷ t.value ∷ [])) [] pair_nested t.defined (refl, refl))
 
       -- its key was written
       pub awaits_entry : (own after : List ℕ) (key : EntryKey) (s : List ℕ) → q.last ≡ Some key → IsEntryKey es.key_kind key s → SaysFirst F t.key (key_json t.keys s) own [] → IsAbove t.keys t.before s → Member (shapes F) t.key own
           → IsHalved F root bytes (w.done ++ own) after (t.value ∷ (replicate t.count t.pair ++ names_of_all w.around)) → new ≡ written ++ Token.key s ∷ []
-          → IsAwaiting F ns root bytes t.value (128 - length w.around) q ps after new
+          → IsAwaiting F ns root bytes t.value (128 - length w.around) q ps (m.0, Some (length w.done)) ms after new
       awaits_entry own after key s last k says above member halved e =
           let rest = entries_rest t.keys t.key t.value t.pair t.count (Some s) in
           record {
@@ -113,9 +117,11 @@ module _ (F : List ℕ → Option Form) (ns : List Named) (root bytes : List ℕ
             there = w.there;
             room = room_for;
             halved = halved;
+            value = t.pair;
+            before = Some (length w.done);
             beside = [];
-            outer = replicate t.count t.pair ∷ w.outer;
-            levels = no_place (level rest w.levels);
+            outer = opened m.0 (Some (length w.done)) (replicate t.count t.pair) ∷ w.outer;
+            levels = no_place t.pair (Some (length (w.done ++ own))) (level rest (m.0, Some (length w.done)) w.levels);
             nested = passed entry_nested member;
             begun = begun_so F root _ _ new _ (w.done ++ own) e refl (key_written F root w.inner rest w.around t.value (Token.key s ∷ []) ((t.key, key_json t.keys s) ∷ []) own (128 - length w.around) written w.done room_for
                 (λ i j ts qs nj dj m. subst (λ r. MayFollow r i (Token.key s ∷ (json_tokens j ++ ts)) ((t.key, key_json t.keys s) ∷ (t.value, j) ∷ qs)) (sym t.is) (entry_taken t.keys t.key t.value t.pair t.count t.before s above i j ts qs nj dj m))
@@ -129,10 +135,10 @@ module _ (F : List ℕ → Option Form) (ns : List Named) (root bytes : List ℕ
     read = f h.read;
   }
 
-  module _ (x : List ℕ) (n : ℕ) (p : Place) (ps : List Place) (left : List ℕ) (old : Output) (a : IsAwaiting F ns root bytes x n p ps left (output_tokens old)) (own after : List ℕ) (new : Output) where
+  module _ (x : List ℕ) (n : ℕ) (p : Place) (ps : List Place) (m : Mark) (ms : List Mark) (left : List ℕ) (old : Output) (a : IsAwaiting F ns root bytes x n p ps m ms left (output_tokens old)) (own after : List ℕ) (new : Output) where
     -- a value was written whole
-    pub leaf_writes : (m : ℕ) (zeros : List (List ℕ)) → m ≤ n → Nested (shapes F) root (a.beside ∷ a.outer) (a.done ++ own) → WritesLeaf F m x own old new → ((y : List ℕ) → IsIn y zeros → HasNoBytes F y) → IsHalved F root bytes (a.done ++ own) after (zeros ++ names_of_all (a.inner ∷ a.around)) → IsWriting F ns root bytes p ps after (output_tokens new)
-    leaf_writes m zeros l nested leaf z h =
+    pub leaf_writes : (k : ℕ) (zeros : List (List ℕ)) → k ≤ n → Nested (shapes F) root (opened a.value (Some (length a.done)) a.beside ∷ a.outer) (a.done ++ own) → WritesLeaf F k x own old new → ((y : List ℕ) → IsIn y zeros → HasNoBytes F y) → IsHalved F root bytes (a.done ++ own) after (zeros ++ names_of_all (a.inner ∷ a.around)) → IsWriting F ns root bytes p ps m ms after (output_tokens new)
+    leaf_writes k zeros l nested leaf z h =
         let s = settled (shapes F) root nested a.levels in
         record {
           inner = a.inner;
@@ -149,23 +155,23 @@ module _ (F : List ℕ → Option Form) (ns : List Named) (root bytes : List ℕ
         }
 
     -- or its beginning
-    pub front_writes : (d : Shape) (r : Rest) (q : Place) (qs : List Place) → length a.around < 128 → shapes F x ≡ Some d → Opens (shapes F) d own (names_of_rest r) → IsRest F ns q r → WritesFront F x own r old new → qs ≡ ps ++ p ∷ [] → IsHalved F root bytes (a.done ++ own) after (names_of_rest r ++ names_of_all (a.inner ∷ a.around)) → IsWriting F ns root bytes q qs after (output_tokens new)
+    pub front_writes : (d : Shape) (r : Rest) (q : Place) (qs : List Place) → length a.around < 128 → shapes F x ≡ Some d → Opens (shapes F) d own (names_of_rest r) → IsRest F ns q r → WritesFront F x own r old new → qs ≡ ps ++ p ∷ [] → IsHalved F root bytes (a.done ++ own) after (names_of_rest r ++ names_of_all (a.inner ∷ a.around)) → IsWriting F ns root bytes q qs (x, None) (m ∷ ms) after (output_tokens new)
     front_writes d r q qs l c o k f e h =
         record {
           inner = r;
           around = a.inner ∷ a.around;
           done = a.done ++ own;
           here = k;
-          there = subst (λ (qs : List Place). AreRests F ns qs (a.inner ∷ a.around)) (sym e) (rest_pushed F ns ps a.around p a.inner a.there a.here);
+          there = subst (λ (qs : List Place). AreRests F ns qs (a.inner ∷ a.around)) (sym e) (each_pushed (IsRest F ns) ps a.around p a.inner a.there a.here);
           room = omega (arith, l);
           halved = h;
-          outer = a.beside ∷ a.outer;
+          outer = opened a.value (Some (length a.done)) a.beside ∷ a.outer;
           levels = a.levels;
           nested = entered d own a.nested c o;
           begun = begun_so F root _ _ (output_tokens new) _ (a.done ++ own) f.adds.tokens refl (front_written F root r (a.inner ∷ a.around) x n f.front own (output_tokens old) a.done (let m = a.room in omega (arith, m)) f.whole a.begun);
         }
 
-  module _ (p : Place) (ps : List Place) (left : List ℕ) (written new brackets : List Token) (w : IsWriting F ns root bytes p ps left written) (none : names_of_rest w.inner ≡ []) (last : MayFollow w.inner (128 - length w.around) brackets []) (e : new ≡ written ++ brackets) where
+  module _ (p : Place) (ps : List Place) (m : Mark) (ms : List Mark) (left : List ℕ) (written new brackets : List Token) (w : IsWriting F ns root bytes p ps m ms left written) (none : names_of_rest w.inner ≡ []) (last : MayFollow w.inner (128 - length w.around) brackets []) (e : new ≡ written ++ brackets) where
     ended : Begins F root (MayFollowAll w.around) new w.done
     ended = begun_so F root _ _ new _ w.done e (sym (append-nil w.done)) (end_written F root w.inner w.around (128 - length w.around) brackets written w.done (let r = w.room in omega (arith, r)) last w.begun)
 
@@ -173,10 +179,11 @@ module _ (F : List ℕ → Option Form) (ns : List Named) (root bytes : List ℕ
     after_end = subst (λ l. IsHalved F root bytes w.done left l) (ap (λ l. l ++ names_of_all w.around) none) w.halved
 
     -- the writer goes back to the place around
-    pub end_writes : (q : Place) (qs : List Place) → ps ≡ qs ++ q ∷ [] → IsWriting F ns root bytes q qs left new
-    end_writes q qs f =
-        let t = rest_popped F ns qs w.around q (subst (λ (ps : List Place). AreRests F ns ps w.around) f w.there) in
-        let s = settled (shapes F) root (subst (λ l. Nested (shapes F) root (l ∷ w.outer) w.done) none w.nested) (no_place (subst (λ (rs : List Rest). AreLevels rs w.outer) t.4 w.levels)) in
+    pub end_writes : (q : Place) (qs : List Place) (k : Mark) (ks : List Mark) → ps ≡ qs ++ q ∷ [] → ms ≡ k ∷ ks → IsWriting F ns root bytes q qs k ks left new
+    end_writes q qs k ks f e =
+        let t = each_popped (IsRest F ns) qs w.around q (subst (λ (ps : List Place). AreRests F ns ps w.around) f w.there) in
+        let l = subst (λ (ks : List Mark). AreLevels (t.0 ∷ t.1) ks w.outer) e (subst (λ (rs : List Rest). AreLevels rs ms w.outer) t.4 w.levels) in
+        let s = settled (shapes F) root (subst (λ l. Nested (shapes F) root (opened m.0 m.1 l ∷ w.outer) w.done) none w.nested) (no_place m.0 m.1 l) in
         record {
           inner = t.0;
           around = t.1;

@@ -1,5 +1,5 @@
 -- Text of printable ASCII and line feeds, and text in one line.
-use Rattle.std.specs.Prelude.{◌≡◌, ◌≤◌, ℕ, ◌+◌, ◌-◌, ◌/◌, ◌%◌, ◌==◌, ◌&&◌, ◌||◌, Bool, true, cond, ltb, leb, List, [], ◌∷◌, ◌++◌, All, Result, OnOk, Some}
+use Rattle.std.specs.Prelude.{◌≡◌, ◌≤◌, ℕ, ◌+◌, ◌-◌, ◌/◌, ◌%◌, ◌==◌, ◌&&◌, ◌||◌, Bool, true, cond, ltb, leb, List, [], ◌∷◌, ◌++◌, Result, OnOk, Some}
 use Rattle.std.specs.Char.{digit_char}
 use Rattle.json.specs.Json.{Json, document}
 
@@ -16,10 +16,6 @@ IsPlain b = is_plain b ≡ true
 -- no line feed, nor another control character
 abbrev pub IsInLine : ℕ → Type 0
 IsInLine b = 32 ≤ b
-
--- what was added to a text in one line keeps it so
-abbrev pub StaysInLine : {E : Type 0} → List ℕ → List ℕ → Result (Unit {0}) E → Type 0
-StaysInLine old new result = All IsInLine old → OnOk result (All IsInLine new)
 
 -- the second text is the same JSON as the first, if that is JSON
 abbrev pub IsSameJson : List ℕ → List ℕ → Type 0

@@ -66,7 +66,7 @@ IsUnreadable (UnknownName name) = ⊤
 IsUnreadable (RepeatedKey name) = ⊤
 IsUnreadable (Undefined name) = ⊤
 
--- the refusal shows that P doesn't hold; but order shows nothing
+-- the refusal shows that P doesn't hold
 abbrev pub Denies : Refusal → Type 0 → Type 0
 Denies TooDeep P = P → ⊥
 Denies (RepeatedName name) P = P → ⊥
@@ -75,7 +75,7 @@ Denies NotBool P = ⊥
 Denies NotUtf8 P = ⊥
 Denies Zero P = ⊥
 Denies NotNumber P = P → ⊥
-Denies Descends P = ⊤
+Denies Descends P = P → ⊥
 Denies OtherNodes P = P → ⊥
 Denies (Expected wanted) P = P → ⊥
 Denies MissingField P = P → ⊥

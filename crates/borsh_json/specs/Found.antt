@@ -1,5 +1,5 @@
 -- What the code finds of the definition of a name, against the format's own types and the table.
-use Rattle.std.specs.Prelude.{◌≡◌, ◌⊎◌, ℕ, List, [], ◌∷◌, ◌++◌, codes, true, MatchOption, Option, Some}
+use Rattle.std.specs.Prelude.{◌≡◌, ◌⊎◌, ℕ, List, [], ◌∷◌, ◌++◌, codes, true, MatchOption, Option, None, Some}
 use Rattle.std.specs.Borrow.{Bor}
 use Rattle.std.specs.List.{IsDistinct}
 use Rattle.std.specs.Str.{bytes_eq}
@@ -41,9 +41,9 @@ HasForm d at f x = IsKnown d × IsAt d.layout.now.names.items at x × (forms_of 
 abbrev pub TellsKind : Definitions → ℕ → Form → Found → Type 0
 TellsKind d at f kind = (x : List ℕ) → HasForm d at f x → (HasNoBytes (forms_of d) x → ⊥) → IsKindOf (forms_of d) d.layout.now.names.items x f kind
 
--- a list that is refused, whatever its elements
+-- a list that is refused, whatever its elements, and has no order
 abbrev pub IsRefusedList : Found → Type 0
-IsRefusedList kind = (es : FoundElements) × (kind ≡ ElementList es) × (es.is_refused ≡ true)
+IsRefusedList kind = (es : FoundElements) × (kind ≡ ElementList es) × (es.is_refused ≡ true) × (es.order ≡ None)
 
 -- pieces of a text, one after another
 abbrev pub joined : List (Bor (List ℕ)) → List ℕ

@@ -1,5 +1,5 @@
 -- What the frames of the reader stand for, and what its steps return.
-use Rattle.std.specs.Prelude.{◌≡◌, ◌⊎◌, ⊤, ℕ, ℤ, String, slice_get, List, [], ◌∷◌, ◌++◌, ◌-◌, length, map, drop, replicate, Bool, true, false, Option, Some, None, Result, MatchOption, MatchResult, string_bytes}
+use Rattle.std.specs.Prelude.{◌≡◌, ◌⊎◌, ⊤, ℕ, ℤ, String, slice_get, List, [], ◌∷◌, ◌++◌, ◌-◌, ◌<◌, All, length, map, drop, replicate, is_some, Bool, true, false, Option, Some, None, Result, MatchOption, MatchResult, string_bytes}
 use Rattle.std.specs.Borrow.{Bor}
 use Rattle.std.specs.Global.{Global}
 use Rattle.std.specs.Str.{bytes_eq}
@@ -20,9 +20,11 @@ use Rattle.borsh_json.specs.declared.error.ReadError.TheVariants.{OutOfMemory, R
 use Rattle.borsh_json.specs.declared.error.Refusal.{Refusal}
 use Rattle.borsh_json.specs.declared.error.Refusal.TheVariants.{Descends, Expected}
 use Rattle.borsh_json.specs.Errors.{Denies, IsUnreadable}
+use Rattle.borsh_json.specs.declared.kinds.Elements.{Elements as FoundElements}
 use Rattle.borsh_json.specs.declared.kinds.KeyKind.{KeyKind}
 use Rattle.borsh_json.specs.declared.kinds.KeyKind.TheVariants.{Text as TextKeys, Number as NumberKeys}
 use Rattle.borsh_json.specs.declared.numbers.Number.{Number}
+use Rattle.borsh_json.specs.declared.order.Ordered.{Ordered}
 use Rattle.borsh_json.specs.declared.opening.Array.{Array}
 use Rattle.borsh_json.specs.declared.opening.Array.TheVariants.{No, TooLong, Of}
 use Rattle.borsh_json.specs.declared.opening.Frame.{Frame}
@@ -41,7 +43,9 @@ use Rattle.borsh_json.specs.declared.sources.Source.{Source}
 use Rattle.borsh_json.specs.declared.sources.Source.TheVariants.{One, Items as TheItems, Members as TheMembers, Entries as InPlace, Texts, Ranks}
 use Rattle.borsh_json.specs.Forms.{Form, named, form_of, shape_of_form}
 use Rattle.borsh_json.specs.Found.{forms_of, names_of}
-use Rattle.borsh_json.specs.NoValue.{RefusesJson}
+use Rattle.borsh_json.specs.Descents.{NumbersDescend, HasDescent}
+use Rattle.borsh_json.specs.NoValue.{HasNeighbours, RefusesJson}
+use Rattle.borsh_json.specs.Orders.{AreOrderedNumbers}
 use Rattle.borsh_json.specs.Places.{IsAt, AreKeysOf}
 use Rattle.borsh_json.specs.Ranks.{HasRank}
 use Rattle.borsh_json.specs.Represents.{HaveBytes}
@@ -50,10 +54,24 @@ use Rattle.borsh_json.specs.Table.{Keys, Part as JsonPart, row_parts, Entry, ent
 
 -- ---- errors
 
+-- the error shows that P doesn't hold; or, that elements don't ascend, D
+abbrev pub DeniesOr : Type 0 → ReadError → Type 0 → Type 0
+DeniesOr D OutOfMemory P = ⊤
+DeniesOr D (Refused refusal) P = Denies refusal P
+DeniesOr D (DescendsAt index) P = D
+
 abbrev pub DeniesRead : ReadError → Type 0 → Type 0
 DeniesRead OutOfMemory P = ⊤
 DeniesRead (Refused refusal) P = Denies refusal P
-DeniesRead (DescendsAt index) P = ⊤
+DeniesRead (DescendsAt index) P = ⊥
+
+-- the bytes are primitives that have to ascend, and two neighbours don't
+abbrev pub ElementsFall : FoundElements → List ℕ → Type 0
+ElementsFall es bytes = (found : Ordered) × (es.order ≡ Some found) × All (λ b. b < 256) bytes × ((signed : Bool) → AreOrderedNumbers found es.size signed bytes → (i : ℕ) × NumbersDescend es.size signed bytes i)
+
+-- whatever own bytes JSON of the name says, they begin a set of which two neighbours don't ascend
+abbrev pub FallsFirst : (List ℕ → Option Form) → List ℕ → Json → Type 0
+FallsFirst F x j = (own : List ℕ) (ps : List JsonPart) → SaysFirst F x j own ps → (rest : List ℕ) → HasDescent F x (own ++ rest)
 
 abbrev pub DeniesPart : PartError → Type 0 → Type 0
 DeniesPart NoMemory P = ⊤
@@ -245,16 +263,22 @@ module _ (F : List ℕ → Option Form) (ns : List Named) where
   HaveLeft (p ∷ ps) [] ls = ⊥
   HaveLeft (p ∷ ps) (s ∷ ss) ls = (l : Left) × (rest : List Left) × HasLeft p.parts p.begun s l × HaveLeft ps ss rest × (ls ≡ rest ++ l ∷ [])
 
-  -- what was opened: S holds of the own bytes and of the parts, and of no others
-  abbrev pub IsFound : (List ℕ → List JsonPart → Type 0) → List ℕ → Option Frame → Type 0
-  IsFound S own None = IsOnly S own (λ ps. ps ≡ [])
-  IsFound S own (Some f) = (l : Left) × HasLeft f.place.parts f.place.begun f.source l × IsOnly S own (PartsOf l)
+  -- what was opened: the JSON of the name says these own bytes and these parts, and no others; parts that have to ascend are two or more
+  abbrev pub IsFound : List ℕ → Json → List ℕ → Option Frame → Type 0
+  IsFound x j own None = IsOnly (SaysFirst F x j) own (λ ps. ps ≡ [])
+  IsFound x j own (Some f) = (l : Left) × HasLeft f.place.parts f.place.begun f.source l × IsOnly (SaysFirst F x j) own (PartsOf l) × (is_some f.place.ascent ≡ true → HasNeighbours F x j)
 
   -- the JSON of the name was read: its own bytes were added, or there are none
   abbrev pub IsOpened : List ℕ → Json → List ℕ → List ℕ → Result (Option Frame) ReadError → Type 0
   IsOpened x j old new result = MatchResult result
-      (λ found. (own : List ℕ) × (new ≡ old ++ own) × IsFound (SaysFirst F x j) own found)
+      (λ found. (own : List ℕ) × (new ≡ old ++ own) × IsFound x j own found)
       (λ e. DeniesRead e (SaysSome F x j))
+
+  -- or its elements don't ascend
+  abbrev pub IsOpenedOrFalls : List ℕ → Json → List ℕ → List ℕ → Result (Option Frame) ReadError → Type 0
+  IsOpenedOrFalls x j old new result = MatchResult result
+      (λ found. (own : List ℕ) × (new ≡ old ++ own) × IsFound x j own found)
+      (λ e. DeniesOr (FallsFirst F x j) e (SaysSome F x j))
 
   -- what comes next: a part, which the root's JSON has in front of those that are left; a field that it has not; or no part
   abbrev pub IsNext : List ℕ → Json → List Left → Place → Source → List ℕ → Next → Type 0
@@ -305,14 +329,18 @@ pub record IsReading (F : List ℕ → Option Form) (ns : List Named) (root : Li
   pub there : HaveLeft F ns ps ss around
   pub read : AreRead F root j out (PartsOfAll (inner ∷ around))
 
+-- where a place's parts have to ascend, the root's JSON may be refused for order
+abbrev pub MayFall : (List ℕ → Option Form) → List ℕ → Json → List Place → Type 0
+MayFall F root j ps = list_any (λ (p : Place). is_some p.ascent) ps ≡ true → RefusesJson F root j Descends
+
 -- more is to be read; or all was, and the root's JSON says these bytes
 abbrev pub IsReadOn : (List ℕ → Option Form) → List Named → List ℕ → Json → Bool → Place → Source → List Place → List Source → List ℕ → Type 0
-IsReadOn F ns root j true p s ps ss out = IsReading F ns root j p.parts p.begun s ps ss out
+IsReadOn F ns root j true p s ps ss out = IsReading F ns root j p.parts p.begun s ps ss out × MayFall F root j (p ∷ ps)
 IsReadOn F ns root j false p s ps ss out = HaveBytes F ((root, j) ∷ []) out
 
 -- what a reader has read, and what is left to it
 abbrev pub HasRead : Definitions → List ℕ → Json → Reading → Type 0
-HasRead d root j r = IsReading (forms_of d) (names_of d) root j r.position.place.parts r.position.place.begun r.source r.position.outer.items r.outer.items r.out.items
+HasRead d root j r = IsReading (forms_of d) (names_of d) root j r.position.place.parts r.position.place.begun r.source r.position.outer.items r.outer.items r.out.items × MayFall (forms_of d) root j (r.position.place ∷ r.position.outer.items)
 
 -- a step of a reader of these definitions, after which it is so
 abbrev pub ReadsOn : Definitions → List ℕ → Json → Reading → Result Bool PartError → Type 0
@@ -321,3 +349,7 @@ ReadsOn d root j r result = MatchResult result (λ more. IsReadOn (forms_of d) (
 -- a list of bytes was added, and its length in front; or the length is out of range
 abbrev pub AddsList : {A : Type 0} → Lengths → List ℕ → List ℕ → List ℕ → Result A ReadError → Type 0
 AddsList l bs old new result = MatchResult result (λ _. (own : List ℕ) × (new ≡ old ++ own) × IsPrefixed l (length bs) bs own) (λ e. DeniesRead e ((own : List ℕ) × IsPrefixed l (length bs) bs own))
+
+-- or they don't ascend
+abbrev pub AddsOrFalls : {A : Type 0} → FoundElements → Lengths → List ℕ → List ℕ → List ℕ → Result A ReadError → Type 0
+AddsOrFalls es l bs old new result = MatchResult result (λ _. (own : List ℕ) × (new ≡ old ++ own) × IsPrefixed l (length bs) bs own) (λ e. DeniesOr (ElementsFall es bs) e ((own : List ℕ) × IsPrefixed l (length bs) bs own))

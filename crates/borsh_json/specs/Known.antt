@@ -1,5 +1,5 @@
 -- What is known of a layout is right.
-use Rattle.std.specs.Prelude.{◌≡◌, ℕ, List, length}
+use Rattle.std.specs.Prelude.{ℕ, List}
 use Rattle.borsh_values.specs.Free.{KnowsSizes}
 use Rattle.borsh_values.specs.Layouts.{IsLaidOut}
 use Rattle.borsh_json.specs.declared.definitions.Definitions.{Definitions}
@@ -12,11 +12,6 @@ pub record IsKnown (d : Definitions) : Type 0 where
   pub laid_out : IsLaidOut d.layout.now
   pub sizes : KnowsSizes d.layout.now
   pub kinds : AreKinds (forms_in d.layout.now.map.now) d.layout.now.names.items d.kinds.items
-
--- and it has the kinds of all names
-pub record HasKinds (d : Definitions) : Type 0 where
-  pub known : IsKnown d
-  pub whole : length d.kinds.items ≡ length d.layout.now.names.items
 
 -- the text says the bytes, as a value of the layout's root
 abbrev pub SaysBy : Definitions → List ℕ → List ℕ → Type 0

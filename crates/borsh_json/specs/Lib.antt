@@ -5,6 +5,7 @@ pub mod Table
 pub mod Ranks
 pub mod Integers
 pub mod Places
+pub mod Ordered
 pub mod InOrder
 pub mod Represents
 pub mod Inside
@@ -12,6 +13,8 @@ pub mod NoJson
 pub mod NoValue
 pub mod Known
 pub mod Found
+pub mod Descents
+pub mod Orders
 pub mod Reads
 pub mod Frames
 pub mod Leaves

@@ -5,6 +5,7 @@ use Rattle.borsh_json.specs.declared.error.JsonError.{JsonError}
 use Rattle.borsh_json.specs.declared.error.JsonError.TheVariants.{OutOfMemory, NoMember, NoValue, Ambiguous, NotJson, Refused}
 use Rattle.borsh_json.specs.declared.error.Refusal.{Refusal}
 use Rattle.borsh_json.specs.declared.error.Refusal.TheVariants.{TooDeep, RepeatedName, EmptyElements, NotBool, NotUtf8, Zero, NotNumber, Descends, OtherNodes, Expected, MissingField, UnknownName, RepeatedKey, Undefined}
+use Rattle.borsh_json.specs.Descents.{HasDescent}
 use Rattle.borsh_json.specs.Forms.{Form, shapes}
 use Rattle.borsh_json.specs.Inside.{IsInside}
 use Rattle.borsh_json.specs.Represents.{HaveBytes}
@@ -26,7 +27,11 @@ module _ (F : List ℕ → Option Form) where
         (n : ℕ) × (before : List ℕ) × (own : List ℕ) × (after : List ℕ) × (x : List ℕ)
         × (bytes ≡ before ++ (own ++ after)) × IsInside (shapes F) root n before x × IsNoJson x own
 
-    -- the refusal is a true reason why a member has no JSON; of order it is left open
+    -- a set or a map begins in the bytes, of which two neighbours don't ascend
+    abbrev pub IsOutOfOrder : Type 0
+    IsOutOfOrder = (n : ℕ) × (before : List ℕ) × (after : List ℕ) × (x : List ℕ) × (bytes ≡ before ++ after) × IsInside (shapes F) root n before x × HasDescent F x after
+
+    -- the refusal is a true reason why a member has no JSON
     abbrev pub RefusesBytes : Refusal → Type 0
     RefusesBytes TooDeep = NestsTooDeep
     RefusesBytes (RepeatedName name) = HasNoJsonPart
@@ -35,7 +40,7 @@ module _ (F : List ℕ → Option Form) where
     RefusesBytes NotUtf8 = HasNoJsonPart
     RefusesBytes Zero = HasNoJsonPart
     RefusesBytes NotNumber = HasNoJsonPart
-    RefusesBytes Descends = ⊤
+    RefusesBytes Descends = IsOutOfOrder
     RefusesBytes OtherNodes = ⊥
     RefusesBytes (Expected wanted) = ⊥
     RefusesBytes MissingField = ⊥

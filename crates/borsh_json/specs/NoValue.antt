@@ -1,13 +1,20 @@
 -- Why a text says no value, or says one that isn't read: what an error of `from_json` says.
-use Rattle.std.specs.Prelude.{◌≡◌, ⊤, ℕ, suc, ◌≤◌, List, [], ◌∷◌, ◌++◌, Option, Some, None}
-use Rattle.json.specs.Json.{Json, document}
+use Rattle.std.specs.Prelude.{◌≡◌, ◌⊎◌, ⊤, ℕ, suc, ◌≤◌, List, [], ◌∷◌, ◌++◌, length, Option, Some, None}
+use Rattle.json.specs.Json.{Json, array, Items, document}
 use Rattle.borsh_json.specs.declared.error.JsonError.{JsonError}
 use Rattle.borsh_json.specs.declared.error.JsonError.TheVariants.{OutOfMemory, NoMember, NoValue, Ambiguous, NotJson, Refused}
 use Rattle.borsh_json.specs.declared.error.Refusal.{Refusal}
 use Rattle.borsh_json.specs.declared.error.Refusal.TheVariants.{TooDeep, RepeatedName, EmptyElements, NotBool, NotUtf8, Zero, NotNumber, Descends, OtherNodes, Expected, MissingField, UnknownName, RepeatedKey, Undefined}
+use Rattle.borsh_json.specs.Descents.{HasKeys, HasDescent}
 use Rattle.borsh_json.specs.Forms.{Form}
+use Rattle.borsh_json.specs.Ordered.{IsOrdered}
 use Rattle.borsh_json.specs.Represents.{HaveBytes, TextSays}
-use Rattle.borsh_json.specs.Table.{Kind, HasKind, Part, Says}
+use Rattle.borsh_json.specs.Table.{Kind, HasKind, Part, list_parts, Says}
+
+module _ (F : List ℕ → Option Form) where
+  -- JSON of a set or a map whose order is known that is an array of two elements or more
+  abbrev pub HasNeighbours : List ℕ → Json → Type 0
+  HasNeighbours x i = (e : List ℕ) × (k : List ℕ) × HasKeys F x e k × IsOrdered F k × (js : Items) × (i ≡ array js) × (2 ≤ length (list_parts e js))
 
 module _ (F : List ℕ → Option Form) (root : List ℕ) where
   module _ (j : Json) where
@@ -21,7 +28,11 @@ module _ (F : List ℕ → Option Form) (root : List ℕ) where
     abbrev pub PartsNestTooDeep : List ℕ → Type 0
     PartsNestTooDeep bytes = (n : ℕ) × (before : List ℕ) × (after : List ℕ) × (p : Part) × (bytes ≡ before ++ after) × (128 ≤ n) × IsPartInside n before p
 
-    -- JSON that says these bytes may be refused so; JSON that is refused otherwise says none. Of order it is left open
+    -- they lead to a set or a map of which two neighbours don't ascend; or to one that is an array, whose elements may ascend: that is left open
+    abbrev pub PartsMayDescend : List ℕ → Type 0
+    PartsMayDescend bytes = (n : ℕ) × (before : List ℕ) × (after : List ℕ) × (x : List ℕ) × (i : Json) × (bytes ≡ before ++ after) × IsPartInside n before (x, i) × (HasDescent F x after ⊎ HasNeighbours F x i)
+
+    -- JSON that says these bytes may be refused so; JSON that is refused otherwise says none
     abbrev pub RefusesSaid : List ℕ → Refusal → Type 0
     RefusesSaid bytes TooDeep = PartsNestTooDeep bytes
     RefusesSaid bytes (RepeatedName name) = ⊥
@@ -30,7 +41,7 @@ module _ (F : List ℕ → Option Form) (root : List ℕ) where
     RefusesSaid bytes NotUtf8 = ⊥
     RefusesSaid bytes Zero = ⊥
     RefusesSaid bytes NotNumber = ⊥
-    RefusesSaid bytes Descends = ⊤
+    RefusesSaid bytes Descends = PartsMayDescend bytes
     RefusesSaid bytes OtherNodes = ⊥
     RefusesSaid bytes (Expected wanted) = ⊥
     RefusesSaid bytes MissingField = ⊥

@@ -1,18 +1,23 @@
 -- The words that contracts of this crate cite, from where they are defined.
+pub use Rattle.borsh_json.specs.Descents.{HasDescent, HasKeys, NumbersDescend}
 pub use Rattle.borsh_json.specs.Errors.{IsNoJsonReason, IsNoMemberReason, IsNoRowsReason, IsPartError, IsReadRefusal, IsTextReason, IsTooDeep, IsUnreadable, IsUnwritable}
 pub use Rattle.borsh_json.specs.Forms.{Form, HasNoBytes, IsByte, IsMap, IsOption, choice, form_of, form_of_struct, forms_in, newtype, sequence, shape_of_form, shapes, tuple}
 pub use Rattle.borsh_json.specs.Found.{AreEntries, HasForm, IsAlike, IsCollection, IsMapName, IsNamed, IsPrimitiveKind, IsRefusedList, IsRepeated, IsSetName, TellsKind, forms_of, joined, names_of}
-pub use Rattle.borsh_json.specs.Frames.{AddsList, AreKeyed, AreSorted, DeniesRead, GivesPart, HasEntries, HasFields, HasItems, HasLeft, HasRead, HaveLeft, HaveNumbers, HaveOneEach, IsArrayOf, IsEntryKey, IsExpected, IsKey, IsNext, IsNextEntry, IsOf, IsOfRead, IsOpened, IsRank, IsText, IsUnread, IsVariantAt, IsWanted, NamesVariant, NoneLeft, Opens, ReadsOn, SaysArray, Wanted}
+pub use Rattle.borsh_json.specs.Frames.{AddsList, AddsOrFalls, AreKeyed, AreSorted, DeniesRead, ElementsFall, GivesPart, HasEntries, HasFields, HasItems, HasLeft, HasRead, HaveLeft, HaveNumbers, HaveOneEach, IsArrayOf, IsEntryKey, IsExpected, IsKey, IsNext, IsNextEntry, IsOf, IsOfRead, IsOpened, IsOpenedOrFalls, IsRank, IsText, IsUnread, IsVariantAt, IsWanted, MayFall, NamesVariant, NoneLeft, Opens, ReadsOn, SaysArray, Wanted}
+pub use Rattle.borsh_json.specs.Known.{IsKnown, SaysBy}
 pub use Rattle.borsh_json.specs.NoJson.{ShowsNoJson}
-pub use Rattle.borsh_json.specs.Known.{HasKinds, IsKnown, SaysBy}
 pub use Rattle.borsh_json.specs.NoValue.{ShowsNoValue}
+pub use Rattle.borsh_json.specs.Ordered.{AreNumbers, IsSequenceName, IsTreeMapName, Order, is_below_zero, listed, needs, tuple_name}
+pub use Rattle.borsh_json.specs.Orders.{AreOpenIn, AreOrderedNumbers, AwaitsOrder, BeginsOrder, ComparesFronts, ComparesNumbers, ComparesTexts, FindsBytesAt, FindsKeysOf, FindsKind, FindsKindAt, FindsNeeded, FindsNext, FindsOrder, FindsOrderAt, HasElements, HasFound, HasKeyOrder, HasKinds, HasOrderAt, HasOrders, IsCut, IsElementFall, IsFoundAt, IsKnownAt, IsNeeded, IsOrderOf, KindHasOrder, KnowsMore, OrderedBy, OrdersKeys, TakesCount, DecidesAscent, ValuesCompare}
 pub use Rattle.borsh_json.specs.Places.{AreKeysOf, IsAt, IsInfinity, IsKindAt, IsKindOf, IsListOf, lengths_of}
 pub use Rattle.borsh_json.specs.Ranks.{HasRank, IsLeading, IsPlain, magnitude, number_found, rank_of}
 pub use Rattle.borsh_json.specs.Reads.{AreRead, Before, Left, PartsOfAll, SaysFirst, SaysSome, entries_left}
 pub use Rattle.borsh_json.specs.Represents.{HaveBytes, TextSays}
 pub use Rattle.borsh_json.specs.Table.{AreKeys, Entry, HasKind, InRange, IsHex, IsNoNan, IsNullable, IsNumber, IsPrefixed, IsWhole, Keys, Kind as TableKind, Lengths, MayBeNull, Part as JsonPart, byte_list, entries as map_entries, entries_of, float, key_json, key_order, list_parts, no_bytes, number_kind, number_types, optional, primitive_kind, raw, texts, truth, utf8, variants as spec_variants, whole}
 pub use Rattle.borsh_json.specs.Leaves.{Adds, IsOpenedAs, output_before, output_tokens}
-pub use Rattle.borsh_json.specs.Writes.{ArePartsOf, BeginsAt, BeginsStruct, HasNode, IsAbove, IsAwaitingAt, IsBegunOf, IsFull, IsFullOrDescends, IsKeyPut, IsLast, IsOfWrite, IsPartWritten, IsWritingAt, IsWrittenNext, IsWrittenOn, StopsBy, WritesStruct, WritesValueOf, ends_of, leaf_depth}
+pub use Rattle.borsh_json.specs.Writes.{ArePartsOf, AscendsFrom, BeginsAt, BeginsNext, BeginsStruct, HasNode, IsAbove, IsAwaitingAt, IsBegunOf, IsFull, IsKeyPut, IsLast, IsOfWrite, IsPartWritten, IsWritingAt, IsWrittenNext, IsWrittenOn, RefusesElements, StopsBy, TellsAscent, WritesStruct, WritesValueOf, ends_of, leaf_depth}
+pub use Rattle.borsh_json.specs.declared.definitions.Known.TheVariants.{Order as KnownOrder}
+pub use Rattle.borsh_json.specs.declared.definitions.Known.{Known as KnownAt}
 pub use Rattle.borsh_json.specs.declared.error.ReadError.TheVariants.{OutOfMemory}
 pub use Rattle.borsh_json.specs.declared.error.Refusal.TheVariants.{TooDeep}
 pub use Rattle.borsh_json.specs.declared.kinds.Elements.{Elements as FoundElements}
@@ -27,6 +32,7 @@ pub use Rattle.borsh_json.specs.declared.position.Place.{Place}
 pub use Rattle.borsh_values.specs.Walks.{IsCounted, IsWalker}
 pub use Rattle.json.specs.Json.{null}
 pub use Rattle.borsh_json.specs.declared.order.Ordered.{Ordered as FoundOrder}
+pub use Rattle.borsh_json.specs.declared.order.Ordered.TheVariants.{Number as NumberOrder}
 pub use Rattle.borsh_json.specs.declared.parts.Next.TheVariants.{Missing as NextMissing, Part as NextPart}
 pub use Rattle.borsh_json.specs.declared.position.Parts.TheVariants.{Root}
 pub use Rattle.borsh_json.specs.declared.sources.Source.TheVariants.{One as OneSource}
@@ -34,14 +40,18 @@ pub use Rattle.borsh_values.specs.Free.{KnowsSizes}
 pub use Rattle.borsh_values.specs.Layouts.{IsLaidOut}
 pub use Rattle.borsh_values.specs.Nodes.{packed_size}
 pub use Rattle.borsh_values.specs.declared.layout.Named.{Named as NamedPlace}
-pub use Rattle.borsh_walks.specs.Container.{Member, references, tag}
+pub use Rattle.borsh_walks.specs.Container.{Member, low_bytes, references, tag}
 pub use Rattle.borsh_walks.specs.Definitions.{definitions_in}
 pub use Rattle.borsh_walks.specs.Tables.{mark_of}
 pub use Rattle.json.specs.Find.{BeginsWith, Finds, InItems, InMembers, as_array, get_member}
 pub use Rattle.json.specs.Json.{Items as JsonItems, Json, Members as JsonMembers, array, document, item, no_items, null, object, string}
+pub use Rattle.std.specs.Cmp.Lexicographic.{slice_cmp}
 pub use Rattle.std.specs.Fmt.{decimal, signed_decimal}
+pub use Rattle.std.specs.declared.cmp.Ordering.{Ordering as Comparison}
+pub use Rattle.std.specs.declared.cmp.Ordering.TheVariants.{Less}
 pub use Rattle.std.specs.Int.{w128}
 pub use Rattle.std.specs.Int.RustNames.{FitsSigned}
 pub use Rattle.std.specs.List.{IsDistinct}
 pub use Rattle.std.specs.List.Sorted.{IsPermutation}
+pub use Rattle.std.specs.Ordering.{int_cmp, nat_cmp}
 pub use Rattle.std.specs.Str.{bytes_eq}

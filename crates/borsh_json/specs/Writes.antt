@@ -1,5 +1,6 @@
 -- What was written of a value, and the JSON that may still follow: the invariant of the writer's loop.
-use Rattle.std.specs.Prelude.{◌≡◌, ◌⊎◌, ⊤, ℕ, suc, ◌+◌, ◌≤◌, List, [], ◌∷◌, ◌++◌, length, map, replicate, Bool, true, false, Option, Some, None, Result, MatchResult, MatchOption}
+use Rattle.std.specs.Prelude.{◌≡◌, ◌⊎◌, ⊤, ℕ, suc, ◌+◌, ◌≤◌, List, [], ◌∷◌, ◌++◌, length, map, replicate, drop, Bool, true, false, Decides, Option, Some, None, Result, MatchResult, MatchOption}
+use Rattle.std.specs.declared.cmp.Ordering.{Ordering as Comparison}
 use Rattle.std.specs.declared.cmp.Ordering.TheVariants.{Less}
 use Rattle.std.specs.Borrow.{Bor}
 use Rattle.json.specs.Token.{Token}
@@ -12,6 +13,7 @@ use Rattle.borsh_values.specs.Membership.{IsUndecided}
 use Rattle.borsh_values.specs.declared.layout.Named.{Named}
 use Rattle.borsh_values.specs.declared.nodes.Node.{Node}
 use Rattle.borsh_json.specs.declared.definitions.Definitions.{Definitions}
+use Rattle.borsh_json.specs.declared.definitions.Known.{Known}
 use Rattle.borsh_json.specs.declared.error.Refusal.{Refusal}
 use Rattle.borsh_json.specs.declared.error.Refusal.TheVariants.{TooDeep, RepeatedName, EmptyElements, NotBool, NotUtf8, Zero, NotNumber, Descends, OtherNodes, Expected, MissingField, UnknownName, RepeatedKey, Undefined}
 use Rattle.borsh_json.specs.declared.error.PartError.{PartError}
@@ -20,9 +22,12 @@ use Rattle.borsh_json.specs.declared.error.JsonError.{JsonError}
 use Rattle.borsh_json.specs.declared.error.JsonError.TheVariants.{OutOfMemory as NoMemory, NoMember, NoValue, Ambiguous, NotJson, Refused as RefusedBytes}
 use Rattle.borsh_json.specs.declared.error.WriteError.{WriteError}
 use Rattle.borsh_json.specs.declared.error.WriteError.TheVariants.{OutOfMemory, Refused, Element}
+use Rattle.borsh_json.specs.declared.kinds.Entries.{Entries as FoundEntries}
 use Rattle.borsh_json.specs.declared.kinds.KeyKind.{KeyKind}
 use Rattle.borsh_json.specs.declared.kinds.Kind.{Kind as Found}
 use Rattle.borsh_json.specs.declared.kinds.Kind.TheVariants.{Number, Bool as Truth, Text, Bytes, Float, ByteList, Numbers, List as ListKind, Map, Row as RowKind, Newtype as NewtypeKind, Object as ObjectKind, Optional, Choice, Repeated}
+use Rattle.borsh_json.specs.declared.order.Ascent.{Ascent}
+use Rattle.borsh_json.specs.declared.order.Ordered.{Ordered}
 use Rattle.borsh_json.specs.declared.output.Output.{Output}
 use Rattle.borsh_json.specs.declared.position.Parts.{Parts}
 use Rattle.borsh_json.specs.declared.position.Parts.TheVariants.{Root, List as Elements, Row, Object, Entries as MapEntries, Newtype, Some as Present, Variant}
@@ -30,14 +35,17 @@ use Rattle.borsh_json.specs.declared.position.Part.{Part as FoundPart}
 use Rattle.borsh_json.specs.declared.position.Place.{Place}
 use Rattle.borsh_json.specs.declared.sources.EntryKey.{EntryKey}
 use Rattle.borsh_json.specs.declared.writing.Writing.{Writing}
+use Rattle.borsh_json.specs.Descents.{HasDescent}
 use Rattle.borsh_json.specs.Forms.{Form, form_of, shape_of_form, shapes, HasNoBytes}
 use Rattle.borsh_json.specs.Frames.{Wanted, IsWanted, IsEntryKey, IsOf, GivesPart}
 use Rattle.borsh_json.specs.Found.{forms_of, names_of}
 use Rattle.borsh_json.specs.Places.{IsAt, AreKeysOf, IsKindOf}
+use Rattle.borsh_json.specs.Orders.{HasKeyOrder, KindHasOrder, OrderedBy, ValuesCompare}
+use Rattle.borsh_json.specs.Reads.{SaysFirst}
 use Rattle.borsh_json.specs.Represents.{HaveBytes}
 use Rattle.borsh_json.specs.Leaves.{output_tokens, output_before, Adds, IsOpenedAs, WritesLeaf}
 use Rattle.borsh_json.specs.NoJson.{IsNoJson, RefusesBytes}
-use Rattle.borsh_json.specs.Table.{Keys, Part, row_parts, Entry, entries_of, entry_parts, key_order}
+use Rattle.borsh_json.specs.Table.{Keys, Part, row_parts, Entry, entries_of, entry_parts, key_json, key_order}
 
 -- ---- what is left to be written of a place
 
@@ -144,20 +152,37 @@ leaf_depth (Optional at) = 0
 leaf_depth (Choice w vs) = 0
 leaf_depth (Repeated name) = 0
 
+-- none of the parts was begun, and an object of entries is a map's; the order of parts isn't set
+abbrev pub IsNewPlace : Found → Place → Type 0
+IsNewPlace kind p = (p.ascent ≡ None) × (p.last ≡ None) × ((es : FoundEntries) (n : ℕ) → p.parts ≡ MapEntries es n → (order : Ordered) × (kind ≡ Map es order))
+
+-- each of these is of a place: the places the outermost first, these the innermost first
+abbrev pub AreEach : {A : Type 0} → (Place → A → Type 0) → List Place → List A → Type 0
+AreEach P [] xs = xs ≡ []
+AreEach {A} P (p ∷ ps) xs = (x : A) × (outer : List A) × P p x × AreEach P ps outer × (xs ≡ outer ++ x ∷ [])
+
 -- ---- the invariant
 
+-- a value whose parts are read: its name, where the last part begins that was begun, and the names of those that are left
+pub data Level : Type 0 where
+  opened : List ℕ → Option ℕ → List (List ℕ) → Level
+
 module _ (C : List ℕ → Option Shape) (root : List ℕ) where
-  -- these bytes are read up to a place inside of values: the names that are left of the parts of each, the innermost first
-  pub data Nested : List (List (List ℕ)) → List ℕ → Type 0 where
-    unread : Nested ((root ∷ []) ∷ []) []
-    entered : {x before : List ℕ} {xs parts : List (List ℕ)} {ls : List (List (List ℕ))} (d : Shape) (own : List ℕ) → Nested ((x ∷ xs) ∷ ls) before → C x ≡ Some d → Opens C d own parts → Nested (parts ∷ xs ∷ ls) (before ++ own)
-    passed : {x before own : List ℕ} {xs : List (List ℕ)} {ls : List (List (List ℕ))} → Nested ((x ∷ xs) ∷ ls) before → Member C x own → Nested (xs ∷ ls) (before ++ own)
+  -- these bytes are read up to a place inside of values, the innermost first; the root is the only part of no value
+  pub data Nested : List Level → List ℕ → Type 0 where
+    unread : Nested (opened [] None (root ∷ []) ∷ []) []
+    entered : {x y before : List ℕ} {s : Option ℕ} {xs parts : List (List ℕ)} {ls : List Level} (d : Shape) (own : List ℕ) → Nested (opened y s (x ∷ xs) ∷ ls) before → C x ≡ Some d → Opens C d own parts → Nested (opened x None parts ∷ opened y (Some (length before)) xs ∷ ls) (before ++ own)
+    passed : {x y before own : List ℕ} {s : Option ℕ} {xs : List (List ℕ)} {ls : List Level} → Nested (opened y s (x ∷ xs) ∷ ls) before → Member C x own → Nested (opened y (Some (length before)) xs ∷ ls) (before ++ own)
+
+-- the name of a place's value, and where its last part begins
+abbrev pub Mark : Type 0
+Mark = List ℕ × Option ℕ
 
 -- the names are those that are left of the places; of values around their parts, of which all are begun, there is no place: of the entries of maps
-pub data AreLevels : List Rest → List (List (List ℕ)) → Type 0 where
-  no_levels : AreLevels [] []
-  level : {rs : List Rest} {ls : List (List (List ℕ))} (r : Rest) → AreLevels rs ls → AreLevels (r ∷ rs) (names_of_rest r ∷ ls)
-  no_place : {rs : List Rest} {ls : List (List (List ℕ))} → AreLevels rs ls → AreLevels rs ([] ∷ ls)
+pub data AreLevels : List Rest → List Mark → List Level → Type 0 where
+  no_levels : AreLevels [] [] []
+  level : {rs : List Rest} {ms : List Mark} {ls : List Level} (r : Rest) (m : Mark) → AreLevels rs ms ls → AreLevels (r ∷ rs) (m ∷ ms) (opened m.0 m.1 (names_of_rest r) ∷ ls)
+  no_place : {rs : List Rest} {ms : List Mark} {ls : List Level} (x : List ℕ) (s : Option ℕ) → AreLevels rs ms ls → AreLevels rs ms (opened x s [] ∷ ls)
 
 module _ (F : List ℕ → Option Form) where
   -- these tokens are JSON of the root that can be printed and read, and says these bytes
@@ -175,7 +200,7 @@ module _ (F : List ℕ → Option Form) where
 
   -- ---- one value
 
-  -- the refusal is right of a value of x that begins with these bytes; of order it is left open
+  -- the refusal is right of a value of x that begins with these bytes
   abbrev pub RefusesOwn : List ℕ → List ℕ → Refusal → Type 0
   RefusesOwn x own TooDeep = ⊥
   RefusesOwn x own (RepeatedName name) = IsNoJson F x own
@@ -184,7 +209,7 @@ module _ (F : List ℕ → Option Form) where
   RefusesOwn x own NotUtf8 = IsNoJson F x own
   RefusesOwn x own Zero = IsNoJson F x own
   RefusesOwn x own NotNumber = IsNoJson F x own
-  RefusesOwn x own Descends = ⊤
+  RefusesOwn x own Descends = ⊥
   RefusesOwn x own OtherNodes = ⊥
   RefusesOwn x own (Expected wanted) = ⊥
   RefusesOwn x own MissingField = ⊥
@@ -227,13 +252,11 @@ module _ (F : List ℕ → Option Form) where
     abbrev pub IsRest : Place → Rest → Type 0
     IsRest p r = IsRestOf p.parts p.begun p.last r
 
-    -- of the places around, the outermost first; the rests the innermost first
     abbrev pub AreRests : List Place → List Rest → Type 0
-    AreRests [] rs = rs ≡ []
-    AreRests (p ∷ ps) rs = (r : Rest) × (outer : List Rest) × IsRest p r × AreRests ps outer × (rs ≡ outer ++ r ∷ [])
+    AreRests ps rs = AreEach IsRest ps rs
 
     -- in front of a part of a place: where the writer is
-    pub record IsWriting (root bytes : List ℕ) (p : Place) (ps : List Place) (left : List ℕ) (written : List Token) : Type 0 where
+    pub record IsWriting (root bytes : List ℕ) (p : Place) (ps : List Place) (m : Mark) (ms : List Mark) (left : List ℕ) (written : List Token) : Type 0 where
       pub inner : Rest
       pub around : List Rest
       pub done : List ℕ
@@ -241,13 +264,13 @@ module _ (F : List ℕ → Option Form) where
       pub there : AreRests ps around
       pub room : length around ≤ 128
       pub halved : IsHalved root bytes done left (names_of_all (inner ∷ around))
-      pub outer : List (List (List ℕ))
-      pub levels : AreLevels around outer
-      pub nested : Nested (shapes F) root (names_of_rest inner ∷ outer) done
+      pub outer : List Level
+      pub levels : AreLevels around ms outer
+      pub nested : Nested (shapes F) root (opened m.0 m.1 (names_of_rest inner) ∷ outer) done
       pub begun : Begins root (MayFollowAll (inner ∷ around)) written done
 
     -- in front of a value of this name, which has room for this depth, and then of the rest of the place
-    pub record IsAwaiting (root bytes : List ℕ) (x : List ℕ) (n : ℕ) (p : Place) (ps : List Place) (left : List ℕ) (written : List Token) : Type 0 where
+    pub record IsAwaiting (root bytes : List ℕ) (x : List ℕ) (n : ℕ) (p : Place) (ps : List Place) (m : Mark) (ms : List Mark) (left : List ℕ) (written : List Token) : Type 0 where
       pub inner : Rest
       pub around : List Rest
       pub done : List ℕ
@@ -255,33 +278,35 @@ module _ (F : List ℕ → Option Form) where
       pub there : AreRests ps around
       pub room : n + length around ≡ 128
       pub halved : IsHalved root bytes done left (x ∷ names_of_all (inner ∷ around))
+      pub value : List ℕ
+      pub before : Option ℕ
       pub beside : List (List ℕ)
-      pub outer : List (List (List ℕ))
-      pub levels : AreLevels (inner ∷ around) (beside ∷ outer)
-      pub nested : Nested (shapes F) root ((x ∷ beside) ∷ outer) done
+      pub outer : List Level
+      pub levels : AreLevels (inner ∷ around) (m ∷ ms) (opened value (Some (length done)) beside ∷ outer)
+      pub nested : Nested (shapes F) root (opened value before (x ∷ beside) ∷ outer) done
       pub begun : Begins root (MayFollowFirst x n (inner ∷ around)) written done
 
     -- of a value of x, whose definition opens these own bytes with these parts, JSON was written whole, and then its parts have no bytes; or it
     -- was begun, and its parts are those of the place
-    abbrev pub IsWrittenAs : ℕ → List ℕ → Form → List ℕ → Output → Output → Option Place → Type 0
-    IsWrittenAs n x f own old new None = WritesLeaf F n x own old new × (parts : List (List ℕ)) × Opens (shapes F) (shape_of_form f) own parts × ((y : List ℕ) → IsIn y parts → HasNoBytes F y)
-    IsWrittenAs n x f own old new (Some p) = (r : Rest) × IsRest p r × WritesFront x own r old new × Opens (shapes F) (shape_of_form f) own (names_of_rest r)
+    abbrev pub IsWrittenAs : Found → List ℕ → Form → List ℕ → Output → Output → Option Place → Type 0
+    IsWrittenAs kind x f own old new None = WritesLeaf F (leaf_depth kind) x own old new × (parts : List (List ℕ)) × Opens (shapes F) (shape_of_form f) own parts × ((y : List ℕ) → IsIn y parts → HasNoBytes F y)
+    IsWrittenAs kind x f own old new (Some p) = (r : Rest) × IsRest p r × WritesFront x own r old new × Opens (shapes F) (shape_of_form f) own (names_of_rest r) × IsNewPlace kind p
 
-    -- a value of x was written whole or begun, or is refused; whole JSON nests at most so deep
-    abbrev pub WritesValue : ℕ → List ℕ → Form → List ℕ → Output → Output → Result (Option Place) WriteError → Type 0
-    WritesValue n x f own old new result = MatchResult result (λ found. IsWrittenAs n x f own old new found) (λ e. RefusesValue x own e)
+    -- a value of x was written whole or begun, or is refused
+    abbrev pub WritesValue : Found → List ℕ → Form → List ℕ → Output → Output → Result (Option Place) WriteError → Type 0
+    WritesValue kind x f own old new result = MatchResult result (λ found. IsWrittenAs kind x f own old new found) (λ e. RefusesValue x own e)
 
     -- the same of a value of a kind without own bytes; nothing is written of another
     abbrev pub WritesStruct : List ℕ → Form → Found → Output → Output → Result (Option Place) WriteError → Type 0
     WritesStruct x f kind old new result = MatchResult result
-        (λ found. MatchOption found (HasNode kind × (new ≡ old)) (λ p. (r : Rest) × IsRest p r × WritesFront x [] r old new × (shape_of_form f ≡ product (names_of_rest r))))
+        (λ found. MatchOption found (HasNode kind × (new ≡ old)) (λ p. (r : Rest) × IsRest p r × WritesFront x [] r old new × (shape_of_form f ≡ product (names_of_rest r)) × IsNewPlace kind p))
         (λ e. RefusesValue x [] e)
 
 -- of the name at the place, that the code found this kind of, the value whose node this is was written or begun, or is refused
 abbrev pub WritesValueOf : (List ℕ → Option Form) → List Named → ℕ → Found → Node → Output → Output → Result (Option Place) WriteError → Type 0
 WritesValueOf F ns at kind n old new result =
     (x : List ℕ) (parts : List (List ℕ)) → IsAt ns at x → IsOpenedAs F x (form_of n.definition.now) n.bytes.now parts → IsKindOf F ns x (form_of n.definition.now) kind
-    → WritesValue F ns (leaf_depth kind) x (form_of n.definition.now) n.bytes.now old new result
+    → WritesValue F ns kind x (form_of n.definition.now) n.bytes.now old new result
 
 -- the bracket in front of the parts of a place
 abbrev pub begins_of : Parts → List Token
@@ -297,7 +322,7 @@ begins_of (Variant v at) = Token.begin_object ∷ []
 -- the bracket was written, and none of the parts
 abbrev pub BeginsAt : Parts → Output → Output → Result (Option Place) WriteError → Type 0
 BeginsAt parts old new result = MatchResult result
-    (λ found. MatchOption found ⊥ (λ p. (p.parts ≡ parts) × (p.begun ≡ 0) × (p.last ≡ None) × Adds (begins_of parts) old new))
+    (λ found. MatchOption found ⊥ (λ p. (p.parts ≡ parts) × (p.begun ≡ 0) × (p.last ≡ None) × Adds (begins_of parts) old new × (p.ascent ≡ None)))
     (λ e. e ≡ OutOfMemory)
 
 -- the parts of a value of a kind without own bytes, that has the name at the place
@@ -328,6 +353,33 @@ module _ (F : List ℕ → Option Form) (root bytes : List ℕ) where
   Stops (NotJson offset) = ⊥
   Stops (RefusedBytes path refusal) = RefusesBytes F root bytes refusal
 
+-- ---- order
+
+module _ (d : Definitions) (bytes : List ℕ) where
+  -- the keys of the value k ascend in this order, and its last part begins there
+  abbrev pub IsAscending : Option Ascent → Mark → Type 0
+  IsAscending None m = ⊤
+  IsAscending (Some a) m = HasKeyOrder (forms_of d) (names_of d) d.orders.items m.0 (Some a.order) × (a.last ≡ m.1)
+
+  -- the last entry of these begins there with bytes that its key says
+  abbrev pub IsLastKey : FoundEntries → Option EntryKey → Option ℕ → Type 0
+  IsLastKey es None s = ⊤
+  IsLastKey es (Some key) s =
+      (i : ℕ) × (k : List ℕ) × (keys : Keys) × (t : List ℕ) × (own : List ℕ) × (rest : List ℕ)
+      × (s ≡ Some i) × IsAt (names_of d) es.key k × AreKeysOf (forms_of d) (names_of d) k (form_of es.key_definition.now) es.key_kind keys
+      × IsEntryKey es.key_kind key t × SaysFirst (forms_of d) k (key_json keys t) own [] × (drop i bytes ≡ own ++ rest)
+
+  -- the value is a map of these entries, whose keys ascend
+  abbrev pub IsMapOf : List ℕ → FoundEntries → Type 0
+  IsMapOf x es = (order : Ordered) × (f : Form) × IsKindOf (forms_of d) (names_of d) x f (Map es order) × KindHasOrder (forms_of d) (names_of d) d.orders.items x (Map es order)
+
+  -- where the place's parts are entries, the value is such a map
+  abbrev pub IsKeyed : Parts → Option EntryKey → Mark → Type 0
+  IsKeyed parts last m = (es : FoundEntries) (n : ℕ) → parts ≡ MapEntries es n → IsMapOf m.0 es × IsLastKey es last m.1
+
+  abbrev pub IsMarked : Place → Mark → Type 0
+  IsMarked p m = IsAscending p.ascent m × IsKeyed p.parts p.last m
+
 -- ---- the writer
 
 module _ (d : Definitions) (w : Writing) where
@@ -336,17 +388,26 @@ module _ (d : Definitions) (w : Writing) where
     pub layout : w.walk.layout.now ≡ d.layout.now
     pub walk : IsWalker w.walk
     pub fresh : output_before w.out ≡ []
+    pub offset : w.walk.offset + length w.walk.left.now ≡ length w.bytes.now
 
   -- it is in front of a part of this place
   pub record IsWritingAt (p : Place) : Type 0 where
     pub writer : IsWriterOf
-    pub state : IsWriting (forms_of d) (names_of d) d.layout.now.root.now w.bytes.now p w.position.outer.items w.walk.left.now (output_tokens w.out)
+    pub mark : Mark
+    pub marks : List Mark
+    pub state : IsWriting (forms_of d) (names_of d) d.layout.now.root.now w.bytes.now p w.position.outer.items mark marks w.walk.left.now (output_tokens w.out)
+    pub here : IsMarked d w.bytes.now p mark
+    pub around : AreEach (IsMarked d w.bytes.now) w.position.outer.items marks
 
   -- or in front of a value of this name
   pub record IsAwaitingAt (x : List ℕ) : Type 0 where
     pub writer : IsWriterOf
     pub room : ℕ
-    pub state : IsAwaiting (forms_of d) (names_of d) d.layout.now.root.now w.bytes.now x room w.position.place w.position.outer.items w.walk.left.now (output_tokens w.out)
+    pub mark : Mark
+    pub marks : List Mark
+    pub state : IsAwaiting (forms_of d) (names_of d) d.layout.now.root.now w.bytes.now x room w.position.place w.position.outer.items mark marks w.walk.left.now (output_tokens w.out)
+    pub here : IsMarked d w.bytes.now w.position.place mark
+    pub around : AreEach (IsMarked d w.bytes.now) w.position.outer.items marks
 
   -- or at the end
   pub record HasWritten : Type 0 where
@@ -383,14 +444,35 @@ IsOfWrite OutOfMemory e = e ≡ NoPartMemory
 IsOfWrite (Refused refusal) e = IsOf refusal e
 IsOfWrite (Element index refusal) e = IsOf refusal e
 
--- so has the refusal of elements that don't ascend
-abbrev pub IsFullOrDescends : ℕ → PartError → Type 0
-IsFullOrDescends n NoPartMemory = ⊤
-IsFullOrDescends n (RefusedPart path refusal) = ((refusal ≡ TooDeep) × (128 ≤ n)) ⊎ (refusal ≡ Descends)
+-- so has the refusal of elements that don't ascend, of which P holds
+abbrev pub IsFullOrFalls : ℕ → Type 0 → PartError → Type 0
+IsFullOrFalls n P NoPartMemory = ⊤
+IsFullOrFalls n P (RefusedPart path refusal) = ((refusal ≡ TooDeep) × (128 ≤ n)) ⊎ ((refusal ≡ Descends) × P)
+
+-- the refusal is right of the own bytes of a value of a kind
+abbrev pub RefusesElements : ℕ → Found → Node → PartError → Type 0
+RefusesElements depth kind n e =
+    (F : List ℕ → Option Form) (ns : List Named) (orders : List Known) (x : List ℕ) (parts : List (List ℕ)) (after : List ℕ)
+    → IsOpenedAs F x (form_of n.definition.now) n.bytes.now parts → IsKindOf F ns x (form_of n.definition.now) kind → KindHasOrder F ns orders x kind → IsFullOrFalls depth (HasDescent F x (n.bytes.now ++ after)) e
+
+-- the next part begins at the offset, where parts have to ascend
+abbrev pub BeginsNext : Option Ascent → ℕ → Option Ascent → Type 0
+BeginsNext None i new = new ≡ None
+BeginsNext (Some a) i new = (b : Ascent) × (new ≡ Some b) × (b.order ≡ a.order) × (b.last ≡ Some i)
+
+-- whether it is above the one before, if there is one
+abbrev pub TellsAscent : Definitions → List ℕ → Option Ascent → ℕ → Bool → Type 0
+TellsAscent d bytes None j ascends = ascends ≡ true
+TellsAscent d bytes (Some a) j ascends = MatchOption a.last (ascends ≡ true) (λ i. (k : List ℕ) (r : Comparison) → OrderedBy d k a.order → ValuesCompare d k (drop i bytes) (drop j bytes) r → Decides ascends (r ≡ Less))
+
+-- a place's ascent in this order, in front of the first part
+abbrev pub AscendsFrom : Option Ordered → Option Ascent → Type 0
+AscendsFrom None new = new ≡ None
+AscendsFrom (Some order) new = (a : Ascent) × (new ≡ Some a) × (a.order ≡ order) × (a.last ≡ None)
 
 -- the part is begun of the place p, which is q now
-abbrev pub IsBegunOf : Definitions → Place → Place → FoundPart → Type 0
-IsBegunOf d p q part = GivesPart d p.parts p.begun q.parts q.begun (Some part) × (q.parts ≡ p.parts) × (q.last ≡ p.last)
+abbrev pub IsBegunOf : Definitions → ℕ → Place → Place → FoundPart → Type 0
+IsBegunOf d i p q part = GivesPart d p.parts p.begun q.parts q.begun (Some part) × (q.parts ≡ p.parts) × (q.last ≡ p.last) × BeginsNext p.ascent i q.ascent
 
 -- a step of the writer: it is in front of another part, or at the end, or has stopped
 abbrev pub IsWrittenNext : Definitions → Writing → Writing → Result Bool JsonError → Type 0

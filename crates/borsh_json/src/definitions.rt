@@ -1,6 +1,6 @@
 // A layout, and what was found out about its names. Names are known by their places.
-ghost use Rattle.borsh_json.specs.Words.{Form, HasKinds, HasNoBytes, IsAlike, IsAt, IsKindAt, IsKnown, IsLaidOut, KnowsSizes, form_of, forms_in, references, shape_of_form};
-ghost use Rattle.std.specs.Prelude.{◌≡◌, ℕ, List, Decides, IfOk, OnOk, Some, option_map, slice_get};
+ghost use Rattle.borsh_json.specs.Words.{AreOpenIn, AwaitsOrder, BeginsOrder, FindsKindAt, FindsNeeded, FindsOrder, FindsOrderAt, Form, HasKinds, HasNoBytes, HasOrderAt, HasOrders, IsAlike, IsAt, IsFoundAt, IsKindAt, IsKnown, IsKnownAt, IsLaidOut, IsNamed, KnownOrder, KnowsMore, KnowsSizes, form_of, forms_in, forms_of, names_of, references, shape_of_form};
+ghost use Rattle.std.specs.Prelude.{◌≡◌, ℕ, List, Decides, IfOk, IfSome, OnOk, Some, option_map, slice_get, slice_set};
 
 use crate::kinds::{Kind, kind_of};
 use crate::order::{Ordered, ordered_as};
@@ -63,6 +63,7 @@ impl<'a, 'l> Definitions<'a, 'l> {
         ensures kind { let ns = self.old.layout.now.names.items in let F = forms_in self.old.layout.now.map.now in
             IsKnown self.old → IfOk result (λ kind. IsKindAt F ns at kind) }
         ensures same { OnOk result (IsAlike self.old self.new) }
+        ensures orders { FindsKindAt self.old self.new.orders.items at result }
     {
         match self.get(at) {
             Some(definition) => {
@@ -129,8 +130,9 @@ impl<'a, 'l> Definitions<'a, 'l> {
 
     /// The definition of the name at a place, if it has one, and how its values are written.
     pub(crate) fn kind(&self, at: usize) -> Option<(&'a Definition, Kind<'a>)>
-        ensures { let ns = self.now.layout.now.names.items in let F = forms_in self.now.layout.now.map.now in
+        ensures kind { let ns = self.now.layout.now.names.items in let F = forms_in self.now.layout.now.map.now in
             HasKinds self.now → IsKindAt F ns at result }
+        ensures order { HasKinds self.now → (x : List ℕ) → IsAt (names_of self.now) at x → HasOrderAt self.now x result }
     {
         match self.kinds.as_slice().get(at).copied() {
             Some(found) => found,
@@ -140,26 +142,37 @@ impl<'a, 'l> Definitions<'a, 'l> {
 
     /// How the values of the name at a place are ordered; none where that isn't known.
     pub(crate) fn order_of(&mut self, at: usize) -> Result<Option<Ordered>, AllocError>
-        ensures { OnOk result (IsAlike self.old self.new) }
+        ensures same { OnOk result (IsAlike self.old self.new) }
+        ensures orders { FindsOrderAt self.old self.new.orders.items at result }
+    {
+        self.begin_orders()?;
+        self.find_order(at)?;
+        Ok(self.known_order(at))
+    }
+
+    fn begin_orders(&mut self) -> Result<(), AllocError>
+        ensures same { OnOk result (IsAlike self.old self.new) }
+        ensures orders { HasOrders self.old → OnOk result (KnowsMore self.old self.new.orders.items) }
     {
         if self.orders.is_empty() {
             self.orders = vec![in self.alloc; Known::Nothing; self.layout.names.len()]?;
         }
-        if matches!(self.known_at(at), Known::Nothing) {
-            self.find_order(at)?;
-        }
-        Ok(self.known_order(at))
+        Ok(())
     }
 
     /// How the values of the name are ordered, where [`Definitions::order_of`] found that for it or for a name that needs it.
-    pub(crate) fn known_order(&self, at: usize) -> Option<Ordered> {
+    pub(crate) fn known_order(&self, at: usize) -> Option<Ordered>
+        ensures { IsFoundAt self.now.orders.items at result }
+    {
         match self.known_at(at) {
             Known::Order(order) => order,
             Known::Nothing => None,
         }
     }
 
-    fn known_at(&self, at: usize) -> Known {
+    fn known_at(&self, at: usize) -> Known
+        ensures { IsKnownAt self.now.orders.items at result }
+    {
         self.orders
             .as_slice()
             .get(at)
@@ -168,32 +181,27 @@ impl<'a, 'l> Definitions<'a, 'l> {
     }
 
     fn set_order(&mut self, at: usize, order: Option<Ordered>)
-        ensures { IsAlike self.old self.new }
+        ensures same { IsAlike self.old self.new }
+        ensures set { self.new.orders.items ≡ slice_set self.old.orders.items at (KnownOrder order) }
     {
-        if let Some(known) = self.orders.get_mut(at) {
-            *known = Known::Order(order);
+        if at < self.orders.len() {
+            self.orders[at] = Known::Order(order);
         }
     }
 
     /// Finds the order of a name and of those that it needs. It isn't known if that of one of them isn't, as in a circle of names.
     fn find_order(&mut self, at: usize) -> Result<(), AllocError>
-        ensures { OnOk result (IsAlike self.old self.new) }
+        ensures same { OnOk result (IsAlike self.old self.new) }
+        ensures orders { HasOrders self.old → (x : List ℕ) → IsAt (names_of self.old) at x →
+            OnOk result (KnowsMore self.old self.new.orders.items) }
     {
-        let mut open: Vec<(usize, Ordered, usize)> = Vec::new(self.alloc);
+        let mut waiting: Vec<(usize, Ordered, usize)> = Vec::new(self.alloc);
         let mut at = at;
         for _ in 0..u64::MAX {
-            match self.known_at(at) {
-                Known::Order(Some(_)) => (),
-                Known::Order(None) => break,
-                Known::Nothing => {
-                    self.set_order(at, None);
-                    match self.order_by_parts(at) {
-                        Some(order) => open.push((at, order, 0))?,
-                        None => break,
-                    }
-                }
+            if !self.begin_order(at, &mut waiting)? {
+                break;
             }
-            match self.next_needed(&mut open)? {
+            match self.next_needed(&mut waiting)? {
                 Some(needed) => at = needed,
                 None => break,
             }
@@ -201,19 +209,47 @@ impl<'a, 'l> Definitions<'a, 'l> {
         Ok(())
     }
 
+    /// Whether the order of a name is known, or may be, if its parts' orders are: then the name waits for them.
+    fn begin_order(
+        &mut self,
+        at: usize,
+        waiting: &mut Vec<(usize, Ordered, usize)>,
+    ) -> Result<bool, AllocError>
+        ensures same { OnOk result (IsAlike self.old self.new) }
+        ensures orders { HasOrders self.old → AwaitsOrder self.old self.old.orders.items waiting.old.items at →
+            IfOk result (BeginsOrder self.old self.new.orders.items waiting.new.items) }
+    {
+        match self.known_at(at) {
+            Known::Order(Some(_)) => Ok(true),
+            Known::Order(None) => Ok(false),
+            Known::Nothing => {
+                self.set_order(at, None);
+                match self.order_by_parts(at) {
+                    Some(order) => {
+                        waiting.push((at, order, 0))?;
+                        Ok(true)
+                    }
+                    None => Ok(false),
+                }
+            }
+        }
+    }
+
     /// The next name that the last open name needs. An open name that needs no further one has its order.
     fn next_needed(
         &mut self,
-        open: &mut Vec<(usize, Ordered, usize)>,
+        waiting: &mut Vec<(usize, Ordered, usize)>,
     ) -> Result<Option<usize>, AllocError>
-        ensures { OnOk result (IsAlike self.old self.new) }
+        ensures same { OnOk result (IsAlike self.old self.new) }
+        ensures orders { HasOrders self.old → AreOpenIn self.old self.old.orders.items waiting.old.items →
+            IfOk result (FindsNeeded self.old self.new.orders.items waiting.new.items) }
     {
         for _ in 0..u64::MAX {
-            let Some((at, order, index)) = open.pop() else {
+            let Some((at, order, index)) = waiting.pop() else {
                 break;
             };
             if let Some(part) = order.part(self, index) {
-                open.push((at, order, index.saturating_add(1)))?;
+                waiting.push((at, order, index + 1))?;
                 return Ok(Some(part));
             }
             self.set_order(at, Some(order));
@@ -222,7 +258,10 @@ impl<'a, 'l> Definitions<'a, 'l> {
     }
 
     /// How the values of the name are ordered, if its parts are.
-    fn order_by_parts(&self, at: usize) -> Option<Ordered> {
+    fn order_by_parts(&self, at: usize) -> Option<Ordered>
+        ensures { (x : List ℕ) → IsNamed self.now at x →
+            IfSome result (FindsOrder (forms_of self.now) (names_of self.now) x) }
+    {
         if self.is_zero_size(at) {
             return Some(Ordered::Single);
         }

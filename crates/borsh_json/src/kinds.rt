@@ -1,5 +1,5 @@
 // How the values of a name are written in JSON.
-ghost use Rattle.borsh_json.specs.Words.{AreEntries, AreKeys, AreKeysOf, HasForm, HasNoBytes, IsAlike, IsAt, IsByte, IsCollection, IsKindOf, IsKnown, IsMap, IsNamed, IsNullable, IsPrimitiveKind, IsRefusedList, IsRepeated, Keys, MayBeNull, TellsKind, form_of, form_of_struct, forms_in, forms_of, packed_size, primitive_kind, sequence, shape_of_form, texts};
+ghost use Rattle.borsh_json.specs.Words.{AreEntries, AreKeys, AreKeysOf, FindsKeysOf, FindsKind, HasElements, HasForm, HasNoBytes, IsAlike, IsAt, IsByte, IsCollection, IsKindOf, IsKnown, IsMap, IsNamed, IsNullable, IsPrimitiveKind, IsRefusedList, IsRepeated, Keys, MayBeNull, OrdersKeys, TellsKind, form_of, form_of_struct, forms_in, forms_of, packed_size, primitive_kind, sequence, shape_of_form, texts};
 ghost use Rattle.std.specs.Prelude.{◌≡◌, ℕ, List, Decides, IfOk, MatchBool, MatchOption, OnOk, Some, map, option_map, string_bytes};
 
 use crate::definitions::Definitions;
@@ -90,6 +90,7 @@ pub fn kind_of<'a>(
         IsKnown definitions.old → IfOk result (λ kind. (x : List ℕ) → IsAt ns at x →
         F x ≡ Some (form_of definition.now) → (HasNoBytes F x → ⊥) → IsKindOf F ns x (form_of definition.now) kind) }
     ensures same { OnOk result (IsAlike definitions.old definitions.new) }
+    ensures orders { FindsKind definitions.old definitions.new.orders.items at (form_of definition.now) result }
 {
     match definition {
         Definition::Primitive(size) => Ok(kind_of_primitive(definitions.name(at), *size)),
@@ -148,7 +149,8 @@ fn kind_of_struct<'a>(
     at: usize,
     fields: &'a Fields,
 ) -> Result<Kind<'a>, AllocError>
-    ensures { IfOk result (TellsKind definitions.now at (form_of_struct fields.now)) }
+    ensures kind { IfOk result (TellsKind definitions.now at (form_of_struct fields.now)) }
+    ensures orders { FindsKind definitions.now definitions.now.orders.items at (form_of_struct fields.now) result }
 {
     match fields {
         Fields::NamedFields(fields) => match repeated_field(definitions.alloc, fields)? {
@@ -212,6 +214,8 @@ fn kind_of_sequence<'a>(
     ensures kind { (w lo hi : ℕ) (e : List ℕ) → form_of definition.now ≡ sequence w lo hi e →
         IfOk result (TellsKind definitions.old at (form_of definition.now)) }
     ensures same { OnOk result (IsAlike definitions.old definitions.new) }
+    ensures orders { (w lo hi : ℕ) (e : List ℕ) → form_of definition.now ≡ sequence w lo hi e →
+        FindsKind definitions.old definitions.new.orders.items at (form_of definition.now) result }
 {
     let element = definitions.part(at, 0);
     if is_byte(definitions, element) {
@@ -231,6 +235,8 @@ fn kind_of_bytes<'a>(
         IsNamed definitions.old element e → IsByte (forms_of definitions.old) e →
         IfOk result (TellsKind definitions.old at (form_of definition.now)) }
     ensures same { OnOk result (IsAlike definitions.old definitions.new) }
+    ensures orders { HasElements definitions.old element (form_of definition.now) →
+        FindsKind definitions.old definitions.new.orders.items at (form_of definition.now) result }
 {
     if definitions.name(at) == "String" {
         return Ok(Kind::Text);
@@ -255,6 +261,8 @@ fn kind_of_list<'a>(
         IsNamed definitions.old element e → (IsByte (forms_of definitions.old) e → ⊥) →
         IfOk result (TellsKind definitions.old at (form_of definition.now)) }
     ensures same { OnOk result (IsAlike definitions.old definitions.new) }
+    ensures orders { HasElements definitions.old element (form_of definition.now) →
+        FindsKind definitions.old definitions.new.orders.items at (form_of definition.now) result }
 {
     let collection = collection_of(definitions, at, definition);
     if definitions.is_zero_size(element) {
@@ -322,7 +330,8 @@ fn order_in(
     element: usize,
     collection: Collection,
 ) -> Result<Option<Ordered>, AllocError>
-    ensures { OnOk result (IsAlike definitions.old definitions.new) }
+    ensures same { OnOk result (IsAlike definitions.old definitions.new) }
+    ensures orders { FindsKeysOf definitions.old definitions.new.orders.items element collection result }
 {
     match collection {
         Collection::List => Ok(None),
@@ -383,7 +392,7 @@ fn kind_of_key(
 }
 
 /// Whether the name at a place is `String`, with its definition.
-fn is_text(definitions: &Definitions<'_, '_>, at: usize, definition: &Definition) -> bool
+pub fn is_text(definitions: &Definitions<'_, '_>, at: usize, definition: &Definition) -> bool
     ensures { (x : List ℕ) → HasForm definitions.now at (form_of definition.now) x →
         Decides result (AreKeys (forms_of definitions.now) x texts) }
 {
@@ -394,11 +403,12 @@ fn is_text(definitions: &Definitions<'_, '_>, at: usize, definition: &Definition
 }
 
 /// How keys that are texts or numbers are ordered.
-fn order_of_keys(kind: KeyKind) -> Ordered {
+fn order_of_keys(kind: KeyKind) -> Ordered
+    ensures { OrdersKeys result kind }
+{
     match kind {
         KeyKind::Text => Ordered::Text,
-        KeyKind::Number(number) if number.is_signed => Ordered::Signed(number.size),
-        KeyKind::Number(number) => Ordered::Unsigned(number.size),
+        KeyKind::Number(number) => Ordered::Number(number.size, number.is_signed),
     }
 }
 

@@ -1,5 +1,5 @@
 // What the JSON of a part says by its definition: its own bytes, and the parts that it has.
-ghost use Rattle.borsh_json.specs.Words.{AddsList, BeginsWith, DeniesRead, Form, FoundMap, FoundObject, FoundOrder, FoundRow, HasKind, HasKinds, InItems, InMembers, IsArrayOf, IsAt, IsDistinct, IsExpected, IsHex, IsInfinity, IsKindOf, IsKnown, IsListOf, IsNumber, IsOpened, IsVariantAt, Json, JsonItems, JsonMembers, NamedPlace, NamesVariant, OneSource, Opens, OutOfMemory, SaysArray, TableKind, array, byte_list, bytes_eq, float, form_of, forms_in, lengths_of, list_parts, no_bytes, object, optional, raw, spec_variants, string, tag, truth, utf8, whole};
+ghost use Rattle.borsh_json.specs.Words.{AddsList, AddsOrFalls, BeginsWith, DeniesRead, ElementsFall, Form, FoundMap, FoundObject, FoundOrder, FoundRow, HasKeyOrder, HasKind, HasKinds, InItems, InMembers, IsArrayOf, IsAt, IsDistinct, IsExpected, IsHex, IsInfinity, IsKindOf, IsKnown, IsListOf, IsNumber, IsOpened, IsOpenedOrFalls, IsVariantAt, Json, JsonItems, JsonMembers, KindHasOrder, KnownAt, NamedPlace, NamesVariant, OneSource, Opens, OutOfMemory, SaysArray, TableKind, array, byte_list, bytes_eq, float, form_of, forms_in, lengths_of, list_parts, no_bytes, object, optional, raw, spec_variants, string, tag, truth, utf8, whole};
 ghost use Rattle.std.specs.Prelude.{◌≡◌, ◌++◌, ◌≤◌, ⊤, [], ℕ, List, IfErr, IfOk, IfSome, Option, MatchOption, MatchResult, None, OnOk, Some, false, length, map, option_map, pos, string_bytes, take};
 
 use crate::definitions::Definitions;
@@ -37,7 +37,7 @@ pub fn open_part<'a, 't, 's>(
     ensures { let F = forms_in definitions.now.layout.now.map.now in
         let ns = definitions.now.layout.now.names.items in
         HasKinds definitions.now → (x : List ℕ) (j : Json) → IsAt ns at x →
-        BeginsWith element.entry j → IsOpened F ns x j out.old.items out.new.items result }
+        BeginsWith element.entry j → IsOpenedOrFalls F ns x j out.old.items out.new.items result }
 {
     if definitions.is_zero_size(at) {
         return open_null(definitions.alloc, &element);
@@ -60,8 +60,8 @@ fn open_kind<'a, 't, 's>(
     ensures { let F = forms_in definitions.now.layout.now.map.now in
         let ns = definitions.now.layout.now.names.items in let f = form_of definition.now in
         IsKnown definitions.now → (x : List ℕ) (j : Json) → IsAt ns at x → F x ≡ Some f →
-        IsKindOf F ns x f kind.entry → BeginsWith element.entry j →
-        IsOpened F ns x j out.old.items out.new.items result }
+        IsKindOf F ns x f kind.entry → KindHasOrder F ns definitions.now.orders.items x kind.entry →
+        BeginsWith element.entry j → IsOpenedOrFalls F ns x j out.old.items out.new.items result }
 {
     let alloc = definitions.alloc;
     match kind {
@@ -91,7 +91,7 @@ fn open_kind<'a, 't, 's>(
 /// The only part of a value.
 fn only<'a, 't, 's>(parts: Parts<'a>, element: Element<'t, 's>) -> Option<Frame<'a, 't, 's>>
     ensures { MatchOption result ⊥ (λ f. (f.place.parts ≡ parts.entry) × (f.place.begun ≡ 0) ×
-        (f.source ≡ OneSource (Some element.entry))) }
+        (f.source ≡ OneSource (Some element.entry)) × (f.place.ascent ≡ None)) }
 {
     Some(Frame {
         place: Place::new(parts),
@@ -285,8 +285,10 @@ fn open_byte_list<'a, 't, 's>(
     element: &Element<'t, 's>,
     out: &mut Vec<u8>,
 ) -> Opened<'a, 't, 's>
-    ensures { Opens (λ F ns x. (e : List ℕ) × IsAt ns elements.at e × HasKind F x (byte_list (lengths_of (form_of definition.now)) e) × (elements.is_refused ≡ false))
-        element.now out.old.items out.new.items result }
+    ensures { (F : List ℕ → Option Form) (ns : List NamedPlace) (orders : List KnownAt) (x : List ℕ) (j : Json) (e : List ℕ) →
+        IsAt ns elements.at e → HasKind F x (byte_list (lengths_of (form_of definition.now)) e) →
+        elements.size ≡ 1 → HasKeyOrder F ns orders x elements.order → BeginsWith element.now j →
+        IsOpenedOrFalls F ns x j out.old.items out.new.items result }
 {
     let Some(text) = element.as_str() else {
         return open_items(alloc, definition, elements, element, out);
@@ -308,7 +310,7 @@ fn put_ascending(
     bytes: &[u8],
     out: &mut Vec<u8>,
 ) -> Result<(), ReadError>
-    ensures { AddsList (lengths_of (form_of definition.now)) bytes.now out.old.items out.new.items result }
+    ensures { AddsOrFalls elements (lengths_of (form_of definition.now)) bytes.now out.old.items out.new.items result }
 {
     match descent_in(elements, bytes) {
         Some(index) => Err(ReadError::Descends(index)),
@@ -317,7 +319,9 @@ fn put_ascending(
 }
 
 /// The first primitive of a list that isn't above the one before it, where these have to ascend.
-fn descent_in(elements: Elements, bytes: &[u8]) -> Option<usize> {
+fn descent_in(elements: Elements, bytes: &[u8]) -> Option<usize>
+    ensures { IfSome result (λ index. ElementsFall elements bytes.now) }
+{
     first_descent(elements.order?, usize::from(elements.size), bytes)
 }
 
@@ -420,7 +424,8 @@ fn open_list<'a, 't, 's>(
     element: &Element<'t, 's>,
     out: &mut Vec<u8>,
 ) -> Opened<'a, 't, 's>
-    ensures { Opens (λ F ns x. IsListOf F ns x (form_of definition.now) elements.at elements.is_refused)
+    ensures { Opens (λ F ns x. (orders : List KnownAt) × HasKeyOrder F ns orders x elements.order ×
+        IsListOf F ns x (form_of definition.now) elements.at elements.is_refused)
         element.now out.old.items out.new.items result }
 {
     if elements.is_refused {
@@ -436,8 +441,9 @@ fn open_items<'a, 't, 's>(
     element: &Element<'t, 's>,
     out: &mut Vec<u8>,
 ) -> Opened<'a, 't, 's>
-    ensures { (F : List ℕ → Option Form) (ns : List NamedPlace) (x : List ℕ) (j : Json) (kind : TableKind) (e : List ℕ) →
-        IsAt ns elements.at e → HasKind F x kind →
+    ensures { (F : List ℕ → Option Form) (ns : List NamedPlace) (orders : List KnownAt) (x : List ℕ) (j : Json)
+        (kind : TableKind) (e : List ℕ) →
+        IsAt ns elements.at e → HasKind F x kind → HasKeyOrder F ns orders x elements.order →
         SaysArray F j kind (lengths_of (form_of definition.now)) e → BeginsWith element.now j →
         IsOpened F ns x j out.old.items out.new.items result }
 {
@@ -445,8 +451,12 @@ fn open_items<'a, 't, 's>(
         Array::Of(items, count) => match put_length(alloc, definition, count, out) {
             Ok(()) => {
                 let parts: Parts<'a> = Parts::List(elements.at, count as u64);
-                let place: Place<'a, 'static> = Place::in_order(parts, elements.order);
+                let place: Place<'a, 'static> = Place::new(parts);
                 let source = Source::Items(items);
+                if count < 2 {
+                    return Ok(Some(Frame { place, source }));
+                }
+                let place = place.in_order(elements.order);
                 Ok(Some(Frame { place, source }))
             }
             Err(error) => Err(error),

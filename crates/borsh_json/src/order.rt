@@ -1,9 +1,12 @@
 // The order of the keys of maps and sets, where names and definitions tell it.
+ghost use Rattle.borsh_json.specs.Words.{AreNumbers, AreOrderedNumbers, Comparison, ComparesFronts, ComparesNumbers, ComparesTexts, DecidesAscent, FindsBytesAt, FindsNext, HasFound, HasOrders, InRange, IsAt, IsCut, IsKnown, IsNeeded, IsOrderOf, IsSequenceName, IsTreeMapName, NumberOrder, NumbersDescend, Order, OrderedBy, TakesCount, ValuesCompare, decimal, form_of, forms_of, int_cmp, is_below_zero, listed, low_bytes, names_of, nat_cmp, needs, primitive_kind, sequence, tag, tuple, tuple_name};
+ghost use Rattle.std.specs.Prelude.{◌≡◌, ◌⊎◌, ◌+◌, ◌++◌, ◌∷◌, [], ◌<◌, ◌^◌, ℕ, ℤ, Bool, List, Decides, IfOk, IfSome, None, Some, codes, drop, length, map, option_map, pos, string_bytes, true};
+
 use crate::definitions::Definitions;
 use crate::formats::{behind, is_composed, is_list, option_part};
-use crate::kinds::is_byte;
-use crate::numbers::Number;
+use crate::kinds::{Kind, is_text, kind_of_primitive};
 use borsh_walks::{Declaration, Definition};
+use itoa::Buffer;
 use std::alloc::AllocError;
 use std::cmp::Ordering;
 use std::mem;
@@ -13,25 +16,27 @@ use std::mem;
 pub enum Ordered {
     /// There is one value, without bytes.
     Single,
-    /// As numbers of so many bytes, without a sign; `bool` too.
-    Unsigned(u8),
-    /// As numbers of so many bytes, with a sign.
-    Signed(u8),
+    /// As numbers of so many bytes, `bool` too, and whether with a sign.
+    Number(u8, bool),
     /// As texts: by their bytes, a beginning first.
     Text,
     /// As arrays of so many elements of the name at this place: by the first that differs.
     Array(u64, usize),
-    /// As lists of elements of the name at this place: by the first that differs, a beginning first.
-    List(usize),
+    /// As lists, behind a count of so many bytes, of elements of the name at this place: by the first that differs, a beginning
+    /// first. An option is one of at most one element, behind one byte.
+    List(usize, usize),
     /// As tuples, whose definition is at this place and has so many parts: by the first part that differs.
     Tuple(usize, usize),
-    /// As options of the name at this place: none first.
-    Optional(usize),
 }
 
 impl Ordered {
     /// The place of a name whose order has to be known too; none if there is no such index.
-    pub fn part(&self, definitions: &Definitions<'_, '_>, index: usize) -> Option<usize> {
+    pub fn part(&self, definitions: &Definitions<'_, '_>, index: usize) -> Option<usize>
+        ensures part { IsKnown definitions.now → (x : List ℕ) (o : Order) →
+            IsOrderOf (forms_of definitions.now) (names_of definitions.now) x self.now o →
+            IsNeeded (names_of definitions.now) (needs o) index result }
+        ensures more { IfSome result (λ _. index + 1 < 2 ^ 64) }
+    {
         match self {
             Ordered::Tuple(at, count) => {
                 if index < *count {
@@ -40,7 +45,7 @@ impl Ordered {
                     None
                 }
             }
-            Ordered::Array(_, part) | Ordered::List(part) | Ordered::Optional(part) => {
+            Ordered::Array(_, part) | Ordered::List(_, part) => {
                 if index == 0 { Some(*part) } else { None }
             }
             _ => None,
@@ -54,36 +59,16 @@ pub fn ordered_as(
     definitions: &Definitions<'_, '_>,
     at: usize,
     definition: &Definition,
-) -> Option<Ordered> {
+) -> Option<Ordered>
+    ensures { FindsBytesAt definitions.now at (form_of definition.now) result }
+{
     let name = definitions.name(at);
     match definition {
-        Definition::Primitive(1) if name == "bool" => Some(Ordered::Unsigned(1)),
-        Definition::Primitive(size) => {
-            if Number::named(name, *size)?.is_signed {
-                Some(Ordered::Signed(*size))
-            } else {
-                Some(Ordered::Unsigned(*size))
-            }
+        Definition::Primitive(size) => number_as(name, *size),
+        Definition::Sequence { elements, .. } if is_list(definition) => {
+            list_as(definitions, at, definition, elements.as_str())
         }
-        Definition::Sequence {
-            length_width: 0,
-            length_range,
-            elements,
-        } => {
-            let (start, end) = (length_range.start, length_range.end);
-            if start == end && is_array_name(name, elements.as_str(), start) {
-                Some(Ordered::Array(start, definitions.part(at, 0)))
-            } else {
-                None
-            }
-        }
-        Definition::Sequence { elements, .. } => {
-            if is_list(definition) {
-                list_as(definitions, at, elements.as_str())
-            } else {
-                None
-            }
-        }
+        Definition::Sequence { .. } => array_as(definitions, at, definition),
         Definition::Tuple { elements } => {
             if is_tuple_name(name, elements.as_slice()) {
                 Some(Ordered::Tuple(at, elements.len()))
@@ -93,84 +78,150 @@ pub fn ordered_as(
         }
         Definition::Enum { .. } => {
             let part = option_part(definitions, at, definition)?;
-            Some(Ordered::Optional(part))
+            Some(Ordered::List(1, part))
         }
         Definition::Struct { .. } => None,
     }
 }
 
-fn list_as(definitions: &Definitions<'_, '_>, at: usize, element: &str) -> Option<Ordered> {
-    let name = definitions.name(at);
-    let part = definitions.part(at, 0);
-    if name == "String" {
-        return if is_byte(definitions, part) {
-            Some(Ordered::Text)
-        } else {
-            None
-        };
-    }
-    for list in ["Vec<", "VecDeque<", "LinkedList<", "BTreeSet<"] {
-        if is_composed(name, &[list, element, ">"]) {
-            return Some(Ordered::List(part));
-        }
-    }
-    let Some(Definition::Tuple { elements: parts }) = definitions.get(part) else {
-        return None;
-    };
-    match parts.as_slice() {
-        [key, value] if is_composed(name, &["BTreeMap<", key, ", ", value, ">"]) => {
-            Some(Ordered::List(part))
-        }
+fn number_as(name: &str, size: u8) -> Option<Ordered>
+    ensures { IfSome result (λ found. (signed : Bool) × (found ≡ NumberOrder size signed) ×
+        AreNumbers (primitive_kind name.now size) size signed) }
+{
+    match kind_of_primitive(name, size) {
+        Kind::Bool => Some(Ordered::Number(size, false)),
+        Kind::Number(number) => Some(Ordered::Number(size, number.is_signed)),
         _ => None,
     }
 }
 
+fn list_as(
+    definitions: &Definitions<'_, '_>,
+    at: usize,
+    definition: &Definition,
+    element: &str,
+) -> Option<Ordered>
+    ensures { (e : List ℕ) → form_of definition.now ≡ sequence 4 0 4294967295 e → element.now ≡ e →
+        FindsBytesAt definitions.now at (form_of definition.now) result }
+{
+    if is_text(definitions, at, definition) {
+        return Some(Ordered::Text);
+    }
+    let name = definitions.name(at);
+    let part = definitions.part(at, 0);
+    if is_list_name(name, element) {
+        return Some(Ordered::List(4, part));
+    }
+    if is_tree_map(name, definitions.get(part)) {
+        return Some(Ordered::List(4, part));
+    }
+    None
+}
+
+/// How the values of a sequence without a length prefix are ordered.
+fn array_as(
+    definitions: &Definitions<'_, '_>,
+    at: usize,
+    definition: &Definition,
+) -> Option<Ordered>
+    ensures { FindsBytesAt definitions.now at (form_of definition.now) result }
+{
+    let Definition::Sequence {
+        length_width: 0,
+        length_range: range,
+        elements,
+    } = definition
+    else {
+        return None;
+    };
+    if range.start != range.end {
+        return None;
+    }
+    if is_array_name(definitions.name(at), elements.as_str(), range.start) {
+        Some(Ordered::Array(range.start, definitions.part(at, 0)))
+    } else {
+        None
+    }
+}
+
+/// Whether a name is that of a list or an ordered set of these elements.
+fn is_list_name(name: &str, element: &str) -> bool
+    ensures { Decides result (IsSequenceName name.now element.now) }
+{
+    is_composed(name, &["Vec<", element, ">"])
+        || is_composed(name, &["VecDeque<", element, ">"])
+        || is_composed(name, &["LinkedList<", element, ">"])
+        || is_composed(name, &["BTreeSet<", element, ">"])
+}
+
+/// Whether a name is that of an ordered map, of whose entries this is the definition.
+fn is_tree_map(name: &str, definition: Option<&Definition>) -> bool
+    ensures { result ≡ true → (k v : List ℕ) ×
+        (option_map (λ d. form_of d.now) definition.entry ≡ Some (tuple (k ∷ v ∷ []))) × IsTreeMapName name.now k v }
+{
+    match definition {
+        Some(Definition::Tuple { elements }) => is_tree_map_name(name, elements.as_slice()),
+        _ => false,
+    }
+}
+
+fn is_tree_map_name(name: &str, parts: &[Declaration]) -> bool
+    ensures { result ≡ true → (k v : List ℕ) × (map (λ p. string_bytes p) parts.now ≡ k ∷ v ∷ []) ×
+        IsTreeMapName name.now k v }
+{
+    if parts.len() != 2 {
+        return false;
+    }
+    let (key, value) = (parts[0].as_str(), parts[1].as_str());
+    is_composed(name, &["BTreeMap<", key, ", ", value, ">"])
+}
+
 /// Whether a name is `[element; count]`.
-fn is_array_name(name: &str, element: &str, count: u64) -> bool {
-    let Some(rest) = behind(name, &["[", element, "; "]) else {
+fn is_array_name(name: &str, element: &str, count: u64) -> bool
+    ensures { Decides result (name.now ≡ codes "[" ++ element.now ++ codes "; " ++ decimal count ++ codes "]") }
+{
+    let mut digits = Buffer::new();
+    is_composed(name, &["[", element, "; ", digits.format(count), "]"])
+}
+
+/// Whether a name is that of the tuple of these parts: `(A, B)`, and `(A,)` of one.
+fn is_tuple_name(name: &str, parts: &[Declaration]) -> bool
+    ensures { result ≡ true → name.now ≡ tuple_name (map (λ p. string_bytes p) parts.now) }
+{
+    let Some((first, others)) = parts.split_first() else {
+        return name == "()";
+    };
+    let first = first.as_str();
+    if others.is_empty() {
+        return is_composed(name, &["(", first, ",)"]);
+    }
+    let Some(rest) = behind(name, &["(", first]) else {
         return false;
     };
-    match rest.strip_suffix("]") {
-        Some(digits) => {
-            !digits.starts_with("+")
-                && (digits == "0" || !digits.starts_with("0"))
-                && digits.parse::<u64>() == Ok(count)
-        }
+    match behind_parts(rest, others) {
+        Some(rest) => rest == ")",
         None => false,
     }
 }
 
-/// Whether a name is that of the tuple of these parts: `(A, B)`, and `(A,)` of one.
-fn is_tuple_name(name: &str, parts: &[Declaration]) -> bool {
-    let Some(mut rest) = name.strip_prefix("(") else {
-        return false;
-    };
-    let mut is_first = true;
+/// What of a text comes behind these parts, each behind a comma.
+fn behind_parts<'n>(text: &'n str, parts: &[Declaration]) -> Option<&'n str>
+    ensures { IfSome result (λ rest. text.now ≡ listed (map (λ p. string_bytes p) parts.now) ++ rest.now) }
+{
+    let mut rest = text;
     for part in parts {
-        if !is_first {
-            match rest.strip_prefix(", ") {
-                Some(after) => rest = after,
-                None => return false,
-            }
-        }
-        is_first = false;
-        match rest.strip_prefix(part.as_str()) {
-            Some(after) => rest = after,
-            None => return false,
-        }
+        rest = behind(rest, &[", ", part.as_str()])?;
     }
-    rest == if parts.len() == 1 { ",)" } else { ")" }
+    Some(rest)
 }
 
 /// What is still to be compared.
 #[derive(Clone, Copy)]
 enum Pending {
-    /// So many values of the name at a place.
-    Copies(usize, u64),
+    /// The elements of two lists of the name at a place, so many of the one and so many of the other.
+    Elements(usize, u64, u64),
     /// The parts of the tuple at a place, which has so many, from this one on.
     Parts(usize, usize, usize),
-    /// Where all before is the same, this decides.
-    Decided(Ordering),
 }
 
 /// Two encodings of values of one name that are being compared: what is left of each.
@@ -182,34 +233,59 @@ struct Pair<'b> {
 
 impl<'b> Pair<'b> {
     /// The next bytes of both. Where fewer are left these are all: then they are no encodings of the name.
-    fn take(&mut self, count: usize) -> (&'b [u8], &'b [u8]) {
-        (take(&mut self.left, count), take(&mut self.right, count))
+    fn take(&mut self, left: usize, right: usize) -> (&'b [u8], &'b [u8])
+        ensures left { IsCut left self.old.left.now result.0.now self.new.left.now }
+        ensures right { IsCut right self.old.right.now result.1.now self.new.right.now }
+    {
+        let (left, left_after) = split(self.left, left);
+        let (right, right_after) = split(self.right, right);
+        self.left = left_after;
+        self.right = right_after;
+        (left, right)
     }
 
-    /// The next four bytes of both, as the numbers that they are.
-    fn take_counts(&mut self) -> (u64, u64) {
-        let (left, right) = self.take(4);
-        (number_of(left), number_of(right))
+    /// The counts, of so many bytes, that come next in both.
+    fn take_counts(&mut self, width: usize) -> (u64, u64)
+        ensures left { TakesCount width self.old.left.now result.0 self.new.left.now }
+        ensures right { TakesCount width self.old.right.now result.1 self.new.right.now }
+    {
+        let (left, right) = self.take(width, width);
+        (count_in(left), count_in(right))
+    }
+
+    fn compare_numbers(&mut self, size: u8, is_signed: bool) -> Ordering
+        ensures { ComparesNumbers size is_signed self.old self.new result }
+    {
+        let size = usize::from(size);
+        let (left, right) = self.take(size, size);
+        compare_numbers(left, right, is_signed)
+    }
+
+    fn compare_texts(&mut self) -> Ordering
+        ensures { ComparesTexts self.old self.new result }
+    {
+        let (left, right) = self.take_counts(4);
+        let (left, right) = self.take(left as usize, right as usize);
+        left.cmp(right)
     }
 }
 
-fn take<'b>(bytes: &mut &'b [u8], count: usize) -> &'b [u8] {
-    let all = *bytes;
-    let count = count.min(all.len());
-    *bytes = &all[count..];
-    &all[..count]
+fn split<'b>(bytes: &'b [u8], count: usize) -> (&'b [u8], &'b [u8])
+    ensures { IsCut count bytes.now result.0.now result.1.now }
+{
+    bytes.split_at(count.min(bytes.len()))
 }
 
-fn number_of(bytes: &[u8]) -> u64 {
-    let mut all = [0u8; 8];
-    let mut index = 0;
-    for byte in bytes {
-        if index < 8 {
-            all[index] = *byte;
-            index += 1;
-        }
+/// The number that one byte or four are.
+fn count_in(bytes: &[u8]) -> u64
+    ensures one { (n : ℕ) → n < 256 ^ 1 → bytes.now ≡ low_bytes 1 n → result ≡ n }
+    ensures four { (n : ℕ) → n < 256 ^ 4 → bytes.now ≡ low_bytes 4 n → result ≡ n }
+{
+    match bytes {
+        [count] => u64::from(*count),
+        [a, b, c, d] => u64::from(u32::from_le_bytes([*a, *b, *c, *d])),
+        _ => 0,
     }
-    u64::from_le_bytes(all)
 }
 
 /// How two encodings compare, as the values of a name with this order, which begin the bytes.
@@ -218,106 +294,138 @@ pub fn compare(
     order: Ordered,
     left: &[u8],
     right: &[u8],
-) -> Result<Ordering, AllocError> {
+) -> Result<Ordering, AllocError>
+    ensures { HasOrders definitions.now → (x : List ℕ) → OrderedBy definitions.now x order → (r : Comparison) →
+        ValuesCompare definitions.now x left.now right.now r → IfOk result (λ o. o ≡ r) }
+{
     let mut pair = Pair { left, right };
     let mut pending: Vec<Pending> = Vec::new(definitions.alloc);
-    let first = compare_front(order, &mut pair, &mut pending)?;
-    if first != Ordering::Equal {
-        return Ok(first);
-    }
+    let mut order = order;
     for _ in 0..u64::MAX {
-        let Some(next) = pending.pop() else {
-            break;
-        };
-        let at = match next {
-            Pending::Decided(ordering) => {
-                if ordering != Ordering::Equal {
-                    return Ok(ordering);
-                }
-                continue;
-            }
-            Pending::Copies(at, count) => {
-                if count > 1 && !definitions.is_zero_size(at) {
-                    pending.push(Pending::Copies(at, count - 1))?;
-                }
-                if count == 0 {
-                    continue;
-                }
-                at
-            }
-            Pending::Parts(at, count, index) => {
-                if index >= count {
-                    continue;
-                }
-                pending.push(Pending::Parts(at, count, index.saturating_add(1)))?;
-                definitions.part(at, index)
-            }
-        };
-        let order = definitions.known_order(at).unwrap_or(Ordered::Single);
-        let ordering = compare_front(order, &mut pair, &mut pending)?;
-        if ordering != Ordering::Equal {
-            return Ok(ordering);
+        let front = compare_front(definitions, order, &mut pair, &mut pending)?;
+        match front {
+            Ordering::Equal => match next_value(definitions, &mut pending)? {
+                Next::Value(next) => order = next,
+                Next::Decided(ordering) => return Ok(ordering),
+            },
+            decided => return Ok(decided),
         }
     }
-    Ok(Ordering::Equal)
+    Err(AllocError)
+}
+
+/// What comes next of what is to be compared.
+#[derive(Clone, Copy)]
+enum Next {
+    /// Two values of a name with this order.
+    Value(Ordered),
+    /// Nothing: this is how the values compare.
+    Decided(Ordering),
+}
+
+fn next_value(
+    definitions: &Definitions<'_, '_>,
+    pending: &mut Vec<Pending>,
+) -> Result<Next, AllocError>
+    ensures { HasOrders definitions.now → FindsNext definitions.now pending.old.items pending.new.items result }
+{
+    while let Some(next) = pending.pop() {
+        match next {
+            Pending::Elements(at, left, right) => {
+                if left > 0 && right > 0 {
+                    pending.push(Pending::Elements(at, left - 1, right - 1))?;
+                    return Ok(Next::Value(known_order(definitions, at)));
+                }
+                if left != right {
+                    return Ok(Next::Decided(left.cmp(&right)));
+                }
+            }
+            Pending::Parts(at, count, index) => {
+                if index < count {
+                    pending.push(Pending::Parts(at, count, index + 1))?;
+                    let part = definitions.part(at, index);
+                    return Ok(Next::Value(known_order(definitions, part)));
+                }
+            }
+        }
+    }
+    Ok(Next::Decided(Ordering::Equal))
+}
+
+fn known_order(definitions: &Definitions<'_, '_>, at: usize) -> Ordered
+    ensures { HasOrders definitions.now → HasFound definitions.now.orders.items at → (x : List ℕ) →
+        IsAt definitions.now.layout.now.names.items at x → OrderedBy definitions.now x result }
+{
+    definitions.known_order(at).unwrap_or(Ordered::Single)
 }
 
 /// How two values compare by the bytes that come before their parts; the parts become pending.
 fn compare_front(
+    definitions: &Definitions<'_, '_>,
     order: Ordered,
     pair: &mut Pair<'_>,
     pending: &mut Vec<Pending>,
-) -> Result<Ordering, AllocError> {
+) -> Result<Ordering, AllocError>
+    ensures { HasOrders definitions.now →
+        ComparesFronts definitions.now order pending.old.items pair.old pending.new.items pair.new result }
+{
     match order {
         Ordered::Single => Ok(Ordering::Equal),
-        Ordered::Unsigned(size) => {
-            let (left, right) = pair.take(usize::from(size));
-            Ok(compare_numbers(left, right, 0))
-        }
-        Ordered::Signed(size) => {
-            let (left, right) = pair.take(usize::from(size));
-            Ok(compare_numbers(left, right, 128))
-        }
-        Ordered::Text => {
-            let (left_count, right_count) = pair.take_counts();
-            let left = take(&mut pair.left, left_count as usize);
-            let right = take(&mut pair.right, right_count as usize);
-            Ok(left.cmp(right))
-        }
+        Ordered::Number(size, is_signed) => Ok(pair.compare_numbers(size, is_signed)),
+        Ordered::Text => Ok(pair.compare_texts()),
         Ordered::Array(count, element) => {
-            pending.push(Pending::Copies(element, count))?;
+            pending.push(Pending::Elements(element, count, count))?;
             Ok(Ordering::Equal)
         }
-        Ordered::List(element) => {
-            let (left, right) = pair.take_counts();
-            pending.push(Pending::Decided(left.cmp(&right)))?;
-            pending.push(Pending::Copies(element, left.min(right)))?;
+        Ordered::List(width, element) => {
+            let (left, right) = pair.take_counts(width);
+            if definitions.is_zero_size(element) {
+                return Ok(left.cmp(&right));
+            }
+            pending.push(Pending::Elements(element, left, right))?;
             Ok(Ordering::Equal)
         }
         Ordered::Tuple(at, count) => {
             pending.push(Pending::Parts(at, count, 0))?;
             Ok(Ordering::Equal)
         }
-        Ordered::Optional(part) => {
-            let (left, right) = pair.take(1);
-            if left == [1u8].as_slice() && right == left {
-                pending.push(Pending::Copies(part, 1))?;
-            }
-            Ok(left.cmp(right))
-        }
     }
 }
 
-/// How two numbers of the same size compare; `turned` is the sign bit of the highest byte where they have a sign.
-pub fn compare_numbers(left: &[u8], right: &[u8], turned: u8) -> Ordering {
-    let mut turned = turned;
-    for index in 0..left.len().min(right.len()) {
-        let left_byte = left[left.len() - 1 - index] ^ turned;
-        let right_byte = right[right.len() - 1 - index] ^ turned;
-        if left_byte != right_byte {
-            return left_byte.cmp(&right_byte);
+/// How two numbers of the same size compare.
+pub fn compare_numbers(left: &[u8], right: &[u8], is_signed: bool) -> Ordering
+    ensures { (n : ℕ) (y z : ℤ) → 0 < n → InRange n is_signed y → InRange n is_signed z → left.now ≡ tag n y →
+        right.now ≡ tag n z → result ≡ int_cmp y z }
+{
+    if is_signed {
+        let (left_sign, right_sign) = (is_negative(left), is_negative(right));
+        if left_sign != right_sign {
+            return right_sign.cmp(&left_sign);
         }
-        turned = 0;
+    }
+    compare_bytes(left, right)
+}
+
+fn is_negative(bytes: &[u8]) -> bool
+    ensures { (n : ℕ) (z : ℤ) → 0 < n → InRange n true z → bytes.now ≡ tag n z → result ≡ is_below_zero z }
+{
+    match bytes {
+        [.., last] => *last >= 128,
+        [] => false,
+    }
+}
+
+/// How two numbers of the same size without signs compare.
+fn compare_bytes(left: &[u8], right: &[u8]) -> Ordering
+    ensures { (n y z : ℕ) → y < 256 ^ n → z < 256 ^ n → left.now ≡ low_bytes n y → right.now ≡ low_bytes n z →
+        result ≡ nat_cmp y z }
+{
+    let mut end = left.len().min(right.len());
+    while end > 0 {
+        end -= 1;
+        if left[end] != right[end] {
+            return left[end].cmp(&right[end]);
+        }
     }
     Ordering::Equal
 }
@@ -331,7 +439,10 @@ pub struct Ascent {
 }
 
 impl Ascent {
-    pub fn new(order: Ordered) -> Ascent {
+    pub fn new(order: Ordered) -> Ascent
+        ensures order { result.order ≡ order }
+        ensures none { (result.earlier ≡ None) × (result.last ≡ None) }
+    {
         Ascent {
             order,
             earlier: None,
@@ -340,7 +451,11 @@ impl Ascent {
     }
 
     /// That the next element begins at `start`; or, at the end of the collection, that it would.
-    pub fn begin(&mut self, start: usize) {
+    pub fn begin(&mut self, start: usize)
+        ensures order { self.new.order ≡ self.old.order }
+        ensures earlier { self.new.earlier ≡ self.old.last }
+        ensures last { self.new.last ≡ Some start }
+    {
         self.earlier = mem::replace(&mut self.last, Some(start));
     }
 
@@ -349,39 +464,48 @@ impl Ascent {
         &self,
         definitions: &Definitions<'_, '_>,
         bytes: &[u8],
-    ) -> Result<bool, AllocError> {
-        let (Some(earlier), Some(last)) = (self.earlier, self.last) else {
+    ) -> Result<bool, AllocError>
+        ensures first { self.now.earlier ≡ None → IfOk result (λ ascends. ascends ≡ true) }
+        ensures order { HasOrders definitions.now → DecidesAscent definitions.now self.now bytes.now result }
+    {
+        let Some(earlier) = self.earlier else {
+            return Ok(true);
+        };
+        let Some(last) = self.last else {
             return Ok(true);
         };
         let left = from(bytes, earlier);
         let right = from(bytes, last);
-        Ok(compare(definitions, self.order, left, right)? == Ordering::Less)
+        let ordering = compare(definitions, self.order, left, right)?;
+        Ok(ordering.is_lt())
     }
 }
 
-fn from(bytes: &[u8], start: usize) -> &[u8] {
+fn from(bytes: &[u8], start: usize) -> &[u8]
+    ensures { result.now ≡ drop start bytes.now }
+{
     &bytes[start.min(bytes.len())..]
 }
 
 /// The first element of a list of primitives of so many bytes that isn't above the one before it.
-pub fn first_descent(order: Ordered, size: usize, bytes: &[u8]) -> Option<usize> {
-    let turned = match order {
-        Ordered::Signed(_) => 128,
-        _ => 0,
-    };
-    let mut earlier: Option<&[u8]> = None;
-    let mut index: usize = 0;
-    if size == 0 {
+pub fn first_descent(order: Ordered, size: usize, bytes: &[u8]) -> Option<usize>
+    ensures { (signed : Bool) → AreOrderedNumbers order size signed bytes.now →
+        IfSome result (NumbersDescend size signed bytes.now) }
+{
+    let Ordered::Number(_, is_signed) = order else {
         return None;
-    }
-    for element in bytes.chunks_exact(size) {
-        if let Some(before) = earlier
-            && compare_numbers(before, element, turned) != Ordering::Less
-        {
+    };
+    let mut rest = bytes;
+    for index in 1..bytes.len() {
+        if rest.len() <= size {
+            break;
+        }
+        let (element, after) = split(rest, size);
+        let (next, _) = split(after, size);
+        if !compare_numbers(element, next, is_signed).is_lt() {
             return Some(index);
         }
-        earlier = Some(element);
-        index = index.saturating_add(1);
+        rest = after;
     }
     None
 }

@@ -1,6 +1,6 @@
 // The reader's loop over the parts of a value.
-ghost use Rattle.borsh_json.specs.Words.{AreKeysOf, AreRead, Before, BeginsWith, DeniesRead, Entry, Form, HasEntries, HasKinds, HasLeft, HasRead, HaveBytes, HaveLeft, IsAt, IsEntryKey, IsFull, IsKnown, IsNext, IsNextEntry, IsUnread, Json, Keys, Left, NamedPlace, NextMissing, NextPart, NoneLeft, PartsOfAll, ReadsOn, SaysFirst, SaysSome, entries_left, form_of, forms_in, forms_of, key_json, names_of};
-ghost use Rattle.std.specs.Prelude.{◌≡◌, ◌∷◌, ◌++◌, [], true, IfErr, IfOk, ℕ, List, MatchOption, MatchResult, OnOk, Option, length};
+ghost use Rattle.borsh_json.specs.Words.{AreKeysOf, AreRead, Before, BeginsWith, DeniesRead, Entry, Form, HasEntries, HasKinds, HasLeft, HasRead, HaveBytes, HaveLeft, IsAt, IsEntryKey, IsFull, IsKnown, IsNext, IsNextEntry, IsUnread, Json, Keys, Left, MayFall, NamedPlace, NextMissing, NextPart, NoneLeft, PartsOfAll, ReadsOn, SaysFirst, SaysSome, entries_left, form_of, forms_in, forms_of, key_json, names_of};
+ghost use Rattle.std.specs.Prelude.{◌≡◌, ◌∷◌, ◌++◌, [], false, is_some, true, IfErr, IfOk, ℕ, List, MatchOption, MatchResult, OnOk, Option, length};
 
 use crate::definitions::Definitions;
 use crate::error::{PartError, PartResult, ReadError, Refusal};
@@ -104,6 +104,7 @@ impl<'a, 't, 's> Reading<'a, 't, 's> {
             HasLeft F ns self.old.position.place.parts self.old.position.place.begun self.old.source l →
             HaveLeft F ns self.old.position.outer.items self.old.outer.items ls →
             AreRead F root j self.old.out.items (Before (x, i) (PartsOfAll (l ∷ ls))) →
+            MayFall F root j (self.old.position.place ∷ self.old.position.outer.items) →
             ReadsOn definitions.now root j self.new result }
     {
         match open_part(definitions, at, part, &mut self.out) {
@@ -136,7 +137,7 @@ impl<'a, 't, 's> Reading<'a, 't, 's> {
             (root : List ℕ) (j : Json) (ls : List Left) →
             HaveLeft F ns self.old.position.outer.items self.old.outer.items ls →
             (NoneLeft self.old.source → AreRead F root j self.old.out.items (PartsOfAll ls)) →
-            ((NoneLeft self.old.source → ⊥) → SaysSome F root j → ⊥) →
+            ((NoneLeft self.old.source → ⊥) → SaysSome F root j → ⊥) → MayFall F root j self.old.position.outer.items →
             ReadsOn definitions.now root j self.new result }
     {
         let unknown = self.source.unknown_key();
@@ -164,7 +165,9 @@ fn ascends(
     place: &mut Place<'_, '_>,
     bytes: &[u8],
 ) -> Result<bool, AllocError>
-    ensures { (place.new.parts ≡ place.old.parts) × (place.new.begun ≡ place.old.begun) }
+    ensures same { (place.new.parts ≡ place.old.parts) × (place.new.begun ≡ place.old.begun) ×
+        (is_some place.new.ascent ≡ is_some place.old.ascent) }
+    ensures falls { IfOk result (λ ascends. ascends ≡ false → is_some place.old.ascent ≡ true) }
 {
     let Some(ascent) = &mut place.ascent else {
         return Ok(true);
@@ -181,7 +184,8 @@ fn take_next<'a, 't, 's>(
     source: &mut Source<'t, 's>,
     out: &mut Vec<u8>,
 ) -> Result<Next<'t, 's>, ReadError>
-    ensures { let F = forms_of definitions.now in let ns = names_of definitions.now in
+    ensures ascent { place.new.ascent ≡ place.old.ascent }
+    ensures next { let F = forms_of definitions.now in let ns = names_of definitions.now in
         IsKnown definitions.now → (root : List ℕ) (j : Json) (l : Left) (ls : List Left) →
         HasLeft F ns place.old.parts place.old.begun source.old l →
         AreRead F root j out.old.items (PartsOfAll (l ∷ ls)) → MatchResult result

@@ -1,5 +1,5 @@
 // Where in a value the reader or writer is.
-ghost use Rattle.borsh_json.specs.Words.{GivesPart, IsFull, IsKnown, IsOf, IsOfRead, IsOfWrite, IsPartError, IsReadRefusal, IsUnreadable, IsUnwritable, Root, TooDeep};
+ghost use Rattle.borsh_json.specs.Words.{AscendsFrom, GivesPart, IsElementFall, IsFull, IsKnown, IsOf, IsOfRead, IsOfWrite, IsPartError, IsReadRefusal, IsUnreadable, IsUnwritable, Root, TooDeep};
 ghost use Rattle.borsh_json.specs.declared.error.Refusal.TheVariants.{Descends};
 ghost use Rattle.std.specs.Prelude.{◌≡◌, ◌+◌, ◌^◌, ◌<◌, ◌≤◌, ◌∷◌, ◌++◌, [], true, false, ℕ, List, None, length, IfErr, IfSome, MatchOption, OnOk};
 
@@ -66,6 +66,7 @@ impl<'a, 'k> Place<'a, 'k> {
         ensures parts { result.parts ≡ parts.entry }
         ensures begun { result.begun ≡ 0 }
         ensures last { result.last ≡ None }
+        ensures ascent { result.ascent ≡ None }
     {
         Place {
             parts,
@@ -75,23 +76,23 @@ impl<'a, 'k> Place<'a, 'k> {
         }
     }
 
-    /// Parts that have to ascend where their order is known.
-    pub fn in_order(parts: Parts<'a>, order: Option<Ordered>) -> Place<'a, 'k>
-        ensures parts { result.parts ≡ parts.entry }
-        ensures begun { result.begun ≡ 0 }
-        ensures last { result.last ≡ None }
+    /// The same place, whose parts have to ascend where their order is known.
+    pub fn in_order(self, order: Option<Ordered>) -> Place<'a, 'k>
+        ensures same { (result.parts ≡ self.entry.parts) × (result.begun ≡ self.entry.begun) × (result.last ≡ self.entry.last) }
+        ensures ascent { AscendsFrom order result.ascent }
     {
-        Place {
-            ascent: order.map(Ascent::new),
-            ..Place::new(parts)
-        }
+        let ascent = match order {
+            Some(order) => Some(Ascent::new(order)),
+            None => None,
+        };
+        Place { ascent, ..self }
     }
 
     /// The next part, which is begun; none if there are no more.
     pub fn next_part(&mut self, definitions: &Definitions<'a, '_>) -> Option<Part<'a>>
         ensures part { IsKnown definitions.now →
             GivesPart definitions.now self.old.parts self.old.begun self.new.parts self.new.begun result }
-        ensures same { (self.new.parts ≡ self.old.parts) × (self.new.last ≡ self.old.last) }
+        ensures same { (self.new.parts ≡ self.old.parts) × (self.new.last ≡ self.old.last) × (self.new.ascent ≡ self.old.ascent) }
     {
         let part = self.part_at(definitions, self.begun)?;
         self.begun = self.begun.saturating_add(1);
@@ -162,7 +163,7 @@ impl<'a, 'k> Position<'a, 'k> {
     /// In front of a value of this name.
     pub fn new(alloc: Global, root: &'a str) -> Position<'a, 'k>
         ensures outer { result.outer.items ≡ [] }
-        ensures place { (result.place.parts ≡ Root) × (result.place.begun ≡ 0) }
+        ensures place { (result.place.parts ≡ Root) × (result.place.begun ≡ 0) × (result.place.ascent ≡ None) }
     {
         let parts: Parts<'a> = Parts::Root;
         let place: Place<'a, 'k> = Place::new(parts);
@@ -221,6 +222,7 @@ impl<'a, 'k> Position<'a, 'k> {
     pub fn check_ascent(&self, elements: Elements, bytes: &[u8]) -> PartResult<'a, ()>
         ensures reading { IfErr result (IsPartError IsUnreadable) }
         ensures descends { IfErr result (IsOf Descends) }
+        ensures falls { IfErr result (IsElementFall elements bytes.now) }
     {
         let Some(order) = elements.order else {
             return Ok(());

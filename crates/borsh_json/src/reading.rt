@@ -19,9 +19,10 @@ use std::collections::BTreeMap;
 /// definitions is refused with its path and what was expected; so are keys that come twice, the bits of a NaN, and arrays whose
 /// elements or keys don't ascend where they have to. The bytes are a member of the root.
 ///
-/// Determined: after `Ok` the text says the bytes, and no others. After any error but `OutOfMemory`, `Ambiguous` and `Descends`
-/// it says none, or, after `TooDeep`, bytes that lead into 128 parts, one inside another. `NotJson` is of a text that isn't JSON,
-/// `Ambiguous` as of [`borsh_values::is_member`], and `NoMember` isn't returned. Left open: memory; whether elements and keys
+/// Determined: after `Ok` the text says the bytes, and no others. After any error but `OutOfMemory` and `Ambiguous` it says none;
+/// or, after `TooDeep`, bytes that lead into 128 parts, one inside another; or, after `Descends`, bytes that lead to a set or map
+/// whose elements or keys don't ascend, or that is an array of two elements or more. `NotJson` is of a text that isn't JSON,
+/// `Ambiguous` as of [`borsh_values::is_member`], and `NoMember` isn't returned. Left open: memory; whether those of an array
 /// ascend; the path and reason of a refusal; the byte of `NotJson`: tested.
 ///
 /// ```

@@ -8,7 +8,6 @@ use crate::kinds::{Elements, Entries, Kind, Variants};
 use crate::leaves::{
     write_byte_list, write_name, write_null, write_numbers, write_primitive, write_text,
 };
-use crate::order::Ordered;
 use crate::output::{LongNumbers, Output};
 use crate::position::{Parts, Place};
 use borsh_values::{Node, count_of, variant_of};
@@ -34,7 +33,7 @@ pub fn begin_struct<'a, 'b>(
     let Some(parts) = parts_of_struct(at, kind) else {
         return Ok(None);
     };
-    begin(parts, None, out)
+    begin(parts, out)
 }
 
 /// The parts of a value of a kind that has no own bytes.
@@ -49,8 +48,8 @@ fn parts_of_struct<'a>(at: usize, kind: Kind<'a>) -> Option<Parts<'a>>
     }
 }
 
-/// Writes the bracket in front of a value's parts, which ascend in this order.
-fn begin<'a, 'b>(parts: Parts<'a>, order: Option<Ordered>, out: &mut Output) -> Begun<'a, 'b>
+/// Writes the bracket in front of a value's parts.
+fn begin<'a, 'b>(parts: Parts<'a>, out: &mut Output) -> Begun<'a, 'b>
     ensures { BeginsAt parts.entry out.old out.new result }
 {
     match parts {
@@ -60,7 +59,7 @@ fn begin<'a, 'b>(parts: Parts<'a>, order: Option<Ordered>, out: &mut Output) -> 
             out.put(Token::BeginObject)?
         }
     }
-    let place: Place<'a, 'b> = Place::in_order(parts, order);
+    let place: Place<'a, 'b> = Place::new(parts);
     Ok(Some(place))
 }
 
@@ -110,7 +109,7 @@ fn begin_list<'a, 'b>(elements: Elements, node: &Node<'a, 'b>, out: &mut Output)
     }
     let count = count_of(node).unwrap_or(0);
     let parts: Parts<'a> = Parts::List(elements.at, count);
-    begin(parts, elements.order, out)
+    begin(parts, out)
 }
 
 fn begin_map<'a, 'b>(entries: Entries<'a>, node: &Node<'a, 'b>, out: &mut Output) -> Begun<'a, 'b>
@@ -118,7 +117,7 @@ fn begin_map<'a, 'b>(entries: Entries<'a>, node: &Node<'a, 'b>, out: &mut Output
         WritesValueOf F ns at (FoundMap entries.entry order) node.now out.old out.new result }
 {
     let count = count_of(node).unwrap_or(0);
-    begin(Parts::Entries(entries, count), None, out)
+    begin(Parts::Entries(entries, count), out)
 }
 
 fn begin_option<'a, 'b>(part: usize, node: &Node<'a, 'b>, out: &mut Output) -> Begun<'a, 'b>
@@ -131,7 +130,7 @@ fn begin_option<'a, 'b>(part: usize, node: &Node<'a, 'b>, out: &mut Output) -> B
         return Ok(None);
     }
     let parts: Parts<'a> = Parts::Some(part);
-    begin(parts, None, out)
+    begin(parts, out)
 }
 
 fn begin_variant<'a, 'b>(
@@ -153,5 +152,5 @@ fn begin_variant<'a, 'b>(
         write_name(variant.as_str(), out)?;
         return Ok(None);
     }
-    begin(Parts::Variant(variant.as_str(), part), None, out)
+    begin(Parts::Variant(variant.as_str(), part), out)
 }

@@ -1,16 +1,17 @@
 // A value as JSON.
-ghost use Rattle.borsh_json.specs.Words.{Adds, AreKeysOf, EntryOf, Form, FoundElements, FoundKeyKind, FoundNumbers, FoundPart, HasKinds, HasNode, IsAbove, IsAt, IsAwaitingAt, IsBegunOf, IsEntryKey, IsFullOrDescends, IsKeyPut, IsKindOf, IsLast, IsNoJsonReason, IsPartWritten, IsWalker, IsWritingAt, IsWrittenNext, Keys, Member, NamedPlace, Place, SaysBy, ShowsNoJson, StopsBy, TextSays, definitions_in, ends_of, forms_in, forms_of, names_of, shapes};
+ghost use Rattle.borsh_json.specs.Words.{Adds, AreKeysOf, BeginsNext, EntryOf, Form, FoundElements, FoundKeyKind, FoundList, FoundNumbers, FoundPart, HasKinds, HasNode, IsAbove, IsAt, IsAwaitingAt, IsBegunOf, IsEntryKey, IsKeyPut, IsKindOf, IsLast, IsNoJsonReason, IsPartWritten, IsWalker, IsWritingAt, IsWrittenNext, Keys, KindHasOrder, Member, NamedPlace, Place, RefusesElements, SaysBy, ShowsNoJson, StopsBy, TellsAscent, TextSays, definitions_in, ends_of, forms_in, forms_of, names_of, shapes};
 ghost use Rattle.borsh_json.specs.Ascii.{IsInLine, IsPlain, IsSameJson};
 ghost use Rattle.borsh_json.specs.Printed.{IsPrinted};
 ghost use Rattle.borsh_json.specs.declared.output.Layout.TheVariants.{Compact};
 ghost use Rattle.borsh_json.specs.declared.output.Characters.TheVariants.{Any, Ascii};
-ghost use Rattle.std.specs.Prelude.{◌≡◌, ◌<◌, ℕ, All, IfErr, IfOk, IsUtf8, List, MatchResult, OnOk, Option, Some, length, string_bytes, true};
+ghost use Rattle.std.specs.Prelude.{◌≡◌, ◌<◌, ℕ, All, Decides, IfErr, IfOk, IfSome, IsUtf8, List, MatchResult, OnOk, Option, Some, length, string_bytes, true};
 
 use crate::ascii::{in_ascii, is_ascii};
 use crate::definitions::Definitions;
 use crate::error::{JsonError, PartResult, Refusal};
 use crate::kinds::{Entries, Kind};
 use crate::leaves::{is_above, write_key};
+use crate::order::Ordered;
 use crate::output::{Characters, LongNumbers, Output, Style};
 use crate::position::{Key, Part, Parts, Place, Position};
 use crate::sources::EntryKey;
@@ -38,12 +39,12 @@ use std::collections::BTreeMap;
 /// elements and maps whose keys have no bytes, and values that nest more than 128 deep. The order of keys is known of numbers,
 /// `bool`, texts, and of tuples, arrays, lists, ordered sets and maps, and options of these, and not of structs and enums.
 ///
-/// Determined: after `Ok` the text is JSON that says these bytes, of the characters of the style; a compact one is one line, without
-/// control characters; where any are allowed, it has no white space but that of its layout. So no other bytes have it, they are a member of the root ([`crate::text_determines_bytes`]), and
-/// [`crate::from_json`] gives them, if anything. `NoMember` and `Ambiguous` are as of [`borsh_values::is_member`], and `NoValue` and
-/// `NotJson` aren't returned. After `Refused` they are a member, and it has a reason: `TooDeep`, that a value begins in them inside
-/// of 128 others or more; others, that one begins there of which no JSON says these bytes.
-/// Left open: memory; the reason of `Descends`; which of the texts that say the bytes: tested.
+/// Determined: after `Ok` the text is JSON that says these bytes, of the characters of the style; a compact one is one line,
+/// without control characters; where any are allowed, it has no white space but that of its layout. So no other bytes have it, they
+/// are a member of the root ([`crate::text_determines_bytes`]), and [`crate::from_json`] gives them, if anything. `NoMember` and
+/// `Ambiguous` are as of [`borsh_values::is_member`], and `NoValue` and `NotJson` aren't returned. After `Refused` they are a
+/// member with a part of this kind: `TooDeep`, a value inside of 128 others; `Descends`, a set or map of which two neighbours don't
+/// ascend in the known order of its keys; others, a value that no JSON says. Left open: memory; which of such texts: tested.
 ///
 /// ```
 /// let text = to_json(alloc, "(u8, bool)", &definitions, &[7, 1], Style::COMPACT)?;
@@ -179,12 +180,9 @@ impl<'a, 'l, 'b> Writing<'a, 'l, 'b> {
             write_end(self.position.place.parts, &mut self.out)?;
             return Ok(self.position.leave());
         };
-        if !ascends(
-            definitions,
-            &mut self.position.place,
-            self.walk.offset,
-            self.bytes,
-        )? {
+        let place = &mut self.position.place;
+        let is_above = ascends(definitions, place, self.walk.offset, self.bytes)?;
+        if !is_above {
             return Err(self.position.refused_element(Refusal::Descends).into());
         }
         self.write_key(definitions, part)?;
@@ -200,7 +198,7 @@ impl<'a, 'l, 'b> Writing<'a, 'l, 'b> {
     ) -> Result<(), JsonError<'a>>
         requires walk { IsWalker self.old.walk }
         ensures key { HasKinds definitions.now → (p : Place) → IsWritingAt definitions.now self.old p →
-            IsBegunOf definitions.now p self.old.position.place part.entry →
+            IsBegunOf definitions.now self.old.walk.offset p self.old.position.place part.entry →
             IsKeyPut definitions.now part.entry.at self.old self.new result }
         ensures bytes { self.new.bytes ≡ self.old.bytes }
     {
@@ -220,7 +218,7 @@ impl<'a, 'l, 'b> Writing<'a, 'l, 'b> {
         requires walk { IsWalker self.old.walk }
         ensures key { HasKinds definitions.now → (p : Place) (part : FoundPart) →
             IsWritingAt definitions.now self.old p → part.key ≡ EntryOf entries.entry →
-            IsBegunOf definitions.now p self.old.position.place part →
+            IsBegunOf definitions.now self.old.walk.offset p self.old.position.place part →
             IsKeyPut definitions.now part.at self.old self.new result }
         ensures bytes { self.new.bytes ≡ self.old.bytes }
     {
@@ -273,7 +271,7 @@ impl<'a, 'l, 'b> Writing<'a, 'l, 'b> {
         requires walk { IsWalker self.old.walk }
         ensures part { let F = forms_of definitions.now in let ns = names_of definitions.now in
             HasKinds definitions.now → (x : List ℕ) (f : Form) → IsAt ns at x → F x ≡ Some f →
-            IsKindOf F ns x f kind.entry → HasNode kind.entry →
+            IsKindOf F ns x f kind.entry → KindHasOrder F ns definitions.now.orders.items x kind.entry → HasNode kind.entry →
             IsAwaitingAt definitions.now self.old x → IsPartWritten definitions.now self.old self.new result }
         ensures bytes { self.new.bytes ≡ self.old.bytes }
     {
@@ -289,10 +287,20 @@ impl<'a, 'l, 'b> Writing<'a, 'l, 'b> {
             self.long_numbers,
             &mut self.out,
         ) {
-            Ok(Some(place)) => Ok(self.position.enter(place)?),
+            Ok(Some(place)) => Ok(self.position.enter(place.in_order(order_of(kind)))?),
             Ok(None) => Ok(()),
             Err(error) => Err(self.position.refused_value(error).into()),
         }
+    }
+}
+
+/// How a list's parts ascend that are written one by one, where that is known.
+fn order_of(kind: Kind<'_>) -> Option<Ordered>
+    ensures { IfSome result (λ order. (es : FoundElements) × (kind.entry ≡ FoundList es) × (es.order ≡ Some order)) }
+{
+    match kind {
+        Kind::List(elements) => elements.order,
+        _ => None,
     }
 }
 
@@ -303,7 +311,7 @@ fn check_elements<'a>(
     node: &Node<'_, '_>,
 ) -> PartResult<'a, ()>
     ensures room { OnOk result ((es : FoundElements) → kind.entry ≡ FoundNumbers es → length position.now.outer.items < 128) }
-    ensures full { IfErr result (IsFullOrDescends (length position.now.outer.items)) }
+    ensures full { IfErr result (RefusesElements (length position.now.outer.items) kind.entry node.now) }
 {
     match kind {
         Kind::ByteList(elements) => position.check_ascent(elements, elements_of(node)),
@@ -319,7 +327,7 @@ fn check_elements<'a>(
 fn is_next(last: Option<EntryKey<'_>>, key: EntryKey<'_>) -> bool
     ensures { (F : List ℕ → Option Form) (ns : List NamedPlace) (k : List ℕ) (f : Form) (kind : FoundKeyKind)
         (keys : Keys) (o : Option (List ℕ)) (s : List ℕ) → AreKeysOf F ns k f kind keys →
-        IsLast kind last.entry o → IsEntryKey kind key.entry s → result ≡ true → IsAbove keys o s }
+        IsLast kind last.entry o → IsEntryKey kind key.entry s → Decides result (IsAbove keys o s) }
 {
     match last {
         Some(last) => is_above(key, last),
@@ -347,7 +355,9 @@ fn ascends(
     offset: usize,
     bytes: &[u8],
 ) -> Result<bool, AllocError>
-    ensures { (place.new.parts ≡ place.old.parts) × (place.new.begun ≡ place.old.begun) × (place.new.last ≡ place.old.last) }
+    ensures same { (place.new.parts ≡ place.old.parts) × (place.new.begun ≡ place.old.begun) × (place.new.last ≡ place.old.last) }
+    ensures begins { BeginsNext place.old.ascent offset place.new.ascent }
+    ensures tells { HasKinds definitions.now → IfOk result (TellsAscent definitions.now bytes.now place.old.ascent offset) }
 {
     let Some(ascent) = &mut place.ascent else {
         return Ok(true);

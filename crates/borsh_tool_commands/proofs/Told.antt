@@ -1,6 +1,10 @@
 -- What is printed of an error, and of a number.
-use Rattle.std.proofs.Common.{◌≡◌, ℕ, ◌+◌, ◌%◌, ◌^◌, ◌<◌, Bool, true, false, List, [], ◌∷◌, ◌++◌, Option, Some, MatchOption, refl, sym, subst, rules, arith, string_bytes, decimal, flat_map}
-use Rattle.std.specs.Prelude.{codes}
+use Rattle.std.proofs.Common.{◌≡◌, ◌∙◌, ap, ℕ, ◌+◌, ◌/◌, ◌%◌, ◌^◌, ◌<◌, ◌==◌, ◌&&◌, ◌||◌, Bool, true, false, if◌then◌else◌, slice_index_or, All, List, [], ◌∷◌, ◌++◌, Option, Some, MatchOption, Result, Ok, Err, refl, sym, subst, rules, arith, string_bytes, decimal, flat_map}
+use Rattle.std.specs.Prelude.{OnOk, codes}
+use Rattle.std.specs.List.{list_all}
+use Rattle.std.specs.Result.{is_ok}
+use Rattle.std.proofs.lemmas.List.Elements.{All-append, All-same}
+use Rattle.std.proofs.lemmas.List.Sums.{AllPass-from_list_all}
 use Rattle.std.proofs.lemmas.Fmt.{decimal_by_steps}
 use Rattle.std.proofs.lemmas.Grind.{flat_map-append}
 use Rattle.borsh_walks.specs.Container.{Shape, Member, zst_sequence, tag_too_wide, tag_too_narrow, tag_not_power_of_two, missing_definition, empty_length_range}
@@ -15,7 +19,8 @@ use Rattle.borsh_tool_commands.specs.Answers.{AnswersCheck, AnswersMember, Answe
 use Rattle.borsh_tool_commands.specs.Answers.AnswersMember.{no_member, not_canonical}
 use Rattle.borsh_tool_commands.specs.Answers.AnswersCheck.{invalid}
 use Rattle.borsh_tool_commands.specs.Answers.AnswersSize.{overflows, recurs, misses}
-use Rattle.borsh_tool_commands.specs.Plain.{escaped}
+use Rattle.borsh_json.specs.Ascii.{IsPlain, is_printable}
+use Rattle.borsh_tool_commands.specs.Plain.{digit, escaped}
 
 -- what is said of an error, by the table of the rules
 pub told : (e : SchemaContainerValidateError) {out rule name : List ℕ} → Some (rule, name) ≡ broken_rule e → out ≡ broken_text (flat_map escaped rule) name → TellsRule e out
@@ -40,6 +45,31 @@ size_told Recursive f t = recurs f refl t
 size_told (Missing m) f t = misses (string_bytes m) f.0 f.1 refl t
 size_told NoMemory f t = absurd t
 size_told (Redefinition m) f t = absurd t
+
+-- printable ASCII is printed as itself
+pub printable_escaped : (bs : List ℕ) → list_all is_printable bs ≡ true → flat_map escaped bs ≡ bs
+printable_escaped [] h = refl
+printable_escaped (b ∷ bs) h = one (is_printable b) refl h (λ h. printable_escaped bs h)
+  where
+    one : (c : Bool) → is_printable b ≡ c → (c && list_all is_printable bs) ≡ true → (list_all is_printable bs ≡ true → flat_map escaped bs ≡ bs) → flat_map escaped (b ∷ bs) ≡ b ∷ bs
+    one true e h f = ap (λ c. (if c then b ∷ [] else 92 ∷ 120 ∷ digit (b / 16) ∷ digit (b % 16) ∷ []) ++ flat_map escaped bs) e ∙ ap (λ l. b ∷ l) (f h)
+    one false e h f = cc
+
+pub printable_plain : (bs : List ℕ) → list_all is_printable bs ≡ true → All IsPlain bs
+printable_plain bs h k d low = or_right (slice_index_or bs k d == 10) (is_printable (slice_index_or bs k d)) (AllPass-from_list_all is_printable bs h k d low)
+  where
+    or_right : (a b : Bool) → b ≡ true → (a || b) ≡ true
+    or_right true b e = refl
+    or_right false b e = e
+
+-- a text to which such a text was added, or nothing
+pub plain_grown : (old xs new : List ℕ) (added : Bool) → All IsPlain old → All IsPlain xs → new ≡ (if added then old ++ xs else old) → All IsPlain new
+plain_grown old xs new true p q e = All-same IsPlain new (old ++ xs) e (All-append IsPlain old xs p q)
+plain_grown old xs new false p q e = All-same IsPlain new old e p
+
+pub added_as : {E : Type 0} (old xs ys new : List ℕ) (r : Result (Unit {0}) E) → new ≡ (if is_ok r then old ++ xs else old) → xs ≡ ys → OnOk r (new ≡ old ++ ys)
+added_as old xs ys new (Ok v) e q = e ∙ ap (λ l. old ++ l) q
+added_as old xs ys new (Err x) e q = tt
 
 -- a decimal digit is printed as itself
 digit_escaped : (d : ℕ) → d < 10 → flat_map escaped ((48 + d) ∷ []) ≡ (48 + d) ∷ []

@@ -14,12 +14,15 @@ use super::plain_text::{Added, PlainText};
 use super::values::no_value;
 use borsh::io::Write as WriteBytes;
 use borsh_json::{JsonError, Rows, value_of};
-use borsh_values::{Layout, Node, Path};
+use borsh_values::{Layout, Node, Path, PathStep};
+use itoa::Buffer;
 use std::alloc::{AllocError, Global};
-use std::fmt::Write;
 
 /// How wide a column is at most. What is wider moves the rest of its line.
 const WIDEST: usize = 64;
+
+/// As many spaces, and two more.
+const SPACES: &str = "                                                                  ";
 
 /// How many bytes of a row are shown.
 const SHOWN_BYTES: usize = 16;
@@ -28,7 +31,7 @@ const SHOWN_BYTES: usize = 16;
 const ROOM: usize = 65536;
 
 /// The widths of the columns that have another one behind them.
-#[derive(Clone, Copy)]
+#[derive(Clone, Copy, Default)]
 struct Widths {
     bytes: usize,
     path: usize,
@@ -99,44 +102,20 @@ fn widths_of<'a>(alloc: Global, layout: &Layout<'a>, bytes: &[u8]) -> Result<Wid
 {
     let mut rows = Rows::new(alloc, layout, bytes)?;
     let mut text = PlainText::new(alloc);
-    let mut widths = Widths {
-        bytes: 0,
-        path: 0,
-        name: 0,
-    };
+    let mut widths = Widths::default();
     for _ in 0..u64::MAX {
         let Some(row) = rows.next()? else {
             return Ok(widths);
         };
-        widths.widen(&row, rows.path(), &mut text)?;
-    }
-    Err(JsonError::OutOfMemory)
-}
-
-impl Widths {
-    /// Makes room for a row. `text` is room for the texts of the columns.
-    fn widen(
-        &mut self,
-        row: &Node<'_, '_>,
-        path: &Path<'_>,
-        text: &mut PlainText,
-    ) -> Result<(), AllocError> {
+        widths.bytes = widths.bytes.max(2 * row.bytes.len().min(SHOWN_BYTES + 1));
         text.clear();
-        push_bytes(row.bytes, text)?;
-        self.bytes = wider(self.bytes, text);
-        text.clear();
-        push_path(path, text)?;
-        self.path = wider(self.path, text);
+        push_path(rows.path(), &mut text)?;
+        widths.path = widths.path.max(text.as_bytes().len()).min(WIDEST);
         text.clear();
         text.push_name(row.name)?;
-        self.name = wider(self.name, text);
-        Ok(())
+        widths.name = widths.name.max(text.as_bytes().len()).min(WIDEST);
     }
-}
-
-/// The width of a column that takes another text.
-fn wider(width: usize, text: &PlainText) -> usize {
-    width.max(text.as_bytes().len().min(WIDEST))
+    Err(JsonError::OutOfMemory)
 }
 
 /// Adds the offset, the first bytes, the path, the type and the value, as a line.
@@ -156,19 +135,18 @@ fn push_row(
     text.clear();
     push_bytes(row.bytes, text)?;
     out.push_in(Color::Yellow, text)?;
-    push_gap(text, widths.bytes)?;
-    out.push(text)?;
-    text.clear();
+    push_gap(text, 0, widths.bytes)?;
+    let start = text.as_bytes().len();
     push_path(path, text)?;
     out.push(text)?;
-    push_gap(text, widths.path)?;
+    push_gap(text, start, widths.path)?;
     out.push(text)?;
     text.clear();
     text.push_name(row.name)?;
     out.push_in(Color::Cyan, text)?;
     let value = value?;
     if !value.is_empty() {
-        push_gap(text, widths.name)?;
+        push_gap(text, 0, widths.name)?;
         out.push(text)?;
         text.clear();
         text.push(value.as_str())?;
@@ -180,36 +158,46 @@ fn push_row(
 }
 
 fn push_offset(offset: usize, text: &mut PlainText) -> Added {
-    match write!(text, "{offset:>8}  ") {
-        Ok(()) => Ok(()),
-        Err(_) => Err(AllocError),
-    }
+    let mut buffer = Buffer::new();
+    let number = buffer.format(offset);
+    text.push(spaces(8usize.saturating_sub(number.len())))?;
+    text.push(number)?;
+    text.push("  ")
 }
 
 /// Adds the first bytes as digits, and two dots where there are more.
 fn push_bytes(bytes: &[u8], text: &mut PlainText) -> Added {
     let shown = bytes.len().min(SHOWN_BYTES);
     text.push_digits(&bytes[..shown])?;
-    if bytes.len() > shown {
-        text.push("..")?;
-    }
-    Ok(())
+    text.push(if bytes.len() > shown { ".." } else { "" })
 }
 
+/// Adds a path as it is written.
 fn push_path(path: &Path<'_>, text: &mut PlainText) -> Added {
-    match write!(text, "{path}") {
-        Ok(()) => Ok(()),
-        Err(_) => Err(AllocError),
-    }
-}
-
-/// Puts the spaces between a text and the next column in place of the text.
-fn push_gap(text: &mut PlainText, width: usize) -> Added {
-    let length = text.as_bytes().len();
-    text.clear();
-    text.push("  ")?;
-    for _ in length..width {
-        text.push(" ")?;
+    text.push(path.root)?;
+    for step in path.steps.as_slice() {
+        let mut buffer = Buffer::new();
+        let (before, name, after) = match step {
+            PathStep::Field(name) => (".", *name, ""),
+            PathStep::Place(index) => (".", buffer.format(*index), ""),
+            PathStep::Element(index) => ("[", buffer.format(*index), "]"),
+            PathStep::Variant(name) => ("::", *name, ""),
+        };
+        text.push(before)?;
+        text.push(name)?;
+        text.push(after)?;
     }
     Ok(())
+}
+
+/// Puts the spaces between a column's text, which begins at `start`, and the next column in place of the text.
+fn push_gap(text: &mut PlainText, start: usize, width: usize) -> Added {
+    let length = text.as_bytes().len().saturating_sub(start);
+    let gap = width.saturating_sub(length);
+    text.clear();
+    text.push(spaces(gap.saturating_add(2)))
+}
+
+fn spaces(count: usize) -> &'static str {
+    SPACES.get(..count).unwrap_or(SPACES)
 }

@@ -30,6 +30,12 @@ const AFTER_MEMBER: &str =
 const AFTER_SHOW: &str =
     "A line for each number, text, count and tag: its offset, its bytes (the first 16), the path to it, its type, and what\nit says; on a terminal in colours, unless NO_COLOR is set.";
 
+const SCHEMA: &str = "Prints the definitions of a container";
+
+const CHECK: &str = "Checks that a container keeps the rules";
+
+const SIZE: &str = "Prints the greatest size in bytes";
+
 // The help of arguments.
 const QUOTED: &str = "Prints numbers of 64 bits as strings, since JavaScript rounds them";
 
@@ -65,6 +71,8 @@ const ENCODE_LINES: &str =
 
 const SCHEMA_FILE: &str =
     "The encoded container: a file, its digits as `0x..`, `-` for standard input, or `self` for that of containers";
+
+const SCHEMA_HEX: &str = "The container is hexadecimal digits";
 
 const QUIET: &str = "With --records, prints no progress where standard error is a terminal";
 
@@ -144,8 +152,8 @@ pub fn command<'a>(alloc: Global) -> Result<Command<'a>, AllocError> {
         .after_help(AFTER_HELP)
         .subcommand_required(true)
         .subcommand(schema_command(alloc)?)?
-        .subcommand(check_command(alloc)?)?
-        .subcommand(size_command(alloc)?)?
+        .subcommand(on_container(alloc, "check", CHECK, AFTER_CHECK)?)?
+        .subcommand(on_container(alloc, "size", SIZE, AFTER_SIZE)?)?
         .subcommand(decode_command(alloc)?)?
         .subcommand(encode_command(alloc)?)?
         .subcommand(member_command(alloc)?)?
@@ -153,19 +161,11 @@ pub fn command<'a>(alloc: Global) -> Result<Command<'a>, AllocError> {
 }
 
 fn schema_command<'a>(alloc: Global) -> Result<Command<'a>, AllocError> {
-    on_container(alloc, "schema", "Prints the definitions of a container")?
-        .after_help(AFTER_SCHEMA)
-        .arg(flag(alloc, "json", "Prints the container as JSON"))
-}
-
-fn check_command<'a>(alloc: Global) -> Result<Command<'a>, AllocError> {
-    let check = on_container(alloc, "check", "Checks that a container keeps the rules")?;
-    Ok(check.after_help(AFTER_CHECK))
-}
-
-fn size_command<'a>(alloc: Global) -> Result<Command<'a>, AllocError> {
-    let size = on_container(alloc, "size", "Prints the greatest size in bytes")?;
-    Ok(size.after_help(AFTER_SIZE))
+    on_container(alloc, "schema", SCHEMA, AFTER_SCHEMA)?.arg(flag(
+        alloc,
+        "json",
+        "Prints the container as JSON",
+    ))
 }
 
 fn decode_command<'a>(alloc: Global) -> Result<Command<'a>, AllocError> {
@@ -198,9 +198,11 @@ fn on_container<'a>(
     alloc: Global,
     name: &'a str,
     about: &'a str,
+    after: &'a str,
 ) -> Result<Command<'a>, AllocError> {
     Command::new(alloc, name)
         .about(about)
+        .after_help(after)
         .arg(value(alloc, "FILE", CONTAINER_FILE))?
         .arg(flag(alloc, "hex", FILE_HEX))
 }
@@ -213,7 +215,7 @@ fn on_bytes<'a>(alloc: Global, name: &'a str, about: &'a str) -> Result<Command<
         .arg(schema_unless_sent(alloc)?)?
         .arg(value(alloc, "VALUE", VALUE_FILE))?
         .arg(flag(alloc, "hex", VALUE_HEX))?
-        .arg(schema_hex(alloc).conflicts_with("with-schema")?)?
+        .arg(flag(alloc, "schema-hex", SCHEMA_HEX).conflicts_with("with-schema")?)?
         .arg(flag(alloc, "with-schema", IN_FRONT))
 }
 
@@ -222,7 +224,7 @@ fn encode_command<'a>(alloc: Global) -> Result<Command<'a>, AllocError> {
     Command::new(alloc, "encode")
         .about("Prints the bytes of a value in JSON")
         .after_help(AFTER_ENCODE)
-        .arg(schema(alloc).required(true))?
+        .arg(value(alloc, "SCHEMA", SCHEMA_FILE))?
         .arg(
             Arg::new(alloc, "JSON")
                 .help("The value: a file, or `-` for standard input")
@@ -231,7 +233,7 @@ fn encode_command<'a>(alloc: Global) -> Result<Command<'a>, AllocError> {
         )?
         .arg(flag(alloc, "hex", "Prints hexadecimal digits"))?
         .arg(flag(alloc, "raw", RAW_ON_TERMINAL))?
-        .arg(schema_hex(alloc))?
+        .arg(flag(alloc, "schema-hex", SCHEMA_HEX))?
         .arg(flag(alloc, "with-schema", WITH_SCHEMA))?
         .arg(records(alloc, ENCODE_RECORDS)?.conflicts_with("hex")?)?
         .arg(quiet(alloc)?)?
@@ -246,19 +248,12 @@ fn value<'a>(alloc: Global, name: &'a str, help: &'a str) -> Arg<'a> {
 
 /// The container, which isn't given where the bytes have it in front.
 fn schema_unless_sent<'a>(alloc: Global) -> Result<Arg<'a>, AllocError> {
-    schema(alloc)
+    Arg::new(alloc, "SCHEMA")
+        .help(SCHEMA_FILE)
         .required_unless_present("with-schema")?
         .required_unless_present("records")?
         .required_unless_present("lines")?
         .conflicts_with("with-schema")
-}
-
-fn schema<'a>(alloc: Global) -> Arg<'a> {
-    Arg::new(alloc, "SCHEMA").help(SCHEMA_FILE)
-}
-
-fn schema_hex<'a>(alloc: Global) -> Arg<'a> {
-    flag(alloc, "schema-hex", "The container is hexadecimal digits")
 }
 
 /// That the bytes are values one after another.

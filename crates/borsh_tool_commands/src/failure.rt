@@ -72,12 +72,7 @@ impl<'a> fmt::Display for Failure<'a> {
             Failure::NotValue(path, error) => write!(f, "{}: {error}", Named(path)),
             Failure::NotText(path) => write!(f, "{}: not UTF-8", Named(path)),
             Failure::TwoInputs => write!(f, "only one input can be standard input"),
-            Failure::RawOnTerminal => {
-                write!(
-                    f,
-                    "raw bytes aren't printed on a terminal: use --hex or --raw, or redirect them"
-                )
-            }
+            Failure::RawOnTerminal => f.write_str(RAW_ON_TERMINAL),
             Failure::Unwritable(error) => write!(f, "{error}"),
             Failure::Unread(path, error) => write!(f, "{}: {error}", Named(path)),
             Failure::Unwritten(error) => write!(f, "{error}"),
@@ -88,6 +83,9 @@ impl<'a> fmt::Display for Failure<'a> {
         }
     }
 }
+
+const RAW_ON_TERMINAL: &str =
+    "raw bytes aren't printed on a terminal: use --hex or --raw, or redirect them";
 
 /// How many characters of digits that were given name them.
 const NAMING_DIGITS: usize = 18;

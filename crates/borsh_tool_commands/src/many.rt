@@ -1,6 +1,6 @@
 // What is asked of values one after another, and of one value a line.
 ghost use Rattle.borsh_json.specs.Ascii.{IsInLine};
-ghost use Rattle.borsh_json.specs.Known.{HasKinds};
+ghost use Rattle.borsh_json.specs.Orders.{HasKinds};
 ghost use Rattle.borsh_json.specs.declared.output.Layout.TheVariants.{Compact};
 ghost use Rattle.borsh_tool_commands.specs.Answers.{line_of};
 ghost use Rattle.borsh_tool_commands.specs.Failures.{IsNoJson};

@@ -1,10 +1,11 @@
 // Text that a terminal shows as it is.
 ghost use Rattle.std.specs.Prelude.{◌≡◌, ◌++◌, ◌∷◌, ◌<◌, ◌≤◌, [], All, OnOk, decimal, flat_map};
 ghost use Rattle.std.specs.Fmt.{signed_decimal};
-ghost use Rattle.borsh_json.specs.Ascii.{IsPlain};
+ghost use Rattle.borsh_json.specs.Ascii.{IsPlain, is_printable as is_printable_byte};
 ghost use Rattle.borsh_tool_commands.specs.Plain.{digit as digit_of, digits, escaped, quoted, name_text, is_word as is_word_byte, is_identifier as is_identifier_text};
 ghost use Rattle.std.specs.List.{list_all};
 
+use itoa::Buffer;
 use std::alloc::{AllocError, Global};
 use std::{fmt, str};
 
@@ -63,7 +64,11 @@ impl PlainText {
     pub fn push(&mut self, text: &str) -> Added
         ensures { OnOk result (self.new.text.items ≡ self.old.text.items ++ flat_map escaped text.now) }
     {
-        for byte in text.as_bytes() {
+        let bytes = text.as_bytes();
+        if are_printable(bytes) {
+            return self.text.extend_from_slice(bytes);
+        }
+        for byte in bytes {
             self.push_byte(*byte)?;
         }
         Ok(())
@@ -73,9 +78,8 @@ impl PlainText {
     pub fn push_number(&mut self, number: u64) -> Added
         ensures { OnOk result (self.new.text.items ≡ self.old.text.items ++ decimal number) }
     {
-        let alloc = *self.text.allocator();
-        let text = format!(in alloc; "{number}")?;
-        self.push(text.as_str())
+        let mut buffer = Buffer::new();
+        self.push(buffer.format(number))
     }
 
     /// Adds a signed number in decimal.
@@ -114,8 +118,8 @@ impl PlainText {
     fn push_hex(&mut self, byte: u8) -> Added
         ensures { OnOk result (self.new.text.items ≡ self.old.text.items ++ digits byte) }
     {
-        self.put(digit(byte / 16))?;
-        self.put(digit(byte % 16))
+        self.text
+            .extend_from_slice(&[digit(byte / 16), digit(byte % 16)])
     }
 
     /// Adds the bytes of a name that is in quotation marks.
@@ -147,8 +151,7 @@ impl PlainText {
         }
         self.put(b'\\')?;
         self.put(b'x')?;
-        self.put(digit(byte / 16))?;
-        self.put(digit(byte % 16))
+        self.push_hex(byte)
     }
 
     /// Adds a byte as it is.
@@ -164,10 +167,7 @@ impl PlainText {
 /// What is written is added as by [`push`](PlainText::push). It fails only if an allocation does.
 impl fmt::Write for PlainText {
     fn write_str(&mut self, text: &str) -> fmt::Result {
-        match self.push(text) {
-            Ok(()) => Ok(()),
-            Err(_) => Err(fmt::Error),
-        }
+        self.push(text).map_err(|_| fmt::Error)
     }
 }
 
@@ -201,6 +201,13 @@ fn is_identifier(name: &str) -> bool
         [] => false,
         [first, ..] => !first.is_ascii_digit() && are_words(name.as_bytes()),
     }
+}
+
+/// Whether all bytes are printed as they are.
+fn are_printable(bytes: &[u8]) -> bool
+    ensures { result ≡ list_all is_printable_byte bytes.now }
+{
+    bytes.iter().all(|byte| 32 <= *byte && *byte < 127)
 }
 
 /// Whether all bytes are letters, digits and underscores.

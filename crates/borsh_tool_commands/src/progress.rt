@@ -34,14 +34,10 @@ impl<'r, E: Eprint> Progress<'r, E> {
         if !self.is_shown || self.bytes / STEP == steps {
             return;
         }
-        let (bytes, values) = (self.bytes, self.values);
+        let (rt, bytes, values) = (self.rt, self.bytes, self.values);
         let _told = match self.all {
-            Some(all) => self
-                .rt
-                .eprintln(format_args!("{bytes} of {all} bytes, {values} values")),
-            None => self
-                .rt
-                .eprintln(format_args!("{bytes} bytes, {values} values")),
+            Some(all) => rt.eprintln(format_args!("{bytes} of {all} bytes, {values} values")),
+            None => rt.eprintln(format_args!("{bytes} bytes, {values} values")),
         };
     }
 }

@@ -68,10 +68,7 @@ fn matches_of<'a>(alloc: Global, words: &'a [String]) -> Result<ArgMatches<'a>, 
 /// Prints the help that was asked for, or what is wrong with the words.
 fn refuse<R: Print + Eprint + AllocGlobal>(rt: &R, error: &clap::Error) -> u8 {
     if !error.use_stderr() {
-        return match rt.print(error) {
-            Ok(()) => 0,
-            Err(_) => 2,
-        };
+        return if rt.print(error).is_ok() { 0 } else { 2 };
     }
     let _told = tell_usage(rt, error);
     2
@@ -105,9 +102,7 @@ fn perform<'a, R: Files + Env + Input + Print + Eprint + AllocGlobal + Drop, W: 
         }
         return perform_on_value(rt, &request, is_terminal, out);
     }
-    let Some(request) = request_from(matches) else {
-        return Err(Failure::NoCommand);
-    };
+    let request = request_from(matches).ok_or(Failure::NoCommand)?;
     let bytes = input(rt, request.path, request.is_hex)?;
     if request.is_json {
         let text = schema_json(rt.alloc(), request.path, bytes.as_slice())?;
@@ -131,10 +126,7 @@ fn perform_on_value<'a, R: Files + Env + Input + Print + AllocGlobal, W: Write>(
         let (schema, value) = schema_in_front(rt.alloc(), request.value, bytes.as_slice())?;
         return answer_value(rt, request, &schema, value, is_terminal, out);
     };
-    if path == "-" && request.value == "-" {
-        return Err(Failure::TwoInputs);
-    }
-    let schema = schema_at(rt, path, request.is_schema_hex)?;
+    let schema = schema_at(rt, path, request)?;
     let value = if request.action == Action::Encode {
         file(rt, request.value)?
     } else {
@@ -160,14 +152,9 @@ fn perform_on_many<'a, R: Files + Input + Eprint + AllocGlobal + Drop, W: Write>
     is_watched: bool,
     out: &mut W,
 ) -> Result<bool, Failure<'a>> {
-    let Some(path) = request.schema else {
-        return Err(Failure::NoCommand);
-    };
-    if path == "-" && request.value == "-" {
-        return Err(Failure::TwoInputs);
-    }
+    let path = request.schema.ok_or(Failure::NoCommand)?;
     let alloc = rt.alloc();
-    let schema = schema_at(rt, path, request.is_schema_hex)?;
+    let schema = schema_at(rt, path, request)?;
     let layout = borsh_values::Layout::new(alloc, schema.root.as_str(), &schema.definitions)?;
     let json = Json::new(alloc, &layout)?;
     let many = Many {
@@ -177,46 +164,42 @@ fn perform_on_many<'a, R: Files + Input + Eprint + AllocGlobal + Drop, W: Write>
         long_numbers: style_of(request).long_numbers,
         is_strict: request.is_strict,
     };
+    let action = request.action;
     let is_shown = is_watched && form == Form::Records && !request.is_quiet;
     let mut progress = Progress::new(rt, is_shown);
-    if request.is_hex || request.action != Action::Encode && request.value.starts_with("0x") {
+    if request.is_hex || action != Action::Encode && request.value.starts_with("0x") {
         let bytes = input(rt, request.value, request.is_hex)?;
         progress.all = Some(bytes.len() as u64);
-        return answer_many(
-            request.action,
-            form,
-            &many,
-            bytes.as_slice(),
-            &mut progress,
-            out,
-        );
+        return answer_many(action, form, &many, bytes.as_slice(), &mut progress, out);
     }
     if request.value == "-" {
         let input = StdReader::new(rt.reader(), INTERRUPTIONS);
-        return answer_many(request.action, form, &many, input, &mut progress, out);
+        return answer_many(action, form, &many, input, &mut progress, out);
     }
-    match fs::File::open(rt, request.value) {
-        Ok(file) => {
-            if let Ok(metadata) = file.metadata() {
-                progress.all = Some(metadata.len());
-            }
-            let input = StdReader::new(file, INTERRUPTIONS);
-            answer_many(request.action, form, &many, input, &mut progress, out)
-        }
-        Err(error) => Err(Failure::Unreadable(request.value, error)),
+    let file = fs::File::open(rt, request.value).map_err(|error| Failure::Unreadable(
+        request.value,
+        error,
+    ))?;
+    if let Ok(metadata) = file.metadata() {
+        progress.all = Some(metadata.len());
     }
+    let input = StdReader::new(file, INTERRUPTIONS);
+    answer_many(action, form, &many, input, &mut progress, out)
 }
 
 /// The container in a file, or that of containers for `self`.
 fn schema_at<'a, R: Files + Input + AllocGlobal>(
     rt: &R,
     path: &'a str,
-    is_hex: bool,
+    request: &ValueRequest<'a>,
 ) -> Result<Schema, Failure<'a>> {
+    if path == "-" && request.value == "-" {
+        return Err(Failure::TwoInputs);
+    }
     if path == "self" {
         return own_schema(rt.alloc());
     }
-    let bytes = input(rt, path, is_hex)?;
+    let bytes = input(rt, path, request.is_schema_hex)?;
     schema_from(rt.alloc(), path, bytes.as_slice())
 }
 
@@ -250,10 +233,8 @@ fn refuses_color<R: Env + AllocGlobal>(rt: &R) -> bool {
 }
 
 fn print_bytes<'a, R: Print + AllocGlobal>(rt: &R, bytes: &[u8]) -> Result<(), Failure<'a>> {
-    match rt.write_all(bytes) {
-        Ok(()) => Ok(()),
-        Err(error) => Err(Failure::Unwritable(error)),
-    }
+    rt.write_all(bytes)
+        .map_err(|error| Failure::Unwritable(error))
 }
 
 /// The answer to a request about the container whose encoding the bytes are.
@@ -303,10 +284,7 @@ fn input<'a, R: Files + Input + AllocGlobal>(
 
 /// All bytes of a file, or of standard input for `-`.
 fn file<'a, R: Files + Input + AllocGlobal>(rt: &R, path: &'a str) -> Result<Vec<u8>, Failure<'a>> {
-    match read_all(rt, path) {
-        Ok(bytes) => Ok(bytes),
-        Err(error) => Err(Failure::Unreadable(path, error)),
-    }
+    read_all(rt, path).map_err(|error| Failure::Unreadable(path, error))
 }
 
 fn read_all<R: Files + Input + AllocGlobal>(rt: &R, path: &str) -> io::Result<Vec<u8>> {

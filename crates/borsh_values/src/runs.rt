@@ -335,6 +335,7 @@ fn list_products<'a, 'b>(
     ensures listed { let m = layout.now.map.now in
         IfOk result (λ r. ListsRun m first.entry r.taken r.values nodes.old.items nodes.new.items) }
 {
+    make_room(layout, at, count, first.bytes, nodes);
     let mut taken: usize = 0;
     let mut values: u64 = 0;
     while values < count {
@@ -353,6 +354,18 @@ fn list_products<'a, 'b>(
         values += 1;
     }
     Ok(Run { taken, values })
+}
+
+// Makes room for the nodes of so many values of the struct or tuple at a place, if there is as much: at most one for each byte.
+fn make_room(layout: &Layout<'_>, at: usize, count: u64, left: &[u8], nodes: &mut Vec<Node<'_, '_>>)
+    ensures { nodes.new.items ≡ nodes.old.items }
+{
+    let parts = match layout.parts.as_slice().get(at) {
+        Some(parts) => parts.len() as u64,
+        None => 0,
+    };
+    let most = count.saturating_mul(parts.saturating_add(1));
+    let _room = nodes.reserve(most.min(left.len() as u64) as usize);
 }
 
 // Lists the nodes of the value with which the bytes begin, its own first, if each of its parts is one node, and returns its length.

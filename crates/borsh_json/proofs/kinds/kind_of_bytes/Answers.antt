@@ -25,3 +25,11 @@ returns-clause-kind c = λ w lo hi e q i b x h full.
           (let t = c.eq.ensures ∙ (bytes_eq-Decides c.name.result.now (codes "String")).1 (c.name.ensures h.0 x h.1 ∙ s) in let g = c.if-eq.false in cc)) b),
       refl,
     )
+
+pub returns-then-eq-clause-orders : goal.returns-then-eq-clause-orders
+returns-then-eq-clause-orders c = λ s h x f. ((h.1, λ k z. z), tt)
+
+pub returns-clause-orders : goal.returns-clause-orders
+returns-clause-orders c = λ s h x f.
+    let o = c.in_ok-order.ensures.orders h x s.3 s.0 s.1 s.2 (c.collection_of-collection.ensures x f) s.5.1 (f.2 ∙ ap (λ f. Some f) s.4) in
+    (o.0, (refl, o.1))

@@ -4,8 +4,9 @@ use Rattle.borsh_json.specs.declared.kinds.Elements.{Elements}
 use Rattle.borsh_json.specs.Forms.{form_of, sequence, shape_of_form}
 use Rattle.borsh_json.specs.Table.{HasKind, list, entries}
 use Rattle.borsh_json.specs.Places.{lengths_of}
-use Rattle.borsh_json.specs.Found.{forms_of}
+use Rattle.borsh_json.specs.Found.{forms_of, names_of}
 use Rattle.borsh_json.proofs.FoundLaws.{on_true, on_false, not_true}
+use Rattle.borsh_json.proofs.KindOrders.{refused_order, key_found}
 use Rattle.borsh_json.proofs.NameLaws.{elements_found, numbers_found, refused, refused_is, entries_kind, list_kind}
 use Rattle.borsh_json.proofs.kinds.kind_of_list.Goals as goal
 
@@ -65,3 +66,30 @@ returns-else-size-eq0-clause-kind c = λ w lo hi e q i b x h full.
     let some = c.if-size-eq0.false in
     let es : Elements = record { at = c.args.element; size = c.size_of_primitive-size.result; order = c.in_ok-order.order; is_refused = false } in
     numbers_found F d.layout.now.names.items x (form_of c.args.definition.now) e es i.1 kind refl (c.size_of_primitive-size.result - 1) (omega arith) size
+
+pub returns-then-is_zero_size-clause-orders : goal.returns-then-is_zero_size-clause-orders
+returns-then-is_zero_size-clause-orders c = λ s h x f.
+    let d = c.args.definitions.now in
+    ((h.1, λ k z. z), refused_order (forms_of d) (names_of d) d.orders.items x c.refused_list.result c.refused_list.ensures)
+
+pub returns-then-has_empty_keys-clause-orders : goal.returns-then-has_empty_keys-clause-orders
+returns-then-has_empty_keys-clause-orders c = λ s h x f.
+    let d = c.args.definitions.now in
+    ((h.1, λ k z. z), refused_order (forms_of d) (names_of d) d.orders.items x c.refused_list-then-has_empty_keys.result c.refused_list-then-has_empty_keys.ensures)
+
+pub returns-in-Some-clause-orders : goal.returns-in-Some-clause-orders
+returns-in-Some-clause-orders c = λ s h x f.
+    let d = c.args.definitions.now in
+    let F = forms_of d in
+    let ns = names_of d in
+    let m = c.in-Some.ensures h.0 x (c.collection_of-collection.ensures x f) in
+    let t = c.order_of_keys.ensures F ns d.orders.items m.0 (form_of c.in-Some.entries.key_definition.now) m.5.0 m.5.2 m.5.3 in
+    ((h.1, λ k z. z), (m.0, m.2, key_found F ns x m.0 m.1 d.orders.items c.order_of_keys.result m.4 t.0 t.1))
+
+pub returns-then-size-eq0-clause-orders : goal.returns-then-size-eq0-clause-orders
+returns-then-size-eq0-clause-orders c = λ s h x f.
+    c.in_ok-order.ensures.orders h x s.3 s.0 s.1 s.2 (c.collection_of-collection.ensures x f) s.5.1 (f.2 ∙ ap (λ f. Some f) s.4)
+
+pub returns-else-size-eq0-clause-orders : goal.returns-else-size-eq0-clause-orders
+returns-else-size-eq0-clause-orders c = λ s h x f.
+    c.in_ok-order.ensures.orders h x s.3 s.0 s.1 s.2 (c.collection_of-collection.ensures x f) s.5.1 (f.2 ∙ ap (λ f. Some f) s.4)

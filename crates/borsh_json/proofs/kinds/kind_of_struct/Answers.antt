@@ -9,8 +9,8 @@ use Rattle.borsh_json.proofs.FoundLaws.{one_part, on_some}
 use Rattle.borsh_json.proofs.NameLaws.{fields_repeated, newtype_kind}
 use Rattle.borsh_json.proofs.kinds.kind_of_struct.Goals as goal
 
-pub returns-in-Some : goal.returns-in-Some
-returns-in-Some c = λ x h full.
+pub returns-in-Some-clause-kind : goal.returns-in-Some-clause-kind
+returns-in-Some-clause-kind c = λ x h full.
     let d = c.args.definitions.now in
     let items = c.in-NamedFields.fields.items in
     let fs = map (λ f. (string_bytes f.0, string_bytes f.1)) items in
@@ -18,8 +18,8 @@ returns-in-Some c = λ x h full.
     let q = on_some _ _ c.in_ok-name-in-NamedFields.field-0 c.in-Some.name c.in-Some.is c.in_ok-name-in-NamedFields.ensures in
     fields_repeated (forms_of d) x full d.layout.now.names.items fs e (λ i. q (subst (λ l. IsDistinct bytes_eq l) (twice (λ f. (string_bytes f.0, string_bytes f.1)) (λ f. f.0) (λ f. string_bytes f.0) (λ f. refl) items) i))
 
-pub returns-then-len-eq1 : goal.returns-then-len-eq1
-returns-then-len-eq1 c = λ x h full.
+pub returns-then-len-eq1-clause-kind : goal.returns-then-len-eq1-clause-kind
+returns-then-len-eq1-clause-kind c = λ x h full.
     let d = c.args.definitions.now in
     let ps = c.in-UnnamedFields.parts in
     let l : length (map (λ p. string_bytes p) ps.items) ≡ 1 = length-map ps.items (λ p. string_bytes p) ∙ sym (c.len.ensures ∙ ps.ok.0) ∙ c.if-len-eq1.true in

@@ -1,35 +1,36 @@
 use Rattle.std.proofs.Common.{inl, inr, ℕ, List, sym, ◌∙◌, subst, refl, length}
-use Rattle.json.specs.Json.{Json}
+use Rattle.json.specs.Json.{Json, string}
 use Rattle.borsh_json.specs.Forms.{form_of}
 use Rattle.borsh_json.specs.Places.{lengths_of}
 use Rattle.borsh_json.specs.Table.{byte_list, IsPrefixed, IsHex}
-use Rattle.borsh_json.proofs.OpeningLaws.{opened_leaf, said, denies_read, string_is}
+use Rattle.borsh_json.proofs.OpeningLaws.{opened, opened_leaf, said, string_is}
+use Rattle.borsh_json.proofs.BytesFall.{bytes_fall, denies_or, falls_or}
 use Rattle.borsh_json.proofs.PartsLaws.{no_text, byte_said}
 use Rattle.borsh_json.proofs.RepresentsLaws.{hex_one}
 use Rattle.borsh_json.proofs.opening.open_byte_list.Goals as goal
 
 pub returns-in_default : goal.returns-in_default
-returns-in_default c F ns x j h b =
+returns-in_default c F ns orders x j e at h size order b =
     let l = lengths_of (form_of c.args.definition.now) in
-    c.open_items.ensures F ns x j (byte_list l h.0) h.0 h.1 h.2 (λ own ps. ((λ q. inr q), no_text F j l h.0 own ps (sym (c.in_default.ensures j b)))) b
+    opened F ns x j c.args.out.now.items c.open_items.new.out.items c.open_items.result (c.open_items.ensures F ns orders x j (byte_list l e) e at h order (λ own ps. ((λ q. inr q), no_text F j l e own ps (sym (c.in_default.ensures j b)))) b)
 
 pub returns-in-Ok-put_ascending : goal.returns-in-Ok-put_ascending
-returns-in-Ok-put_ascending c F ns x j h b =
+returns-in-Ok-put_ascending c F ns orders x j e at h size order b =
     let l = lengths_of (form_of c.args.definition.now) in
     let s = string_is j c.in-Some.text.now (sym (c.in-Some.ensures j b)) in
     let d = c.in-Ok-put_ascending.ensures in
-    let e = c.as_slice.ensures.value in
-    opened_leaf F ns x j (byte_list l h.0) c.args.out.now.items c.put_ascending.new.out.items d.0 h.2 d.1 (inl (c.as_slice.result.now, subst (λ (t : List ℕ). IsHex j t) (sym e) (subst (λ (i : Json). IsHex i c.in-Ok.bytes.items) (sym s) c.in-Ok.ensures), d.2, refl))
+    let v = c.as_slice.ensures.value in
+    opened_leaf F ns x j (byte_list l e) c.args.out.now.items c.put_ascending.new.out.items d.0 h d.1 (inl (c.as_slice.result.now, subst (λ (t : List ℕ). IsHex j t) (sym v) (subst (λ (i : Json). IsHex i c.in-Ok.bytes.items) (sym s) c.in-Ok.ensures), d.2, refl))
 
 pub returns-in-Ok : goal.returns-in-Ok
-returns-in-Ok c F ns x j h b =
+returns-in-Ok c F ns orders x j e at h size order b =
     let l = lengths_of (form_of c.args.definition.now) in
     let s = string_is j c.in-Some.text.now (sym (c.in-Some.ensures j b)) in
-    let e = c.as_slice.ensures.value in
-    denies_read c.in-Err-put_ascending.error (λ g. let k = said F ns x j (byte_list l h.0) h.2 g in let q = byte_said F j l h.0 k.0 k.1 c.in-Some.text.now s k.2 in (k.0, subst (λ (t : List ℕ). IsPrefixed l (length t) t k.0) (hex_one q.1 c.in-Ok.ensures ∙ sym e) q.2)) c.in-Err-put_ascending.ensures
+    let v = c.as_slice.ensures.value in
+    falls_or c.in-Err-put_ascending.error (λ g. let k = said F ns x j (byte_list l e) h g in let q = byte_said F j l e k.0 k.1 c.in-Some.text.now s k.2 in (k.0, subst (λ (t : List ℕ). IsPrefixed l (length t) t k.0) (hex_one q.1 c.in-Ok.ensures ∙ sym v) q.2)) (bytes_fall F ns orders x j l e c.in-Some.text.now c.as_slice.result.now c.args.elements h size order s (subst (λ (t : List ℕ). IsHex (string c.in-Some.text.now) t) (sym v) c.in-Ok.ensures)) c.in-Err-put_ascending.ensures
 
 pub returns : goal.returns
-returns c F ns x j h b =
+returns c F ns orders x j e at h size order b =
     let l = lengths_of (form_of c.args.definition.now) in
     let s = string_is j c.in-Some.text.now (sym (c.in-Some.ensures j b)) in
-    denies_read c.in-Err.error (λ g. let k = said F ns x j (byte_list l h.0) h.2 g in let q = byte_said F j l h.0 k.0 k.1 c.in-Some.text.now s k.2 in (q.0, q.1)) c.in-Err.ensures
+    falls_or c.in-Err.error (λ g. let k = said F ns x j (byte_list l e) h g in let q = byte_said F j l e k.0 k.1 c.in-Some.text.now s k.2 in (q.0, q.1)) (λ f. absurd f) (denies_or c.in-Err.error _ c.in-Err.ensures)

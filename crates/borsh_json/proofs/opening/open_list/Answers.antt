@@ -6,9 +6,9 @@ use Rattle.borsh_json.proofs.PartsLaws.{unsayable}
 use Rattle.borsh_json.proofs.opening.open_list.Goals as goal
 
 pub returns-then-elements : goal.returns-then-elements
-returns-then-elements c F ns x j h b = unsayable F ns x j (subst (λ (r : Bool). IsListOf F ns x (form_of c.args.definition.now) c.args.elements.at r) c.if-elements.true h)
+returns-then-elements c F ns x j h b = unsayable F ns x j (subst (λ (r : Bool). IsListOf F ns x (form_of c.args.definition.now) c.args.elements.at r) c.if-elements.true h.2)
 
 pub returns : goal.returns
 returns c F ns x j h b =
-    let k = subst (λ (r : Bool). IsListOf F ns x (form_of c.args.definition.now) c.args.elements.at r) c.if-elements.false h in
-    c.open_items.ensures F ns x j (list (lengths_of (form_of c.args.definition.now)) k.0) k.0 k.1 k.2 (λ own ps. ((λ q. q), (λ q. q))) b
+    let k = subst (λ (r : Bool). IsListOf F ns x (form_of c.args.definition.now) c.args.elements.at r) c.if-elements.false h.2 in
+    c.open_items.ensures F ns h.0 x j (list (lengths_of (form_of c.args.definition.now)) k.0) k.0 k.1 k.2 h.1 (λ own ps. ((λ q. q), (λ q. q))) b

@@ -2,7 +2,7 @@ use Rattle.std.proofs.Common.{◌≡◌, inl, inr, ℕ, List, Option, None, refl
 use Rattle.json.specs.Json.{Json}
 use Rattle.borsh_json.specs.Forms.{Form, HasNoBytes, forms_in}
 use Rattle.borsh_json.specs.Reads.{SaysSome}
-use Rattle.borsh_json.proofs.OpeningLaws.{unmoved}
+use Rattle.borsh_json.proofs.OpeningLaws.{opened, unmoved}
 use Rattle.borsh_json.proofs.ReaderLaws.{uncons}
 use Rattle.borsh_json.proofs.opening.open_part.Goals as goal
 
@@ -18,17 +18,17 @@ pub returns-then-is_zero_size : goal.returns-then-is_zero_size
 returns-then-is_zero_size c k x j at b =
     let F = forms_in c.args.definitions.now.layout.now.map.now in
     let ns = c.args.definitions.now.layout.now.names.items in
-    unmoved F ns x j c.args.out.now.items c.open_null.result (c.open_null.ensures F ns x j (inl ((c.is_zero_size.ensures k.known x at).0 c.if-is_zero_size.true, refl)) b)
+    opened F ns x j c.args.out.now.items c.args.out.now.items c.open_null.result (unmoved F ns x j c.args.out.now.items c.open_null.result (c.open_null.ensures F ns x j (inl ((c.is_zero_size.ensures k.known x at).0 c.if-is_zero_size.true, refl)) b))
 
 pub returns-in_default : goal.returns-in_default
 returns-in_default c k x j at b =
     let F = forms_in c.args.definitions.now.layout.now.map.now in
     let full : HasNoBytes F x → ⊥ = λ z. (let q = (c.is_zero_size.ensures k.known x at).1 z in let s = c.if-is_zero_size.false in cc) in
-    undefined_says F x j (c.in_default.ensures k x at full) full
+    undefined_says F x j (c.in_default.ensures.kind k x at full) full
 
 pub returns : goal.returns
 returns c k x j at b =
     let F = forms_in c.args.definitions.now.layout.now.map.now in
     let full : HasNoBytes F x → ⊥ = λ z. (let q = (c.is_zero_size.ensures k.known x at).1 z in let s = c.if-is_zero_size.false in cc) in
-    let r = c.in-Some.ensures k x at full in
-    c.open_kind.ensures k.known x j at r.0 r.1 b
+    let r = c.in-Some.ensures.kind k x at full in
+    c.open_kind.ensures k.known x j at r.0 r.1 (c.in-Some.ensures.order k x at) b

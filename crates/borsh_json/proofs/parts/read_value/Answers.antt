@@ -3,7 +3,7 @@ use Rattle.std.specs.Prelude.{Bool}
 use Rattle.borsh_json.specs.declared.sources.Source.TheVariants.{One}
 use Rattle.borsh_json.specs.Forms.{forms_in}
 use Rattle.borsh_json.specs.Frames.{IsReading, IsReadOn}
-use Rattle.borsh_json.proofs.ReadingLaws.{reading_start, reading_same}
+use Rattle.borsh_json.proofs.ReadingLaws.{reading_start, reading_same, none_falls}
 use Rattle.borsh_json.proofs.parts.read_value.Goals as goal
 
 pub loop-init : goal.loop-init
@@ -14,7 +14,7 @@ loop-init c a j b =
     let root = y.root.now in
     let p = c.new-position.result in
     let s = reading_start F ns root j c.args.element p.outer.items c.new-outer.result.items a.known.laid_out.first b c.new-position.ensures.outer c.new-outer.ensures.items in
-    subst (λ (o : List ℕ). IsReading F ns root j p.place.parts p.place.begun (One (Some c.args.element)) p.outer.items c.new-outer.result.items o) (sym c.new-out.ensures.items) (reading_same F ns root j c.new-position.ensures.place.0 c.new-position.ensures.place.1 s)
+    (subst (λ (o : List ℕ). IsReading F ns root j p.place.parts p.place.begun (One (Some c.args.element)) p.outer.items c.new-outer.result.items o) (sym c.new-out.ensures.items) (reading_same F ns root j c.new-position.ensures.place.0 c.new-position.ensures.place.1 s), none_falls F root j p.place p.outer.items c.new-position.ensures.place.2 c.new-position.ensures.outer)
 
 pub loop-preserved : goal.loop-preserved
 loop-preserved c a j b =

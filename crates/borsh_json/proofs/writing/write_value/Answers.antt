@@ -1,13 +1,15 @@
-use Rattle.std.proofs.Common.{◌≡◌, List, ℕ, refl, sym, ◌∙◌, ap, subst, false, All}
+use Rattle.std.proofs.Common.{◌≡◌, List, [], length, None, ℕ, refl, sym, ◌∙◌, ap, subst, arith, false, All}
 use Rattle.std.specs.Prelude.{Bool}
 use Rattle.json.specs.Print.{print}
 use Rattle.borsh_json.specs.Ascii.{IsInLine}
 use Rattle.borsh_json.specs.Found.{forms_of, names_of}
 use Rattle.borsh_json.specs.Leaves.{output_tokens}
 use Rattle.borsh_json.specs.Printed.{laid_out}
-use Rattle.borsh_json.specs.Writes.{IsWhole, IsWriting, IsWrittenOn}
+use Rattle.borsh_json.specs.declared.position.Place.{Place}
+use Rattle.borsh_json.specs.Writes.{AreEach, IsMarked, IsWhole, IsWriting, IsWrittenOn}
 use Rattle.borsh_json.proofs.LineLaws.{compact_line}
 use Rattle.borsh_json.proofs.WritingLaws.{whole_read}
+use Rattle.borsh_json.proofs.WriterLaws.{root_marked}
 use Rattle.borsh_json.proofs.WritingSteps.{writing_start}
 use Rattle.borsh_json.proofs.writing.write_value.Goals as goal
 
@@ -21,8 +23,17 @@ loop-init c =
     let o = c.new-out in
     let s = writing_start F ns root c.args.bytes.now p.result.place p.result.outer.items (output_tokens o.result) p.ensures.place.0 p.ensures.place.1 p.ensures.outer o.ensures.1 c.requires.known.known.laid_out.first c.requires.member in (
       record {
-        writer = record { layout = ap (λ l. l.now) c.new-walk.ensures.layout; walk = c.new-walk.ensures.walk; fresh = o.ensures.0 };
-        state = subst (λ (l : List ℕ). IsWriting F ns root c.args.bytes.now p.result.place p.result.outer.items l (output_tokens o.result)) (sym c.new-walk.ensures.left) s;
+        writer = record {
+          layout = ap (λ l. l.now) c.new-walk.ensures.layout;
+          walk = c.new-walk.ensures.walk;
+          fresh = o.ensures.0;
+          offset = (let z = c.new-walk.ensures.offset in let l = ap (λ b. length b) c.new-walk.ensures.left in omega (arith, z, l));
+        };
+        mark = ([], None);
+        marks = [];
+        state = subst (λ (l : List ℕ). IsWriting F ns root c.args.bytes.now p.result.place p.result.outer.items ([], None) [] l (output_tokens o.result)) (sym c.new-walk.ensures.left) s;
+        here = root_marked d c.args.bytes.now p.result.place p.ensures.place.0 p.ensures.place.2;
+        around = subst (λ (ps : List Place). AreEach (IsMarked d c.args.bytes.now) ps []) (sym p.ensures.outer) refl;
       },
       refl,
     )

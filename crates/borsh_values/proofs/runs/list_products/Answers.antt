@@ -1,4 +1,4 @@
-use Rattle.std.proofs.Common.{◌+◌, ◌∷◌, [], subst, arith, refl}
+use Rattle.std.proofs.Common.{◌+◌, ◌∷◌, [], subst, arith}
 use Rattle.std.specs.Prelude.{IfSome}
 use Rattle.borsh_walks.specs.Definitions.{definitions_in}
 use Rattle.borsh_values.specs.Layouts.{name_at}
@@ -12,7 +12,7 @@ pub loop-values-init : goal.loop-values-init
 loop-values-init c =
     let l = c.args.layout.now in
     let old = c.args.nodes.now.items in
-    record { few = omega arith; first = first_none (definitions_in l.map.now) (name_at l.names.items c.args.at) c.args.first.bytes.now; listed = lists_none l.map.now c.args.first.bytes.now c.args.first.offset old old refl }
+    record { few = omega arith; first = first_none (definitions_in l.map.now) (name_at l.names.items c.args.at) c.args.first.bytes.now; listed = lists_none l.map.now c.args.first.bytes.now c.args.first.offset old c.make_room.new.nodes.items c.make_room.ensures }
 
 pub loop-values-preserved : goal.loop-values-preserved
 loop-values-preserved c =

@@ -8,3 +8,9 @@ returns-in_ok-kind-in-Some-clause-kind c = λ k x i full.
 
 pub returns-in-None-clause-kind : goal.returns-in-None-clause-kind
 returns-in-None-clause-kind c = λ k x i full. sym (c.in-None.ensures k x i)
+
+pub returns-in_ok-kind-in-Some-clause-orders : goal.returns-in_ok-kind-in-Some-clause-orders
+returns-in_ok-kind-in-Some-clause-orders c = λ h x i. c.in_ok-kind-in-Some.ensures.orders h x (h.0, i, sym (c.in-Some.ensures h.0 x i))
+
+pub returns-in-None-clause-orders : goal.returns-in-None-clause-orders
+returns-in-None-clause-orders c = λ h x i. ((h.1, λ k z. z), tt)

@@ -1,0 +1,66 @@
+-- Sets of primitives that don't ascend.
+use Rattle.std.proofs.Common.{◌≡◌, inl, inr, ℕ, suc, ◌<◌, List, ◌++◌, length, drop, Bool, Option, Some, refl, sym, ◌∙◌, ap, subst, arith}
+use Rattle.std.specs.Prelude.{pos, All}
+use Rattle.borsh_walks.specs.Container.{tag}
+use Rattle.borsh_values.specs.Nodes.{packed_size, OpensElements, Opens, AreElementsOf}
+use Rattle.borsh_values.specs.declared.layout.Named.{Named}
+use Rattle.borsh_json.specs.declared.definitions.Known.{Known}
+use Rattle.borsh_json.specs.declared.order.Ordered.{Ordered}
+use Rattle.borsh_json.specs.declared.order.Ordered.TheVariants.{Single, Number, Text, Array, List as Counted, Tuple}
+use Rattle.borsh_json.specs.Descents.{NumbersDescend, HasKeys, HasDescent}
+use Rattle.borsh_json.specs.Forms.{Form, primitive, sequence, shape_of_form, shapes}
+use Rattle.borsh_json.specs.Ordered.{Order, single, numbers, text, array, list, parts, HasOrder}
+use Rattle.borsh_json.specs.Orders.{IsOrderOf, IsOrderIn, KeysAscend, AreOrderedNumbers}
+use Rattle.borsh_json.proofs.DescentLaws.{numbers_descend}
+use Rattle.borsh_json.proofs.FoundLaws.{full_primitive}
+use Rattle.borsh_json.proofs.OrderLaws.{clash}
+use Rattle.borsh_json.proofs.RankLaws.{shaped}
+
+module _ (F : List ℕ → Option Form) (ns : List Named) where
+  -- the order of a primitive is that of its numbers
+  packed_order : (e : List ℕ) (n : ℕ) (o : Order) → F e ≡ Some (primitive (suc n)) → HasOrder F e o → (signed : Bool) × (o ≡ numbers (suc n) signed)
+  packed_order e n o f (inl z) = absurd (full_primitive F f z.0)
+  packed_order e n single f (inr b) = absurd b.1
+  packed_order e n (numbers m signed) f (inr b) =
+      let g : Some (primitive m) ≡ Some (primitive (suc n)) = sym b.1.0 ∙ f in
+      let q : m ≡ suc n = cc in
+      (signed, ap (λ m. numbers m signed) q)
+  packed_order e n text f (inr b) = absurd (clash (F e) f b.1.1 (λ q. cc))
+  packed_order e n (array m d) f (inr b) = absurd (clash (F e) f b.1.0 (λ q. cc))
+  packed_order e n (list w d) f (inr (z, inl b)) = absurd (clash (F e) f b.1.0 (λ q. cc))
+  packed_order e n (list w d) f (inr (z, inr b)) = absurd (clash (F e) f b.1.1 (λ q. cc))
+  packed_order e n (parts ps) f (inr b) = absurd (clash (F e) f b.1.0 (λ q. cc))
+
+  packed_found : (e : List ℕ) (n : ℕ) (signed : Bool) (found : Ordered) → IsOrderOf F ns e found (numbers n signed) → found ≡ Number n signed
+  packed_found e n signed Single i = cc
+  packed_found e n signed (Number m s) i = let p : m ≡ n = cc in let q : s ≡ signed = cc in ap (λ m. Number m s) p ∙ ap (λ s. Number n s) q
+  packed_found e n signed Text i = cc
+  packed_found e n signed (Array m at) i = let q = i.2 in cc
+  packed_found e n signed (Counted w at) i = let q = i.2 in cc
+  packed_found e n signed (Tuple at m) i = let q = i.4 in cc
+
+  behind : (c : ℕ) (cs : List ℕ) → drop 4 (tag 4 (pos c) ++ cs) ≡ cs
+  behind c cs = refl
+
+  module _ (orders : List Known) where
+    -- the bytes of a set of primitives, of which two neighbours don't ascend by its order
+    pub packed_descent : (x e k own es rest : List ℕ) (qs : List (List ℕ)) (n w lo hi : ℕ) (found : Ordered) → KeysAscend F ns orders x k found → F x ≡ Some (sequence w lo hi e) → F e ≡ Some (primitive (suc n)) → Opens (shapes F) (shape_of_form (sequence w lo hi e)) own qs → AreElementsOf (shape_of_form (sequence w lo hi e)) own es → ((signed : Bool) → AreOrderedNumbers found (suc n) signed es → (i : ℕ) × NumbersDescend (suc n) signed es i) → HasDescent F x (own ++ rest)
+    packed_descent x e k own es rest qs n w lo hi found a s p o l falls =
+        let g : Some (sequence w lo hi e) ≡ Some (sequence 4 0 4294967295 a.0) = sym s ∙ a.1.0 in
+        let q : a.0 ≡ e = cc in
+        let v : w ≡ 4 = cc in
+        let size : packed_size (shapes F e) ≡ suc n = ap (λ o. packed_size o) (shaped (F e) p) in
+        let f : OpensElements (suc n) e o.0 o.1 qs = subst (λ m. OpensElements m e o.0 o.1 qs) size o.5 in
+        let keys = subst (λ e. HasKeys F x e k) q a.1 in
+        let own_is : own ≡ tag 4 (pos o.0) ++ o.1 = o.4 ∙ ap (λ w. tag w (pos o.0) ++ o.1) v in
+        let elements : es ≡ o.1 = l ∙ ap (λ w. drop w own) v ∙ ap (λ own. drop 4 own) own_is in
+        elim keys.1 [
+          | inl t ↦ (let h : IsOrderIn F ns orders e found = subst (λ k. IsOrderIn F ns orders k found) t.1 a.2 in
+              let r = packed_order e n h.0 p h.1 in
+              let i = packed_found e (suc n) r.0 found (subst (λ (o : Order). IsOrderOf F ns e found o) r.1 h.2) in
+              let len = ap (λ l. length l) elements ∙ f.0 in
+              let small = subst (λ l. All (λ b. b < 256) l) (sym elements) f.1 in
+              let d = falls r.0 (i, omega arith, (o.0, len), small) in
+              numbers_descend F x e k own es rest n o.0 d.0 r.0 keys a.3 p (subst (λ (o : Order). HasOrder F e o) r.1 h.1) (own_is ∙ ap (λ l. tag 4 (pos o.0) ++ l) (sym elements)) len small d.1)
+          | inr m ↦ absurd (clash (F e) p m.1 (λ q. cc))
+        ]
