@@ -204,7 +204,7 @@ fn style(is_compact: bool, has_quoted_numbers: bool) -> Style
 /// many those are to `count`, which is 0 after any other code than [`YES`]. Determined: a value has at least one byte, and no others
 /// begin there, whatever bytes follow; after code 0 there are some, unless there are no bytes or no room; after 6 no first bytes are a
 /// value, and the offset is that of the fault; after 1 none are, whatever bytes follow, or without an offset the root has the empty value.
-/// Left open: code 3; code 5 for a container that breaks a rule or is ambiguous; whether more bytes help after 6; what is behind the
+/// Left open: code 3; code 5, or fewer lengths, for a container that breaks a rule or is ambiguous; whether more bytes help after 6; what is behind the
 /// first `count` lengths; the text after 1 with an offset, and after 6; the path.
 ///
 /// ```c

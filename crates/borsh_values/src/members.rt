@@ -277,7 +277,7 @@ pub enum Decoded<'a, 'b> {
 /// unambiguous, as [`crate::find_ambiguous`] says, the bytes have these nodes and no others. The own bytes of all
 /// nodes, one after another, are `bytes`, each node says where its own begin, and its definition is that of the map. There are at most `(n + 1) * (d + 1)` for
 /// `n` bytes and `d` definitions. The only error is that an allocation failed. Left open: as of [`is_member`]; a
-/// node's depth, which nothing tests.
+/// node's depth: tested.
 ///
 /// ```
 /// if let Decoded::Nodes(nodes) = decode(alloc, "Vec<u8>", &definitions, bytes)? {
