@@ -1,13 +1,11 @@
 -- What is written for many values.
 use Rattle.std.proofs.Common.{◌≡◌, ℕ, ◌+◌, inl, inr, true, false, List, [], ◌∷◌, ◌++◌, length, Option, None, Some, IfSome, Result, Ok, Err, refl, sym, ◌∙◌, ap, subst, append_assoc, append-nil}
-use Rattle.std.specs.Prelude.{Bool, IfOk, OnOk, codes}
+use Rattle.std.specs.Prelude.{Bool, OnOk, codes}
 use Rattle.std.specs.Io.KnownBytes.{Consumes, IsAtEnd}
 use Rattle.std.proofs.lemmas.List.{length_push}
-use Rattle.borsh_io.specs.Sink.{WriterModel, WriterLaws, WroteBytes, NotWrittenWhole}
-use Rattle.borsh_io.specs.declared.error.ErrorKind.{ErrorKind}
+use Rattle.borsh_io.specs.Sink.{WriterModel, WriterLaws}
 use Rattle.borsh_io.specs.Stream.{ReaderState}
-use Rattle.borsh_walks.specs.Container.{Shape, Member}
-use Rattle.borsh_values.specs.Faults.{BeginsWith}
+use Rattle.borsh_walks.specs.Container.{Shape}
 use Rattle.borsh_values.specs.Fronts.{HasNoFront}
 use Rattle.borsh_values.specs.Next.{IsFirst}
 use Rattle.borsh_values.specs.Records.{Advances, ahead, source_of, value_of}

@@ -1,4 +1,4 @@
-use Rattle.std.proofs.Common.{rules, ℕ, Bool, List, ◌≡◌, ◌++◌, [], Ok, Err, true, false, refl, sym, ap, ◌∙◌, subst}
+use Rattle.std.proofs.Common.{rules, ℕ, Bool, List, ◌≡◌, ◌++◌, Ok, Err, true, false, refl, sym, ap, subst}
 use Rattle.borsh_values.specs.Records.{held, piece, reader_of}
 use Rattle.borsh_tool_commands.specs.declared.failure.Failure.TheVariants.{OutOfMemory}
 use Rattle.borsh_tool_commands.specs.Lines.{IsFirstLine, NextLine}

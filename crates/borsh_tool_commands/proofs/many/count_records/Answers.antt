@@ -1,4 +1,4 @@
-use Rattle.std.proofs.Common.{rules, ◌≡◌, Ok, Err, true, false, refl, ap, ◌∙◌, subst}
+use Rattle.std.proofs.Common.{rules, Ok, Err, true, false, ap, ◌∙◌, subst}
 use Rattle.borsh_walks.specs.Definitions.{definitions_in}
 use Rattle.borsh_values.specs.Records.{Advances, ahead, source_of}
 use Rattle.borsh_values.specs.declared.records.RecordError.TheVariants.{NoMember, CutShort}

@@ -1,4 +1,4 @@
-use Rattle.std.proofs.Common.{rules, ℕ, List, ◌≡◌, ◌++◌, [], Ok, Err, true, false, refl, sym, ap, ◌∙◌, subst}
+use Rattle.std.proofs.Common.{rules, ℕ, List, ◌≡◌, ◌++◌, Ok, Err, true, false, refl, sym, ap, ◌∙◌, subst}
 use Rattle.borsh_walks.specs.Definitions.{definitions_in}
 use Rattle.borsh_values.specs.Next.{IsFirst}
 use Rattle.borsh_values.specs.Records.{Advances, ahead, source_of, value_of}

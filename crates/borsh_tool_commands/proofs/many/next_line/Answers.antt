@@ -1,7 +1,6 @@
-use Rattle.std.proofs.Common.{rules, ◌≡◌, true, false, Ok, IfOk, refl, subst}
+use Rattle.std.proofs.Common.{IfOk, subst}
 use Rattle.borsh_tool_commands.specs.Lines.{NextLine}
 use Rattle.borsh_tool_commands.proofs.LineLaws.{line-found, reading-begins}
-use Rattle.borsh_tool_commands.proofs.ManyLaws.{not-flushed}
 use Rattle.borsh_tool_commands.proofs.many.next_line.Goals as goal
 
 pub returns-then-len-lt-ROOM-clause-next : goal.returns-then-len-lt-ROOM-clause-next

@@ -1,5 +1,4 @@
-use Rattle.std.proofs.Common.{◌≡◌, false, subst}
-use Rattle.borsh_walks.specs.Container.{Member}
+use Rattle.std.proofs.Common.{false, subst}
 use Rattle.borsh_walks.specs.Definitions.{definitions_in}
 use Rattle.borsh_values.specs.Membership.{IsAnswer}
 use Rattle.borsh_tool_commands.proofs.Told.{no_told}

@@ -1,4 +1,4 @@
-use Rattle.std.proofs.Common.{◌≡◌, ◌++◌, ap, ◌∙◌, rules, decimal, flat_map}
+use Rattle.std.proofs.Common.{◌≡◌, ◌++◌, ap, ◌∙◌, decimal, flat_map}
 use Rattle.std.proofs.lemmas.Result.{on_ok_weaker}
 use Rattle.borsh_tool_commands.specs.Plain.{escaped}
 use Rattle.borsh_tool_commands.proofs.Told.{decimal_escaped}
