@@ -41,7 +41,7 @@ About bytes P = (c : String Global × Definitions) × (root_and_map.encoding c �
 
 -- a text that isn't stated by its bytes is cut after so many, so that there is a room in which each one fits
 abbrev pub IsShort : List ℕ → Type 0
-IsShort text = length text ≤ 65536
+IsShort text = length text ≤ 1073741824
 
 -- no container decodes from the bytes, and the text says so, and then why
 abbrev pub IsMalformed : List ℕ → List ℕ → Type 0

@@ -3,7 +3,7 @@
 //! A container is given by its encoding, as `to_vec` of a `BorshSchemaContainer` makes it. Each call returns a code (the
 //! constants of [`codes`]) and gives a text or bytes in the caller's room: their length is written to `needed`, and they are
 //! the beginning of the room if they fit; otherwise the call is made again with a larger room. `bindings/c/borsh.c` does that until they
-//! fit, and is what a C program calls. A text that isn't stated here is cut after 65,536 bytes. After code 1 the [`Place`] says where; the
+//! fit, and is what a C program calls. A text that isn't stated here is cut after 2^30 bytes. After code 1 the [`Place`] says where; the
 //! path that it names is within the text. After another code it has none.
 #![tactic(auto)]
 
