@@ -33,22 +33,27 @@ pub(crate) fn sweep<F: FnMut(Refusal) -> Result<Round, Fail>>(
     requires { F.IsAlwaysCallable round }
 {
     let mut refused = 0u32;
-    for rest in [false, true] {
-        for n in 1..MOST {
-            let refusal = if rest {
-                Refusal::Rest(n)
-            } else {
-                Refusal::One(n)
-            };
-            let came = round(refusal)?;
-            if !came.right {
-                return Err(Fail::new(format_args!("{call}, {name}: refused {refusal:?}")));
-            }
-            if !came.refused {
-                break;
-            }
-            refused = refused.saturating_add(1);
+    for n in 1..MOST {
+        let came = round(Refusal::One(n))?;
+        if !came.right {
+            return Err(Fail::new(format_args!("{call}, {name}: request {n} refused")));
         }
+        if !came.refused {
+            break;
+        }
+        refused = refused.saturating_add(1);
+    }
+    for n in 1..MOST {
+        let came = round(Refusal::Rest(n))?;
+        if !came.right {
+            return Err(Fail::new(format_args!(
+                "{call}, {name}: request {n} and all later ones refused"
+            )));
+        }
+        if !came.refused {
+            break;
+        }
+        refused = refused.saturating_add(1);
     }
     if refused > 0 {
         println!(rt; "refused {refused} {call}")?;
