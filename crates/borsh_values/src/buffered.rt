@@ -78,7 +78,7 @@ impl<R: Read + Drop> Buffered<R> {
 
     /// Reads more bytes, which are held behind the others, and returns how many: none at the end of the reader's bytes.
     ///
-    /// After an error the bytes that were held are held still: the reader failed, or an allocation did, with nothing read. Left open:
+    /// After an error the bytes that were held are held still: the reader failed, or an allocation did. Left open:
     /// how many are read; memory.
     ///
     /// ```

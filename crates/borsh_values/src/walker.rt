@@ -55,9 +55,9 @@ impl<'a, 'l, 'b> Walker<'a, 'l, 'b> {
     /// bytes, a sequence its count and its elements if these are primitives of some bytes, an enum its tag, a struct and a
     /// tuple none. The node has the depth that is passed.
     ///
-    /// There is none where no value of the name begins there, or its definition is one of [`crate::Membership::Ambiguous`],
-    /// and then the bytes that are left stay. The only error is that an allocation failed: only the table of an enum of many
-    /// variants needs one. After an error the walk isn't to be used. Left open: memory.
+    /// There is none where no value of the name begins there, or its definition is one of [`crate::Membership::Ambiguous`].
+    /// The only error is that an allocation failed: only the table of an enum of many variants needs one. After an error the
+    /// walk isn't to be used. Left open: memory; which bytes are left where there is none.
     ///
     /// ```
     /// let node = walk.open(0, 0)?;

@@ -1,5 +1,5 @@
 -- What the reader and the writer for tests mean.
-use Rattle.std.specs.Prelude.{◌≡◌, ℕ, List, [], ◌++◌, length, Some, true, ◌==◌}
+use Rattle.std.specs.Prelude.{◌≡◌, ℕ, List, ◌++◌, length, Some, true, ◌==◌}
 use Rattle.std.proofs.Common.{sym, ◌∙◌, ap, append-nil, append_assoc}
 use Rattle.borsh.specs.Stream.{ReaderState}
 use Rattle.borsh.specs.Sink.{WriterModel, WriterLaws}
