@@ -61,9 +61,9 @@ module _ (F : List ℕ → Option Form) where
 
   -- ---- lists of numbers
   -- a set of primitives whose own bytes are its elements, too
-  pub numbers_descend : (x e k own es rest : List ℕ) (n c i : ℕ) (signed : Bool) → HasKeys F x e k → IsOrdered F k → F e ≡ Some (primitive (suc n)) → HasOrder F e (numbers (suc n) signed) → own ≡ tag 4 (pos c) ++ es → length es ≡ c * suc n → All (λ b. b < 256) es → NumbersDescend (suc n) signed es i → HasDescent F x (own ++ rest)
-  numbers_descend x e k own es rest n c i signed (l, inr m) o f h w len small d = absurd (clash (F e) f m.1 (λ q. cc))
-  numbers_descend x e k own es rest n c i signed (l, inl s) o f h w len small d =
+  pub numbers_descend : (x e k own es rest : List ℕ) (n c i : ℕ) (signed : Bool) → HasKeys F x e k → IsOrdered F k → F e ≡ Some (primitive (suc n)) → HasOrder F e (numbers (suc n) signed) → own ≡ tag 4 (pos c) ++ es → length es ≡ c * suc n → All (λ b. b < 256) es → c ≤ 4294967295 → NumbersDescend (suc n) signed es i → HasDescent F x (own ++ rest)
+  numbers_descend x e k own es rest n c i signed (l, inr m) o f h w len small fits d = absurd (clash (F e) f m.1 (λ q. cc))
+  numbers_descend x e k own es rest n c i signed (l, inl s) o f h w len small fits d =
       let first = tag (suc n) d.y in
       let second = tag (suc n) d.z in
       let P : ℕ → Type 0 = λ b. b < 256 in
@@ -89,6 +89,7 @@ module _ (F : List ℕ → Option Form) where
         known = o;
         bytes_are = ap (λ l. l ++ rest) (w ∙ ap (λ l. tag 4 (pos c) ++ l) d.bytes_are) ∙ append_assoc (tag 4 (pos c)) (d.before ++ (first ++ (second ++ d.after))) rest
             ∙ ap (λ l. tag 4 (pos c) ++ l) (append_assoc d.before (first ++ (second ++ d.after)) rest ∙ ap (λ l. d.before ++ l) (append_assoc first (second ++ d.after) rest ∙ ap (λ l. first ++ l) (append_assoc second d.after rest)));
+        fits = fits;
         more = two_more (i - 1) c n (length d.after) (omega (arith, a, b, g, p, q, t, len));
         elements = copies_of (shapes F) n (i - 1) d.before (shaped (F e) f) d.passed (all_left P d.before (first ++ (second ++ d.after)) all);
         element = of_primitive (shaped (F e) f ∙ ap (λ m. Some (shape.primitive m)) (sym p)) (all_left P first (second ++ d.after) behind);

@@ -86,7 +86,7 @@ module _ (d : Definitions) (w : Writing) (p : Place) (a : IsWritingAt d w p) (z 
   l = last_part C d.layout.now.root.now i a.mark.1 starts (subst (λ (xs : List (List ℕ)). Nested C d.layout.now.root.now (opened a.mark.0 a.mark.1 xs ∷ a.state.outer) a.state.done) names a.state.nested)
 
   -- the elements that are read, and the next one
-  listed : (count : ℕ) × (l.partly.own ≡ tag 4 (pos count)) × (l.partly.read ≡ replicate (length l.partly.read) e) × (l.part ∷ z ∷ zs ≡ replicate (suc (suc (length zs))) e) × (count ≡ length l.partly.read + suc (suc (length zs)))
+  listed : (count : ℕ) × (l.partly.own ≡ tag 4 (pos count)) × (l.partly.read ≡ replicate (length l.partly.read) e) × (l.part ∷ z ∷ zs ≡ replicate (suc (suc (length zs))) e) × (count ≡ length l.partly.read + suc (suc (length zs))) × (count ≤ 4294967295)
   listed =
       let t = l.partly in
       let c : C a.mark.0 ≡ Some (sequence 4 0 4294967295 e) = ap (λ (o : Option Form). option_map shape_of_form o) order.1.0 in
@@ -95,7 +95,7 @@ module _ (d : Definitions) (w : Writing) (p : Place) (a : IsWritingAt d w p) (z 
       let o = subst (λ (s : Shape). Opens C s t.own (t.read ++ l.part ∷ z ∷ zs)) s t.opens in
       let u = unpacked (packed_size (C e)) e o.0 o.1 t.read (z ∷ zs) l.part o.5 in
       let v = parted o.0 e t.read (l.part ∷ z ∷ zs) u.1 in
-      (o.0, o.4 ∙ ap (λ b. tag 4 (pos o.0) ++ b) u.0 ∙ append-nil (tag 4 (pos o.0)), v.0, v.1, v.2)
+      (o.0, o.4 ∙ ap (λ b. tag 4 (pos o.0) ++ b) u.0 ∙ append-nil (tag 4 (pos o.0)), v.0, v.1, v.2, o.3)
 
   part_is : l.part ≡ e
   part_is = let q : l.part ∷ z ∷ zs ≡ e ∷ e ∷ replicate (length zs) e = listed.3 in cc
@@ -146,6 +146,7 @@ module _ (d : Definitions) (w : Writing) (p : Place) (a : IsWritingAt d w p) (z 
         keys = order.1;
         known = order.3;
         bytes_are = ap (λ b. b ++ (t.mid ++ (l.bytes ++ left))) listed.1;
+        fits = listed.5;
         more = m;
         elements = subst (λ xs. Members C xs t.mid) listed.2 t.members;
         element = element;

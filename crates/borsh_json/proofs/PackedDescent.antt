@@ -1,5 +1,5 @@
 -- Sets of primitives that don't ascend.
-use Rattle.std.proofs.Common.{◌≡◌, inl, inr, ℕ, suc, ◌<◌, List, ◌++◌, length, drop, Bool, Option, Some, refl, sym, ◌∙◌, ap, subst, arith}
+use Rattle.std.proofs.Common.{◌≡◌, inl, inr, ℕ, suc, ◌<◌, ◌≤◌, List, ◌++◌, length, drop, Bool, Option, Some, refl, sym, ◌∙◌, ap, subst, arith}
 use Rattle.std.specs.Prelude.{pos, All}
 use Rattle.borsh_walks.specs.Container.{tag}
 use Rattle.borsh_values.specs.Nodes.{packed_size, OpensElements, Opens, AreElementsOf}
@@ -49,6 +49,7 @@ module _ (F : List ℕ → Option Form) (ns : List Named) where
         let g : Some (sequence w lo hi e) ≡ Some (sequence 4 0 4294967295 a.0) = sym s ∙ a.1.0 in
         let q : a.0 ≡ e = cc in
         let v : w ≡ 4 = cc in
+        let top : hi ≡ 4294967295 = cc in
         let size : packed_size (shapes F e) ≡ suc n = ap (λ o. packed_size o) (shaped (F e) p) in
         let f : OpensElements (suc n) e o.0 o.1 qs = subst (λ m. OpensElements m e o.0 o.1 qs) size o.5 in
         let keys = subst (λ e. HasKeys F x e k) q a.1 in
@@ -61,6 +62,6 @@ module _ (F : List ℕ → Option Form) (ns : List Named) where
               let len = ap (λ l. length l) elements ∙ f.0 in
               let small = subst (λ l. All (λ b. b < 256) l) (sym elements) f.1 in
               let d = falls r.0 (i, omega arith, (o.0, len), small) in
-              numbers_descend F x e k own es rest n o.0 d.0 r.0 keys a.3 p (subst (λ (o : Order). HasOrder F e o) r.1 h.1) (own_is ∙ ap (λ l. tag 4 (pos o.0) ++ l) (sym elements)) len small d.1)
+              numbers_descend F x e k own es rest n o.0 d.0 r.0 keys a.3 p (subst (λ (o : Order). HasOrder F e o) r.1 h.1) (own_is ∙ ap (λ l. tag 4 (pos o.0) ++ l) (sym elements)) len small (subst (λ hi. o.0 ≤ hi) top o.3) d.1)
           | inr m ↦ absurd (clash (F e) p m.1 (λ q. cc))
         ]

@@ -27,7 +27,7 @@ module _ (F : List ℕ → Option Form) where
   abbrev pub HasKeys : List ℕ → List ℕ → List ℕ → Type 0
   HasKeys x e k = IsList F x e × ((IsSetName x e × (k ≡ e)) ⊎ ((v : List ℕ) × (F e ≡ Some (tuple (k ∷ v ∷ []))) × IsMapName x k v))
 
-  -- the bytes begin with a value of the set or map x, the order of whose keys is known; behind some elements come two more, of which the key of the second isn't above that of the first
+  -- the bytes begin with a value of the set or map x, the order of whose keys is known. It has at most as many elements as four bytes can say; behind some of them come two more, of which the key of the second isn't above that of the first
   pub record HasDescent (x bytes : List ℕ) : Type 0 where
     pub e : List ℕ
     pub k : List ℕ
@@ -40,6 +40,7 @@ module _ (F : List ℕ → Option Form) where
     pub keys : HasKeys x e k
     pub known : IsOrdered F k
     pub bytes_are : bytes ≡ tag 4 (pos count) ++ (middle ++ (first ++ after))
+    pub fits : count ≤ 4294967295
     pub more : suc (suc passed) ≤ count
     pub elements : Members (shapes F) (replicate passed e) middle
     pub element : Member (shapes F) e first
