@@ -13,8 +13,8 @@ use Rattle.borsh_json.specs.declared.order.Ascent.{Ascent}
 use Rattle.borsh_json.specs.declared.order.Ordered.{Ordered}
 use Rattle.borsh_json.specs.Descents.{NumbersDescend}
 use Rattle.borsh_json.specs.Forms.{Form, sequence, shapes}
-use Rattle.borsh_json.specs.Frames.{AddsList, AddsOrFalls, DeniesOr, DeniesRead, ElementsFall, FallsFirst}
-use Rattle.borsh_json.specs.NoValue.{HasNeighbours}
+use Rattle.borsh_json.specs.Frames.{AddsList, AddsOrFalls, DeniesOr, DeniesRead, ElementsFall}
+use Rattle.borsh_json.specs.NoValue.{FallsFirst, HasNeighbours}
 use Rattle.borsh_json.specs.Orders.{AreOrderedNumbers, HasKeyOrder}
 use Rattle.borsh_json.specs.Table.{Lengths, Kind, byte_list, HasKind, IsHex, IsPrefixed, list_parts, Says}
 use Rattle.borsh_json.specs.Writes.{AscendsFrom}

@@ -19,7 +19,7 @@ use Rattle.borsh_json.specs.declared.position.Place.{Place}
 use Rattle.borsh_json.specs.Forms.{Form, choice, shape_of_form, shapes, HasNoBytes}
 use Rattle.borsh_json.specs.Leaves.{IsOpenedAs, WritesLeaf}
 use Rattle.borsh_json.specs.Places.{IsAt, IsKindOf}
-use Rattle.borsh_json.specs.Reads.{SaysFirst}
+use Rattle.borsh_json.specs.Represents.{SaysFirst}
 use Rattle.borsh_json.specs.Table.{HasKind, optional, variants, IsVariant}
 use Rattle.borsh_json.specs.Writes.{members_rest, value_rest, BeginsAt, IsWrittenAs, WritesValue}
 use Rattle.borsh_json.proofs.BegunLaws.{value_begun}

@@ -20,7 +20,7 @@ use Rattle.borsh_json.specs.Frames.{HaveOneEach}
 use Rattle.borsh_json.specs.Table.{Keys, texts, numbers, Part, field_parts, Entry, entries_of, key_order}
 use Rattle.borsh_json.proofs.FrameLaws.{length_map}
 use Rattle.borsh_json.proofs.MemberLaws.{or_true}
-use Rattle.borsh_json.proofs.StepLaws.{mapped}
+use Rattle.borsh_json.proofs.ReaderLaws.{mapped}
 
 -- ---- keys that ascend
 abbrev same_key : Entry → Entry → Bool

@@ -33,7 +33,7 @@ use Rattle.borsh_json.specs.Frames.{IsOf}
 use Rattle.borsh_json.specs.Leaves.{IsOpenedAs}
 use Rattle.borsh_json.specs.Orders.{KeysAscend, HasKeyOrder, OrderedBy, ValuesCompare, KindHasOrder, AreOrderedNumbers, IsElementFall}
 use Rattle.borsh_json.specs.Places.{IsAt, AreKeysOf, IsKindOf, IsListOf, lengths_of}
-use Rattle.borsh_json.specs.Reads.{SaysFirst}
+use Rattle.borsh_json.specs.Represents.{SaysFirst}
 use Rattle.borsh_json.specs.Table.{Lengths, Keys, byte_list, list, entries, AreKeys, HasKind, key_json, key_order}
 use Rattle.borsh_json.specs.Writes.{IsFullOrFalls, TellsAscent, names_of_rest, names_of_all, opened, Nested, IsLast, IsAbove, IsMapOf, IsLastKey, IsWritingAt}
 use Rattle.borsh_json.proofs.FormKinds.{form_found, form_known}

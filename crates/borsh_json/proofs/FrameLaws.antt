@@ -1,5 +1,5 @@
 -- What is left of a frame, part by part.
-use Rattle.std.proofs.Common.{◌≡◌, ℕ, suc, zero, ◌+◌, ◌<◌, ◌≤◌, List, [], ◌∷◌, length, map, drop, get_or, false, Option, Some, None, refl, sym, ◌∙◌, ap, subst, arith, string_bytes}
+use Rattle.std.proofs.Common.{◌≡◌, ℕ, suc, zero, ◌+◌, ◌<◌, ◌≤◌, List, [], ◌∷◌, ◌++◌, length, map, take, drop, get_or, false, Option, Some, None, refl, sym, ◌∙◌, ap, subst, arith, append_assoc, append-nil, string_bytes}
 use Rattle.std.specs.Prelude.{slice_get, MatchOption, String, Vec, cond, is_some, if◌then◌else◌}
 use Rattle.std.specs.Borrow.{Bor}
 use Rattle.std.specs.Global.{Global}
@@ -21,10 +21,11 @@ use Rattle.borsh_json.specs.declared.kinds.KeyKind.TheVariants.{Text as TextKeys
 use Rattle.borsh_json.specs.declared.position.Key.TheVariants.{None as NoKey, Name}
 use Rattle.borsh_json.specs.declared.position.Part.{Part}
 use Rattle.borsh_json.specs.declared.position.Parts.TheVariants.{Row, Object}
+use Rattle.borsh_json.specs.declared.position.Place.{Place}
 use Rattle.borsh_json.specs.declared.sources.EntryKey.TheVariants.{Text as TextKey}
 use Rattle.borsh_json.specs.declared.sources.Source.TheVariants.{Members as TheMembers, Entries as InPlace}
 use Rattle.borsh_json.specs.Forms.{Form, named, shape_of_form}
-use Rattle.borsh_json.specs.Frames.{Wanted, IsWanted, IsKey, AreFound, HasFields, HasEntries, IsEntryKey}
+use Rattle.borsh_json.specs.Frames.{steps_at, steps_through, Wanted, IsWanted, IsKey, AreFound, HasFields, HasEntries, IsEntryKey}
 use Rattle.borsh_json.specs.Places.{IsAt}
 use Rattle.borsh_json.specs.Table.{Entry, entries_of}
 
@@ -90,6 +91,14 @@ module _ (F : List ℕ → Option Form) (ns : List Named) where
       let s : suc i ≡ i + 1 = omega arith in
       let second : Wanted → List ℕ = λ f. f.1 in
       (f a, drop (suc i) all, w.3 ∙ drop_at all i (f a) here, g w.0 (string_bytes a.1) (named all) w.1 w.2 (get_map second all i (f a) here), (key, refl, k), (w.0, w.1, w.2, ap (λ k. drop k all) s))
+
+-- ---- the steps through the first of several places
+pub steps_taken : (ps : List Place) (i : ℕ) (p : Place) → i < length ps → p ≡ get_or ps i p → steps_through (take (i + 1) ps) ≡ steps_through (take i ps) ++ steps_at p
+steps_taken [] i p h e = absurd (omega (arith, h))
+steps_taken (q ∷ ps) zero p h e = append-nil (steps_at q) ∙ ap (λ (p : Place). steps_at p) (sym e)
+steps_taken (q ∷ ps) (suc i) p h e =
+    let n : suc i + 1 ≡ suc (i + 1) = omega arith in
+    ap (λ n. steps_through (take n (q ∷ ps))) n ∙ ap (λ l. steps_at q ++ l) (steps_taken ps i p (omega (arith, h)) e) ∙ sym (append_assoc (steps_at q) (steps_through (take i ps)) (steps_at p))
 
 -- ---- fields
 found_still : (m n : BTreeMap (Bor (List ℕ)) (List Token)) (name : List ℕ) (ms : Members) → ((q : List ℕ) → mark_of n q ≡ cond (bytes_eq name q) None (mark_of m q)) → (fs : List Wanted) → AllByRecursion (λ y. bytes_eq name y ≡ false) (map (λ (f : Wanted). f.0) fs) → AreFound m fs ms → AreFound n fs ms

@@ -24,7 +24,7 @@ use Rattle.borsh_json.proofs.FormKinds.{form_found}
 use Rattle.borsh_json.proofs.FrameLaws.{length_map}
 use Rattle.borsh_json.proofs.NullLaws.{may_be_null}
 use Rattle.borsh_json.proofs.OpeningLaws.{list_row, list_length, row_fits, some_one}
-use Rattle.borsh_json.proofs.StepLaws.{field_back}
+use Rattle.borsh_json.proofs.ReaderLaws.{field_back}
 
 -- ---- the parts of what follows
 pub copies : {A : Type 0} (n : ℕ) (x : A) → length (replicate n x) ≡ n

@@ -8,7 +8,7 @@ use Rattle.borsh_json.specs.declared.error.ReadError.{ReadError}
 use Rattle.borsh_json.specs.declared.numbers.Number.{Number}
 use Rattle.borsh_json.specs.Forms.{Form}
 use Rattle.borsh_json.specs.Frames.{DeniesRead}
-use Rattle.borsh_json.specs.Reads.{SaysFirst, SaysSome}
+use Rattle.borsh_json.specs.Represents.{SaysFirst, SaysSome}
 use Rattle.borsh_json.specs.Table.{Lengths, Keys, texts, numbers, HasKind, utf8, whole, IsNumber, IsPrefixed, IsWhole, key_json}
 use Rattle.borsh_json.proofs.OpeningLaws.{said, denies_read, one_string}
 

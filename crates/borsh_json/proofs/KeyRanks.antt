@@ -11,7 +11,7 @@ use Rattle.borsh_json.specs.declared.kinds.KeyKind.TheVariants.{Text as TextKeys
 use Rattle.borsh_json.specs.Forms.{Form, sequence}
 use Rattle.borsh_json.specs.Ordered.{a_value, Compare}
 use Rattle.borsh_json.specs.Places.{AreKeysOf}
-use Rattle.borsh_json.specs.Reads.{SaysFirst}
+use Rattle.borsh_json.specs.Represents.{SaysFirst}
 use Rattle.borsh_json.specs.Table.{Lengths, Keys, texts, numbers, AreKeys, a_text, HasKind, utf8, whole, InRange, Says, key_json, key_order}
 use Rattle.borsh_json.proofs.DescentLaws.{numbers_compare, texts_compare}
 use Rattle.borsh_json.proofs.FoundLaws.{full_list}

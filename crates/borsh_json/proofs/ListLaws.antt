@@ -23,8 +23,7 @@ use Rattle.borsh_json.specs.Forms.{Form, primitive, sequence, tuple, newtype, un
 use Rattle.borsh_json.specs.Leaves.{Adds, HasSize, IsOpenedAs, RefusesElement, RefusesLeaf, WritesLeaf, output_before, output_tokens}
 use Rattle.borsh_json.specs.NoJson.{IsNoJson}
 use Rattle.borsh_json.specs.Places.{IsAt, IsKindOf, IsListOf, lengths_of}
-use Rattle.borsh_json.specs.Reads.{SaysFirst}
-use Rattle.borsh_json.specs.Represents.{HaveBytes, next_part}
+use Rattle.borsh_json.specs.Represents.{SaysFirst, HaveBytes, next_part}
 use Rattle.borsh_json.specs.Table.{Lengths, Kind, no_bytes, truth, whole, float, raw, utf8, byte_list, list, row, inner, fields, optional, variants, entries, a_text, some_bytes, an_object, some_elements, nullable, by_name, primitive_kind, DefinedKind, HasKind, IsHex, IsPrefixed, Part, Says, list_parts}
 use Rattle.borsh_json.proofs.FormsLaws.{shape_is}
 use Rattle.borsh_json.proofs.FoundLaws.{full_primitive}

@@ -1,13 +1,16 @@
 -- The reader's next part.
-use Rattle.std.proofs.Common.{◌≡◌, ℕ, suc, List, [], ◌∷◌, ◌++◌, length, map, Option, Some, None, refl, sym, ◌∙◌, ap, subst, arith}
-use Rattle.std.specs.Prelude.{MatchOption, Result, Ok, Err, MatchResult}
+use Rattle.std.proofs.Common.{◌≡◌, inl, inr, ℕ, suc, zero, ◌+◌, ◌-◌, ◌<◌, List, [], ◌∷◌, ◌++◌, length, map, Option, Some, None, refl, sym, ◌∙◌, ap, subst, arith, append_assoc, append-nil, length-append}
+use Rattle.std.specs.Prelude.{is_some, true, MatchOption, Result, Ok, Err, MatchResult, slice_get}
 use Rattle.std.specs.Borrow.{Bor}
+use Rattle.std.specs.Str.{bytes_eq}
+use Rattle.std.specs.List.{IsDistinct}
 use Rattle.json.specs.Token.{Token}
-use Rattle.json.specs.Json.{Json, Items, no_items, item, Members}
+use Rattle.json.specs.Json.{Json, object, Items, no_items, item, Members}
 use Rattle.json.specs.Find.{BeginsWith, get_member}
 use Rattle.borsh_values.specs.declared.layout.Named.{Named}
 use Rattle.borsh_json.specs.declared.error.ReadError.{ReadError}
 use Rattle.borsh_json.specs.declared.kinds.Entries.{Entries as FoundEntries}
+use Rattle.borsh_json.specs.declared.order.Ascent.{Ascent}
 use Rattle.borsh_json.specs.declared.parts.Next.{Next}
 use Rattle.borsh_json.specs.declared.parts.Next.TheVariants.{Part, Missing, End}
 use Rattle.borsh_json.specs.declared.position.Key.{Key}
@@ -18,13 +21,14 @@ use Rattle.borsh_json.specs.declared.position.Part.{Part as FoundPart}
 use Rattle.borsh_json.specs.declared.position.Place.{Place}
 use Rattle.borsh_json.specs.declared.sources.Source.{Source}
 use Rattle.borsh_json.specs.Forms.{Form, form_of}
-use Rattle.borsh_json.specs.Frames.{DeniesRead, Wanted, IsWanted, IsObject, IsMapPlace, IsKey, HasItems, HasFields, HasEntries, AreEntriesOf, HasLeft, IsNext, IsNextEntry}
+use Rattle.borsh_json.specs.Frames.{DeniesRead, name_step, first_steps, last_steps, steps_at, Left, items_left, fields_left, entries_left, Wanted, IsWanted, IsListPlace, IsObject, IsMapPlace, IsKey, HasItems, HasFields, HasEntries, NoneLeft, AreEntriesOf, HasLeft, SaysOn, IsPlaceOf, IsPlaceIn, IsDoing, SaysAll, IsNext, DeniesKey, IsNextEntry}
+use Rattle.borsh_json.specs.NoValue.{Step, field as field_step, place as place_step, element as element_step, AreSteps, BeginsParts, LacksField, HasNeighbours}
 use Rattle.borsh_json.specs.Places.{IsAt, AreKeysOf}
-use Rattle.borsh_json.specs.Reads.{Left, items_left, fields_left, entries_left, PartsOfAll, Before, SaysFirst, SaysSome, AreRead}
-use Rattle.borsh_json.specs.Table.{Keys, Part as JsonPart, row_parts, Entry, key_json}
-use Rattle.borsh_json.proofs.ReaderLaws.{front_says}
-use Rattle.borsh_json.proofs.StepLaws.{taken, item_front, item_back, field_taken, field_missing, entry_read, read_leaf, part_left}
-use Rattle.borsh_json.proofs.OpeningLaws.{leaf, denies_read}
+use Rattle.borsh_json.specs.Represents.{SaysFirst, HaveBytes, none_left, next_part, SaysSome}
+use Rattle.borsh_json.specs.Table.{Keys, Kind, inner, fields, entries, HasKind, Part as JsonPart, row_parts, field_parts, Entry, entries_of, key_json, entry_parts, Says}
+use Rattle.borsh_json.proofs.ReaderLaws.{uncons, object_one, fields_joined, fields_count}
+use Rattle.borsh_json.proofs.RepresentsLaws.{kind_one}
+use Rattle.borsh_json.proofs.StepLaws.{item_front, items_end, entries_end, fields_end, no_row, no_entries}
 
 -- a key that isn't that of an entry is of no map
 no_map : (p : Parts) (key : Key) (f : List ℕ) → ((es : FoundEntries) → key ≡ EntryOf es → ⊥) → IsKey p key f → IsMapPlace p → ⊥
@@ -60,61 +64,6 @@ field_is (Variant v at) key f field n o k = absurd o
 
 no_rows : (x : List ℕ) (xs : List (List ℕ)) (ps : List JsonPart) → row_parts (x ∷ xs) no_items ≡ Some ps → ⊥
 no_rows x xs ps e = cc
-
-module _ (F : List ℕ → Option Form) (ns : List Named) (root : List ℕ) (j : Json) (out : List ℕ) where
-  item_next : (q : Place) (t : Source) (at : ℕ) (e : List Token) (w : Wanted) (rest : List Wanted) (xs : List (List ℕ)) (js jrest : Items) (i : Json) (ps : List JsonPart) (ls : List Left) → IsAt ns at w.1 → BeginsWith e i → IsWanted F ns q.parts q.begun rest → xs ≡ w.1 ∷ map (λ (w : Wanted). w.1) rest → js ≡ item i jrest → HasItems t jrest → row_parts xs js ≡ Some ps → (IsMapPlace q.parts → ⊥) → AreRead F root j out (PartsOfAll (items_left xs js ∷ ls)) → IsNext F ns root j ls q t out (Part at e)
-  item_next q t at e w rest xs js jrest i ps ls a b wanted ex ej h g n r =
-      let ys = map (λ (w : Wanted). w.1) rest in
-      let g1 = subst (λ (l : List (List ℕ)). row_parts l js ≡ Some ps) ex g in
-      let g2 = subst (λ (k : Items). row_parts (w.1 ∷ ys) k ≡ Some ps) ej g1 in
-      let r1 = subst (λ (l : List (List ℕ)). AreRead F root j out (PartsOfAll (items_left l js ∷ ls))) ex r in
-      let r2 = subst (λ (k : Items). AreRead F root j out (PartsOfAll (items_left (w.1 ∷ ys) k ∷ ls))) ej r1 in
-      let m = item_front w.1 ys i jrest ps g2 in
-      (w.1, i, items_left ys jrest, a, b, (rest, wanted, refl, h, m.0, m.1, n), taken F root j w.1 i (items_left (w.1 ∷ ys) (item i jrest)) (items_left ys jrest) ls (λ c d. item_front w.1 ys i jrest c d) (λ c d. item_back w.1 ys i jrest c d) r2)
-
-  module _ (p q : Place) (s t : Source) (part : FoundPart) (field : List ℕ)
-      (wanted : (ws : List Wanted) → IsWanted F ns p.parts p.begun ws → (w : Wanted) × (rest : List Wanted) × (ws ≡ w ∷ rest) × IsAt ns part.at w.1 × IsKey p.parts part.key w.0 × IsWanted F ns q.parts q.begun rest)
-      (same : q.parts ≡ p.parts)
-      (name : (name : Bor (List ℕ)) → part.key ≡ Name name → field ≡ name.now)
-      (single : (es : FoundEntries) → part.key ≡ EntryOf es → ⊥) where
-    pub part_next : (o : Option (List Token)) (n : Next)
-        → ((js : Items) → HasItems s js → MatchOption o (js ≡ no_items) (λ e. (i : Json) × (rest : Items) × (js ≡ item i rest) × BeginsWith e i × HasItems t rest))
-        → ((f : Wanted) (fs : List Wanted) (ms : Members) (c : ℕ) → HasFields s (f ∷ fs) ms c → field ≡ f.0 → MatchOption o (get_member f.0 ms ≡ None) (λ e. (i : Json) × (m : ℕ) × (get_member f.0 ms ≡ Some i) × BeginsWith e i × (c ≡ suc m) × HasFields t fs ms m))
-        → MatchOption o (n ≡ Missing) (λ e. n ≡ Part part.at e)
-        → (l : Left) (ls : List Left) → HasLeft F ns p.parts p.begun s l → AreRead F root j out (PartsOfAll (l ∷ ls)) → IsNext F ns root j ls q t out n
-    part_next None n items fields found (items_left xs js) ls h r =
-        let w = wanted h.0 h.1 in
-        let e : xs ≡ w.0.1 ∷ map (λ (w : Wanted). w.1) w.1 = h.2 ∙ ap (λ l. map (λ (w : Wanted). w.1) l) w.2 in
-        let g1 = subst (λ (l : List (List ℕ)). row_parts l js ≡ Some h.4) e h.5 in
-        let g2 = subst (λ (k : Items). row_parts (w.0.1 ∷ map (λ (w : Wanted). w.1) w.1) k ≡ Some h.4) (items js h.3) g1 in
-        absurd (no_rows w.0.1 (map (λ (w : Wanted). w.1) w.1) h.4 g2)
-    part_next (Some e) n items fields found (items_left xs js) ls h r =
-        let w = wanted h.0 h.1 in
-        let k : xs ≡ w.0.1 ∷ map (λ (w : Wanted). w.1) w.1 = h.2 ∙ ap (λ l. map (λ (w : Wanted). w.1) l) w.2 in
-        let m = items js h.3 in
-        subst (λ (n : Next). IsNext F ns root j ls q t out n) (sym found) (item_next q t part.at e w.0 w.1 xs js m.1 m.0 h.4 ls w.3 m.3 w.5 k m.2 m.4 h.5 (λ z. h.6 (subst IsMapPlace same z)) r)
-    part_next None n items fields found (fields_left fs ms c) ls h r =
-        let w = wanted fs h.1 in
-        let f = field_is p.parts part.key w.0.0 field name h.0 w.4 in
-        let g = fields w.0 w.1 ms c (subst (λ (l : List Wanted). HasFields s l ms c) w.2 h.2) f in
-        subst (λ (n : Next). IsNext F ns root j ls q t out n) (sym found) (field_missing F root j {out = out} w.1 ms ls w.0 c g (subst (λ (l : List Wanted). AreRead F root j out (PartsOfAll (fields_left l ms c ∷ ls))) w.2 r))
-    part_next (Some e) n items fields found (fields_left fs ms c) ls h r =
-        let w = wanted fs h.1 in
-        let f = field_is p.parts part.key w.0.0 field name h.0 w.4 in
-        let g = fields w.0 w.1 ms c (subst (λ (l : List Wanted). HasFields s l ms c) w.2 h.2) f in
-        subst (λ (n : Next). IsNext F ns root j ls q t out n) (sym found) (w.0.1, g.0, fields_left w.1 ms g.1, w.3, g.3, (subst IsObject (sym same) h.0, w.5, g.5), field_taken F root j {out = out} w.1 ms ls w.0 g.0 c g.1 g.2 g.4 (subst (λ (l : List Wanted). AreRead F root j out (PartsOfAll (fields_left l ms c ∷ ls))) w.2 r))
-    part_next o n items fields found (entries_left keys k v es) ls h r =
-        let w = wanted h.0 h.1 in
-        absurd (no_map p.parts part.key w.0.0 single w.4 (map_place F ns p.parts s keys k v es h.3))
-
--- ---- entries
-module _ (F : List ℕ → Option Form) (ns : List Named) (root : List ℕ) (j : Json) where
-  -- the key was added
-  pub key_added : (keys : Keys) (k v t own : List ℕ) (i : Json) (rest : List Entry) (ls : List Left) (out : List ℕ) → SaysFirst F k (key_json keys t) own [] → AreRead F root j out (PartsOfAll (entries_left keys k v ((t, i) ∷ rest) ∷ ls)) → AreRead F root j (out ++ own) (Before (v, i) (PartsOfAll (entries_left keys k v rest ∷ ls)))
-  key_added keys k v t own i rest ls out s r = read_leaf F root j k (key_json keys t) out own (Before (v, i) (PartsOfAll (entries_left keys k v rest ∷ ls))) (part_left (v, i) (PartsOfAll (entries_left keys k v rest ∷ ls))) (leaf F ns k (key_json keys t) s.0 own s.1 s.2) (entry_read F root j keys k v t i rest ls r)
-
-  pub key_denied : (e : ReadError) (keys : Keys) (k v t : List ℕ) (i : Json) (rest : List Entry) (ls : List Left) (out : List ℕ) → DeniesRead e (SaysSome F k (key_json keys t)) → AreRead F root j out (PartsOfAll (entries_left keys k v ((t, i) ∷ rest) ∷ ls)) → DeniesRead e (SaysSome F root j)
-  key_denied e keys k v t i rest ls out d r = denies_read e (front_says F root j k (key_json keys t) out (Before (v, i) (PartsOfAll (entries_left keys k v rest ∷ ls))) (entry_read F root j keys k v t i rest ls r)) d
 
 -- the key of an entry is of a map
 of_map : (p : Parts) (key : Key) (f : List ℕ) (m : FoundEntries) → key ≡ EntryOf m → IsKey p key f → IsMapPlace p
@@ -159,30 +108,251 @@ no_length w rest ws es e l z = let a = ap (λ (l : List Wanted). length l) e in 
 fewer : (w : Wanted) (rest ws : List Wanted) (e : Entry) (more es : List Entry) → ws ≡ w ∷ rest → length ws ≡ length es → es ≡ e ∷ more → length rest ≡ length more
 fewer w rest ws e more es p l q = let a = ap (λ (l : List Wanted). length l) p in let b = ap (λ (l : List Entry). length l) q in omega (arith, a, b, l)
 
-module _ (F : List ℕ → Option Form) (ns : List Named) (root : List ℕ) (j : Json) (out new : List ℕ) (p q : Place) (s t : Source) (part : FoundPart) (m : FoundEntries)
-    (wanted : (ws : List Wanted) → IsWanted F ns p.parts p.begun ws → (w : Wanted) × (rest : List Wanted) × (ws ≡ w ∷ rest) × IsAt ns part.at w.1 × IsKey p.parts part.key w.0 × IsWanted F ns q.parts q.begun rest)
-    (same : q.parts ≡ p.parts)
-    (key : part.key ≡ EntryOf m) where
-  -- the next entry of a map
-  pub entry_next : (r : Result Next ReadError)
-      → ((keys : Keys) (k v : List ℕ) (es : List Entry) (ls : List Left) → IsAt ns m.value v → AreKeysOf F ns k (form_of m.key_definition.now) m.key_kind keys → HasEntries m.key_kind s es → AreRead F root j out (PartsOfAll (entries_left keys k v es ∷ ls)) → MatchResult r (λ n. IsNextEntry F ns root j keys k v es ls m.key_kind t new n) (λ e. DeniesRead e (SaysSome F root j)))
-      → (l : Left) (ls : List Left) → HasLeft F ns p.parts p.begun s l → AreRead F root j out (PartsOfAll (l ∷ ls)) → MatchResult r (λ n. IsNext F ns root j ls q t new n) (λ e. DeniesRead e (SaysSome F root j))
-  entry_next r g (items_left xs js) ls h a = let w = wanted h.0 h.1 in absurd (h.6 (of_map p.parts part.key w.0.0 m key w.4))
-  entry_next r g (fields_left fs ms c) ls h a = let w = wanted fs h.1 in absurd (object_or_map p.parts h.0 (of_map p.parts part.key w.0.0 m key w.4))
-  entry_next (Err e) g (entries_left keys k v es) ls h a =
-      let w = wanted h.0 h.1 in
-      let z = entries_here F ns p.parts part.key w.0.0 m s keys k v es key w.4 h.3 in
-      g keys k v es ls z.1 z.2 z.3 a
-  entry_next (Ok Missing) g (entries_left keys k v es) ls h a =
-      let w = wanted h.0 h.1 in
-      let z = entries_here F ns p.parts part.key w.0.0 m s keys k v es key w.4 h.3 in
-      absurd (no_length w.0 w.1 h.0 es w.2 h.2 (g keys k v es ls z.1 z.2 z.3 a))
-  entry_next (Ok End) g (entries_left keys k v es) ls h a =
-      let w = wanted h.0 h.1 in
-      let z = entries_here F ns p.parts part.key w.0.0 m s keys k v es key w.4 h.3 in
-      absurd (g keys k v es ls z.1 z.2 z.3 a)
-  entry_next (Ok (Part at e)) g (entries_left keys k v es) ls h a =
-      let w = wanted h.0 h.1 in
-      let z = entries_here F ns p.parts part.key w.0.0 m s keys k v es key w.4 h.3 in
-      let d = g keys k v es ls z.1 z.2 z.3 a in
-      (v, d.1, entries_left keys k v d.2, d.4, d.5, (w.1, w.5, fewer w.0 w.1 h.0 (d.0, d.1) d.2 es w.2 h.2 d.3, subst (λ (p : Parts). AreEntriesOf F ns p t keys k v d.2) (sym same) (z.4 t d.2 d.6)), d.7)
+get_behind : (gs : List Wanted) (f : Wanted) (fs : List Wanted) → slice_get (gs ++ f ∷ fs) (length gs) ≡ Some f
+get_behind [] f fs = refl
+get_behind (g ∷ gs) f fs = get_behind gs f fs
+
+fields_same : (fs gs : List Wanted) → fields fs ≡ fields gs → fs ≡ gs
+fields_same fs gs e = cc
+
+-- ---- one more part was begun
+module _ (F : List ℕ → Option Form) (ns : List Named) where
+  counted : (b c : ℕ) (ds : List JsonPart) (z : JsonPart) → c ≡ b + 1 → b ≡ length ds → c ≡ length (ds ++ z ∷ [])
+  counted b c ds z e h = let l = length-append ds (z ∷ []) in omega (arith, l, e, h)
+
+  begun_part : (p : Parts) (b c : ℕ) (kind : Kind) (i : Json) (ds : List JsonPart) (z : JsonPart) → (IsMapPlace p → ⊥) → c ≡ b + 1 → IsPlaceOf F ns p b kind i ds → IsPlaceOf F ns p c kind i (ds ++ z ∷ [])
+  begun_part Root b c kind i ds z n e h = h
+  begun_part (Elements at m) b c kind i ds z n e h = (h.0, counted b c ds z e h.1)
+  begun_part (Row at m) b c kind i ds z n e h = (h.0, h.1, counted b c ds z e h.2)
+  begun_part (Object at fs) b c kind i ds z n e h = (h.0, counted b c ds z e h.1)
+  begun_part (MapEntries es m) b c kind i ds z n e h = absurd (n tt)
+  begun_part (Newtype at) b c kind i ds z n e h = (h.0, h.1, counted b c ds z e h.2)
+  begun_part (Present at) b c kind i ds z n e h = h
+  begun_part (Variant v at) b c kind i ds z n e h = h
+
+  -- of a map, behind its key
+  begun_entry : (p : Parts) (b c : ℕ) (kind : Kind) (i : Json) (ds : List JsonPart) (k z : JsonPart) → IsMapPlace p → c ≡ b + 1 → IsPlaceOf F ns p b kind i ds → IsPlaceOf F ns p c kind i (ds ++ k ∷ z ∷ [])
+  begun_entry Root b c kind i ds k z m e h = absurd m
+  begun_entry (Elements at n) b c kind i ds k z m e h = absurd m
+  begun_entry (Row at n) b c kind i ds k z m e h = absurd m
+  begun_entry (Object at fs) b c kind i ds k z m e h = absurd m
+  begun_entry (MapEntries es n) b c kind i ds k z m e h = (h.0, h.1, h.2, h.3, h.4, (let l = length-append ds (k ∷ z ∷ []) in let t = h.5 in omega (arith, l, e, t)))
+  begun_entry (Newtype at) b c kind i ds k z m e h = absurd m
+  begun_entry (Present at) b c kind i ds k z m e h = absurd m
+  begun_entry (Variant v at) b c kind i ds k z m e h = absurd m
+
+  part_begun : (d : ℕ) (p q : Place) (x : List ℕ) (kind : Kind) (i : Json) (ds : List JsonPart) (z : JsonPart) → q.parts ≡ p.parts → q.begun ≡ p.begun + 1 → (IsMapPlace p.parts → ⊥) → IsPlaceIn F ns d p x kind i ds → IsPlaceIn F ns d q x kind i (ds ++ z ∷ [])
+  part_begun zero p q x kind i ds z e b n h = (e ∙ h.0, h.1)
+  part_begun (suc d) p q x kind i ds z e b n h = (h.0, subst (λ (t : Parts). IsPlaceOf F ns t q.begun kind i (ds ++ z ∷ [])) (sym e) (begun_part p.parts p.begun q.begun kind i ds z n b h.1))
+
+  entry_begun : (d : ℕ) (p q : Place) (x : List ℕ) (kind : Kind) (i : Json) (ds : List JsonPart) (k z : JsonPart) → q.parts ≡ p.parts → q.begun ≡ p.begun + 1 → IsMapPlace p.parts → IsPlaceIn F ns d p x kind i ds → IsPlaceIn F ns d q x kind i (ds ++ k ∷ z ∷ [])
+  entry_begun zero p q x kind i ds k z e b m h = (e ∙ h.0, h.1)
+  entry_begun (suc d) p q x kind i ds k z e b m h = (h.0, subst (λ (t : Parts). IsPlaceOf F ns t q.begun kind i (ds ++ k ∷ z ∷ [])) (sym e) (begun_entry p.parts p.begun q.begun kind i ds k z m b h.1))
+
+  -- the kind's JSON says it
+  items_more : (kind : Kind) (i : Json) (own : List ℕ) (ds : List JsonPart) (y : List ℕ) (xs : List (List ℕ)) (k : Json) (js : Items) → SaysOn F ns kind i own ds (items_left (y ∷ xs) (item k js)) → SaysOn F ns kind i own (ds ++ (y, k) ∷ []) (items_left xs js)
+  items_more kind i own ds y xs k js s =
+      let m = item_front y xs k js s.0 s.1 in
+      (m.0, m.1, subst (λ (l : List JsonPart). Says F kind i own l) (ap (λ l. ds ++ l) m.2 ∙ sym (append_assoc ds ((y, k) ∷ []) m.0)) s.2)
+
+  fields_more : (kind : Kind) (i : Json) (own : List ℕ) (ds : List JsonPart) (f : Wanted) (fs : List Wanted) (ms : Members) (n m : ℕ) (k : Json) → get_member f.0 ms ≡ Some k → n ≡ suc m → SaysOn F ns kind i own ds (fields_left (f ∷ fs) ms n) → SaysOn F ns kind i own (ds ++ (f.1, k) ∷ []) (fields_left fs ms m)
+  fields_more kind i own ds f fs ms n m k g e s =
+      let gs = s.0 in
+      let a = append_assoc gs (f ∷ []) fs in
+      (gs ++ f ∷ [], s.1 ∙ ap (λ l. fields l) (sym a), subst (λ (l : List Wanted). IsDistinct bytes_eq (map (λ (f : Wanted). f.0) l)) (sym a) s.2, s.3, s.4, fields_joined gs f ms k ds s.5 g, (let l = length-append gs (f ∷ []) in let t = s.6 in omega (arith, l, e, t)))
+
+  entries_more : (kind : Kind) (i : Json) (own : List ℕ) (ds : List JsonPart) (keys : Keys) (k v s : List ℕ) (j : Json) (es : List Entry) → SaysOn F ns kind i own ds (entries_left keys k v ((s, j) ∷ es)) → SaysOn F ns kind i own (ds ++ (k, key_json keys s) ∷ (v, j) ∷ []) (entries_left keys k v es)
+  entries_more kind i own ds keys k v s j es h = subst (λ (l : List JsonPart). Says F kind i own l) (sym (append_assoc ds ((k, key_json keys s) ∷ (v, j) ∷ []) (entry_parts keys k v es))) h
+
+  -- a key has the bytes that it says
+  pub alone : (x : List ℕ) (i : Json) (own : List ℕ) → SaysFirst F x i own [] → HaveBytes F ((x, i) ∷ []) own
+  alone x i own s = subst (λ (l : List ℕ). HaveBytes F ((x, i) ∷ []) l) (append-nil own) (next_part s.0 own [] s.1 s.2 none_left)
+
+  -- the step to a field that is missing
+  missing_step : (p : Parts) (b c : ℕ) (kind : Kind) (i : Json) (ds : List JsonPart) (gs : List Wanted) (f : Wanted) (fs : List Wanted) → IsObject p → c ≡ b + 1 → length gs ≡ length ds → kind ≡ fields (gs ++ f ∷ fs) → IsPlaceOf F ns p b kind i ds → first_steps p c ++ last_steps p ≡ field_step f.0 ∷ []
+  missing_step Root b c kind i ds gs f fs o e l k h = absurd o
+  missing_step (Elements at n) b c kind i ds gs f fs o e l k h = absurd o
+  missing_step (Row at n) b c kind i ds gs f fs o e l k h = absurd o
+  missing_step (Object at os) b c kind i ds gs f fs o e l k h =
+      let all = fields_same _ _ (sym h.0 ∙ k) in
+      let n : c - 1 ≡ length gs = (let t = h.1 in omega (arith, t, e, l)) in
+      ap (λ n. name_step (slice_get _ n) ++ []) n ∙ ap (λ (l : List Wanted). name_step (slice_get l (length gs)) ++ []) all ∙ ap (λ (o : Option Wanted). name_step o ++ []) (get_behind gs f fs)
+  missing_step (MapEntries es n) b c kind i ds gs f fs o e l k h = absurd o
+  missing_step (Newtype at) b c kind i ds gs f fs o e l k h = absurd o
+  missing_step (Present at) b c kind i ds gs f fs o e l k h = absurd o
+  missing_step (Variant v at) b c kind i ds gs f fs o e l k h = absurd o
+
+  -- the steps to the key of an entry
+  key_steps : (p : Parts) (b c : ℕ) (kind : Kind) (i : Json) (ds : List JsonPart) → IsMapPlace p → c ≡ b + 1 → IsPlaceOf F ns p b kind i ds → AreSteps kind i (length ds) (first_steps p c ++ place_step 0 ∷ [])
+  key_steps Root b c kind i ds m e h = absurd m
+  key_steps (Elements at n) b c kind i ds m e h = absurd m
+  key_steps (Row at n) b c kind i ds m e h = absurd m
+  key_steps (Object at fs) b c kind i ds m e h = absurd m
+  key_steps (MapEntries es n) b c kind i ds m e h =
+      let t : c - 1 ≡ b = omega (arith, e) in
+      subst (λ (k : Kind). AreSteps k i (length ds) (element_step (c - 1) ∷ place_step 0 ∷ [])) (sym h.4) (b, inl (sym h.5, ap (λ n. element_step n ∷ place_step 0 ∷ []) t))
+  key_steps (Newtype at) b c kind i ds m e h = absurd m
+  key_steps (Present at) b c kind i ds m e h = absurd m
+  key_steps (Variant v at) b c kind i ds m e h = absurd m
+
+  -- ---- the end of a place
+  says_all : (d : ℕ) (p : Place) (x : List ℕ) (kind : Kind) (i : Json) (own : List ℕ) (ds : List JsonPart) → IsPlaceIn F ns d p x kind i ds → Says F kind i own ds → SaysAll F ns d x i own ds
+  says_all zero p x kind i own ds h s = subst (λ (k : Kind). Says F k i own ds) h.1 s
+  says_all (suc d) p x kind i own ds h s = (kind, h.0, s)
+
+  -- an object with other members than its fields says nothing
+  too_many : (d : ℕ) (p : Place) (x : List ℕ) (kind : Kind) (i : Json) (own : List ℕ) (ds : List JsonPart) (fs : List Wanted) (ms : Members) → kind ≡ fields fs → i ≡ object ms → (length (entries_of ms) ≡ length fs → ⊥) → IsPlaceIn F ns d p x kind i ds → SaysSome F x i → ⊥
+  too_many zero p x kind i own ds fs ms k o n h s = let q : inner x ≡ fields fs = sym h.1 ∙ k in cc
+  too_many (suc d) p x kind i own ds fs ms k o n h s =
+      let u = uncons F s.1 in
+      let g = u.4 in
+      let v = subst (λ (k : Kind). Says F k i u.0 u.1) (kind_one F g.1 h.0 ∙ k) g.2 in
+      n (ap (λ ms. length (entries_of ms)) (object_one i ms v.2 o v.3) ∙ v.4)
+
+module _ (F : List ℕ → Option Form) (ns : List Named) (d : ℕ) (x : List ℕ) (i : Json) (own : List ℕ) (ds : List JsonPart) (kind : Kind) where
+  pub place_end : (p : Place) (s : Source) (l : Left) → ((ws : List Wanted) → IsWanted F ns p.parts p.begun ws → ws ≡ []) → HasLeft F ns p.parts p.begun s l → SaysOn F ns kind i own ds l → IsPlaceIn F ns d p x kind i ds → (NoneLeft s → SaysAll F ns d x i own ds) × ((NoneLeft s → ⊥) → SaysSome F x i → ⊥)
+  place_end p s (items_left xs js) w h says is =
+      let e : xs ≡ [] = h.2 ∙ ap (λ l. map (λ (w : Wanted). w.1) l) (w h.0 h.1) in
+      let q = no_row js says.0 (subst (λ (l : List (List ℕ)). row_parts l js ≡ Some says.0) e says.1) in
+      let t = subst (λ (l : List JsonPart). Says F kind i own l) (ap (λ l. ds ++ l) q ∙ append-nil ds) says.2 in
+      (λ n. says_all F ns d p x kind i own ds is t, λ n. absurd (n (items_end s js h.3)))
+  place_end p s (fields_left fs ms n) w h says is =
+      let e : fs ≡ [] = w fs h.1 in
+      let q = fields_end s ms n (subst (λ (l : List Wanted). HasFields s l ms n) e h.2) in
+      let gs = says.0 in
+      let a : gs ++ fs ≡ gs = ap (λ l. gs ++ l) e ∙ append-nil gs in
+      let count : length (gs ++ fs) ≡ length gs = ap (λ (l : List Wanted). length l) a in
+      let t = says.6 in
+      (
+        λ z. says_all F ns d p x kind i own ds is (subst (λ (k : Kind). Says F k i own ds) (sym says.1) (says.2, says.3, ms, says.4, (let m = q.0 z in omega (arith, m, t, count)), ap (λ (l : List Wanted). field_parts l ms) a ∙ says.5)),
+        λ z. too_many F ns d p x kind i own ds (gs ++ fs) ms says.1 says.4 (λ m. z (q.1 (omega (arith, m, t, count)))) is,
+      )
+  place_end p s (entries_left keys k v es) w h says is =
+      let e : es ≡ [] = no_entries es (ap (λ (l : List Wanted). length l) (sym (w h.0 h.1)) ∙ h.2) in
+      let t = subst (λ (l : List JsonPart). Says F kind i own l) (ap (λ l. ds ++ entry_parts keys k v l) e ∙ append-nil ds) says in
+      (λ n. says_all F ns d p x kind i own ds is t, λ n. absurd (n (none_there p.parts h.3)))
+    where
+      none_there : (q : Parts) → AreEntriesOf F ns q s keys k v es → NoneLeft s
+      none_there Root a = absurd a
+      none_there (Elements at n) a = absurd a
+      none_there (Row at n) a = absurd a
+      none_there (Object at fs) a = absurd a
+      none_there (MapEntries m n) a = entries_end m.key_kind s es a.3
+      none_there (Newtype at) a = absurd a
+      none_there (Present at) a = absurd a
+      none_there (Variant w at) a = absurd a
+
+  module _ (out : List ℕ) (p q : Place) (s t : Source) (part : FoundPart)
+      (wanted : (ws : List Wanted) → IsWanted F ns p.parts p.begun ws → (w : Wanted) × (rest : List Wanted) × (ws ≡ w ∷ rest) × IsAt ns part.at w.1 × IsKey p.parts part.key w.0 × IsWanted F ns q.parts q.begun rest)
+      (same : q.parts ≡ p.parts) (begun : q.begun ≡ p.begun + 1) (order : q.ascent ≡ p.ascent)
+      (falls : is_some p.ascent ≡ true → HasNeighbours F x i × IsListPlace p.parts) where
+    next_falls : is_some q.ascent ≡ true → HasNeighbours F x i × IsListPlace q.parts
+    next_falls z = let f = falls (subst (λ (a : Option Ascent). is_some a ≡ true) order z) in (f.0, subst (λ (p : Parts). IsListPlace p) (sym same) f.1)
+
+    module _ (field : List ℕ) (name : (name : Bor (List ℕ)) → part.key ≡ Name name → field ≡ name.now) (single : (es : FoundEntries) → part.key ≡ EntryOf es → ⊥) where
+      pub part_next : (o : Option (List Token)) (n : Next)
+          → ((js : Items) → HasItems s js → MatchOption o (js ≡ no_items) (λ e. (i : Json) × (rest : Items) × (js ≡ item i rest) × BeginsWith e i × HasItems t rest))
+          → ((f : Wanted) (fs : List Wanted) (ms : Members) (c : ℕ) → HasFields s (f ∷ fs) ms c → field ≡ f.0 → MatchOption o (get_member f.0 ms ≡ None) (λ e. (i : Json) × (m : ℕ) × (get_member f.0 ms ≡ Some i) × BeginsWith e i × (c ≡ suc m) × HasFields t fs ms m))
+          → MatchOption o (n ≡ Missing) (λ e. n ≡ Part part.at e)
+          → (l : Left) → HasLeft F ns p.parts p.begun s l → SaysOn F ns kind i own ds l → IsPlaceIn F ns d p x kind i ds → IsNext F ns d x i own ds q t out out n
+      part_next None n of_items of_fields found (items_left xs js) h says is =
+          let w = wanted h.0 h.1 in
+          let e : xs ≡ w.0.1 ∷ map (λ (w : Wanted). w.1) w.1 = h.2 ∙ ap (λ l. map (λ (w : Wanted). w.1) l) w.2 in
+          let g1 = subst (λ (l : List (List ℕ)). row_parts l js ≡ Some h.4) e h.5 in
+          let g2 = subst (λ (k : Items). row_parts (w.0.1 ∷ map (λ (w : Wanted). w.1) w.1) k ≡ Some h.4) (of_items js h.3) g1 in
+          absurd (no_rows w.0.1 (map (λ (w : Wanted). w.1) w.1) h.4 g2)
+      part_next (Some e) n of_items of_fields found (items_left xs js) h says is =
+          let w = wanted h.0 h.1 in
+          let ys = map (λ (w : Wanted). w.1) w.1 in
+          let k : xs ≡ w.0.1 ∷ ys = h.2 ∙ ap (λ l. map (λ (w : Wanted). w.1) l) w.2 in
+          let m = of_items js h.3 in
+          let says1 = subst (λ (l : List (List ℕ)). SaysOn F ns kind i own ds (items_left l js)) k says in
+          let says2 = subst (λ (j : Items). SaysOn F ns kind i own ds (items_left (w.0.1 ∷ ys) j)) m.2 says1 in
+          let more = items_more F ns kind i own ds w.0.1 ys m.0 m.1 says2 in
+          let doing : IsDoing F ns q t d x i own (ds ++ (w.0.1, m.0) ∷ []) = record {
+            left = items_left ys m.1;
+            here = (w.1, w.5, refl, m.4, more.0, more.1, λ z. h.6 (subst IsMapPlace same z));
+            kind = kind;
+            says = more;
+            is_place = part_begun F ns d p q x kind i ds (w.0.1, m.0) same begun h.6 is;
+            falls = next_falls;
+          } in
+          subst (λ (n : Next). IsNext F ns d x i own ds q t out out n) (sym found) ([], [], w.0.1, m.0, none_left, sym (append-nil out), w.3, m.3, doing)
+      part_next None n of_items of_fields found (fields_left fs ms c) h says is =
+          let w = wanted fs h.1 in
+          let f = field_is p.parts part.key w.0.0 field name h.0 w.4 in
+          let g = of_fields w.0 w.1 ms c (subst (λ (l : List Wanted). HasFields s l ms c) w.2 h.2) f in
+          subst (λ (n : Next). IsNext F ns d x i own ds q t out out n) (sym found) (missing d w.0 w.1 ms c g h.0 (subst (λ (l : List Wanted). SaysOn F ns kind i own ds (fields_left l ms c)) w.2 says) is)
+        where
+          missing : (d : ℕ) (f : Wanted) (gs : List Wanted) (ms : Members) (c : ℕ) → get_member f.0 ms ≡ None → IsObject p.parts → SaysOn F ns kind i own ds (fields_left (f ∷ gs) ms c) → IsPlaceIn F ns d p x kind i ds → (name : List ℕ) × LacksField F x i name × (0 < d) × (steps_at q ≡ field_step name ∷ [])
+          missing zero f gs ms c g o says is = let e : inner x ≡ fields (says.0 ++ f ∷ gs) = sym is.1 ∙ says.1 in cc
+          missing (suc d) f gs ms c g o says is = (
+            f.0,
+            (says.0 ++ f ∷ gs, length says.0, f, ms, subst (λ (k : Kind). HasKind F x k) says.1 is.0, get_behind says.0 f gs, refl, says.4, g),
+            omega arith,
+            subst (λ (r : Parts). first_steps r q.begun ++ last_steps r ≡ field_step f.0 ∷ []) (sym same) (missing_step F ns p.parts p.begun q.begun kind i ds says.0 f gs o begun (fields_count says.0 ms ds says.5) says.1 is.1),
+          )
+      part_next (Some e) n of_items of_fields found (fields_left fs ms c) h says is =
+          let w = wanted fs h.1 in
+          let f = field_is p.parts part.key w.0.0 field name h.0 w.4 in
+          let g = of_fields w.0 w.1 ms c (subst (λ (l : List Wanted). HasFields s l ms c) w.2 h.2) f in
+          let doing : IsDoing F ns q t d x i own (ds ++ (w.0.1, g.0) ∷ []) = record {
+            left = fields_left w.1 ms g.1;
+            here = (subst IsObject (sym same) h.0, w.5, g.5);
+            kind = kind;
+            says = fields_more F ns kind i own ds w.0 w.1 ms c g.1 g.0 g.2 g.4 (subst (λ (l : List Wanted). SaysOn F ns kind i own ds (fields_left l ms c)) w.2 says);
+            is_place = part_begun F ns d p q x kind i ds (w.0.1, g.0) same begun (object_or_map p.parts h.0) is;
+            falls = next_falls;
+          } in
+          subst (λ (n : Next). IsNext F ns d x i own ds q t out out n) (sym found) ([], [], w.0.1, g.0, none_left, sym (append-nil out), w.3, g.3, doing)
+      part_next o n of_items of_fields found (entries_left keys k v es) h says is =
+          let w = wanted h.0 h.1 in
+          absurd (no_map p.parts part.key w.0.0 single w.4 (map_place F ns p.parts s keys k v es h.3))
+
+    -- the next entry of a map
+    module _ (new : List ℕ) (m : FoundEntries) (key : part.key ≡ EntryOf m) where
+      pub entry_next : (r : Result Next ReadError)
+          → ((keys : Keys) (k v : List ℕ) (es : List Entry) → IsAt ns m.value v → AreKeysOf F ns k (form_of m.key_definition.now) m.key_kind keys → HasEntries m.key_kind s es → MatchResult r (λ n. IsNextEntry F ns keys k v es m.key_kind t out new n) (λ e. (s : List ℕ) × (j : Json) × (rest : List Entry) × (es ≡ (s, j) ∷ rest) × DeniesRead e (SaysSome F k (key_json keys s))))
+          → (l : Left) → HasLeft F ns p.parts p.begun s l → SaysOn F ns kind i own ds l → IsPlaceIn F ns d p x kind i ds → MatchResult r (λ n. IsNext F ns d x i own ds q t out new n) (λ e. DeniesKey F ns d x i own ds q e)
+      entry_next r g (items_left xs js) h says is = let w = wanted h.0 h.1 in absurd (h.6 (of_map p.parts part.key w.0.0 m key w.4))
+      entry_next r g (fields_left fs ms c) h says is = let w = wanted fs h.1 in absurd (object_or_map p.parts h.0 (of_map p.parts part.key w.0.0 m key w.4))
+      entry_next (Err e) g (entries_left keys k v es) h says is =
+          let w = wanted h.0 h.1 in
+          let z = entries_here F ns p.parts part.key w.0.0 m s keys k v es key w.4 h.3 in
+          let a = g keys k v es z.1 z.2 z.3 in
+          denied d a.0 a.1 a.2 (subst (λ (l : List Entry). SaysOn F ns kind i own ds (entries_left keys k v l)) a.3 says) is (of_map p.parts part.key w.0.0 m key w.4) a.4
+        where
+          denied : (d : ℕ) (s : List ℕ) (j : Json) (rest : List Entry) → SaysOn F ns kind i own ds (entries_left keys k v ((s, j) ∷ rest)) → IsPlaceIn F ns d p x kind i ds → IsMapPlace p.parts → DeniesRead e (SaysSome F k (key_json keys s)) → DeniesKey F ns d x i own ds q e
+          denied zero s j rest says is m a = absurd (subst IsMapPlace is.0 m)
+          denied (suc d) s j rest says is m a = (
+            kind,
+            k,
+            key_json keys s,
+            omega arith,
+            is.0,
+            inl ((v, j) ∷ entry_parts keys k v rest, subst (λ (l : List JsonPart). Says F kind i own l) (sym (append_assoc ds ((k, key_json keys s) ∷ []) ((v, j) ∷ entry_parts keys k v rest))) says),
+            subst (λ (r : Parts). AreSteps kind i (length ds) (first_steps r q.begun ++ place_step 0 ∷ [])) (sym same) (key_steps F ns p.parts p.begun q.begun kind i ds m begun is.1),
+            a,
+          )
+      entry_next (Ok Missing) g (entries_left keys k v es) h says is =
+          let w = wanted h.0 h.1 in
+          let z = entries_here F ns p.parts part.key w.0.0 m s keys k v es key w.4 h.3 in
+          absurd (no_length w.0 w.1 h.0 es w.2 h.2 (g keys k v es z.1 z.2 z.3))
+      entry_next (Ok End) g (entries_left keys k v es) h says is =
+          let w = wanted h.0 h.1 in
+          let z = entries_here F ns p.parts part.key w.0.0 m s keys k v es key w.4 h.3 in
+          absurd (g keys k v es z.1 z.2 z.3)
+      entry_next (Ok (Part at e)) g (entries_left keys k v es) h says is =
+          let w = wanted h.0 h.1 in
+          let z = entries_here F ns p.parts part.key w.0.0 m s keys k v es key w.4 h.3 in
+          let a = g keys k v es z.1 z.2 z.3 in
+          let says2 = subst (λ (l : List Entry). SaysOn F ns kind i own ds (entries_left keys k v l)) a.4 says in
+          let doing : IsDoing F ns q t d x i own (ds ++ (k, key_json keys a.0) ∷ (v, a.1) ∷ []) = record {
+            left = entries_left keys k v a.2;
+            here = (w.1, w.5, fewer w.0 w.1 h.0 (a.0, a.1) a.2 es w.2 h.2 a.4, subst (λ (p : Parts). AreEntriesOf F ns p t keys k v a.2) (sym same) (z.4 t a.2 a.7));
+            kind = kind;
+            says = entries_more F ns kind i own ds keys k v a.0 a.1 a.2 says2;
+            is_place = entry_begun F ns d p q x kind i ds (k, key_json keys a.0) (v, a.1) same begun (of_map p.parts part.key w.0.0 m key w.4) is;
+            falls = next_falls;
+          } in
+          ((k, key_json keys a.0) ∷ [], a.3, v, a.1, alone F ns k (key_json keys a.0) a.3 a.8, a.9, a.5, a.6, doing)

@@ -28,10 +28,9 @@ use Rattle.borsh_json.specs.declared.position.Place.{Place}
 use Rattle.borsh_json.specs.declared.sources.Source.{Source}
 use Rattle.borsh_json.specs.declared.sources.Source.TheVariants.{Entries as InPlace, Texts, Ranks}
 use Rattle.borsh_json.specs.Forms.{Form, form_of}
-use Rattle.borsh_json.specs.Frames.{DeniesRead, Wanted, IsText, IsRank, AreKeyed, HasEntries, HaveOneEach, HaveNumbers, AreSorted, HasLeft, IsOpened}
+use Rattle.borsh_json.specs.Frames.{DeniesRead, Wanted, IsText, IsRank, AreKeyed, HasEntries, HaveOneEach, HaveNumbers, AreSorted, HasLeft, IsOpened, entries_left}
 use Rattle.borsh_json.specs.Places.{IsAt, AreKeysOf}
-use Rattle.borsh_json.specs.Reads.{entries_left, SaysSome}
-use Rattle.borsh_json.specs.Represents.{HaveBytes}
+use Rattle.borsh_json.specs.Represents.{HaveBytes, SaysSome}
 use Rattle.borsh_json.specs.Table.{Lengths, Keys, texts, numbers, whole, entries, HasKind, IsNumber, IsWhole, Part, Entry, entries_of, entry_parts, key_order, key_json, Says}
 use Rattle.borsh_json.proofs.EachLaws.{sorted_each}
 use Rattle.borsh_json.proofs.KeyJson.{key_number, tells}
@@ -175,7 +174,7 @@ module _ (F : List ℕ → Option Form) (ns : List Named) (x : List ℕ) (j : Js
         let w : Wanted = ([], v) in
         let there : HasLeft F ns (MapEntries m n) 0 s left = (replicate n w, (v, b, ap (λ (i : ℕ). replicate i w) least), copies_length n w ∙ z, (a, b, c, subst (λ (kind : KeyKind). HasEntries kind s es) (sym d) t.5)) in
         let q : own ≡ tag l.width (pos n) = append-nil (tag l.width (pos (length es))) ∙ ap (λ i. tag l.width (pos i)) (sym z) in
-        (own, o ∙ ap (λ y. old ++ y) (sym q), (left, subst (λ (q : Parts). HasLeft F ns q place.begun s left) (sym p) (subst (λ (i : ℕ). HasLeft F ns (MapEntries m n) i s left) (sym g) there), framed F ns x j (entries l keys k v) own left ps h (t.0, es, t.2, t.3, t.4, (omega (arith, z, low), omega (arith, z, high), refl), refl) refl (λ qs y. y), no_ascent F x j place none))
+        (own, o ∙ ap (λ y. old ++ y) (sym q), framed F ns x j place s (MapEntries m n) (entries l keys k v) own left p g h there (t.0, es, t.2, t.3, t.4, (omega (arith, z, low), omega (arith, z, high), refl), refl) (l, keys, k, v, refl, refl) (no_ascent place none))
 
     pub map_range : (e : ReadError) → DeniesRead e ((l.least ≤ n) × (n ≤ l.greatest)) → DeniesRead e (SaysSome F x j)
     map_range e d = denies_read e (λ y.

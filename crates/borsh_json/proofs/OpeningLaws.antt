@@ -5,8 +5,6 @@ use Rattle.json.specs.Token.{Token}
 use Rattle.json.specs.Json.{Json, null, boolean, number, string, array, object, Items, no_items, item}
 use Rattle.json.specs.Find.{BeginsWith, is_null, as_bool, as_str, as_number}
 use Rattle.borsh_values.specs.declared.layout.Named.{Named}
-use Rattle.borsh_json.specs.declared.error.PartError.{PartError}
-use Rattle.borsh_json.specs.declared.error.PartError.TheVariants.{OutOfMemory as NoMemory, Refused as RefusedPart}
 use Rattle.borsh_json.specs.declared.error.ReadError.{ReadError}
 use Rattle.borsh_json.specs.declared.error.ReadError.TheVariants.{OutOfMemory, Refused, Descends as DescendsAt}
 use Rattle.borsh_json.specs.declared.error.Refusal.{Refusal}
@@ -17,16 +15,16 @@ use Rattle.borsh_json.specs.declared.position.Parts.{Parts}
 use Rattle.borsh_json.specs.declared.position.Place.{Place}
 use Rattle.borsh_json.specs.declared.sources.Source.{Source}
 use Rattle.borsh_json.specs.declared.sources.Source.TheVariants.{One}
-use Rattle.borsh_json.specs.Errors.{Denies, IsUnreadable}
+use Rattle.borsh_json.specs.Errors.{Denies}
 use Rattle.borsh_json.specs.Forms.{Form}
-use Rattle.borsh_json.specs.Frames.{DeniesRead, DeniesPart, IsUnread, IsOf, IsOfRead, IsExpected, IsFound, IsOpened, IsOpenedOrFalls, HasLeft, IsWanted, IsMapPlace, Wanted}
-use Rattle.borsh_json.specs.NoValue.{HasNeighbours, RefusesJson}
-use Rattle.borsh_json.specs.Reads.{Left, items_left, PartsOf, SaysFirst, SaysSome, IsOnly}
+use Rattle.borsh_json.specs.Frames.{DeniesRead, Left, items_left, IsExpected, SaysOn, IsPlaceOf, IsDoing, IsFound, IsOpened, IsOpenedOrFalls, HasLeft, IsWanted, IsListPlace, IsMapPlace, Wanted}
+use Rattle.borsh_json.specs.NoValue.{HasNeighbours}
+use Rattle.borsh_json.specs.Represents.{SaysFirst, SaysSome}
 use Rattle.borsh_json.specs.Table.{Kind, HasKind, Part, row_parts, list_parts, IsVariant, this, that, Says}
 use Rattle.borsh_json.proofs.FrameLaws.{drop_at}
-use Rattle.borsh_json.proofs.ReaderLaws.{uncons}
+use Rattle.borsh_json.proofs.ReaderLaws.{mapped, uncons}
 use Rattle.borsh_json.proofs.RepresentsLaws.{kind_one, says_one, kind_small}
-use Rattle.borsh_json.proofs.StepLaws.{mapped, item_back}
+use Rattle.borsh_json.proofs.StepLaws.{item_back}
 
 -- ---- JSON by its type
 pub null_is : (j : Json) → is_null j ≡ true → j ≡ null
@@ -63,17 +61,17 @@ number_is (object ms) s e = cc
 
 -- ---- errors
 pub denies_from : (r : Refusal) (P Q : Type 0) → (Q → P) → Denies r P → Denies r Q
-denies_from TooDeep P Q f d = λ q. d (f q)
+denies_from TooDeep P Q f d = d
 denies_from (RepeatedName n) P Q f d = λ q. d (f q)
 denies_from EmptyElements P Q f d = λ q. d (f q)
 denies_from NotBool P Q f d = d
 denies_from NotUtf8 P Q f d = d
 denies_from Zero P Q f d = d
 denies_from NotNumber P Q f d = λ q. d (f q)
-denies_from Descends P Q f d = λ q. d (f q)
+denies_from Descends P Q f d = d
 denies_from OtherNodes P Q f d = λ q. d (f q)
 denies_from (Expected w) P Q f d = λ q. d (f q)
-denies_from MissingField P Q f d = λ q. d (f q)
+denies_from MissingField P Q f d = d
 denies_from (UnknownName n) P Q f d = λ q. d (f q)
 denies_from (RepeatedKey n) P Q f d = λ q. d (f q)
 denies_from (Undefined n) P Q f d = λ q. d (f q)
@@ -83,52 +81,15 @@ denies_read OutOfMemory f d = tt
 denies_read (Refused r) {P} {Q} f d = denies_from r P Q f d
 denies_read (DescendsAt i) f d = d
 
-pub denies_of : (r : Refusal) (e : PartError) (P : Type 0) → IsOf r e → Denies r P → DeniesPart e P
-denies_of r NoMemory P i d = tt
-denies_of r (RefusedPart path other) P i d = subst (λ (r : Refusal). Denies r P) (sym i) d
-
-pub denies_part : (r : ReadError) (e : PartError) (P : Type 0) → IsOfRead r e → DeniesRead r P → DeniesPart e P
-denies_part OutOfMemory e P i d = subst (λ (e : PartError). DeniesPart e P) (sym i) tt
-denies_part (Refused r) e P i d = denies_of r e P i d
-denies_part (DescendsAt k) e P i d = absurd d
-
 pub denies_expected : (e : ReadError) {P : Type 0} → IsExpected e → (P → ⊥) → DeniesRead e P
 denies_expected e {P} (inl i) d = subst (λ (e : ReadError). DeniesRead e P) (sym i) tt
 denies_expected e {P} (inr i) d = subst (λ (e : ReadError). DeniesRead e P) (sym i.1) d
 
--- what denies is a reason why JSON isn't read
-module _ (F : List ℕ → Option Form) (root : List ℕ) (j : Json) where
-  unread : (r : Refusal) → Denies r (SaysSome F root j) → IsUnreadable r × RefusesJson F root j r
-  unread TooDeep d = (tt, λ bs h. absurd (d (bs, h)))
-  unread (RepeatedName n) d = (tt, λ bs h. d (bs, h))
-  unread EmptyElements d = (tt, λ bs h. d (bs, h))
-  unread NotBool d = absurd d
-  unread NotUtf8 d = absurd d
-  unread Zero d = absurd d
-  unread NotNumber d = (tt, λ bs h. d (bs, h))
-  unread Descends d = (tt, λ bs h. absurd (d (bs, h)))
-  unread OtherNodes d = (tt, λ bs h. d (bs, h))
-  unread (Expected w) d = (tt, λ bs h. d (bs, h))
-  unread MissingField d = (tt, λ bs h. d (bs, h))
-  unread (UnknownName n) d = (tt, λ bs h. d (bs, h))
-  unread (RepeatedKey n) d = (tt, λ bs h. d (bs, h))
-  unread (Undefined n) d = (tt, λ bs h. d (bs, h))
-
-  pub unread_part : (e : PartError) → DeniesPart e (SaysSome F root j) → IsUnread F root j e
-  unread_part NoMemory d = tt
-  unread_part (RefusedPart path r) d = unread r d
-
-  pub unread_of : (r : ReadError) (e : PartError) → IsOfRead r e → DeniesRead r (SaysSome F root j) → IsUnread F root j e
-  unread_of r e i d = unread_part e (denies_part r e (SaysSome F root j) i d)
-
 -- parts that need not ascend
-pub no_ascent : (F : List ℕ → Option Form) (x : List ℕ) (j : Json) (p : Place) → p.ascent ≡ None → is_some p.ascent ≡ true → HasNeighbours F x j
-no_ascent F x j p e t = (let q : is_some p.ascent ≡ false = ap (λ (a : Option Ascent). is_some a) e in let z : true ≡ false = sym t ∙ q in cc)
+pub no_ascent : {A : Type 0} (p : Place) → p.ascent ≡ None → is_some p.ascent ≡ true → A
+no_ascent p e t = (let q : is_some p.ascent ≡ false = ap (λ (a : Option Ascent). is_some a) e in let z : true ≡ false = sym t ∙ q in cc)
 
 module _ (F : List ℕ → Option Form) (ns : List Named) (x : List ℕ) (j : Json) where
-  first_one : {a b : List ℕ} {ps qs : List Part} → SaysFirst F x j a ps → SaysFirst F x j b qs → (a ≡ b) × (ps ≡ qs)
-  first_one {a} {b} {ps} {qs} p q = says_one F p.0 j (kind_small F p.1) p.2 (subst (λ k. Says F k j b qs) (kind_one F q.1 p.1) q.2)
-
   -- JSON of which nothing is said by its kind
   pub denied : (kind : Kind) → HasKind F x kind → ((own : List ℕ) (ps : List Part) → Says F kind j own ps → ⊥) → SaysSome F x j → ⊥
   denied kind h d s =
@@ -145,20 +106,19 @@ module _ (F : List ℕ → Option Form) (ns : List Named) (x : List ℕ) (j : Js
   pub unsaid : ((own : List ℕ) (ps : List Part) → SaysFirst F x j own ps → ⊥) → SaysSome F x j → ⊥
   unsaid d s = let u = uncons F s.1 in d u.0 u.1 u.4
 
-  pub leaf : (kind : Kind) (own : List ℕ) → HasKind F x kind → Says F kind j own [] → IsOnly (SaysFirst F x j) own (λ ps. ps ≡ [])
-  leaf kind own h s = record {
-    says = λ ps e. (kind, h, subst (λ l. Says F kind j own l) (sym e) s);
-    only = λ bs ps t. first_one t (kind, h, s);
-  }
-
-  pub framed : (kind : Kind) (own : List ℕ) (l : Left) (ps : List Part) → HasKind F x kind → Says F kind j own ps → PartsOf l ps → ((qs : List Part) → PartsOf l qs → qs ≡ ps) → IsOnly (SaysFirst F x j) own (PartsOf l)
-  framed kind own l ps h s p u = record {
-    says = λ qs q. (kind, h, subst (λ l. Says F kind j own l) (sym (u qs q)) s);
-    only = λ bs qs t. let o = first_one t (kind, h, s) in (o.0, subst (λ l'. PartsOf l l') (sym o.1) p);
+  -- the frame of a place whose value was opened
+  pub framed : (place : Place) (t : Source) (p : Parts) (kind : Kind) (own : List ℕ) (l : Left) → place.parts ≡ p → place.begun ≡ 0 → HasKind F x kind → HasLeft F ns p 0 t l → SaysOn F ns kind j own [] l → IsPlaceOf F ns p 0 kind j [] → (is_some place.ascent ≡ true → HasNeighbours F x j × IsListPlace p) → IsDoing F ns place t 1 x j own []
+  framed place t p kind own l e b h there says is falls = record {
+    left = l;
+    here = subst (λ (q : Parts). HasLeft F ns q place.begun t l) (sym e) (subst (λ (k : ℕ). HasLeft F ns p k t l) (sym b) there);
+    kind = kind;
+    says = says;
+    is_place = (h, subst (λ (q : Parts). IsPlaceOf F ns q place.begun kind j []) (sym e) (subst (λ (k : ℕ). IsPlaceOf F ns p k kind j []) (sym b) is));
+    falls = λ q. let f = falls q in (f.0, subst (λ (q : Parts). IsListPlace q) (sym e) f.1);
   }
 
   pub opened_leaf : (kind : Kind) (old new own : List ℕ) → HasKind F x kind → new ≡ old ++ own → Says F kind j own [] → IsOpened F ns x j old new (Ok None)
-  opened_leaf kind old new own h e s = (own, e, leaf kind own h s)
+  opened_leaf kind old new own h e s = (own, e, (kind, h, s))
 
   -- what is opened doesn't fall
   pub opened : (old new : List ℕ) (r : Result (Option Frame) ReadError) → IsOpened F ns x j old new r → IsOpenedOrFalls F ns x j old new r
@@ -231,10 +191,10 @@ no_variant k v p vs e h = elim (subst (λ (l : List (ℤ × List ℕ × List ℕ
 -- ---- a value whose only part is another
 module _ (F : List ℕ → Option Form) (ns : List Named) (x : List ℕ) (j : Json) where
   -- where the place wants one part
-  pub only_found : (kind : Kind) (own : List ℕ) (p : Parts) (y : List ℕ) (i : Json) (e : List Token) (o : Option Frame) → MatchOption o ⊥ (λ f. (f.place.parts ≡ p) × (f.place.begun ≡ 0) × (f.source ≡ One (Some e)) × (f.place.ascent ≡ None)) → ((b : ℕ) → (z : List ℕ) × (z ≡ y) × ((ws : List Wanted) → ws ≡ drop b (([], z) ∷ []) → IsWanted F ns p b ws)) → (IsMapPlace p → ⊥) → HasKind F x kind → BeginsWith e i → Says F kind j own ((y, i) ∷ []) → IsFound F ns x j own o
-  only_found kind own p y i e None o g n h b s = absurd o
-  only_found kind own p y i e (Some f) o g n h b s =
+  pub only_found : (kind : Kind) (own : List ℕ) (p : Parts) (y : List ℕ) (i : Json) (e : List Token) (o : Option Frame) → MatchOption o ⊥ (λ f. (f.place.parts ≡ p) × (f.place.begun ≡ 0) × (f.source ≡ One (Some e)) × (f.place.ascent ≡ None)) → ((b : ℕ) → (z : List ℕ) × (z ≡ y) × ((ws : List Wanted) → ws ≡ drop b (([], z) ∷ []) → IsWanted F ns p b ws)) → (IsMapPlace p → ⊥) → IsPlaceOf F ns p 0 kind j [] → HasKind F x kind → BeginsWith e i → Says F kind j own ((y, i) ∷ []) → IsFound F ns x j own o
+  only_found kind own p y i e None o g n is h b s = absurd o
+  only_found kind own p y i e (Some f) o g n is h b s =
       let w = g 0 in
       let l = items_left (y ∷ []) (item i no_items) in
       let there : HasLeft F ns p 0 (One (Some e)) l = (([], y) ∷ [], w.2 (([], y) ∷ []) (ap (λ (z : List ℕ). ([], z) ∷ []) (sym w.1)), refl, (i, refl, b), (y, i) ∷ [], refl, n) in
-      (l, subst (λ (q : Parts). HasLeft F ns q f.place.begun f.source l) (sym o.0) (subst (λ (k : ℕ). HasLeft F ns p k f.source l) (sym o.1) (subst (λ (t : Source). HasLeft F ns p 0 t l) (sym o.2) there)), framed F ns x j kind own l ((y, i) ∷ []) h s refl (λ qs q. some_one ((y, i) ∷ []) qs q), no_ascent F x j f.place o.3)
+      framed F ns x j f.place f.source p kind own l o.0 o.1 h (subst (λ (t : Source). HasLeft F ns p 0 t l) (sym o.2) there) ((y, i) ∷ [], refl, s) is (no_ascent f.place o.3)

@@ -19,10 +19,10 @@ use Rattle.borsh_json.specs.declared.position.Place.{Place}
 use Rattle.borsh_json.specs.declared.sources.Source.{Source}
 use Rattle.borsh_json.specs.declared.sources.Source.TheVariants.{Items as TheItems}
 use Rattle.borsh_json.specs.Forms.{Form, primitive, sequence, tuple, newtype, unnamed, named, choice, shape_of_form, HasNoBytes}
-use Rattle.borsh_json.specs.Frames.{DeniesRead, Wanted, AreFound, HasFields, HasLeft, IsOpened, NamesVariant}
+use Rattle.borsh_json.specs.Frames.{DeniesRead, Wanted, AreFound, HasFields, HasLeft, IsOpened, NamesVariant, items_left, fields_left, IsListKind}
 use Rattle.borsh_json.specs.NoValue.{HasNeighbours}
 use Rattle.borsh_json.specs.Places.{IsAt, IsUnsayable}
-use Rattle.borsh_json.specs.Reads.{items_left, fields_left, SaysSome}
+use Rattle.borsh_json.specs.Represents.{SaysSome}
 use Rattle.borsh_json.specs.Table.{Lengths, Kind, truth, whole, float, byte_list, row, inner, fields, variants, number_types, number_kind, primitive_kind, a_text, some_bytes, an_object, some_elements, nullable, by_name, DefinedKind, HasKind, Part, row_parts, list_parts, field_parts, entries_of, IsVariant, IsHex, IsPrefixed, IsArray, Says}
 use Rattle.borsh_json.proofs.ReaderLaws.{uncons}
 use Rattle.borsh_json.proofs.RepresentsLaws.{kind_one, variant_one}
@@ -48,7 +48,7 @@ module _ (F : List ℕ → Option Form) (ns : List Named) (x : List ℕ) (j : Js
         let r = rows_there refs js k l (c ∙ sym q) in
         let left = items_left refs js in
         let there : HasLeft F ns (Row at n) 0 (TheItems ts) left = (map nameless refs, (x, f, i, d, c, refl), sym (second_map refs), t, r.0, r.1, λ z. z) in
-        ([], refl, (left, subst (λ (q : Parts). HasLeft F ns q place.begun (TheItems ts) left) (sym p) (subst (λ (m : ℕ). HasLeft F ns (Row at n) m (TheItems ts) left) (sym b) there), framed F ns x j (row refs) [] left r.0 h (refl, js, e, r.1) r.1 (λ qs q. some_one r.0 qs (sym r.1 ∙ q)), no_ascent F x j place a))
+        ([], refl, framed F ns x j place (TheItems ts) (Row at n) (row refs) [] left p b h there (r.0, r.1, (refl, js, e, r.1)) (refs, refl, refl) (no_ascent place a))
 
     pub row_count : (js : Items) (k : ℕ) → j ≡ array js → k ≡ length (list_parts [] js) → (k ≡ n → ⊥) → SaysSome F x j → ⊥
     row_count js k e l q = denied F ns x j (row (references (shape_of_form f))) h (λ own ps s.
@@ -59,7 +59,7 @@ module _ (F : List ℕ → Option Form) (ns : List Named) (x : List ℕ) (j : Js
     no_row e = denied F ns x j (row (references (shape_of_form f))) h (λ own ps s. let g = ap as_array s.2 in cc)
 
   -- ---- lists
-  module _ (kind : Kind) (l : Lengths) (e : List ℕ) (at : ℕ) (i : IsAt ns at e) (h : HasKind F x kind)
+  module _ (kind : Kind) (l : Lengths) (e : List ℕ) (at : ℕ) (i : IsAt ns at e) (h : HasKind F x kind) (is : IsListKind kind)
       (to : (own : List ℕ) (ps : List Part) → IsArray l e j own ps → Says F kind j own ps)
       (back : (own : List ℕ) (ps : List Part) → Says F kind j own ps → IsArray l e j own ps) where
     pub list_opened : (place : Place) (ts : List Token) (js : Items) (n : ℕ) (old new : List ℕ) → place.parts ≡ Elements at n → place.begun ≡ 0 → j ≡ array js → InItems ts js → n ≡ length (list_parts [] js) → l.least ≤ n → n ≤ l.greatest → new ≡ old ++ tag l.width (pos n) → (is_some place.ascent ≡ true → HasNeighbours F x j) → IsOpened F ns x j old new (Ok (Some (record { place = place; source = TheItems ts })))
@@ -72,7 +72,7 @@ module _ (F : List ℕ → Option Form) (ns : List Named) (x : List ℕ) (j : Js
         let r : row_parts (replicate n e) js ≡ Some ps = ap (λ m. row_parts (replicate m e) js) c ∙ list_row e js in
         let there : HasLeft F ns (Elements at n) 0 (TheItems ts) left = (replicate n ([], e), (e, i, ap (λ (k : ℕ). replicate k ([], e)) least), sym (second_copies n e), t, ps, r, λ z. z) in
         let q : own ≡ tag l.width (pos n) = append-nil (tag l.width (pos (length ps))) ∙ ap (λ m. tag l.width (pos m)) k in
-        (own, o ∙ ap (λ z. old ++ z) (sym q), (left, subst (λ (q : Parts). HasLeft F ns q place.begun (TheItems ts) left) (sym p) (subst (λ (m : ℕ). HasLeft F ns (Elements at n) m (TheItems ts) left) (sym b) there), framed F ns x j kind own left ps h (to own ps (js, g, refl, (omega (arith, k, low), omega (arith, k, high), refl))) r (λ qs z. some_one ps qs (sym r ∙ z)), a))
+        (own, o ∙ ap (λ z. old ++ z) (sym q), framed F ns x j place (TheItems ts) (Elements at n) kind own left p b h there (ps, r, to own ps (js, g, refl, (omega (arith, k, low), omega (arith, k, high), refl))) (is, refl) (λ z. (a z, (at, n, refl))))
 
     pub no_list : as_array j ≡ None → SaysSome F x j → ⊥
     no_list g = denied F ns x j kind h (λ own ps s. let q = back own ps s in let k = ap as_array q.1 in cc)
@@ -136,22 +136,8 @@ module _ (F : List ℕ → Option Form) (ns : List Named) (x : List ℕ) (j : Js
       let all = map pair fs.now.items in
       let d = subst (λ (l : List (List ℕ)). IsDistinct bytes_eq l) (sym (names_of (λ (f : String Global × String Global). string_bytes f.0) (λ f. string_bytes f.1) fs.now.items)) u in
       let left = fields_left all ms n in
-      let there : HasLeft F ns (Object at fs) 0 s left = (tt, (x, i, form_named F x all h, refl), g) in (
-        [],
-        refl,
-        (
-          left,
-          subst (λ (q : Parts). HasLeft F ns q place.begun s left) (sym p) (subst (λ (k : ℕ). HasLeft F ns (Object at fs) k s left) (sym b) there),
-          record {
-            says = λ ps q. (fields all, h, (d, refl, ms, e, sym c ∙ q.1, q.0));
-            only = λ bs ps t.
-                let v = subst (λ k. Says F k j bs ps) (kind_one F t.1 h) t.2 in
-                let o = object_one v.2 ms (sym v.3 ∙ e) in
-                (v.1, (ap (λ ms. field_parts all ms) (sym o) ∙ v.5, c ∙ ap (λ ms. length (entries_of ms)) (sym o) ∙ v.4));
-          },
-          no_ascent F x j place a,
-        ),
-      )
+      let there : HasLeft F ns (Object at fs) 0 s left = (tt, (x, i, form_named F x all h, refl), g) in
+      ([], refl, framed F ns x j place s (Object at fs) (fields all) [] left p b h there ([], refl, d, refl, e, refl, omega (arith, c)) (refl, refl) (no_ascent place a))
 
 -- ---- variants
 choice_is : (F : List ℕ → Option Form) (x : List ℕ) (d : Form) (kind : Kind) (w : ℕ) (vs : List (ℤ × List ℕ × List ℕ)) → kind ≡ variants w vs → DefinedKind F x d kind → d ≡ choice w vs

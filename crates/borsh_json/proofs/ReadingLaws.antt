@@ -1,10 +1,10 @@
 -- The reader's loop.
-use Rattle.std.proofs.Common.{◌≡◌, ◌⊎◌, inl, inr, ℕ, List, [], ◌∷◌, ◌++◌, length, Option, Some, None, refl, sym, ◌∙◌, ap, subst, arith, length-append}
-use Rattle.std.specs.Prelude.{Bool, true, false, is_some, ◌||◌, Result, Ok, Err, MatchResult, IfOk, OnOk, IfErr}
-use Rattle.std.specs.List.{list_any}
-use Rattle.std.proofs.lemmas.List.Folds.{list_any-append}
+use Rattle.std.proofs.Common.{◌≡◌, ◌⊎◌, inl, inr, ℕ, suc, zero, ◌+◌, ◌-◌, ◌<◌, ◌≤◌, List, [], ◌∷◌, ◌++◌, length, map, Option, Some, None, refl, sym, ◌∙◌, ap, subst, arith, append_assoc, append-nil, length-append}
+use Rattle.std.specs.Prelude.{Bool, true, false, is_some, codes, ℤ, slice_get, String, Result, Ok, Err, MatchResult, IfOk, OnOk, IfErr}
+use Rattle.std.specs.Global.{Global}
+use Rattle.std.specs.Borrow.{Bor}
 use Rattle.json.specs.Token.{Token}
-use Rattle.json.specs.Json.{Json, no_items, item}
+use Rattle.json.specs.Json.{Json, object, no_members, member, no_items, item}
 use Rattle.json.specs.Find.{BeginsWith}
 use Rattle.borsh_values.specs.declared.layout.Named.{Named}
 use Rattle.borsh_json.specs.declared.error.PartError.{PartError}
@@ -12,172 +12,384 @@ use Rattle.borsh_json.specs.declared.error.PartError.TheVariants.{OutOfMemory as
 use Rattle.borsh_json.specs.declared.error.ReadError.{ReadError}
 use Rattle.borsh_json.specs.declared.error.ReadError.TheVariants.{OutOfMemory, Refused, Descends as DescendsAt}
 use Rattle.borsh_json.specs.declared.error.Refusal.{Refusal}
-use Rattle.borsh_json.specs.declared.error.Refusal.TheVariants.{Descends}
+use Rattle.borsh_json.specs.declared.error.Refusal.TheVariants.{TooDeep, RepeatedName, EmptyElements, NotBool, NotUtf8, Zero, NotNumber, Descends, OtherNodes, Expected, MissingField, UnknownName, RepeatedKey, Undefined}
+use Rattle.borsh_json.specs.declared.definitions.Definitions.{Definitions}
 use Rattle.borsh_json.specs.declared.opening.Frame.{Frame}
-use Rattle.borsh_json.specs.declared.order.Ascent.{Ascent}
+use Rattle.borsh_json.specs.declared.parts.Next.TheVariants.{Part, End}
+use Rattle.borsh_json.specs.declared.parts.Reading.{Reading}
 use Rattle.borsh_json.specs.declared.position.Parts.{Parts}
-use Rattle.borsh_json.specs.declared.position.Parts.TheVariants.{Root}
+use Rattle.borsh_json.specs.declared.position.Parts.TheVariants.{Root, List as Elements, Row, Object, Entries as MapEntries, Newtype, Some as Present, Variant}
 use Rattle.borsh_json.specs.declared.position.Place.{Place}
 use Rattle.borsh_json.specs.declared.sources.Source.{Source}
 use Rattle.borsh_json.specs.declared.sources.Source.TheVariants.{One}
+use Rattle.borsh_json.specs.Errors.{Denies, IsUnreadable}
 use Rattle.borsh_json.specs.Forms.{Form}
-use Rattle.borsh_json.specs.Errors.{IsUnreadable}
-use Rattle.borsh_json.specs.Frames.{DeniesOr, FallsFirst, IsUnread, IsOf, IsOfRead, IsReading, IsReadOn, MayFall, HasLeft, HaveLeft, IsFound}
-use Rattle.borsh_json.specs.NoValue.{RefusesJson}
+use Rattle.borsh_json.specs.Found.{forms_of, names_of}
+use Rattle.borsh_json.specs.Frames.{DeniesRead, DeniesOr, HasPath, error_steps, name_step, first_steps, last_steps, steps_at, steps_through, IsUnread, IsOf, IsOfRead, Left, items_left, fields_left, entries_left, Wanted, IsListPlace, HasLeft, SaysOn, IsPlaceOf, IsPlaceIn, IsDoing, SaysAll, IsNext, NoneLeft, DeniesKey, IsFound, Stands, IsInside, IsBegun, IsEnded, HaveAround, HasRead, HasBegun, IsReadOn, ReadsOn}
+use Rattle.borsh_json.specs.NoValue.{Step, field as field_step, place as place_step, element as element_step, variant as variant_step, AreSteps, BeginsParts, LacksField, FallsFirst, HasNeighbours, IsReached, whole_value, part_of, FailsAt, SaysNothing}
 use Rattle.borsh_json.specs.Places.{IsAt}
-use Rattle.borsh_json.specs.Reads.{Left, items_left, PartsOfAll, Before, SaysSome, AreRead}
-use Rattle.borsh_json.specs.Represents.{HaveBytes}
-use Rattle.borsh_json.specs.Table.{Part as JsonPart}
+use Rattle.borsh_json.specs.Represents.{SaysFirst, HaveBytes, none_left, next_part, SaysSome}
+use Rattle.borsh_json.specs.Table.{Kind, byte_list, list, row, inner, fields, optional, variants, entries, HasKind, Part as JsonPart, entry_parts, Says}
 use Rattle.borsh_json.specs.Writes.{IsFull}
-use Rattle.borsh_json.proofs.ReaderLaws.{read_start, read_same, read_end, read_deep, read_falls, front_says}
-use Rattle.borsh_json.proofs.StepLaws.{read_leaf, read_frame, some_left, pushed, popped, bottom, alone}
-use Rattle.borsh_json.proofs.OpeningLaws.{denies_read, unread_of, some_one}
-use Rattle.borsh_json.proofs.MemberLaws.{or_true}
+use Rattle.borsh_json.proofs.FrameLaws.{get_there}
+use Rattle.borsh_json.proofs.ReaderLaws.{joined, no_parts, fields_count, reached_none, lacks_none}
+use Rattle.borsh_json.proofs.OpeningLaws.{no_ascent}
+use Rattle.borsh_json.proofs.LoopLaws.{alone}
 
--- ---- places whose parts have to ascend
-abbrev has_order : Place → Bool
-has_order p = is_some p.ascent
+fields_same : (fs gs : List Wanted) → fields fs ≡ fields gs → fs ≡ gs
+fields_same fs gs e = cc
 
-either : (a b : Bool) → (a || b) ≡ true → (a ≡ true) ⊎ (b ≡ true)
-either true b e = inl refl
-either false b e = inr e
+part_eta : (a b : JsonPart) → a ∷ [] ≡ b ∷ [] → a ≡ b
+part_eta a b e = cc
 
-no_places : (a : Bool) → (a || false) ≡ true → a ≡ true
-no_places true e = refl
-no_places false e = e
+-- ---- the steps through places
+pub steps_last : (ps : List Place) (p : Place) → steps_through (ps ++ p ∷ []) ≡ steps_through ps ++ steps_at p
+steps_last [] p = append-nil (steps_at p)
+steps_last (q ∷ ps) p = ap (λ l. steps_at q ++ l) (steps_last ps p) ∙ sym (append_assoc (steps_at q) (steps_through ps) (steps_at p))
 
-any_last : (p : Place) (ps : List Place) → list_any has_order (ps ++ p ∷ []) ≡ true → list_any has_order (p ∷ ps) ≡ true
-any_last p ps e = elim (either (list_any has_order ps) (list_any has_order (p ∷ [])) (sym (list_any-append has_order ps (p ∷ [])) ∙ e)) [
-  | inl q ↦ ap (λ b. has_order p || b) q ∙ or_true (has_order p)
-  | inr q ↦ ap (λ a. a || list_any has_order ps) (no_places (has_order p) q)
-]
+-- the steps to a part whose object has other members
+pub left_steps : (r : Bool) (old new : List Place) (p q : Place) → (r ≡ true → old ≡ new ++ q ∷ []) → (r ≡ false → (old ≡ []) × (q ≡ p) × (new ≡ [])) → (length old ≡ 0 → steps_at p ≡ []) → steps_through new ++ steps_at q ≡ steps_through old
+left_steps true old new p q f g h = sym (ap (λ (ps : List Place). steps_through ps) (f refl) ∙ steps_last new q)
+left_steps false old new p q f g h =
+    let a = g refl in
+    let e = h (ap (λ (ps : List Place). length ps) a.0) in
+    ap (λ (ps : List Place). steps_through ps ++ steps_at q) a.2 ∙ ap (λ (p : Place). steps_at p) a.1 ∙ e ∙ ap (λ (ps : List Place). steps_through ps) (sym a.0)
 
-last_any : (p : Place) (ps : List Place) → list_any has_order (p ∷ ps) ≡ true → list_any has_order (ps ++ p ∷ []) ≡ true
-last_any p ps e = list_any-append has_order ps (p ∷ []) ∙ elim (either (has_order p) (list_any has_order ps) e) [
-  | inl q ↦ ap (λ a. list_any has_order ps || (a || false)) q ∙ or_true (list_any has_order ps)
-  | inr q ↦ ap (λ a. a || list_any has_order (p ∷ [])) q
-]
+-- ---- the steps to a part
+before_last : (b : ℕ) (ds : List JsonPart) (q : JsonPart) → b ≡ length (ds ++ q ∷ []) → b - 1 ≡ length ds
+before_last b ds q h = let l = length-append ds (q ∷ []) in omega (arith, l, h)
 
-module _ (F : List ℕ → Option Form) (root : List ℕ) (j : Json) where
-  -- elements don't ascend
-  pub descends_part : (e : PartError) → IsOf Descends e → RefusesJson F root j Descends → IsUnread F root j e
-  descends_part NoMemory i d = tt
-  descends_part (RefusedPart path refusal) i d = subst (λ (q : Refusal). IsUnreadable q × RefusesJson F root j q) (sym i) (tt, d)
+module _ (F : List ℕ → Option Form) (ns : List Named) where
+  pub begins_parts : (kind : Kind) (i : Json) (own : List ℕ) (ds : List JsonPart) (l : Left) → SaysOn F ns kind i own ds l → BeginsParts F kind i own ds
+  begins_parts kind i own ds (items_left xs js) s = inl (s.0, s.2)
+  begins_parts kind i own ds (fields_left fs ms n) s = inr (s.0, fs, ms, s.1, s.3, s.4, s.5)
+  begins_parts kind i own ds (entries_left keys k v es) s = inl (entry_parts keys k v es, s)
 
-  -- the innermost place has
-  pub falls_here : (p : Place) (ps : List Place) → MayFall F root j (p ∷ ps) → is_some p.ascent ≡ true → RefusesJson F root j Descends
-  falls_here p ps f e = f (ap (λ a. a || list_any has_order ps) e)
+  -- fewer parts were begun than there are fields
+  fields_long : (all : List Wanted) (i : Json) (own : List ℕ) (ds : List JsonPart) (q : JsonPart) → BeginsParts F (fields all) i own (ds ++ q ∷ []) → length ds < length all
+  fields_long all i own ds q (inl b) =
+      let c = fields_count all b.1.2 ((ds ++ q ∷ []) ++ b.0) b.1.5 in
+      let l = length-append ds (q ∷ []) in
+      let m = length-append (ds ++ q ∷ []) b.0 in
+      omega (arith, c, l, m)
+  fields_long all i own ds q (inr b) =
+      let c = fields_count b.0 b.2 (ds ++ q ∷ []) b.6 in
+      let l = length-append ds (q ∷ []) in
+      let m = length-append b.0 b.1 in
+      let e = ap (λ (l : List Wanted). length l) (fields_same all (b.0 ++ b.1) b.3) in
+      omega (arith, c, l, m, e)
 
-  pub fall_same : (p q : Place) (ps : List Place) → is_some q.ascent ≡ is_some p.ascent → MayFall F root j (p ∷ ps) → MayFall F root j (q ∷ ps)
-  fall_same p q ps e f = λ t. f (sym (ap (λ a. a || list_any has_order ps) e) ∙ t)
+  steps_there : (p : Parts) (b : ℕ) (kind : Kind) (i : Json) (own : List ℕ) (ds : List JsonPart) (q : JsonPart) → IsPlaceOf F ns p b kind i (ds ++ q ∷ []) → BeginsParts F kind i own (ds ++ q ∷ []) → AreSteps kind i (length ds) (first_steps p b ++ last_steps p)
+  steps_there Root b kind i own ds q h f = absurd h
+  steps_there (Elements at n) b kind i own ds q h f =
+      let g = h.0 in
+      let t = ap (λ n. element_step n ∷ []) (before_last b ds q h.1) in
+      elim g.2 [
+        | inl e ↦ subst (λ (k : Kind). AreSteps k i (length ds) (element_step (b - 1) ∷ [])) (sym e) t
+        | inr e ↦ subst (λ (k : Kind). AreSteps k i (length ds) (element_step (b - 1) ∷ [])) (sym e) t
+      ]
+  steps_there (Row at n) b kind i own ds q h f = subst (λ (k : Kind). AreSteps k i (length ds) (place_step (b - 1) ∷ [])) (sym h.1) (ap (λ n. place_step n ∷ []) (before_last b ds q h.2))
+  steps_there (Object at fs) b kind i own ds q h f =
+      let t = get_there _ (length ds) (fields_long _ i own ds q (subst (λ (k : Kind). BeginsParts F k i own (ds ++ q ∷ [])) h.0 f)) in
+      subst (λ (k : Kind). AreSteps k i (length ds) (first_steps (Object at fs) b ++ [])) (sym h.0)
+      (t.0, t.1, ap (λ n. name_step (slice_get _ n) ++ []) (before_last b ds q h.1) ∙ ap (λ (o : Option Wanted). name_step o ++ []) t.1)
+  steps_there (MapEntries es n) b kind i own ds q h f =
+      let l = length-append ds (q ∷ []) in
+      let t = h.5 in
+      subst (λ (k : Kind). AreSteps k i (length ds) (element_step (b - 1) ∷ place_step 1 ∷ [])) (sym h.4) (b - 1, inr (omega (arith, l, t), refl))
+  steps_there (Newtype at) b kind i own ds q h f = subst (λ (k : Kind). AreSteps k i (length ds) (place_step (b - 1) ∷ [])) (sym h.1) (ap (λ n. place_step n ∷ []) (before_last b ds q h.2))
+  steps_there (Present at) b kind i own ds q h f = subst (λ (k : Kind). AreSteps k i (length ds) (variant_step (codes "Some") ∷ [])) (sym h.1) refl
+  steps_there (Variant v at) b kind i own ds q h f = subst (λ (k : Kind). AreSteps k i (length ds) (variant_step v.now ∷ [])) (sym h.3) (v.now, h.2, h.4, refl)
 
-  fall_entered : (new p : Place) (ps : List Place) → MayFall F root j (p ∷ ps) → (is_some new.ascent ≡ true → RefusesJson F root j Descends) → MayFall F root j (new ∷ (ps ++ p ∷ []))
-  fall_entered new p ps f g = λ t. elim (either (has_order new) (list_any has_order (ps ++ p ∷ [])) t) [
-    | inl q ↦ g q
-    | inr q ↦ f (any_last p ps q)
-  ]
+  -- the only part of the outermost place is the whole value
+  front_one : (ds : List JsonPart) (q : JsonPart) (more : List JsonPart) (p : JsonPart) → (ds ++ q ∷ []) ++ more ≡ p ∷ [] → (ds ≡ []) × (q ≡ p)
+  front_one [] q more p e = (refl, cc)
+  front_one (a ∷ []) q more p e = cc
+  front_one (a ∷ b ∷ ds) q more p e = cc
 
-  pub none_falls : (p : Place) (ps : List Place) → p.ascent ≡ None → ps ≡ [] → MayFall F root j (p ∷ ps)
-  none_falls p ps a e = λ t. (let q : list_any has_order (p ∷ ps) ≡ false = ap (λ (a : Option Ascent). is_some a || list_any has_order ps) a ∙ ap (λ l. list_any has_order l) e in let z : true ≡ false = sym t ∙ q in cc)
+  only_part : (x : List ℕ) (i : Json) (own : List ℕ) (ds : List JsonPart) (q : JsonPart) → BeginsParts F (inner x) i own (ds ++ q ∷ []) → (own ≡ []) × (ds ≡ []) × (q ≡ (x, i))
+  only_part x i own ds q (inl b) = let t = front_one ds q b.0 (x, i) b.1.1 in (b.1.0, t.0, t.1)
+  only_part x i own ds q (inr b) = let e : inner x ≡ fields (b.0 ++ b.1) = b.3 in cc
 
-  pub fall_outer : (p : Place) (ps : List Place) → MayFall F root j (p ∷ ps) → MayFall F root j ps
-  fall_outer p ps f = λ t. f (ap (λ a. has_order p || a) t ∙ or_true (has_order p))
-
-  pub fall_left : (p : Place) (ps qs : List Place) → qs ≡ ps ++ p ∷ [] → MayFall F root j qs → MayFall F root j (p ∷ ps)
-  fall_left p ps qs e f = λ t. f (ap (λ l. list_any has_order l) e ∙ last_any p ps t)
-
-module _ (F : List ℕ → Option Form) (ns : List Named) (root : List ℕ) (j : Json) where
-  pub reading_start : (e : List Token) (ps : List Place) (ss : List Source) → IsAt ns 0 root → BeginsWith e j → ps ≡ [] → ss ≡ [] → IsReading F ns root j Root 0 (One (Some e)) ps ss []
-  reading_start e ps ss i b p q =
-      let inner = items_left (root ∷ []) (item j no_items) in
-      record {
-        inner = inner;
-        around = [];
-        here = (([], root) ∷ [], (root, i, refl), refl, (j, refl, b), (root, j) ∷ [], refl, λ z. z);
-        there = subst (λ (ps : List Place). HaveLeft F ns ps ss []) (sym p) (subst (λ (ss : List Source). HaveLeft F ns [] ss []) (sym q) refl);
-        read = read_same F root j (λ pss. pss ≡ ((root, j) ∷ []) ∷ []) (PartsOfAll (inner ∷ [])) (λ pss e. ((root, j) ∷ [], [], refl, refl, e)) (λ pss p. p.4 ∙ ap (λ b. p.0 ∷ b) p.3 ∙ ap (λ a. a ∷ []) (some_one ((root, j) ∷ []) p.0 p.2)) (read_start F root j);
-      }
-
-  -- the place's order is looked at
-  pub reading_same : {p q : Parts} {b c : ℕ} {s : Source} {ps : List Place} {ss : List Source} {out : List ℕ} → q ≡ p → c ≡ b → IsReading F ns root j p b s ps ss out → IsReading F ns root j q c s ps ss out
-  reading_same {p} {q} {b} {c} {s} {ps} {ss} {out} e f r = subst (λ (q : Parts). IsReading F ns root j q c s ps ss out) (sym e) (subst (λ (c : ℕ). IsReading F ns root j p c s ps ss out) (sym f) r)
-
-  -- a part is read: leaf or frame
-  module _ (place : Place) (s : Source) (ps : List Place) (ss : List Source) (ls : List Left) (out : List ℕ) (there : HaveLeft F ns ps ss ls) (x : List ℕ) (i : Json) (l : Left) (here : HasLeft F ns place.parts place.begun s l) (read : AreRead F root j out (Before (x, i) (PartsOfAll (l ∷ ls)))) where
-    pub reading_leaf : (new own : List ℕ) → new ≡ out ++ own → IsFound F ns x i own None → IsReading F ns root j place.parts place.begun s ps ss new
-    reading_leaf new own e f = record {
-      inner = l;
-      around = ls;
-      here = here;
-      there = there;
-      read = subst (λ (o : List ℕ). AreRead F root j o (PartsOfAll (l ∷ ls))) (sym e) (read_leaf F root j x i out own (PartsOfAll (l ∷ ls)) (some_left l ls) f read);
-    }
-
-    pub reading_frame : (new own : List ℕ) (f : Frame) (qs : List Place) (ts : List Source) → new ≡ out ++ own → IsFound F ns x i own (Some f) → qs ≡ ps ++ place ∷ [] → ts ≡ ss ++ s ∷ [] → IsReading F ns root j f.place.parts f.place.begun f.source qs ts new
-    reading_frame new own f qs ts e g a b = record {
-      inner = g.0;
-      around = l ∷ ls;
-      here = g.1;
-      there = subst (λ (qs : List Place). HaveLeft F ns qs ts (l ∷ ls)) (sym a) (subst (λ (ts : List Source). HaveLeft F ns (ps ++ place ∷ []) ts (l ∷ ls)) (sym b) (pushed F ns ps ss ls place s l there here));
-      read = subst (λ (o : List ℕ). AreRead F root j o (PartsOfAll (g.0 ∷ l ∷ ls))) (sym e) (read_frame F root j x i out own g.0 l ls g.2 read);
-    }
-
-    -- or refused
-    pub reading_denied : (e : ReadError) (p : PartError) → IsOfRead e p → DeniesOr (FallsFirst F x i) e (SaysSome F x i) → IsUnread F root j p
-    reading_denied OutOfMemory p o d = unread_of F root j OutOfMemory p o d
-    reading_denied (Refused r) p o d = unread_of F root j (Refused r) p o (denies_read (Refused r) (front_says F root j x i out (PartsOfAll (l ∷ ls)) read) d)
-    reading_denied (DescendsAt k) p o d = descends_part F root j p o (read_falls F root j x i out (PartsOfAll (l ∷ ls)) read (λ own ps s rest. inl (d own ps s rest)))
-
-  -- the innermost frame has ended
-  pub reading_up : (place : Place) (around : Source) (ps qs : List Place) (ss ts : List Source) (ls : List Left) (out : List ℕ) → HaveLeft F ns ps ss ls → AreRead F root j out (PartsOfAll ls) → ps ≡ qs ++ place ∷ [] → ss ≡ ts ++ around ∷ [] → IsReading F ns root j place.parts place.begun around qs ts out
-  reading_up place around ps qs ss ts ls out there read p q =
-      let h = popped F ns qs ts ls place around (subst (λ (ss : List Source). HaveLeft F ns (qs ++ place ∷ []) ss ls) q (subst (λ (ps : List Place). HaveLeft F ns ps ss ls) p there)) in
-      record {
-        inner = h.0;
-        around = h.1;
-        here = h.2;
-        there = h.3;
-        read = subst (λ (l : List Left). AreRead F root j out (PartsOfAll l)) h.4 read;
-      }
-
-  -- and it was the last
-  pub reading_end : (ps : List Place) (ss : List Source) (ls : List Left) (out : List ℕ) → HaveLeft F ns ps ss ls → AreRead F root j out (PartsOfAll ls) → ps ≡ [] → HaveBytes F ((root, j) ∷ []) out
-  reading_end ps ss ls out there read p =
-      let z = bottom F ns ss ls (subst (λ (ps : List Place). HaveLeft F ns ps ss ls) p there) in
-      read_end F root j out (PartsOfAll []) refl (subst (λ (l : List Left). AreRead F root j out (PartsOfAll l)) z.0 read)
-
-  pub no_around : (ps qs : List Place) (place : Place) (ss : List Source) (ls : List Left) → HaveLeft F ns ps ss ls → ss ≡ [] → ps ≡ qs ++ place ∷ [] → ⊥
-  no_around ps qs place ss ls there e p =
-      let a = alone F ns ps ls (subst (λ (ss : List Source). HaveLeft F ns ps ss ls) e there) in
-      longer qs (sym p ∙ a)
+  -- a place that is looked at
+  pub doing_same : (p q : Place) (s : Source) (d : ℕ) (x : List ℕ) (i : Json) (own : List ℕ) (ds : List JsonPart) → q.parts ≡ p.parts → q.begun ≡ p.begun → is_some q.ascent ≡ is_some p.ascent → IsDoing F ns p s d x i own ds → IsDoing F ns q s d x i own ds
+  doing_same p q s d x i own ds e b a r = record {
+    left = r.left;
+    here = subst (λ (t : Parts). HasLeft F ns t q.begun s r.left) (sym e) (subst (λ (k : ℕ). HasLeft F ns p.parts k s r.left) (sym b) r.here);
+    kind = r.kind;
+    says = r.says;
+    is_place = place_same d r.is_place;
+    falls = λ z. let f = r.falls (sym a ∙ z) in (f.0, subst IsListPlace (sym e) f.1);
+  }
     where
-      longer : (qs : List Place) → qs ++ place ∷ [] ≡ [] → ⊥
-      longer [] e = cc
-      longer (q ∷ qs) e = cc
+      place_same : (d : ℕ) → IsPlaceIn F ns d p x r.kind i ds → IsPlaceIn F ns d q x r.kind i ds
+      place_same zero h = (e ∙ h.0, h.1)
+      place_same (suc d) h = (h.0, subst (λ (t : Parts). IsPlaceOf F ns t q.begun r.kind i ds) (sym e) (subst (λ (k : ℕ). IsPlaceOf F ns p.parts k r.kind i ds) (sym b) h.1))
 
--- ---- what the steps return
+  -- a frame that was opened, at any depth
+  deeper : (p : Place) (s : Source) (d : ℕ) (x : List ℕ) (i : Json) (own : List ℕ) → IsDoing F ns p s 1 x i own [] → IsDoing F ns p s (suc d) x i own []
+  deeper p s d x i own r = record { left = r.left; here = r.here; kind = r.kind; says = r.says; is_place = r.is_place; falls = r.falls; }
+
+-- ---- where the reader is
+abbrev Where : Type 1
+Where = ℕ → List Step → List ℕ → List ℕ → Json → Type 0
+
 module _ (F : List ℕ → Option Form) (ns : List Named) (root : List ℕ) (j : Json) where
-  -- no frame is entered where as many are around as may be
-  as_many : (ps : List Place) (ss : List Source) (ls : List Left) → HaveLeft F ns ps ss ls → length ls ≡ length ps
-  as_many [] [] ls h = ap (λ (l : List Left). length l) h
-  as_many [] (s ∷ ss) ls h = absurd h
-  as_many (p ∷ ps) [] ls h = absurd h
-  as_many (p ∷ ps) (s ∷ ss) ls h =
-      let a = ap (λ (l : List Left). length l) h.4 in
-      let b = length-append h.1 (h.0 ∷ []) in
-      let c = as_many ps ss h.1 h.3 in
-      omega (arith, a, b, c)
+  pub reached : (d : ℕ) (path : List Step) (before x : List ℕ) (i : Json) → Stands F ns root j d path before x i → (n : ℕ) × IsReached F root j n path before (x, i)
+  reached zero path before x i s =
+      let r : IsReached F root j 0 [] [] (root, i) = subst (λ (i : Json). IsReached F root j 0 [] [] (root, i)) (sym s.3) whole_value in
+      let t : IsReached F root j 0 [] [] (x, i) = subst (λ (x : List ℕ). IsReached F root j 0 [] [] (x, i)) (sym s.2) r in
+      let u : IsReached F root j 0 [] before (x, i) = subst (λ (b : List ℕ). IsReached F root j 0 [] b (x, i)) (sym s.1) t in
+      (0, subst (λ (p : List Step). IsReached F root j 0 p before (x, i)) (sym s.0) u)
+  reached (suc n) path before x i s = (n, s)
 
-  deep_part : (p : JsonPart) (out : List ℕ) (l : Left) (ls : List Left) (n : ℕ) → length ls ≡ n → AreRead F root j out (Before p (PartsOfAll (l ∷ ls))) → (e : PartError) → IsFull n e → IsUnread F root j e
-  deep_part p out l ls n e r NoMemory f = tt
-  deep_part p out l ls n e r (RefusedPart path refusal) f =
-      let d = read_deep F root j p out l ls (let g = f.1 in omega (arith, e, g)) r in
-      subst (λ (q : Refusal). IsUnreadable q × RefusesJson F root j q) (sym f.0) (tt, d)
+  -- the part that was begun last
+  pub next_stands : (p : Place) (s : Source) (out y : List ℕ) (k : Json) (d : ℕ) (path : List Step) (before x : List ℕ) (i : Json) → IsBegun F ns root j p s out y k d path before x i → Stands F ns root j (suc d) (path ++ steps_at p) out y k
+  next_stands p s out y k zero path before x i r =
+      let is = r.doing.is_place in
+      let at = r.stands in
+      let b = subst (λ (q : Kind). BeginsParts F q i r.own (r.ds ++ (y, k) ∷ [])) is.1 (begins_parts F ns r.doing.kind i r.own (r.ds ++ (y, k) ∷ []) r.doing.left r.doing.says) in
+      let w = only_part F ns x i r.own r.ds (y, k) b in
+      let m : r.mid ≡ [] = no_parts F r.done w.1 in
+      let o : out ≡ [] = r.out_is ∙ ap (λ l. l ++ (r.own ++ r.mid)) at.1 ∙ ap (λ l. l ++ r.mid) w.0 ∙ m in
+      let steps : path ++ steps_at p ≡ [] = ap (λ l. l ++ steps_at p) at.0 ∙ ap (λ t. first_steps t p.begun ++ last_steps t) is.0 in
+      let part : (y, k) ≡ (root, j) = w.2 ∙ ap (λ x. (x, i)) at.2 ∙ ap (λ i. (root, i)) at.3 in
+      let a : IsReached F root j 0 [] [] (y, k) = subst (λ (q : JsonPart). IsReached F root j 0 [] [] q) (sym part) whole_value in
+      let b : IsReached F root j 0 [] out (y, k) = subst (λ (l : List ℕ). IsReached F root j 0 [] l (y, k)) (sym o) a in
+      subst (λ (l : List Step). IsReached F root j 0 l out (y, k)) (sym steps) b
+  next_stands p s out y k (suc d) path before x i r =
+      let is = r.doing.is_place in
+      let b = begins_parts F ns r.doing.kind i r.own (r.ds ++ (y, k) ∷ []) r.doing.left r.doing.says in
+      subst (λ (l : List ℕ). IsReached F root j (suc d) (path ++ steps_at p) l (y, k)) (sym r.out_is)
+      (part_of r.doing.kind r.own r.stands is.0 b r.done (steps_there F ns p.parts p.begun r.doing.kind i r.own r.ds (y, k) is.1 b))
 
-  -- a frame was entered
-  pub frame_read : (place : Place) (s : Source) (ps : List Place) (ss : List Source) (ls : List Left) (out : List ℕ) → HaveLeft F ns ps ss ls → (x : List ℕ) (i : Json) (l : Left) → HasLeft F ns place.parts place.begun s l → AreRead F root j out (Before (x, i) (PartsOfAll (l ∷ ls))) → MayFall F root j (place ∷ ps) → (new own : List ℕ) (f : Frame) → new ≡ out ++ own → IsFound F ns x i own (Some f) → (r : Result Bool PartError) (q : Place) (t : Source) (qs : List Place) (ts : List Source) (last : List ℕ) → IfOk r (λ more. more ≡ true) → OnOk r ((q ≡ f.place) × (t ≡ f.source)) → OnOk r ((qs ≡ ps ++ place ∷ []) × (ts ≡ ss ++ s ∷ [])) → OnOk r (last ≡ new) → IfErr r (λ e. IsFull (length ps) e) → MatchResult r (λ more. IsReadOn F ns root j more q t qs ts last) (λ e. IsUnread F root j e)
-  frame_read place s ps ss ls out there x i l here read falls new own f e g (Ok more) q t qs ts last m a b c d =
-      let k = reading_frame F ns root j place s ps ss ls out there x i l here read new own f qs ts e g b.0 b.1 in
-      let v = subst (λ (q : Place). MayFall F root j (q ∷ qs)) (sym a.0) (subst (λ (qs : List Place). MayFall F root j (f.place ∷ qs)) (sym b.0) (fall_entered F root j f.place place ps falls (λ z. read_falls F root j x i out (PartsOfAll (l ∷ ls)) read (λ own ps s rest. inr (g.3 z))))) in
-      subst (λ (more : Bool). IsReadOn F ns root j more q t qs ts last) (sym m) (subst (λ (o : List ℕ). IsReading F ns root j q.parts q.begun t qs ts o) (sym c) (subst (λ (q : Place). IsReading F ns root j q.parts q.begun t qs ts new) (sym a.0) (subst (λ (t : Source). IsReading F ns root j f.place.parts f.place.begun t qs ts new) (sym a.1) k)), v)
-  frame_read place s ps ss ls out there x i l here read falls new own f e g (Err r) q t qs ts last m a b c d = deep_part (x, i) out l ls (length ps) (as_many ps ss ls there) read r d
+  -- ---- the places around
+  pub around_map : (ps : List Place) (ss : List Source) (d : ℕ) (path : List Step) (before x : List ℕ) (i : Json) {R Q : Where} → ((d : ℕ) (path : List Step) (before x : List ℕ) (i : Json) → R d path before x i → Q d path before x i) → HaveAround F ns root j ps ss d path before x i R → HaveAround F ns root j ps ss d path before x i Q
+  around_map [] [] d path before x i f h = f d path before x i h
+  around_map [] (s ∷ ss) d path before x i f h = absurd h
+  around_map (p ∷ ps) [] d path before x i f h = absurd h
+  around_map (p ∷ ps) (s ∷ ss) d path before x i f h = (h.0, h.1, h.2, h.3, around_map ps ss (suc d) (path ++ steps_at p) h.0 h.1 h.2 f h.4)
+
+  -- the innermost one
+  pub around_here : (ps : List Place) (ss : List Source) (d : ℕ) (path : List Step) (before x : List ℕ) (i : Json) {R : Where} → HaveAround F ns root j ps ss d path before x i R → (e : ℕ) × (to : List Step) × (b : List ℕ) × (y : List ℕ) × (k : Json) × (e ≡ d + length ps) × (to ≡ path ++ steps_through ps) × R e to b y k
+  around_here [] [] d path before x i h = (d, path, before, x, i, omega arith, sym (append-nil path), h)
+  around_here [] (s ∷ ss) d path before x i h = absurd h
+  around_here (p ∷ ps) [] d path before x i h = absurd h
+  around_here (p ∷ ps) (s ∷ ss) d path before x i h =
+      let r = around_here ps ss (suc d) (path ++ steps_at p) h.0 h.1 h.2 h.4 in
+      (r.0, r.1, r.2, r.3, r.4, (let e = r.5 in omega (arith, e)), r.6 ∙ append_assoc path (steps_at p) (steps_through ps), r.7)
+
+  pub pushed : (ps : List Place) (ss : List Source) (p : Place) (s : Source) (d : ℕ) (path : List Step) (before x : List ℕ) (i : Json) {R Q : Where} → ((d : ℕ) (path : List Step) (before x : List ℕ) (i : Json) → R d path before x i → (out : List ℕ) × (y : List ℕ) × (k : Json) × IsBegun F ns root j p s out y k d path before x i × Q (suc d) (path ++ steps_at p) out y k) → HaveAround F ns root j ps ss d path before x i R → HaveAround F ns root j (ps ++ p ∷ []) (ss ++ s ∷ []) d path before x i Q
+  pushed [] [] p s d path before x i f h = f d path before x i h
+  pushed [] (t ∷ ss) p s d path before x i f h = absurd h
+  pushed (q ∷ ps) [] p s d path before x i f h = absurd h
+  pushed (q ∷ ps) (t ∷ ss) p s d path before x i f h = (h.0, h.1, h.2, h.3, pushed ps ss p s (suc d) (path ++ steps_at q) h.0 h.1 h.2 f h.4)
+
+  pub popped : (ps : List Place) (ss : List Source) (p : Place) (s : Source) (d : ℕ) (path : List Step) (before x : List ℕ) (i : Json) {R Q : Where} → ((d : ℕ) (path : List Step) (before x : List ℕ) (i : Json) (out y : List ℕ) (k : Json) → IsBegun F ns root j p s out y k d path before x i → R (suc d) (path ++ steps_at p) out y k → Q d path before x i) → HaveAround F ns root j (ps ++ p ∷ []) (ss ++ s ∷ []) d path before x i R → HaveAround F ns root j ps ss d path before x i Q
+  popped [] [] p s d path before x i f h = f d path before x i h.0 h.1 h.2 h.3 h.4
+  popped [] (t ∷ []) p s d path before x i f h = absurd h.4
+  popped [] (t ∷ u ∷ ss) p s d path before x i f h = absurd h.4
+  popped (q ∷ []) [] p s d path before x i f h = absurd h.4
+  popped (q ∷ r ∷ ps) [] p s d path before x i f h = absurd h.4
+  popped (q ∷ ps) (t ∷ ss) p s d path before x i f h = (h.0, h.1, h.2, h.3, popped ps ss p s (suc d) (path ++ steps_at q) h.0 h.1 h.2 f h.4)
+
+  -- no source is left where no place is
+  pub bottom : (ps : List Place) (ss : List Source) (d : ℕ) (path : List Step) (before x : List ℕ) (i : Json) {R : Where} → HaveAround F ns root j ps ss d path before x i R → ps ≡ [] → R d path before x i
+  bottom [] [] d path before x i h e = h
+  bottom [] (s ∷ ss) d path before x i h e = absurd h
+  bottom (p ∷ ps) ss d path before x i h e = cc
+
+  pub no_around : (ps qs : List Place) (place : Place) (ss : List Source) (d : ℕ) (path : List Step) (before x : List ℕ) (i : Json) {R : Where} → HaveAround F ns root j ps ss d path before x i R → ss ≡ [] → ps ≡ qs ++ place ∷ [] → ⊥
+  no_around [] [] place ss d path before x i h e f = cc
+  no_around [] (q ∷ qs) place ss d path before x i h e f = cc
+  no_around (p ∷ ps) qs place [] d path before x i h e f = h
+  no_around (p ∷ ps) qs place (s ∷ ss) d path before x i h e f = cc
+
+  -- ---- steps of the loop
+
+  -- in front of the whole value
+  pub reading_start : (p : Place) (e : List Token) (ps : List Place) (ss : List Source) (out : List ℕ) → IsAt ns 0 root → BeginsWith e j → p.parts ≡ Root → p.begun ≡ 0 → p.ascent ≡ None → ps ≡ [] → ss ≡ [] → out ≡ [] → HaveAround F ns root j ps ss 0 [] [] root j (IsInside F ns root j p (One (Some e)) out)
+  reading_start p e ps ss out at b parts begun order no_places no_sources no_bytes =
+      let left = items_left (root ∷ []) (item j no_items) in
+      let here : HasLeft F ns Root 0 (One (Some e)) left = (([], root) ∷ [], (root, at, refl), refl, (j, refl, b), (root, j) ∷ [], refl, λ z. z) in
+      let doing : IsDoing F ns p (One (Some e)) 0 root j [] [] = record {
+        left = left;
+        here = subst (λ (q : Parts). HasLeft F ns q p.begun (One (Some e)) left) (sym parts) (subst (λ (k : ℕ). HasLeft F ns Root k (One (Some e)) left) (sym begun) here);
+        kind = inner root;
+        says = ((root, j) ∷ [], refl, (refl, refl));
+        is_place = (parts, refl);
+        falls = no_ascent p order;
+      } in
+      let inside : IsInside F ns root j p (One (Some e)) out 0 [] [] root j = record {
+        own = [];
+        ds = [];
+        mid = [];
+        stands = (refl, refl, refl, refl);
+        doing = doing;
+        done = none_left;
+        out_is = no_bytes;
+      } in
+      subst (λ (ps : List Place). HaveAround F ns root j ps ss 0 [] [] root j (IsInside F ns root j p (One (Some e)) out)) (sym no_places) (subst (λ (ss : List Source). HaveAround F ns root j [] ss 0 [] [] root j (IsInside F ns root j p (One (Some e)) out)) (sym no_sources) inside)
+
+  -- a part without parts was read
+  pub leaf_inside : (p : Place) (s : Source) (out new own y : List ℕ) (k : Json) (d : ℕ) (path : List Step) (before x : List ℕ) (i : Json) → new ≡ out ++ own → SaysFirst F y k own [] → IsBegun F ns root j p s out y k d path before x i → IsInside F ns root j p s new d path before x i
+  leaf_inside p s out new own y k d path before x i e says r = record {
+    own = r.own;
+    ds = r.ds ++ (y, k) ∷ [];
+    mid = r.mid ++ own;
+    stands = r.stands;
+    doing = r.doing;
+    done = joined F r.done (alone F ns y k own says);
+    out_is = e ∙ ap (λ l. l ++ own) r.out_is ∙ append_assoc before (r.own ++ r.mid) own ∙ ap (λ l. before ++ l) (append_assoc r.own r.mid own);
+  }
+
+  -- a part with parts was opened
+  pub frame_inside : (p : Place) (s : Source) (out new own y : List ℕ) (k : Json) (q : Place) (t : Source) (d : ℕ) (path : List Step) (before x : List ℕ) (i : Json) → new ≡ out ++ own → IsDoing F ns q t 1 y k own [] → IsBegun F ns root j p s out y k d path before x i → IsInside F ns root j q t new (suc d) (path ++ steps_at p) out y k
+  frame_inside p s out new own y k q t d path before x i e found r = record {
+    own = own;
+    ds = [];
+    mid = [];
+    stands = next_stands p s out y k d path before x i r;
+    doing = deeper F ns q t d y k own found;
+    done = none_left;
+    out_is = e ∙ ap (λ l. out ++ l) (sym (append-nil own));
+  }
+
+  -- all parts of a part were read
+  pub up_inside : (p q : Place) (s : Source) (none : Type 0) (last : List ℕ) (d : ℕ) (path : List Step) (before x : List ℕ) (i : Json) (out y : List ℕ) (k : Json) → none → IsBegun F ns root j p s out y k d path before x i → IsEnded F ns root j q none last (suc d) (path ++ steps_at p) out y k → IsInside F ns root j p s last d path before x i
+  up_inside p q s none last d path before x i out y k n r t =
+      let a = t.all n in
+      let whole : HaveBytes F ((y, k) ∷ []) (t.own ++ t.mid) = next_part a.0 t.own t.ds a.1 a.2 (subst (λ (l : List JsonPart). HaveBytes F l t.mid) (sym (append-nil t.ds)) t.done) in
+      record {
+        own = r.own;
+        ds = r.ds ++ (y, k) ∷ [];
+        mid = r.mid ++ (t.own ++ t.mid);
+        stands = r.stands;
+        doing = r.doing;
+        done = joined F r.done whole;
+        out_is = t.out_is ∙ ap (λ l. l ++ (t.own ++ t.mid)) r.out_is ∙ append_assoc before (r.own ++ r.mid) (t.own ++ t.mid) ∙ ap (λ l. before ++ l) (append_assoc r.own r.mid (t.own ++ t.mid));
+      }
+
+  -- and those of the whole
+  pub reading_end : (q : Place) (none : Type 0) (last : List ℕ) → none → IsEnded F ns root j q none last 0 [] [] root j → HaveBytes F ((root, j) ∷ []) last
+  reading_end q none last n t =
+      let a = t.all n in
+      subst (λ (l : List ℕ). HaveBytes F ((root, j) ∷ []) l) (sym (t.out_is ∙ ap (λ l. l ++ t.mid) a.0)) (subst (λ (l : List JsonPart). HaveBytes F l t.mid) a.1 t.done)
+
+  -- what comes next of the innermost place
+  pub inside_begun : (p q : Place) (s t : Source) (out new : List ℕ) (at : ℕ) (e : List Token) (d : ℕ) (path : List Step) (before x : List ℕ) (i : Json) (h : IsInside F ns root j p s out d path before x i) → IsNext F ns d x i h.own h.ds q t out new (Part at e) → (y : List ℕ) × (k : Json) × IsAt ns at y × BeginsWith e k × IsBegun F ns root j q t new y k d path before x i
+  inside_begun p q s t out new at e d path before x i h n = (
+    n.2,
+    n.3,
+    n.6,
+    n.7,
+    record {
+      own = h.own;
+      ds = h.ds ++ n.0;
+      mid = h.mid ++ n.1;
+      stands = h.stands;
+      doing = subst (λ (l : List JsonPart). IsDoing F ns q t d x i h.own l) (sym (append_assoc h.ds n.0 ((n.2, n.3) ∷ []))) n.8;
+      done = joined F h.done n.4;
+      out_is = n.5 ∙ ap (λ l. l ++ n.1) h.out_is ∙ append_assoc before (h.own ++ h.mid) n.1 ∙ ap (λ l. before ++ l) (append_assoc h.own h.mid n.1);
+    },
+  )
+
+  pub inside_ended : (p q : Place) (s t : Source) (out new : List ℕ) (d : ℕ) (path : List Step) (before x : List ℕ) (i : Json) (h : IsInside F ns root j p s out d path before x i) → q.parts ≡ p.parts → IsNext F ns d x i h.own h.ds q t out new End → IsEnded F ns root j q (NoneLeft t) new d path before x i
+  inside_ended p q s t out new d path before x i h e n = record {
+    own = h.own;
+    ds = h.ds;
+    mid = h.mid;
+    stands = h.stands;
+    done = h.done;
+    out_is = n.0 ∙ h.out_is;
+    at_root = no_steps d h.doing.is_place;
+    all = n.1;
+    denied = n.2;
+  }
+    where
+      no_steps : (d : ℕ) → IsPlaceIn F ns d p x h.doing.kind i h.ds → d ≡ 0 → steps_at q ≡ []
+      no_steps zero is z = ap (λ (t : Parts). first_steps t q.begun ++ last_steps t) (e ∙ is.0)
+      no_steps (suc d) is z = cc
+
+  -- ---- refusals
+  told : (r : Refusal) (e : PartError) (steps : List Step) (base : List ℕ) → base ≡ root → IsOf r e → HasPath base steps e → IsUnreadable r × FailsAt F root j steps r × SaysNothing F root j r → IsUnread F root j e
+  told r NoMemory steps base b i h t = tt
+  told r (RefusedPart path q) steps base b i h t =
+      (subst (λ (r : Refusal). IsUnreadable r) (sym i) t.0, h.0 ∙ b, subst (λ (s : List Step). FailsAt F root j s q) (sym h.1) (subst (λ (r : Refusal). FailsAt F root j steps r) (sym i) t.1), subst (λ (r : Refusal). SaysNothing F root j r) (sym i) t.2)
+
+  module _ (path : List Step) (before x : List ℕ) (i : Json) (n : ℕ) (at : IsReached F root j n path before (x, i)) where
+    failed : (r : Refusal) → Denies r (SaysSome F x i) → IsUnreadable r × FailsAt F root j path r × SaysNothing F root j r
+    failed TooDeep d = absurd d
+    failed (RepeatedName name) d = (tt, (n, before, x, i, at, d), reached_none F root j at d)
+    failed EmptyElements d = (tt, (n, before, x, i, at, d), reached_none F root j at d)
+    failed NotBool d = absurd d
+    failed NotUtf8 d = absurd d
+    failed Zero d = absurd d
+    failed NotNumber d = (tt, (n, before, x, i, at, d), reached_none F root j at d)
+    failed Descends d = absurd d
+    failed OtherNodes d = (tt, (n, before, x, i, at, d), reached_none F root j at d)
+    failed (Expected wanted) d = (tt, (n, before, x, i, at, d), reached_none F root j at d)
+    failed MissingField d = absurd d
+    failed (UnknownName name) d = (tt, (n, before, x, i, at, d), reached_none F root j at d)
+    failed (RepeatedKey name) d = (tt, (n, before, x, i, at, d), reached_none F root j at d)
+    failed (Undefined name) d = (tt, (n, before, x, i, at, d), reached_none F root j at d)
+
+    -- a part that isn't read
+    pub part_unread : (e : ReadError) (p : PartError) (base : List ℕ) → base ≡ root → IsOfRead e p → HasPath base (error_steps path e) p → DeniesOr (FallsFirst F x i) e (SaysSome F x i) → IsUnread F root j p
+    part_unread OutOfMemory p base b o h d = subst (λ (p : PartError). IsUnread F root j p) (sym o) tt
+    part_unread (Refused r) p base b o h d = told r p path base b o h (failed r d)
+    part_unread (DescendsAt k) p base b o h d = told Descends p (path ++ element_step k ∷ []) base b o h (tt, (n, path, k, before, x, i, refl, at, inl d), tt)
+
+    -- elements that don't ascend
+    pub descends_unread : (p : PartError) (base : List ℕ) (steps : List Step) (k : ℕ) → base ≡ root → IsOf Descends p → HasPath base steps p → steps ≡ path ++ element_step k ∷ [] → HasNeighbours F x i → IsUnread F root j p
+    descends_unread p base steps k b o h e d = told Descends p steps base b o h (tt, (n, path, k, before, x, i, e, at, inr d), tt)
+
+    -- a field that is missing
+    pub missing_unread : (p : PartError) (base : List ℕ) (steps : List Step) (name : List ℕ) → base ≡ root → IsOf MissingField p → HasPath base steps p → steps ≡ path ++ field_step name ∷ [] → LacksField F x i name → IsUnread F root j p
+    missing_unread p base steps name b o h e l = told MissingField p steps base b o h (tt, (n, path, name, before, x, i, e, at, l), reached_none F root j at (lacks_none F l))
+
+    -- an object with other members
+    pub name_unread : (name : String Global) (p : PartError) (base : List ℕ) (steps : List Step) → base ≡ root → IsOf (UnknownName name) p → HasPath base steps p → steps ≡ path → (SaysSome F x i → ⊥) → IsUnread F root j p
+    name_unread name p base steps b o h e d = told (UnknownName name) p path base b o (subst (λ (s : List Step). HasPath base s p) e h) (failed (UnknownName name) d)
+
+  -- a part that is too deep
+  pub deep_unread : (path : List Step) (before : List ℕ) (q : JsonPart) (n : ℕ) → IsReached F root j n path before q → (p : PartError) (base : List ℕ) (m : ℕ) → base ≡ root → n ≡ m → HasPath base path p → IsFull m p → IsUnread F root j p
+  deep_unread path before q n at NoMemory base m b e h f = tt
+  deep_unread path before q n at (RefusedPart to r) base m b e h f =
+      let g = f.1 in
+      told TooDeep (RefusedPart to r) path base b f.0 h (tt, (n, before, q, at, omega (arith, e, g)), tt)
+
+  -- a key that isn't read
+  pub key_unread : (d : ℕ) (path : List Step) (before x : List ℕ) (i : Json) (own mid out : List ℕ) (ds : List JsonPart) (q : Place) → Stands F ns root j d path before x i → HaveBytes F ds mid → (e : ReadError) (p : PartError) (base : List ℕ) (outer : List Step) → base ≡ root → outer ≡ path → IsOfRead e p → HasPath base (outer ++ (first_steps q.parts q.begun ++ place_step 0 ∷ [])) p → DeniesKey F ns d x i own ds q e → IsUnread F root j p
+  key_unread zero path before x i own mid out ds q at done e p base outer b o i1 h k = absurd (let z = k.3 in omega (arith, z))
+  key_unread (suc d) path before x i own mid out ds q at done OutOfMemory p base outer b o i1 h k = subst (λ (p : PartError). IsUnread F root j p) (sym i1) tt
+  key_unread (suc d) path before x i own mid out ds q at done (Refused r) p base outer b o i1 h k =
+      let steps = first_steps q.parts q.begun ++ place_step 0 ∷ [] in
+      let there = part_of k.0 own at k.4 k.5 done k.6 in
+      told r p (path ++ steps) base b i1 (subst (λ (l : List Step). HasPath base (l ++ steps) p) o h) (failed (path ++ steps) (before ++ (own ++ mid)) k.1 k.2 (suc d) there r k.7)
+  key_unread (suc d) path before x i own mid out ds q at done (DescendsAt n) p base outer b o i1 h k = absurd k.7
+
+-- a frame was entered
+module _ (d : Definitions) (root : List ℕ) (j : Json) (old new : Reading) (at : ℕ) (e : List Token) (f : Frame) (bytes : List ℕ) where
+  abbrev F : List ℕ → Option Form
+  F = forms_of d
+
+  abbrev ns : List Named
+  ns = names_of d
+
+  pub frame_read : HasBegun d root j old at e → ((y : List ℕ) (k : Json) → IsAt ns at y → BeginsWith e k → (own : List ℕ) × (bytes ≡ old.out.items ++ own) × IsDoing F ns f.place f.source 1 y k own []) → (r : Result Bool PartError) → IfOk r (λ more. more ≡ true) → OnOk r ((new.position.place ≡ f.place) × (new.source ≡ f.source)) → OnOk r ((new.position.outer.items ≡ old.position.outer.items ++ old.position.place ∷ []) × (new.outer.items ≡ old.outer.items ++ old.source ∷ [])) → OnOk r (new.out.items ≡ bytes) → OnOk r (new.position.root ≡ old.position.root) → IfErr r (λ e. IsFull (length old.position.outer.items) e) → IfErr r (λ e. HasPath old.position.root.now (steps_through old.position.outer.items ++ steps_at old.position.place) e) → ReadsOn d root j new r
+  frame_read b opens (Ok more) m a o s base full path =
+      let p = old.position.place in
+      let inside = pushed F ns root j old.position.outer.items old.outer.items p old.source 0 [] [] root j {Q = IsInside F ns root j f.place f.source bytes} (λ n to before x i h. let g = opens h.0 h.1 h.2 h.3 in (old.out.items, h.0, h.1, h.4, frame_inside F ns root j p old.source old.out.items bytes g.0 h.0 h.1 f.place f.source n to before x i g.1 g.2 h.4)) b.1 in
+      let placed = subst (λ (q : Place). HaveAround F ns root j (old.position.outer.items ++ p ∷ []) (old.outer.items ++ old.source ∷ []) 0 [] [] root j (IsInside F ns root j q f.source bytes)) (sym a.0) inside in
+      let sourced = subst (λ (t : Source). HaveAround F ns root j (old.position.outer.items ++ p ∷ []) (old.outer.items ++ old.source ∷ []) 0 [] [] root j (IsInside F ns root j new.position.place t bytes)) (sym a.1) placed in
+      let written = subst (λ (l : List ℕ). HaveAround F ns root j (old.position.outer.items ++ p ∷ []) (old.outer.items ++ old.source ∷ []) 0 [] [] root j (IsInside F ns root j new.position.place new.source l)) (sym s) sourced in
+      let places = subst (λ (ps : List Place). HaveAround F ns root j ps (old.outer.items ++ old.source ∷ []) 0 [] [] root j (IsInside F ns root j new.position.place new.source new.out.items)) (sym o.0) written in
+      let sources = subst (λ (ss : List Source). HaveAround F ns root j new.position.outer.items ss 0 [] [] root j (IsInside F ns root j new.position.place new.source new.out.items)) (sym o.1) places in
+      let read : HasRead d root j new = (ap (λ (r : Bor (List ℕ)). r.now) base ∙ b.0, sources) in
+      subst (λ (more : Bool). IsReadOn d root j new more) (sym m) read
+  frame_read b opens (Err p) m a o s base full path =
+      let h = around_here F ns root j old.position.outer.items old.outer.items 0 [] [] root j b.1 in
+      let g = h.7 in
+      let t = next_stands F ns root j old.position.place old.source old.out.items g.0 g.1 h.0 h.1 h.2 h.3 h.4 g.4 in
+      deep_unread F ns root j (h.1 ++ steps_at old.position.place) old.out.items (g.0, g.1) h.0 t p old.position.root.now (length old.position.outer.items) b.0 h.5 (subst (λ (l : List Step). HasPath old.position.root.now (l ++ steps_at old.position.place) p) (sym h.6) path) full

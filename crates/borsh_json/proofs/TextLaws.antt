@@ -12,7 +12,7 @@ use Rattle.borsh_json.specs.declared.error.Refusal.TheVariants.{TooDeep, Repeate
 use Rattle.borsh_json.specs.Errors.{TellsNoJson, IsUnreadable, IsTextRefusal, IsTextReason, error_of}
 use Rattle.borsh_json.specs.Forms.{Form}
 use Rattle.borsh_json.specs.Frames.{IsUnread}
-use Rattle.borsh_json.specs.NoValue.{RefusesJson, ShowsNoValue}
+use Rattle.borsh_json.specs.NoValue.{path_steps, FailsAt, SaysNothing, ShowsNoValue}
 
 pub there : {A : Type 0} (o : Option A) → IsSome o → (a : A) × (o ≡ Some a)
 there None s = absurd cc
@@ -38,7 +38,7 @@ refusal_reason text (Undefined n) s u = (s, u)
 module _ (F : List ℕ → Option Form) (C : List ℕ → Option Shape) (root text : List ℕ) (j : Json) (d : document text ≡ Some j) where
   pub part_denies : (e : PartError) → IsUnread F root j e → ShowsNoValue F root text (error_of e)
   part_denies NoMemory p = tt
-  part_denies (RefusedPart path r) p = λ i q. (let e : Some i ≡ Some j = sym q ∙ d in let z : i ≡ j = cc in subst (λ (i : Json). RefusesJson F root i r) (sym z) p.1)
+  part_denies (RefusedPart path r) p = λ i q. (let e : Some i ≡ Some j = sym q ∙ d in let z : i ≡ j = cc in subst (λ (i : Json). (path.root.now ≡ root) × FailsAt F root i (path_steps path) r × SaysNothing F root i r) (sym z) (p.1, p.2, p.3))
 
   pub part_reason : (e : PartError) → IsSome (document text) → IsUnread F root j e → IsTextReason C root text (error_of e)
   part_reason NoMemory s p = tt

@@ -18,8 +18,7 @@ use Rattle.borsh_json.specs.Forms.{Form, shapes, HasNoBytes}
 use Rattle.borsh_json.specs.Frames.{IsEntryKey}
 use Rattle.borsh_json.specs.Leaves.{output_tokens, WritesLeaf}
 use Rattle.borsh_json.specs.Places.{IsAt}
-use Rattle.borsh_json.specs.Reads.{SaysFirst}
-use Rattle.borsh_json.specs.Represents.{HaveBytes, next_part}
+use Rattle.borsh_json.specs.Represents.{SaysFirst, HaveBytes, next_part}
 use Rattle.borsh_json.specs.Table.{Part, key_json}
 use Rattle.borsh_json.specs.Writes.{Rest, value_rest, entries_rest, names_of_rest, names_of_all, IsAbove, MayFollow, MayFollowAll, IsLast, IsWhole, Begins, opened, Nested, unread, entered, passed, Mark, AreLevels, no_levels, level, no_place, IsHalved, IsRestOf, IsRest, AreRests, IsWriting, IsAwaiting, WritesFront}
 use Rattle.borsh_json.proofs.WritingLaws.{begins, ends, key_written, leaf_written, front_written, end_written, entry_taken}

@@ -1,9 +1,9 @@
 -- What the frames of the reader stand for, and what its steps return.
-use Rattle.std.specs.Prelude.{◌≡◌, ◌⊎◌, ⊤, ℕ, ℤ, String, slice_get, List, [], ◌∷◌, ◌++◌, ◌-◌, ◌<◌, All, length, map, drop, replicate, is_some, Bool, true, false, Option, Some, None, Result, MatchOption, MatchResult, string_bytes}
+use Rattle.std.specs.Prelude.{◌≡◌, ◌⊎◌, ⊤, ℕ, suc, zero, ℤ, String, slice_get, List, [], ◌∷◌, ◌++◌, ◌+◌, ◌-◌, ◌*◌, ◌<◌, All, length, map, drop, replicate, is_some, Bool, true, false, Option, Some, None, Result, MatchOption, MatchResult, codes, string_bytes}
 use Rattle.std.specs.Borrow.{Bor}
 use Rattle.std.specs.Global.{Global}
 use Rattle.std.specs.Str.{bytes_eq}
-use Rattle.std.specs.List.{IsDistinct, list_any}
+use Rattle.std.specs.List.{IsDistinct}
 use Rattle.std.specs.List.Sorted.{IsPermutation, IsStrictlySortedBy}
 use Rattle.std.specs.BTreeMap.{BTreeMap, btree_map_len}
 use Rattle.json.specs.Token.{Token}
@@ -11,6 +11,7 @@ use Rattle.json.specs.Json.{Json, string, array, object, Items, no_items, item, 
 use Rattle.json.specs.Find.{BeginsWith, InItems, InMembers, get_member, Finds, as_array}
 use Rattle.borsh_walks.specs.Container.{references}
 use Rattle.borsh_walks.specs.Tables.{mark_of}
+use Rattle.borsh_values.specs.declared.faults.PathStep.{PathStep}
 use Rattle.borsh_values.specs.declared.layout.Named.{Named}
 use Rattle.borsh_json.specs.declared.definitions.Definitions.{Definitions}
 use Rattle.borsh_json.specs.declared.error.PartError.{PartError}
@@ -43,14 +44,13 @@ use Rattle.borsh_json.specs.declared.sources.Source.{Source}
 use Rattle.borsh_json.specs.declared.sources.Source.TheVariants.{One, Items as TheItems, Members as TheMembers, Entries as InPlace, Texts, Ranks}
 use Rattle.borsh_json.specs.Forms.{Form, named, form_of, shape_of_form}
 use Rattle.borsh_json.specs.Found.{forms_of, names_of}
-use Rattle.borsh_json.specs.Descents.{NumbersDescend, HasDescent}
-use Rattle.borsh_json.specs.NoValue.{HasNeighbours, RefusesJson}
+use Rattle.borsh_json.specs.Descents.{NumbersDescend}
+use Rattle.borsh_json.specs.NoValue.{Step, field as field_step, place as place_step, element as element_step, variant as variant_step, step_of, path_steps, AreSteps, BeginsParts, LacksField, FallsFirst, HasNeighbours, IsReached, FailsAt, SaysNothing}
 use Rattle.borsh_json.specs.Orders.{AreOrderedNumbers}
 use Rattle.borsh_json.specs.Places.{IsAt, AreKeysOf}
 use Rattle.borsh_json.specs.Ranks.{HasRank}
-use Rattle.borsh_json.specs.Represents.{HaveBytes}
-use Rattle.borsh_json.specs.Reads.{Left, items_left, fields_left, entries_left, PartsOf, PartsOfAll, Before, SaysFirst, SaysSome, IsOnly, AreRead}
-use Rattle.borsh_json.specs.Table.{Keys, Part as JsonPart, row_parts, Entry, entries_of, key_order, IsVariant, IsWhole, IsPrefixed, list_parts, Lengths, Kind, IsArray, Says}
+use Rattle.borsh_json.specs.Represents.{SaysFirst, HaveBytes, SaysSome}
+use Rattle.borsh_json.specs.Table.{Lengths, Keys, Kind, byte_list, list, row, inner, fields, optional, variants, entries, HasKind, Part as JsonPart, row_parts, list_parts, field_parts, Entry, entries_of, key_order, key_json, entry_parts, IsVariant, IsWhole, IsPrefixed, IsArray, Says}
 
 -- ---- errors
 
@@ -69,18 +69,21 @@ DeniesRead (DescendsAt index) P = ⊥
 abbrev pub ElementsFall : FoundElements → List ℕ → Type 0
 ElementsFall es bytes = (found : Ordered) × (es.order ≡ Some found) × All (λ b. b < 256) bytes × ((signed : Bool) → AreOrderedNumbers found es.size signed bytes → (i : ℕ) × NumbersDescend es.size signed bytes i)
 
--- whatever own bytes JSON of the name says, they begin a set of which two neighbours don't ascend
-abbrev pub FallsFirst : (List ℕ → Option Form) → List ℕ → Json → Type 0
-FallsFirst F x j = (own : List ℕ) (ps : List JsonPart) → SaysFirst F x j own ps → (rest : List ℕ) → HasDescent F x (own ++ rest)
+-- the path of an error, unless there was no memory for it
+abbrev pub HasPath : List ℕ → List Step → PartError → Type 0
+HasPath root steps NoMemory = ⊤
+HasPath root steps (RefusedPart path refusal) = (path.root.now ≡ root) × (path_steps path ≡ steps)
 
-abbrev pub DeniesPart : PartError → Type 0 → Type 0
-DeniesPart NoMemory P = ⊤
-DeniesPart (RefusedPart path refusal) P = Denies refusal P
+-- the steps to what a part's error is of: the part, or an element of it
+abbrev pub error_steps : List Step → ReadError → List Step
+error_steps steps OutOfMemory = steps
+error_steps steps (Refused refusal) = steps
+error_steps steps (DescendsAt index) = steps ++ element_step index ∷ []
 
 -- the error of a part is a true reason why the JSON isn't read
 abbrev pub IsUnread : (List ℕ → Option Form) → List ℕ → Json → PartError → Type 0
 IsUnread F root j NoMemory = ⊤
-IsUnread F root j (RefusedPart path refusal) = IsUnreadable refusal × RefusesJson F root j refusal
+IsUnread F root j (RefusedPart path refusal) = IsUnreadable refusal × (path.root.now ≡ root) × FailsAt F root j (path_steps path) refusal × SaysNothing F root j refusal
 
 -- an error with a path has this refusal, unless there was no memory for the path
 abbrev pub IsOf : Refusal → PartError → Type 0
@@ -91,6 +94,59 @@ abbrev pub IsOfRead : ReadError → PartError → Type 0
 IsOfRead OutOfMemory e = e ≡ NoMemory
 IsOfRead (Refused refusal) e = IsOf refusal e
 IsOfRead (DescendsAt index) e = IsOf Descends e
+
+-- ---- the steps from a place to the part of it that was begun last
+
+abbrev pub name_step : Option (List ℕ × List ℕ) → List Step
+name_step None = []
+name_step (Some f) = field_step f.0 ∷ []
+
+-- to an entry, or to a part of another place
+abbrev pub first_steps : Parts → ℕ → List Step
+first_steps Root b = []
+first_steps (Elements at n) b = element_step (b - 1) ∷ []
+first_steps (Row at n) b = place_step (b - 1) ∷ []
+first_steps (Object at fs) b = name_step (slice_get (map (λ f. (string_bytes f.0, string_bytes f.1)) fs.now.items) (b - 1))
+first_steps (MapEntries es n) b = element_step (b - 1) ∷ []
+first_steps (Newtype at) b = place_step (b - 1) ∷ []
+first_steps (Present at) b = variant_step (codes "Some") ∷ []
+first_steps (Variant v at) b = variant_step v.now ∷ []
+
+-- from an entry to its value
+abbrev pub last_steps : Parts → List Step
+last_steps Root = []
+last_steps (Elements at n) = []
+last_steps (Row at n) = []
+last_steps (Object at fs) = []
+last_steps (MapEntries es n) = place_step 1 ∷ []
+last_steps (Newtype at) = []
+last_steps (Present at) = []
+last_steps (Variant v at) = []
+
+abbrev pub steps_at : Place → List Step
+steps_at p = first_steps p.parts p.begun ++ last_steps p.parts
+
+-- through several places, the outermost first
+abbrev pub steps_through : List Place → List Step
+steps_through [] = []
+steps_through (p ∷ ps) = steps_at p ++ steps_through ps
+
+-- a step that was found
+abbrev pub found_step : Option PathStep → List Step
+found_step None = []
+found_step (Some step) = step_of step ∷ []
+
+-- ---- what is left of a place
+
+-- items of these types; fields that are looked up in an object, of whose members so many are left; or entries
+pub data Left : Type 0 where
+  items_left : List (List ℕ) → Items → Left
+  fields_left : List (List ℕ × List ℕ) → Members → ℕ → Left
+  entries_left : Keys → List ℕ → List ℕ → List Entry → Left
+
+-- a list, set or array
+abbrev pub IsListKind : Kind → Type 0
+IsListKind kind = (l : Lengths) × (e : List ℕ) × ((kind ≡ list l e) ⊎ (kind ≡ byte_list l e))
 
 -- ---- what is wanted of a place: the fields' names, empty for other parts, and the names of the types of the parts that are left
 abbrev pub Wanted : Type 0
@@ -116,7 +172,10 @@ module _ (F : List ℕ → Option Form) (ns : List Named) where
   IsWanted (Present at) i ws = IsOnlyPart at i ws
   IsWanted (Variant v at) i ws = IsOnlyPart at i ws
 
--- whether a place's parts are fields, or entries
+-- whether a place's parts are elements, fields, or entries
+abbrev pub IsListPlace : Parts → Type 0
+IsListPlace p = (at : ℕ) × (n : ℕ) × (p ≡ Elements at n)
+
 abbrev pub IsObject : Parts → Type 0
 IsObject Root = ⊥
 IsObject (Elements at n) = ⊥
@@ -256,17 +315,41 @@ module _ (F : List ℕ → Option Form) (ns : List Named) where
   HasLeft p i s (fields_left fs ms n) = IsObject p × IsWanted F ns p i fs × HasFields s fs ms n
   HasLeft p i s (entries_left keys k v es) = (ws : List Wanted) × IsWanted F ns p i ws × (length ws ≡ length es) × AreEntriesOf p s keys k v es
 
-  -- those of the places around, the outermost first; what is left, the innermost first
-  abbrev pub HaveLeft : List Place → List Source → List Left → Type 0
-  HaveLeft [] [] ls = ls ≡ []
-  HaveLeft [] (s ∷ ss) ls = ⊥
-  HaveLeft (p ∷ ps) [] ls = ⊥
-  HaveLeft (p ∷ ps) (s ∷ ss) ls = (l : Left) × (rest : List Left) × HasLeft p.parts p.begun s l × HaveLeft ps ss rest × (ls ≡ rest ++ l ∷ [])
+  -- JSON of this kind says the own bytes, the parts that were begun and those that are left; of an object the fields are there that were begun
+  abbrev pub SaysOn : Kind → Json → List ℕ → List JsonPart → Left → Type 0
+  SaysOn kind i own ds (items_left xs js) = (ps : List JsonPart) × (row_parts xs js ≡ Some ps) × Says F kind i own (ds ++ ps)
+  SaysOn kind i own ds (fields_left fs ms n) = (gs : List Wanted) × (kind ≡ fields (gs ++ fs)) × IsDistinct bytes_eq (map (λ f. f.0) (gs ++ fs)) × (own ≡ []) × (i ≡ object ms) × (field_parts gs ms ≡ Some ds) × (length (entries_of ms) ≡ n + length gs)
+  SaysOn kind i own ds (entries_left keys k v es) = Says F kind i own (ds ++ entry_parts keys k v es)
 
-  -- what was opened: the JSON of the name says these own bytes and these parts, and no others; parts that have to ascend are two or more
+  -- a place of a value of this kind, of which so many parts were begun
+  abbrev pub IsPlaceOf : Parts → ℕ → Kind → Json → List JsonPart → Type 0
+  IsPlaceOf Root b kind i ds = ⊥
+  IsPlaceOf (Elements at n) b kind i ds = IsListKind kind × (b ≡ length ds)
+  IsPlaceOf (Row at n) b kind i ds = (xs : List (List ℕ)) × (kind ≡ row xs) × (b ≡ length ds)
+  IsPlaceOf (Object at fs) b kind i ds = (kind ≡ fields (map (λ f. (string_bytes f.0, string_bytes f.1)) fs.now.items)) × (b ≡ length ds)
+  IsPlaceOf (MapEntries es n) b kind i ds = (l : Lengths) × (keys : Keys) × (k : List ℕ) × (v : List ℕ) × (kind ≡ entries l keys k v) × (2 * b ≡ length ds)
+  IsPlaceOf (Newtype at) b kind i ds = (y : List ℕ) × (kind ≡ inner y) × (b ≡ length ds)
+  IsPlaceOf (Present at) b kind i ds = (y : List ℕ) × (kind ≡ optional y)
+  IsPlaceOf (Variant v at) b kind i ds = (w : ℕ) × (vs : List (ℤ × List ℕ × List ℕ)) × (value : Json) × (kind ≡ variants w vs) × (i ≡ object (member v.now value no_members))
+
+  -- so is a place inside of others; the one inside of none has the whole value as its only part
+  abbrev pub IsPlaceIn : ℕ → Place → List ℕ → Kind → Json → List JsonPart → Type 0
+  IsPlaceIn zero p x kind i ds = (p.parts ≡ Root) × (kind ≡ inner x)
+  IsPlaceIn (suc d) p x kind i ds = HasKind F x kind × IsPlaceOf p.parts p.begun kind i ds
+
+  -- inside of so many places, a place whose parts are those of the JSON i of x: its own bytes, the parts that were begun, and the source of those that are left. Parts that have to ascend are two or more
+  pub record IsDoing (p : Place) (s : Source) (d : ℕ) (x : List ℕ) (i : Json) (own : List ℕ) (ds : List JsonPart) : Type 0 where
+    pub left : Left
+    pub here : HasLeft p.parts p.begun s left
+    pub kind : Kind
+    pub says : SaysOn kind i own ds left
+    pub is_place : IsPlaceIn d p x kind i ds
+    pub falls : is_some p.ascent ≡ true → HasNeighbours F x i × IsListPlace p.parts
+
+  -- what was opened: the JSON of the name says these own bytes and no parts, or those of a frame
   abbrev pub IsFound : List ℕ → Json → List ℕ → Option Frame → Type 0
-  IsFound x j own None = IsOnly (SaysFirst F x j) own (λ ps. ps ≡ [])
-  IsFound x j own (Some f) = (l : Left) × HasLeft f.place.parts f.place.begun f.source l × IsOnly (SaysFirst F x j) own (PartsOf l) × (is_some f.place.ascent ≡ true → HasNeighbours F x j)
+  IsFound x j own None = SaysFirst F x j own []
+  IsFound x j own (Some f) = IsDoing f.place f.source 1 x j own []
 
   -- the JSON of the name was read: its own bytes were added, or there are none
   abbrev pub IsOpened : List ℕ → Json → List ℕ → List ℕ → Result (Option Frame) ReadError → Type 0
@@ -280,17 +363,32 @@ module _ (F : List ℕ → Option Form) (ns : List Named) where
       (λ found. (own : List ℕ) × (new ≡ old ++ own) × IsFound x j own found)
       (λ e. DeniesOr (FallsFirst F x j) e (SaysSome F x j))
 
-  -- what comes next: a part, which the root's JSON has in front of those that are left; a field that it has not; or no part
-  abbrev pub IsNext : List ℕ → Json → List Left → Place → Source → List ℕ → Next → Type 0
-  IsNext root j ls p s out (Part at e) = (x : List ℕ) × (i : Json) × (l : Left) × IsAt ns at x × BeginsWith e i × HasLeft p.parts p.begun s l × AreRead F root j out (Before (x, i) (PartsOfAll (l ∷ ls)))
-  IsNext root j ls p s out Missing = SaysSome F root j → ⊥
-  IsNext root j ls p s out End = (NoneLeft s → AreRead F root j out (PartsOfAll ls)) × ((NoneLeft s → ⊥) → SaysSome F root j → ⊥)
+  -- all parts of a value were begun: its JSON says them
+  abbrev pub SaysAll : ℕ → List ℕ → Json → List ℕ → List JsonPart → Type 0
+  SaysAll zero x i own ds = (own ≡ []) × (ds ≡ (x, i) ∷ [])
+  SaysAll (suc d) x i own ds = SaysFirst F x i own ds
 
-  -- the same of a map, whose key was added
-  abbrev pub IsNextEntry : List ℕ → Json → Keys → List ℕ → List ℕ → List Entry → List Left → KeyKind → Source → List ℕ → Next → Type 0
-  IsNextEntry root j keys k v es ls kind s out (Part at e) = (t : List ℕ) × (i : Json) × (rest : List Entry) × (es ≡ (t, i) ∷ rest) × IsAt ns at v × BeginsWith e i × HasEntries kind s rest × AreRead F root j out (Before (v, i) (PartsOfAll (entries_left keys k v rest ∷ ls)))
-  IsNextEntry root j keys k v es ls kind s out Missing = es ≡ []
-  IsNextEntry root j keys k v es ls kind s out End = ⊥
+  -- what comes next of a place: a part, behind the key of an entry; a field that the object hasn't; or nothing
+  abbrev pub IsNext : ℕ → List ℕ → Json → List ℕ → List JsonPart → Place → Source → List ℕ → List ℕ → Next → Type 0
+  IsNext d x i own ds p s old new (Part at e) =
+      (es : List JsonPart) × (key : List ℕ) × (y : List ℕ) × (k : Json)
+      × HaveBytes F es key × (new ≡ old ++ key) × IsAt ns at y × BeginsWith e k × IsDoing p s d x i own (ds ++ (es ++ (y, k) ∷ []))
+  IsNext d x i own ds p s old new Missing = (name : List ℕ) × LacksField F x i name × (0 < d) × (steps_at p ≡ field_step name ∷ [])
+  IsNext d x i own ds p s old new End = (new ≡ old) × (NoneLeft s → SaysAll d x i own ds) × ((NoneLeft s → ⊥) → SaysSome F x i → ⊥)
+
+  -- or the error denies that the key of the next entry says some bytes
+  abbrev pub DeniesKey : ℕ → List ℕ → Json → List ℕ → List JsonPart → Place → ReadError → Type 0
+  DeniesKey d x i own ds p e =
+      (kind : Kind) × (y : List ℕ) × (k : Json) × (0 < d) × HasKind F x kind × BeginsParts F kind i own (ds ++ (y, k) ∷ [])
+      × AreSteps kind i (length ds) (first_steps p.parts p.begun ++ place_step 0 ∷ []) × DeniesRead e (SaysSome F y k)
+
+  -- the next entry of a map, whose key was added
+  abbrev pub IsNextEntry : Keys → List ℕ → List ℕ → List Entry → KeyKind → Source → List ℕ → List ℕ → Next → Type 0
+  IsNextEntry keys k v es kind s old new (Part at e) =
+      (t : List ℕ) × (i : Json) × (rest : List Entry) × (own : List ℕ)
+      × (es ≡ (t, i) ∷ rest) × IsAt ns at v × BeginsWith e i × HasEntries kind s rest × SaysFirst F k (key_json keys t) own [] × (new ≡ old ++ own)
+  IsNextEntry keys k v es kind s old new Missing = es ≡ []
+  IsNextEntry keys k v es kind s old new End = ⊥
 
 -- for any definitions and places: the JSON of a name of this kind was opened
 abbrev pub Opens : ((List ℕ → Option Form) → List Named → List ℕ → Type 0) → List Token → List ℕ → List ℕ → Result (Option Frame) ReadError → Type 0
@@ -317,34 +415,81 @@ IsArrayOf j No = as_array j ≡ None
 IsArrayOf j TooLong = ⊤
 IsArrayOf j (Of ts n) = (js : Items) × (j ≡ array js) × InItems ts js × (n ≡ length (list_parts [] js))
 
--- the JSON says a value of the kind as an array of these elements, and not otherwise
+-- the JSON says a value of the kind, a list's, as an array of these elements, and not otherwise
 abbrev pub SaysArray : (List ℕ → Option Form) → Json → Kind → Lengths → List ℕ → Type 0
-SaysArray F j kind l e = (own : List ℕ) (ps : List JsonPart) → (IsArray l e j own ps → Says F kind j own ps) × (Says F kind j own ps → IsArray l e j own ps)
+SaysArray F j kind l e = IsListKind kind × ((own : List ℕ) (ps : List JsonPart) → (IsArray l e j own ps → Says F kind j own ps) × (Says F kind j own ps → IsArray l e j own ps))
 
--- what was read, and the frames that are left, where the parts of the innermost are so many begun of a place
-pub record IsReading (F : List ℕ → Option Form) (ns : List Named) (root : List ℕ) (j : Json) (p : Parts) (b : ℕ) (s : Source) (ps : List Place) (ss : List Source) (out : List ℕ) : Type 0 where
-  pub inner : Left
-  pub around : List Left
-  pub here : HasLeft F ns p b s inner
-  pub there : HaveLeft F ns ps ss around
-  pub read : AreRead F root j out (PartsOfAll (inner ∷ around))
+-- ---- the reader's loop
+module _ (F : List ℕ → Option Form) (ns : List Named) (root : List ℕ) (j : Json) where
+  -- the value of a place inside of so many is there, behind these bytes; the place inside of none is in front of the whole
+  abbrev pub Stands : ℕ → List Step → List ℕ → List ℕ → Json → Type 0
+  Stands zero path before x i = (path ≡ []) × (before ≡ []) × (x ≡ root) × (i ≡ j)
+  Stands (suc n) path before x i = IsReached F root j n path before (x, i)
 
--- where a place's parts have to ascend, the root's JSON may be refused for order
-abbrev pub MayFall : (List ℕ → Option Form) → List ℕ → Json → List Place → Type 0
-MayFall F root j ps = list_any (λ (p : Place). is_some p.ascent) ps ≡ true → RefusesJson F root j Descends
+  -- of a place whose value is there the parts that were begun are read, and these are the bytes so far
+  pub record IsInside (p : Place) (s : Source) (out : List ℕ) (d : ℕ) (path : List Step) (before x : List ℕ) (i : Json) : Type 0 where
+    pub own : List ℕ
+    pub ds : List JsonPart
+    pub mid : List ℕ
+    pub stands : Stands d path before x i
+    pub doing : IsDoing F ns p s d x i own ds
+    pub done : HaveBytes F ds mid
+    pub out_is : out ≡ before ++ (own ++ mid)
 
--- more is to be read; or all was, and the root's JSON says these bytes
-abbrev pub IsReadOn : (List ℕ → Option Form) → List Named → List ℕ → Json → Bool → Place → Source → List Place → List Source → List ℕ → Type 0
-IsReadOn F ns root j true p s ps ss out = IsReading F ns root j p.parts p.begun s ps ss out × MayFall F root j (p ∷ ps)
-IsReadOn F ns root j false p s ps ss out = HaveBytes F ((root, j) ∷ []) out
+  -- all but the last, whose JSON k says a value of y
+  pub record IsBegun (p : Place) (s : Source) (out y : List ℕ) (k : Json) (d : ℕ) (path : List Step) (before x : List ℕ) (i : Json) : Type 0 where
+    pub own : List ℕ
+    pub ds : List JsonPart
+    pub mid : List ℕ
+    pub stands : Stands d path before x i
+    pub doing : IsDoing F ns p s d x i own (ds ++ (y, k) ∷ [])
+    pub done : HaveBytes F ds mid
+    pub out_is : out ≡ before ++ (own ++ mid)
+
+  -- all are read, and it has no others where no member of its object is left
+  pub record IsEnded (p : Place) (none : Type 0) (out : List ℕ) (d : ℕ) (path : List Step) (before x : List ℕ) (i : Json) : Type 0 where
+    pub own : List ℕ
+    pub ds : List JsonPart
+    pub mid : List ℕ
+    pub stands : Stands d path before x i
+    pub done : HaveBytes F ds mid
+    pub out_is : out ≡ before ++ (own ++ mid)
+    pub at_root : d ≡ 0 → steps_at p ≡ []
+    pub all : none → SaysAll F ns d x i own ds
+    pub denied : (none → ⊥) → SaysSome F x i → ⊥
+
+  -- from a place on, which is inside of so many: the last part of each, that was begun, is the value of the next one; R holds of the innermost
+  abbrev pub HaveAround : List Place → List Source → ℕ → List Step → List ℕ → List ℕ → Json → (ℕ → List Step → List ℕ → List ℕ → Json → Type 0) → Type 0
+  HaveAround [] [] d path before x i R = R d path before x i
+  HaveAround [] (s ∷ ss) d path before x i R = ⊥
+  HaveAround (p ∷ ps) [] d path before x i R = ⊥
+  HaveAround (p ∷ ps) (s ∷ ss) d path before x i R =
+      (out : List ℕ) × (y : List ℕ) × (k : Json) × IsBegun p s out y k d path before x i × HaveAround ps ss (suc d) (path ++ steps_at p) out y k R
+
+-- R holds of the innermost place of a reader of the root's JSON
+abbrev pub Holds : Definitions → List ℕ → Json → Reading → (ℕ → List Step → List ℕ → List ℕ → Json → Type 0) → Type 0
+Holds d root j r R = (r.position.root.now ≡ root) × HaveAround (forms_of d) (names_of d) root j r.position.outer.items r.outer.items 0 [] [] root j R
 
 -- what a reader has read, and what is left to it
 abbrev pub HasRead : Definitions → List ℕ → Json → Reading → Type 0
-HasRead d root j r = IsReading (forms_of d) (names_of d) root j r.position.place.parts r.position.place.begun r.source r.position.outer.items r.outer.items r.out.items × MayFall (forms_of d) root j (r.position.place ∷ r.position.outer.items)
+HasRead d root j r = Holds d root j r (IsInside (forms_of d) (names_of d) root j r.position.place r.source r.out.items)
+
+-- it began the part with the name at this place and the JSON of these tokens
+abbrev pub HasBegun : Definitions → List ℕ → Json → Reading → ℕ → List Token → Type 0
+HasBegun d root j r at e = Holds d root j r (λ n path before x i. (y : List ℕ) × (k : Json) × IsAt (names_of d) at y × BeginsWith e k × IsBegun (forms_of d) (names_of d) root j r.position.place r.source r.out.items y k n path before x i)
+
+-- it read the last part of a value
+abbrev pub HasEnded : Definitions → List ℕ → Json → Reading → Type 0
+HasEnded d root j r = Holds d root j r (IsEnded (forms_of d) (names_of d) root j r.position.place (NoneLeft r.source) r.out.items)
+
+-- more is to be read; or all was, and the root's JSON says these bytes
+abbrev pub IsReadOn : Definitions → List ℕ → Json → Reading → Bool → Type 0
+IsReadOn d root j r true = HasRead d root j r
+IsReadOn d root j r false = HaveBytes (forms_of d) ((root, j) ∷ []) r.out.items
 
 -- a step of a reader of these definitions, after which it is so
 abbrev pub ReadsOn : Definitions → List ℕ → Json → Reading → Result Bool PartError → Type 0
-ReadsOn d root j r result = MatchResult result (λ more. IsReadOn (forms_of d) (names_of d) root j more r.position.place r.source r.position.outer.items r.outer.items r.out.items) (λ e. IsUnread (forms_of d) root j e)
+ReadsOn d root j r result = MatchResult result (λ more. IsReadOn d root j r more) (λ e. IsUnread (forms_of d) root j e)
 
 -- a list of bytes was added, and its length in front; or the length is out of range
 abbrev pub AddsList : {A : Type 0} → Lengths → List ℕ → List ℕ → List ℕ → Result A ReadError → Type 0

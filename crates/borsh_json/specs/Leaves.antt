@@ -23,8 +23,7 @@ use Rattle.borsh_json.specs.Found.{IsPrimitiveKind}
 use Rattle.borsh_json.specs.Frames.{IsEntryKey}
 use Rattle.borsh_json.specs.NoJson.{IsNoJson}
 use Rattle.borsh_json.specs.Places.{AreKeysOf, IsKindOf}
-use Rattle.borsh_json.specs.Reads.{SaysFirst}
-use Rattle.borsh_json.specs.Represents.{HaveBytes}
+use Rattle.borsh_json.specs.Represents.{SaysFirst, HaveBytes}
 use Rattle.borsh_json.specs.Table.{Keys, Kind, Lengths, Part, HasKind, IsHex, key_json, key_order, no_bytes, truth, whole, float, raw, utf8, byte_list, list, row, inner, fields, optional, variants, entries}
 
 -- ---- tokens

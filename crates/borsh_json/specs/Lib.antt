@@ -15,7 +15,6 @@ pub mod Known
 pub mod Found
 pub mod Descents
 pub mod Orders
-pub mod Reads
 pub mod Frames
 pub mod Leaves
 pub mod Printed

@@ -3,16 +3,15 @@ pub use Rattle.borsh_json.specs.Descents.{HasDescent, HasKeys, NumbersDescend}
 pub use Rattle.borsh_json.specs.Errors.{IsNoJsonReason, IsNoMemberReason, IsNoRowsReason, IsPartError, IsReadRefusal, IsTextReason, IsTooDeep, IsUnreadable, IsUnwritable}
 pub use Rattle.borsh_json.specs.Forms.{Form, HasNoBytes, IsByte, IsMap, IsOption, choice, form_of, form_of_struct, forms_in, newtype, sequence, shape_of_form, shapes, tuple}
 pub use Rattle.borsh_json.specs.Found.{AreEntries, HasForm, IsAlike, IsCollection, IsMapName, IsNamed, IsPrimitiveKind, IsRefusedList, IsRepeated, IsSetName, TellsKind, forms_of, joined, names_of}
-pub use Rattle.borsh_json.specs.Frames.{AddsList, AddsOrFalls, AreKeyed, AreSorted, DeniesRead, ElementsFall, GivesPart, HasEntries, HasFields, HasItems, HasLeft, HasRead, HaveLeft, HaveNumbers, HaveOneEach, IsArrayOf, IsEntryKey, IsExpected, IsKey, IsNext, IsNextEntry, IsOf, IsOfRead, IsOpened, IsOpenedOrFalls, IsRank, IsText, IsUnread, IsVariantAt, IsWanted, MayFall, NamesVariant, NoneLeft, Opens, ReadsOn, SaysArray, Wanted}
+pub use Rattle.borsh_json.specs.Frames.{AddsList, AddsOrFalls, AreKeyed, AreSorted, DeniesKey, DeniesRead, ElementsFall, GivesPart, HasBegun, HasEnded, HasEntries, HasFields, HasItems, HasPath, HasRead, HaveNumbers, HaveOneEach, IsArrayOf, IsDoing, IsEntryKey, IsExpected, IsKey, IsNext, IsNextEntry, IsOf, IsOfRead, IsOpened, IsOpenedOrFalls, IsRank, IsText, IsUnread, IsVariantAt, IsWanted, Left, NamesVariant, NoneLeft, Opens, ReadsOn, SaysArray, Wanted, entries_left, error_steps, first_steps, found_step, steps_at, steps_through}
 pub use Rattle.borsh_json.specs.Known.{IsKnown, SaysBy}
 pub use Rattle.borsh_json.specs.NoJson.{ShowsNoJson}
-pub use Rattle.borsh_json.specs.NoValue.{ShowsNoValue}
+pub use Rattle.borsh_json.specs.NoValue.{ShowsNoValue, element as element_step, path_steps, place as place_step, step_of}
 pub use Rattle.borsh_json.specs.Ordered.{AreNumbers, IsSequenceName, IsTreeMapName, Order, is_below_zero, listed, needs, tuple_name}
 pub use Rattle.borsh_json.specs.Orders.{AreOpenIn, AreOrderedNumbers, AwaitsOrder, BeginsOrder, ComparesFronts, ComparesNumbers, ComparesTexts, FindsBytesAt, FindsKeysOf, FindsKind, FindsKindAt, FindsNeeded, FindsNext, FindsOrder, FindsOrderAt, HasElements, HasFound, HasKeyOrder, HasKinds, HasOrderAt, HasOrders, IsCut, IsElementFall, IsFoundAt, IsKnownAt, IsNeeded, IsOrderOf, KindHasOrder, KnowsMore, OrderedBy, OrdersKeys, TakesCount, DecidesAscent, ValuesCompare}
 pub use Rattle.borsh_json.specs.Places.{AreKeysOf, IsAt, IsInfinity, IsKindAt, IsKindOf, IsListOf, lengths_of}
 pub use Rattle.borsh_json.specs.Ranks.{HasRank, IsLeading, IsPlain, magnitude, number_found, rank_of}
-pub use Rattle.borsh_json.specs.Reads.{AreRead, Before, Left, PartsOfAll, SaysFirst, SaysSome, entries_left}
-pub use Rattle.borsh_json.specs.Represents.{HaveBytes, TextSays}
+pub use Rattle.borsh_json.specs.Represents.{HaveBytes, SaysFirst, SaysSome, TextSays}
 pub use Rattle.borsh_json.specs.Table.{AreKeys, Entry, HasKind, InRange, IsHex, IsNoNan, IsNullable, IsNumber, IsPrefixed, IsWhole, Keys, Kind as TableKind, Lengths, MayBeNull, Part as JsonPart, byte_list, entries as map_entries, entries_of, float, key_json, key_order, list_parts, no_bytes, number_kind, number_types, optional, primitive_kind, raw, texts, truth, utf8, variants as spec_variants, whole}
 pub use Rattle.borsh_json.specs.Leaves.{Adds, IsOpenedAs, output_before, output_tokens}
 pub use Rattle.borsh_json.specs.Writes.{ArePartsOf, AscendsFrom, BeginsAt, BeginsNext, BeginsStruct, HasNode, IsAbove, IsAwaitingAt, IsBegunOf, IsFull, IsKeyPut, IsLast, IsOfWrite, IsPartWritten, IsWritingAt, IsWrittenNext, IsWrittenOn, RefusesElements, StopsBy, TellsAscent, WritesStruct, WritesValueOf, ends_of, leaf_depth}

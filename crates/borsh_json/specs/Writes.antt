@@ -41,8 +41,7 @@ use Rattle.borsh_json.specs.Frames.{Wanted, IsWanted, IsEntryKey, IsOf, GivesPar
 use Rattle.borsh_json.specs.Found.{forms_of, names_of}
 use Rattle.borsh_json.specs.Places.{IsAt, AreKeysOf, IsKindOf}
 use Rattle.borsh_json.specs.Orders.{HasKeyOrder, KindHasOrder, OrderedBy, ValuesCompare}
-use Rattle.borsh_json.specs.Reads.{SaysFirst}
-use Rattle.borsh_json.specs.Represents.{HaveBytes}
+use Rattle.borsh_json.specs.Represents.{SaysFirst, HaveBytes}
 use Rattle.borsh_json.specs.Leaves.{output_tokens, output_before, Adds, IsOpenedAs, WritesLeaf}
 use Rattle.borsh_json.specs.NoJson.{IsNoJson, RefusesBytes}
 use Rattle.borsh_json.specs.Table.{Keys, Part, row_parts, Entry, entries_of, entry_parts, key_json, key_order}

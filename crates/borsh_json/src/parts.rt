@@ -1,5 +1,5 @@
 // The reader's loop over the parts of a value.
-ghost use Rattle.borsh_json.specs.Words.{AreKeysOf, AreRead, Before, BeginsWith, DeniesRead, Entry, Form, HasEntries, HasKinds, HasLeft, HasRead, HaveBytes, HaveLeft, IsAt, IsEntryKey, IsFull, IsKnown, IsNext, IsNextEntry, IsUnread, Json, Keys, Left, MayFall, NamedPlace, NextMissing, NextPart, NoneLeft, PartsOfAll, ReadsOn, SaysFirst, SaysSome, entries_left, form_of, forms_in, forms_of, key_json, names_of};
+ghost use Rattle.borsh_json.specs.Words.{AreKeysOf, BeginsWith, DeniesKey, DeniesRead, Entry, Form, HasBegun, HasEnded, HasEntries, HasKinds, HasPath, HasRead, HaveBytes, IsAt, IsDoing, IsEntryKey, IsFull, IsKnown, IsNext, IsNextEntry, IsUnread, Json, JsonPart, Keys, NamedPlace, NextMissing, NextPart, ReadsOn, SaysFirst, SaysSome, form_of, forms_in, forms_of, key_json, names_of, steps_at, steps_through};
 ghost use Rattle.std.specs.Prelude.{◌≡◌, ◌∷◌, ◌++◌, [], false, is_some, true, IfErr, IfOk, ℕ, List, MatchOption, MatchResult, OnOk, Option, length};
 
 use crate::definitions::Definitions;
@@ -87,7 +87,7 @@ impl<'a, 't, 's> Reading<'a, 't, 's> {
                 Next::Missing => Err(self.position.refused(Refusal::MissingField)),
                 Next::End => self.leave(definitions),
             },
-            Err(error) => Err(self.position.refused_part(error)),
+            Err(error) => Err(self.position.unread_key(error)),
         }
     }
 
@@ -98,14 +98,8 @@ impl<'a, 't, 's> Reading<'a, 't, 's> {
         at: usize,
         part: Element<'t, 's>,
     ) -> PartResult<'a, bool>
-        ensures { let F = forms_of definitions.now in let ns = names_of definitions.now in
-            HasKinds definitions.now → (root : List ℕ) (j : Json) (x : List ℕ) (i : Json) (l : Left)
-            (ls : List Left) → IsAt ns at x → BeginsWith part.entry i →
-            HasLeft F ns self.old.position.place.parts self.old.position.place.begun self.old.source l →
-            HaveLeft F ns self.old.position.outer.items self.old.outer.items ls →
-            AreRead F root j self.old.out.items (Before (x, i) (PartsOfAll (l ∷ ls))) →
-            MayFall F root j (self.old.position.place ∷ self.old.position.outer.items) →
-            ReadsOn definitions.now root j self.new result }
+        ensures { HasKinds definitions.now → (root : List ℕ) (j : Json) →
+            HasBegun definitions.now root j self.old at part.entry → ReadsOn definitions.now root j self.new result }
     {
         match open_part(definitions, at, part, &mut self.out) {
             Ok(opened) => match opened {
@@ -124,6 +118,9 @@ impl<'a, 't, 's> Reading<'a, 't, 's> {
             (self.new.outer.items ≡ self.old.outer.items ++ self.old.source ∷ [])) }
         ensures same { OnOk result (self.new.out ≡ self.old.out) }
         ensures full { IfErr result (IsFull (length self.old.position.outer.items)) }
+        ensures path { IfErr result (HasPath self.old.position.root.now
+            (steps_through self.old.position.outer.items ++ steps_at self.old.position.place)) }
+        ensures root { OnOk result (self.new.position.root ≡ self.old.position.root) }
     {
         self.position.enter(frame.place)?;
         self.outer
@@ -133,11 +130,7 @@ impl<'a, 't, 's> Reading<'a, 't, 's> {
 
     /// Goes back to the parts around, unless a key of an object is left that is no field.
     fn leave(&mut self, definitions: &Definitions<'a, '_>) -> PartResult<'a, bool>
-        ensures { let F = forms_of definitions.now in let ns = names_of definitions.now in
-            (root : List ℕ) (j : Json) (ls : List Left) →
-            HaveLeft F ns self.old.position.outer.items self.old.outer.items ls →
-            (NoneLeft self.old.source → AreRead F root j self.old.out.items (PartsOfAll ls)) →
-            ((NoneLeft self.old.source → ⊥) → SaysSome F root j → ⊥) → MayFall F root j self.old.position.outer.items →
+        ensures { (root : List ℕ) (j : Json) → HasEnded definitions.now root j self.old →
             ReadsOn definitions.now root j self.new result }
     {
         let unknown = self.source.unknown_key();
@@ -184,12 +177,12 @@ fn take_next<'a, 't, 's>(
     source: &mut Source<'t, 's>,
     out: &mut Vec<u8>,
 ) -> Result<Next<'t, 's>, ReadError>
-    ensures ascent { place.new.ascent ≡ place.old.ascent }
+    ensures parts { place.new.parts ≡ place.old.parts }
     ensures next { let F = forms_of definitions.now in let ns = names_of definitions.now in
-        IsKnown definitions.now → (root : List ℕ) (j : Json) (l : Left) (ls : List Left) →
-        HasLeft F ns place.old.parts place.old.begun source.old l →
-        AreRead F root j out.old.items (PartsOfAll (l ∷ ls)) → MatchResult result
-        (IsNext F ns root j ls place.new source.new out.new.items) (λ e. DeniesRead e (SaysSome F root j)) }
+        IsKnown definitions.now → (d : ℕ) (x : List ℕ) (i : Json) (own : List ℕ) (ds : List JsonPart) →
+        IsDoing F ns place.old source.old d x i own ds → MatchResult result
+        (IsNext F ns d x i own ds place.new source.new out.old.items out.new.items)
+        (DeniesKey F ns d x i own ds place.new) }
 {
     let Some(part) = place.next_part(definitions) else {
         return Ok(Next::End);
@@ -216,13 +209,13 @@ fn next_entry<'t, 's>(
     source: &mut Source<'t, 's>,
     out: &mut Vec<u8>,
 ) -> Result<Next<'t, 's>, ReadError>
-    ensures { (F : List ℕ → Option Form) (ns : List NamedPlace) (root : List ℕ) (j : Json) (keys : Keys) (k v : List ℕ)
-        (es : List Entry) (ls : List Left) → IsAt ns entries.entry.value v →
+    ensures { (F : List ℕ → Option Form) (ns : List NamedPlace) (keys : Keys) (k v : List ℕ) (es : List Entry) →
+        IsAt ns entries.entry.value v →
         AreKeysOf F ns k (form_of entries.entry.key_definition.now) entries.entry.key_kind keys →
-        HasEntries entries.entry.key_kind source.old es →
-        AreRead F root j out.old.items (PartsOfAll (entries_left keys k v es ∷ ls)) → MatchResult result
-        (IsNextEntry F ns root j keys k v es ls entries.entry.key_kind source.new out.new.items)
-        (λ e. DeniesRead e (SaysSome F root j)) }
+        HasEntries entries.entry.key_kind source.old es → MatchResult result
+        (IsNextEntry F ns keys k v es entries.entry.key_kind source.new out.old.items out.new.items)
+        (λ e. (s : List ℕ) × (j : Json) × (rest : List Entry) × (es ≡ (s, j) ∷ rest) ×
+        DeniesRead e (SaysSome F k (key_json keys s))) }
 {
     match source.take_entry() {
         Some((key, element)) => {

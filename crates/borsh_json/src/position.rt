@@ -1,7 +1,7 @@
 // Where in a value the reader or writer is.
-ghost use Rattle.borsh_json.specs.Words.{AscendsFrom, GivesPart, IsElementFall, IsFull, IsKnown, IsOf, IsOfRead, IsOfWrite, IsPartError, IsReadRefusal, IsUnreadable, IsUnwritable, Root, TooDeep};
+ghost use Rattle.borsh_json.specs.Words.{AscendsFrom, GivesPart, HasPath, IsElementFall, IsFull, IsKnown, IsOf, IsOfRead, IsOfWrite, IsPartError, IsReadRefusal, IsUnreadable, IsUnwritable, Root, TooDeep, element_step, error_steps, first_steps, found_step, path_steps, place_step, step_of, steps_at, steps_through};
 ghost use Rattle.borsh_json.specs.declared.error.Refusal.TheVariants.{Descends};
-ghost use Rattle.std.specs.Prelude.{◌≡◌, ◌+◌, ◌^◌, ◌<◌, ◌≤◌, ◌∷◌, ◌++◌, [], true, false, ℕ, List, None, length, IfErr, IfSome, MatchOption, OnOk};
+ghost use Rattle.std.specs.Prelude.{◌≡◌, ◌+◌, ◌^◌, ◌<◌, ◌≤◌, ◌∷◌, ◌++◌, [], true, false, ℕ, List, None, length, map, IfErr, IfOk, IfSome, MatchOption, OnOk};
 
 use crate::definitions::Definitions;
 use crate::error::{PartError, PartResult, ReadError, Refusal, WriteError};
@@ -92,6 +92,7 @@ impl<'a, 'k> Place<'a, 'k> {
     pub fn next_part(&mut self, definitions: &Definitions<'a, '_>) -> Option<Part<'a>>
         ensures part { IsKnown definitions.now →
             GivesPart definitions.now self.old.parts self.old.begun self.new.parts self.new.begun result }
+        ensures begun { IfSome result (λ part. self.new.begun ≡ self.old.begun + 1) }
         ensures same { (self.new.parts ≡ self.old.parts) × (self.new.last ≡ self.old.last) × (self.new.ascent ≡ self.old.ascent) }
     {
         let part = self.part_at(definitions, self.begun)?;
@@ -125,8 +126,31 @@ impl<'a, 'k> Place<'a, 'k> {
         }
     }
 
-    /// The step to the part that was begun last; of the value of an entry, the step to the entry.
-    fn step(&self) -> Option<PathStep<'a>> {
+    /// Adds the steps to the part that was begun last.
+    fn add_steps(&self, steps: &mut Vec<PathStep<'a>>) -> Result<(), AllocError>
+        ensures { OnOk result (map step_of steps.new.items ≡ map step_of steps.old.items ++ steps_at self.now) }
+    {
+        self.add_first(steps)?;
+        if let Parts::Entries(_, _) = self.parts {
+            steps.push(PathStep::Place(1))?;
+        }
+        Ok(())
+    }
+
+    /// Adds the step to the part that was begun last; of the value of an entry, the step to the entry.
+    fn add_first(&self, steps: &mut Vec<PathStep<'a>>) -> Result<(), AllocError>
+        ensures { OnOk result (map step_of steps.new.items ≡
+            map step_of steps.old.items ++ first_steps self.now.parts self.now.begun) }
+    {
+        if let Some(step) = self.step() {
+            steps.push(step)?;
+        }
+        Ok(())
+    }
+
+    fn step(&self) -> Option<PathStep<'a>>
+        ensures { found_step result ≡ first_steps self.now.parts self.now.begun }
+    {
         let index = self.begun.saturating_sub(1);
         match self.parts {
             Parts::Root => None,
@@ -162,6 +186,7 @@ pub struct Position<'a, 'k> {
 impl<'a, 'k> Position<'a, 'k> {
     /// In front of a value of this name.
     pub fn new(alloc: Global, root: &'a str) -> Position<'a, 'k>
+        ensures root { result.root ≡ root.entry }
         ensures outer { result.outer.items ≡ [] }
         ensures place { (result.place.parts ≡ Root) × (result.place.begun ≡ 0) × (result.place.ascent ≡ None) }
     {
@@ -181,6 +206,8 @@ impl<'a, 'k> Position<'a, 'k> {
         ensures too_deep { IfErr result (IsOf TooDeep) }
         ensures full { IfErr result (IsFull (length self.old.outer.items)) }
         ensures room { OnOk result (length self.old.outer.items < 128) }
+        ensures path { IfErr result (HasPath self.old.root.now (steps_through self.old.outer.items ++ steps_at self.old.place)) }
+        ensures root { OnOk result (self.new.root ≡ self.old.root) }
         ensures place { OnOk result (self.new.place ≡ place.entry) }
         ensures outer { OnOk result (self.new.outer.items ≡ self.old.outer.items ++ self.old.place ∷ []) }
     {
@@ -195,6 +222,7 @@ impl<'a, 'k> Position<'a, 'k> {
         ensures reading { IfErr result (IsPartError IsUnreadable) }
         ensures too_deep { IfErr result (IsOf TooDeep) }
         ensures full { IfErr result (IsFull (length self.now.outer.items)) }
+        ensures path { IfErr result (HasPath self.now.root.now (steps_through self.now.outer.items ++ steps_at self.now.place)) }
         ensures room { OnOk result (length self.now.outer.items < 128) }
     {
         if self.outer.len() < MAX_DEPTH {
@@ -207,7 +235,8 @@ impl<'a, 'k> Position<'a, 'k> {
     /// Goes back to the parts around these; says no at the value itself.
     pub fn leave(&mut self) -> bool
         ensures left { result ≡ true → self.old.outer.items ≡ self.new.outer.items ++ self.new.place ∷ [] }
-        ensures all { result ≡ false → self.old.outer.items ≡ [] }
+        ensures all { result ≡ false → (self.old.outer.items ≡ []) × (self.new.place ≡ self.old.place) × (self.new.outer.items ≡ []) }
+        ensures root { self.new.root ≡ self.old.root }
     {
         match self.outer.pop() {
             Some(outer) => {
@@ -236,6 +265,7 @@ impl<'a, 'k> Position<'a, 'k> {
     /// The error of the part that was begun last.
     pub fn refused(&self, refusal: Refusal) -> PartError<'a>
         ensures same { IsOf refusal result }
+        ensures path { HasPath self.now.root.now (steps_through self.now.outer.items ++ steps_at self.now.place) result }
         ensures reading { IsUnreadable refusal → IsPartError IsUnreadable result }
     {
         refused_at(self.path(), refusal)
@@ -244,12 +274,27 @@ impl<'a, 'k> Position<'a, 'k> {
     /// The error of the part that was begun last, or of an element of it.
     pub fn refused_part(&self, error: ReadError) -> PartError<'a>
         ensures same { IsOfRead error result }
+        ensures path { HasPath self.now.root.now
+            (error_steps (steps_through self.now.outer.items ++ steps_at self.now.place) error) result }
         ensures reading { IsReadRefusal error → IsPartError IsUnreadable result }
     {
         match error {
             ReadError::OutOfMemory => PartError::OutOfMemory,
             ReadError::Refused(refusal) => self.refused(refusal),
             ReadError::Descends(index) => refused_at(self.path_to(index), Refusal::Descends),
+        }
+    }
+
+    /// The error of the key of the entry that was begun last and not read.
+    pub fn unread_key(&self, error: ReadError) -> PartError<'a>
+        ensures same { IsOfRead error result }
+        ensures path { HasPath self.now.root.now (steps_through self.now.outer.items ++
+            (first_steps self.now.place.parts self.now.place.begun ++ place_step 0 ∷ [])) result }
+    {
+        match error {
+            ReadError::OutOfMemory => PartError::OutOfMemory,
+            ReadError::Refused(refusal) => refused_at(self.path_of_key(), refusal),
+            ReadError::Descends(_) => refused_at(self.path_of_key(), Refusal::Descends),
         }
     }
 
@@ -267,6 +312,8 @@ impl<'a, 'k> Position<'a, 'k> {
     /// The error of the element or entry that was begun last.
     pub fn refused_element(&self, refusal: Refusal) -> PartError<'a>
         ensures same { IsOf refusal result }
+        ensures path { HasPath self.now.root.now (steps_through self.now.outer.items ++
+            first_steps self.now.place.parts self.now.place.begun) result }
         ensures reading { IsUnreadable refusal → IsPartError IsUnreadable result }
     {
         refused_at(self.path_of_element(), refusal)
@@ -284,38 +331,50 @@ impl<'a, 'k> Position<'a, 'k> {
         }
     }
 
-    fn path(&self) -> Result<Path<'a>, AllocError> {
-        let mut path = self.path_of_element()?;
-        if let Parts::Entries(_, _) = self.place.parts {
-            path.steps.push(PathStep::Place(1))?;
-        }
+    fn path(&self) -> Result<Path<'a>, AllocError>
+        ensures { IfOk result (λ path. (path.root ≡ self.now.root) ×
+            (path_steps path ≡ steps_through self.now.outer.items ++ steps_at self.now.place)) }
+    {
+        let mut path = self.path_to_place()?;
+        self.place.add_steps(&mut path.steps)?;
         Ok(path)
     }
 
-    fn path_to(&self, index: usize) -> Result<Path<'a>, AllocError> {
+    fn path_to(&self, index: usize) -> Result<Path<'a>, AllocError>
+        ensures { IfOk result (λ path. (path.root ≡ self.now.root) × (path_steps path ≡
+            (steps_through self.now.outer.items ++ steps_at self.now.place) ++ element_step index ∷ [])) }
+    {
         let mut path = self.path()?;
         path.steps.push(PathStep::Element(index as u64))?;
         Ok(path)
     }
 
-    fn path_of_key(&self) -> Result<Path<'a>, AllocError> {
+    fn path_of_key(&self) -> Result<Path<'a>, AllocError>
+        ensures { IfOk result (λ path. (path.root ≡ self.now.root) × (path_steps path ≡ steps_through self.now.outer.items ++
+            (first_steps self.now.place.parts self.now.place.begun ++ place_step 0 ∷ []))) }
+    {
         let mut path = self.path_of_element()?;
         path.steps.push(PathStep::Place(0))?;
         Ok(path)
     }
 
-    fn path_of_element(&self) -> Result<Path<'a>, AllocError> {
+    fn path_of_element(&self) -> Result<Path<'a>, AllocError>
+        ensures { IfOk result (λ path. (path.root ≡ self.now.root) × (path_steps path ≡
+            steps_through self.now.outer.items ++ first_steps self.now.place.parts self.now.place.begun)) }
+    {
+        let mut path = self.path_to_place()?;
+        self.place.add_first(&mut path.steps)?;
+        Ok(path)
+    }
+
+    /// The path to the value whose parts these are.
+    fn path_to_place(&self) -> Result<Path<'a>, AllocError>
+        ensures { IfOk result (λ path. (path.root ≡ self.now.root) ×
+            (path_steps path ≡ steps_through self.now.outer.items)) }
+    {
         let mut steps: Vec<PathStep<'a>> = Vec::new(self.alloc);
         for place in self.outer.as_slice() {
-            if let Some(step) = place.step() {
-                steps.push(step)?;
-            }
-            if let Parts::Entries(_, _) = place.parts {
-                steps.push(PathStep::Place(1))?;
-            }
-        }
-        if let Some(step) = self.place.step() {
-            steps.push(step)?;
+            place.add_steps(&mut steps)?;
         }
         Ok(Path {
             root: self.root,
@@ -326,6 +385,7 @@ impl<'a, 'k> Position<'a, 'k> {
 
 pub fn refused_at<'a>(path: Result<Path<'a>, AllocError>, refusal: Refusal) -> PartError<'a>
     ensures same { IsOf refusal result }
+    ensures path { IfOk path.entry (λ p. HasPath p.root.now (path_steps p) result) }
     ensures reading { IsUnreadable refusal → IsPartError IsUnreadable result }
     ensures writing { IsUnwritable refusal → IsPartError IsUnwritable result }
 {

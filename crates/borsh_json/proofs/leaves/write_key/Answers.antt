@@ -7,7 +7,7 @@ use Rattle.borsh_json.specs.Forms.{form_of}
 use Rattle.borsh_json.specs.Frames.{IsEntryKey}
 use Rattle.borsh_json.specs.Integers.{integer_of}
 use Rattle.borsh_json.specs.Places.{AreKeysOf, lengths_of}
-use Rattle.borsh_json.specs.Reads.{SaysFirst}
+use Rattle.borsh_json.specs.Represents.{SaysFirst}
 use Rattle.borsh_json.specs.Table.{Keys, key_json, utf8, whole}
 use Rattle.borsh_json.proofs.KeyJson.{number_key}
 use Rattle.borsh_json.proofs.LeafLaws.{bare_opened, defined, number_there, number_zero}

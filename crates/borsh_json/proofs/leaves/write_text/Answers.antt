@@ -2,7 +2,7 @@ use Rattle.std.proofs.Common.{[], subst, sym}
 use Rattle.json.specs.Json.{string}
 use Rattle.borsh_json.specs.Forms.{form_of}
 use Rattle.borsh_json.specs.Places.{lengths_of}
-use Rattle.borsh_json.specs.Reads.{SaysFirst}
+use Rattle.borsh_json.specs.Represents.{SaysFirst}
 use Rattle.borsh_json.specs.Table.{utf8}
 use Rattle.borsh_json.proofs.LeafLaws.{defined, put_string}
 use Rattle.borsh_json.proofs.ListLaws.{list_node, no_text, tells_count, text_says}

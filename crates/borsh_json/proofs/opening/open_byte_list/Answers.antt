@@ -12,7 +12,7 @@ use Rattle.borsh_json.proofs.opening.open_byte_list.Goals as goal
 pub returns-in_default : goal.returns-in_default
 returns-in_default c F ns orders x j e at h size order b =
     let l = lengths_of (form_of c.args.definition.now) in
-    opened F ns x j c.args.out.now.items c.open_items.new.out.items c.open_items.result (c.open_items.ensures F ns orders x j (byte_list l e) e at h order (λ own ps. ((λ q. inr q), no_text F j l e own ps (sym (c.in_default.ensures j b)))) b)
+    opened F ns x j c.args.out.now.items c.open_items.new.out.items c.open_items.result (c.open_items.ensures F ns orders x j (byte_list l e) e at h order ((l, e, inr refl), λ own ps. ((λ q. inr q), no_text F j l e own ps (sym (c.in_default.ensures j b)))) b)
 
 pub returns-in-Ok-put_ascending : goal.returns-in-Ok-put_ascending
 returns-in-Ok-put_ascending c F ns orders x j e at h size order b =

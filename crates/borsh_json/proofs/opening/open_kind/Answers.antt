@@ -86,7 +86,7 @@ returns-in-Newtype c known x j at e h order b =
     let F = forms_in c.args.definitions.now.layout.now.map.now in
     let ns = c.args.definitions.now.layout.now.names.items in
     let d = subst (λ (k : Kind). IsKindOf F ns x (form_of c.args.definition.now) k) c.in-Newtype.is h in
-    ([], sym (append-nil c.args.out.now.items), only_found F ns x j (inner d.0) [] (Newtype c.in-Newtype.part) d.0 j c.args.element c.only.result c.only.ensures (λ i. (d.0, refl, λ ws e. (d.0, d.1, e))) (λ q. q) d.2 b (refl, refl))
+    ([], sym (append-nil c.args.out.now.items), only_found F ns x j (inner d.0) [] (Newtype c.in-Newtype.part) d.0 j c.args.element c.only.result c.only.ensures (λ i. (d.0, refl, λ ws e. (d.0, d.1, e))) (λ q. q) (d.0, refl, refl) d.2 b (refl, refl))
 
 pub returns-in-Optional : goal.returns-in-Optional
 returns-in-Optional c known x j at e h order b =

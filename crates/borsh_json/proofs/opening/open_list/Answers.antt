@@ -1,4 +1,4 @@
-use Rattle.std.proofs.Common.{Bool, subst}
+use Rattle.std.proofs.Common.{inl, Bool, refl, subst}
 use Rattle.borsh_json.specs.Forms.{form_of}
 use Rattle.borsh_json.specs.Places.{IsListOf, lengths_of}
 use Rattle.borsh_json.specs.Table.{list}
@@ -11,4 +11,4 @@ returns-then-elements c F ns x j h b = unsayable F ns x j (subst (λ (r : Bool).
 pub returns : goal.returns
 returns c F ns x j h b =
     let k = subst (λ (r : Bool). IsListOf F ns x (form_of c.args.definition.now) c.args.elements.at r) c.if-elements.false h.2 in
-    c.open_items.ensures F ns h.0 x j (list (lengths_of (form_of c.args.definition.now)) k.0) k.0 k.1 k.2 h.1 (λ own ps. ((λ q. q), (λ q. q))) b
+    c.open_items.ensures F ns h.0 x j (list (lengths_of (form_of c.args.definition.now)) k.0) k.0 k.1 k.2 h.1 ((lengths_of (form_of c.args.definition.now), k.0, inl refl), λ own ps. ((λ q. q), (λ q. q))) b

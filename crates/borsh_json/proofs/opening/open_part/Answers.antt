@@ -1,7 +1,7 @@
 use Rattle.std.proofs.Common.{◌≡◌, inl, inr, ℕ, List, Option, None, refl}
 use Rattle.json.specs.Json.{Json}
 use Rattle.borsh_json.specs.Forms.{Form, HasNoBytes, forms_in}
-use Rattle.borsh_json.specs.Reads.{SaysSome}
+use Rattle.borsh_json.specs.Represents.{SaysSome}
 use Rattle.borsh_json.proofs.OpeningLaws.{opened, unmoved}
 use Rattle.borsh_json.proofs.ReaderLaws.{uncons}
 use Rattle.borsh_json.proofs.opening.open_part.Goals as goal

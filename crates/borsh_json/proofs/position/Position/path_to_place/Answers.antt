@@ -1,0 +1,10 @@
+use Rattle.std.proofs.Common.{◌≡◌, ◌∙◌, ◌≤◌, ◌++◌, length, take, sym, ap, arith}
+use Rattle.std.proofs.lemmas.List.{take_all}
+use Rattle.borsh_json.specs.Frames.{steps_at, steps_through}
+use Rattle.borsh_json.proofs.FrameLaws.{steps_taken}
+use Rattle.borsh_json.proofs.position.Position.path_to_place.Goals as goal
+
+pub loop-place-preserved : goal.loop-place-preserved
+loop-place-preserved c =
+    let i = c.loop-place.place-index in
+    c.in_ok-add_steps.ensures ∙ ap (λ l. l ++ steps_at c.loop-place-item.result.now) c.loop-place.invariant ∙ sym (steps_taken _ i _ (omega arith) c.loop-place-item.is)
