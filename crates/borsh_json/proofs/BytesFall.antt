@@ -13,13 +13,13 @@ use Rattle.borsh_json.specs.declared.order.Ascent.{Ascent}
 use Rattle.borsh_json.specs.declared.order.Ordered.{Ordered}
 use Rattle.borsh_json.specs.Descents.{NumbersDescend}
 use Rattle.borsh_json.specs.Forms.{Form, sequence, shapes}
-use Rattle.borsh_json.specs.Frames.{AddsList, AddsOrFalls, DeniesOr, DeniesRead, ElementsFall}
+use Rattle.borsh_json.specs.Frames.{AddsList, AddsOrFalls, ElementsFall}
 use Rattle.borsh_json.specs.NoValue.{FallsFirst, HasNeighbours}
 use Rattle.borsh_json.specs.Orders.{AreOrderedNumbers, HasKeyOrder}
 use Rattle.borsh_json.specs.Table.{Lengths, Kind, byte_list, HasKind, IsHex, IsPrefixed, list_parts, Says}
 use Rattle.borsh_json.specs.Writes.{AscendsFrom}
 use Rattle.borsh_json.proofs.FormKinds.{form_found}
-use Rattle.borsh_json.proofs.OpeningLaws.{denies_from, list_length}
+use Rattle.borsh_json.proofs.OpeningLaws.{list_length}
 use Rattle.borsh_json.proofs.PackedDescent.{packed_descent}
 use Rattle.borsh_json.proofs.PartsLaws.{byte_said}
 use Rattle.borsh_json.proofs.RankLaws.{shaped}
@@ -35,16 +35,6 @@ adds_or es l bs old new (Ok a) h = h
 adds_or es l bs old new (Err OutOfMemory) h = h
 adds_or es l bs old new (Err (Refused r)) h = h
 adds_or es l bs old new (Err (DescendsAt i)) h = absurd h
-
-pub denies_or : (e : ReadError) (P : Type 0) → DeniesRead e P → DeniesOr ⊥ e P
-denies_or OutOfMemory P d = d
-denies_or (Refused r) P d = d
-denies_or (DescendsAt i) P d = d
-
-pub falls_or : (e : ReadError) {P Q D E : Type 0} → (Q → P) → (D → E) → DeniesOr D e P → DeniesOr E e Q
-falls_or OutOfMemory f g d = tt
-falls_or (Refused r) {P} {Q} f g d = denies_from r P Q f d
-falls_or (DescendsAt i) f g d = g d
 
 module _ (F : List ℕ → Option Form) (ns : List Named) (orders : List Known) (x : List ℕ) (j : Json) where
   -- bytes as digits

@@ -1,5 +1,5 @@
 -- The reader's next part.
-use Rattle.std.proofs.Common.{◌≡◌, inl, inr, ℕ, suc, zero, ◌+◌, ◌-◌, ◌<◌, List, [], ◌∷◌, ◌++◌, length, map, Option, Some, None, refl, sym, ◌∙◌, ap, subst, arith, append_assoc, append-nil, length-append}
+use Rattle.std.proofs.Common.{◌≡◌, inl, inr, ℕ, suc, zero, ◌+◌, ◌-◌, ◌<◌, List, [], ◌∷◌, ◌++◌, length, map, Option, Some, None, refl, sym, ◌∙◌, ap, subst, arith, append_assoc, append-nil, length-append, string_bytes}
 use Rattle.std.specs.Prelude.{is_some, true, MatchOption, Result, Ok, Err, MatchResult, slice_get}
 use Rattle.std.specs.Borrow.{Bor}
 use Rattle.std.specs.Str.{bytes_eq}
@@ -22,7 +22,7 @@ use Rattle.borsh_json.specs.declared.position.Place.{Place}
 use Rattle.borsh_json.specs.declared.sources.Source.{Source}
 use Rattle.borsh_json.specs.Forms.{Form, form_of}
 use Rattle.borsh_json.specs.Frames.{DeniesRead, name_step, first_steps, last_steps, steps_at, Left, items_left, fields_left, entries_left, Wanted, IsWanted, IsListPlace, IsObject, IsMapPlace, IsKey, HasItems, HasFields, HasEntries, NoneLeft, AreEntriesOf, HasLeft, SaysOn, IsPlaceOf, IsPlaceIn, IsDoing, SaysAll, IsNext, DeniesKey, IsNextEntry}
-use Rattle.borsh_json.specs.NoValue.{Step, field as field_step, place as place_step, element as element_step, AreSteps, BeginsParts, LacksField, HasNeighbours}
+use Rattle.borsh_json.specs.NoValue.{Step, field as field_step, place as place_step, element as element_step, AreSteps, BeginsParts, LacksField, HasNeighbours, HasOthers, Why}
 use Rattle.borsh_json.specs.Places.{IsAt, AreKeysOf}
 use Rattle.borsh_json.specs.Represents.{SaysFirst, HaveBytes, none_left, next_part, SaysSome}
 use Rattle.borsh_json.specs.Table.{Keys, Kind, inner, fields, entries, HasKind, Part as JsonPart, row_parts, field_parts, Entry, entries_of, key_json, entry_parts, Says}
@@ -174,9 +174,10 @@ module _ (F : List ℕ → Option Form) (ns : List Named) where
   missing_step (Elements at n) b c kind i ds gs f fs o e l k h = absurd o
   missing_step (Row at n) b c kind i ds gs f fs o e l k h = absurd o
   missing_step (Object at os) b c kind i ds gs f fs o e l k h =
-      let all = fields_same _ _ (sym h.0 ∙ k) in
+      let names : List Wanted = map (λ f. (string_bytes f.0, string_bytes f.1)) os.now.items in
+      let all = fields_same names (gs ++ f ∷ fs) (sym h.0 ∙ k) in
       let n : c - 1 ≡ length gs = (let t = h.1 in omega (arith, t, e, l)) in
-      ap (λ n. name_step (slice_get _ n) ++ []) n ∙ ap (λ (l : List Wanted). name_step (slice_get l (length gs)) ++ []) all ∙ ap (λ (o : Option Wanted). name_step o ++ []) (get_behind gs f fs)
+      ap (λ n. name_step (slice_get names n) ++ []) n ∙ ap (λ (l : List Wanted). name_step (slice_get l (length gs)) ++ []) all ∙ ap (λ (o : Option Wanted). name_step o ++ []) (get_behind gs f fs)
   missing_step (MapEntries es n) b c kind i ds gs f fs o e l k h = absurd o
   missing_step (Newtype at) b c kind i ds gs f fs o e l k h = absurd o
   missing_step (Present at) b c kind i ds gs f fs o e l k h = absurd o
@@ -200,17 +201,20 @@ module _ (F : List ℕ → Option Form) (ns : List Named) where
   says_all zero p x kind i own ds h s = subst (λ (k : Kind). Says F k i own ds) h.1 s
   says_all (suc d) p x kind i own ds h s = (kind, h.0, s)
 
-  -- an object with other members than its fields says nothing
-  too_many : (d : ℕ) (p : Place) (x : List ℕ) (kind : Kind) (i : Json) (own : List ℕ) (ds : List JsonPart) (fs : List Wanted) (ms : Members) → kind ≡ fields fs → i ≡ object ms → (length (entries_of ms) ≡ length fs → ⊥) → IsPlaceIn F ns d p x kind i ds → SaysSome F x i → ⊥
-  too_many zero p x kind i own ds fs ms k o n h s = let q : inner x ≡ fields fs = sym h.1 ∙ k in cc
-  too_many (suc d) p x kind i own ds fs ms k o n h s =
+  -- an object with other members than its fields
+  too_many : (d : ℕ) (p : Place) (x : List ℕ) (kind : Kind) (i : Json) (ds : List JsonPart) (fs : List Wanted) (ms : Members) → kind ≡ fields fs → i ≡ object ms → (length (entries_of ms) ≡ length fs → ⊥) → IsPlaceIn F ns d p x kind i ds → HasOthers F x i
+  too_many zero p x kind i ds fs ms k o n h = let q : inner x ≡ fields fs = sym h.1 ∙ k in cc
+  too_many (suc d) p x kind i ds fs ms k o n h = (fs, ms, subst (λ (k : Kind). HasKind F x k) k h.0, o, n)
+
+  pub others_none : (x : List ℕ) (i : Json) → HasOthers F x i → SaysSome F x i → ⊥
+  others_none x i h s =
       let u = uncons F s.1 in
       let g = u.4 in
-      let v = subst (λ (k : Kind). Says F k i u.0 u.1) (kind_one F g.1 h.0 ∙ k) g.2 in
-      n (ap (λ ms. length (entries_of ms)) (object_one i ms v.2 o v.3) ∙ v.4)
+      let v = subst (λ (k : Kind). Says F k i u.0 u.1) (kind_one F g.1 h.2) g.2 in
+      h.4 (ap (λ ms. length (entries_of ms)) (object_one i h.1 v.2 h.3 v.3) ∙ v.4)
 
 module _ (F : List ℕ → Option Form) (ns : List Named) (d : ℕ) (x : List ℕ) (i : Json) (own : List ℕ) (ds : List JsonPart) (kind : Kind) where
-  pub place_end : (p : Place) (s : Source) (l : Left) → ((ws : List Wanted) → IsWanted F ns p.parts p.begun ws → ws ≡ []) → HasLeft F ns p.parts p.begun s l → SaysOn F ns kind i own ds l → IsPlaceIn F ns d p x kind i ds → (NoneLeft s → SaysAll F ns d x i own ds) × ((NoneLeft s → ⊥) → SaysSome F x i → ⊥)
+  pub place_end : (p : Place) (s : Source) (l : Left) → ((ws : List Wanted) → IsWanted F ns p.parts p.begun ws → ws ≡ []) → HasLeft F ns p.parts p.begun s l → SaysOn F ns kind i own ds l → IsPlaceIn F ns d p x kind i ds → (NoneLeft s → SaysAll F ns d x i own ds) × ((NoneLeft s → ⊥) → HasOthers F x i)
   place_end p s (items_left xs js) w h says is =
       let e : xs ≡ [] = h.2 ∙ ap (λ l. map (λ (w : Wanted). w.1) l) (w h.0 h.1) in
       let q = no_row js says.0 (subst (λ (l : List (List ℕ)). row_parts l js ≡ Some says.0) e says.1) in
@@ -225,7 +229,7 @@ module _ (F : List ℕ → Option Form) (ns : List Named) (d : ℕ) (x : List �
       let t = says.6 in
       (
         λ z. says_all F ns d p x kind i own ds is (subst (λ (k : Kind). Says F k i own ds) (sym says.1) (says.2, says.3, ms, says.4, (let m = q.0 z in omega (arith, m, t, count)), ap (λ (l : List Wanted). field_parts l ms) a ∙ says.5)),
-        λ z. too_many F ns d p x kind i own ds (gs ++ fs) ms says.1 says.4 (λ m. z (q.1 (omega (arith, m, t, count)))) is,
+        λ z. too_many F ns d p x kind i ds (gs ++ fs) ms says.1 says.4 (λ m. z (q.1 (omega (arith, m, t, count)))) is,
       )
   place_end p s (entries_left keys k v es) w h says is =
       let e : es ≡ [] = no_entries es (ap (λ (l : List Wanted). length l) (sym (w h.0 h.1)) ∙ h.2) in
@@ -312,7 +316,7 @@ module _ (F : List ℕ → Option Form) (ns : List Named) (d : ℕ) (x : List �
     -- the next entry of a map
     module _ (new : List ℕ) (m : FoundEntries) (key : part.key ≡ EntryOf m) where
       pub entry_next : (r : Result Next ReadError)
-          → ((keys : Keys) (k v : List ℕ) (es : List Entry) → IsAt ns m.value v → AreKeysOf F ns k (form_of m.key_definition.now) m.key_kind keys → HasEntries m.key_kind s es → MatchResult r (λ n. IsNextEntry F ns keys k v es m.key_kind t out new n) (λ e. (s : List ℕ) × (j : Json) × (rest : List Entry) × (es ≡ (s, j) ∷ rest) × DeniesRead e (SaysSome F k (key_json keys s))))
+          → ((keys : Keys) (k v : List ℕ) (es : List Entry) → IsAt ns m.value v → AreKeysOf F ns k (form_of m.key_definition.now) m.key_kind keys → HasEntries m.key_kind s es → MatchResult r (λ n. IsNextEntry F ns keys k v es m.key_kind t out new n) (λ e. (s : List ℕ) × (j : Json) × (rest : List Entry) × (es ≡ (s, j) ∷ rest) × DeniesRead (Why F k (key_json keys s)) e (SaysSome F k (key_json keys s))))
           → (l : Left) → HasLeft F ns p.parts p.begun s l → SaysOn F ns kind i own ds l → IsPlaceIn F ns d p x kind i ds → MatchResult r (λ n. IsNext F ns d x i own ds q t out new n) (λ e. DeniesKey F ns d x i own ds q e)
       entry_next r g (items_left xs js) h says is = let w = wanted h.0 h.1 in absurd (h.6 (of_map p.parts part.key w.0.0 m key w.4))
       entry_next r g (fields_left fs ms c) h says is = let w = wanted fs h.1 in absurd (object_or_map p.parts h.0 (of_map p.parts part.key w.0.0 m key w.4))
@@ -322,7 +326,7 @@ module _ (F : List ℕ → Option Form) (ns : List Named) (d : ℕ) (x : List �
           let a = g keys k v es z.1 z.2 z.3 in
           denied d a.0 a.1 a.2 (subst (λ (l : List Entry). SaysOn F ns kind i own ds (entries_left keys k v l)) a.3 says) is (of_map p.parts part.key w.0.0 m key w.4) a.4
         where
-          denied : (d : ℕ) (s : List ℕ) (j : Json) (rest : List Entry) → SaysOn F ns kind i own ds (entries_left keys k v ((s, j) ∷ rest)) → IsPlaceIn F ns d p x kind i ds → IsMapPlace p.parts → DeniesRead e (SaysSome F k (key_json keys s)) → DeniesKey F ns d x i own ds q e
+          denied : (d : ℕ) (s : List ℕ) (j : Json) (rest : List Entry) → SaysOn F ns kind i own ds (entries_left keys k v ((s, j) ∷ rest)) → IsPlaceIn F ns d p x kind i ds → IsMapPlace p.parts → DeniesRead (Why F k (key_json keys s)) e (SaysSome F k (key_json keys s)) → DeniesKey F ns d x i own ds q e
           denied zero s j rest says is m a = absurd (subst IsMapPlace is.0 m)
           denied (suc d) s j rest says is m a = (
             kind,

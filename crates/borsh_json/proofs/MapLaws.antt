@@ -28,7 +28,7 @@ use Rattle.borsh_json.specs.declared.position.Place.{Place}
 use Rattle.borsh_json.specs.declared.sources.Source.{Source}
 use Rattle.borsh_json.specs.declared.sources.Source.TheVariants.{Entries as InPlace, Texts, Ranks}
 use Rattle.borsh_json.specs.Forms.{Form, form_of}
-use Rattle.borsh_json.specs.Frames.{DeniesRead, Wanted, IsText, IsRank, AreKeyed, HasEntries, HaveOneEach, HaveNumbers, AreSorted, HasLeft, IsOpened, entries_left}
+use Rattle.borsh_json.specs.Frames.{DeniesRead, Wanted, IsText, IsRank, AreKeyed, HasEntries, HaveOneEach, HaveNumbers, AreSorted, HasLeft, IsOpened, entries_left, IsUnexpected}
 use Rattle.borsh_json.specs.Places.{IsAt, AreKeysOf}
 use Rattle.borsh_json.specs.Represents.{HaveBytes, SaysSome}
 use Rattle.borsh_json.specs.Table.{Lengths, Keys, texts, numbers, whole, entries, HasKind, IsNumber, IsWhole, Part, Entry, entries_of, entry_parts, key_order, key_json, Says}
@@ -36,9 +36,10 @@ use Rattle.borsh_json.proofs.EachLaws.{sorted_each}
 use Rattle.borsh_json.proofs.KeyJson.{key_number, tells}
 use Rattle.borsh_json.proofs.MemberLaws.{keyed_length, sorted_keyed, text_cmp}
 use Rattle.borsh_json.proofs.NumberLaws.{ranks_compare}
-use Rattle.borsh_json.proofs.OpeningLaws.{no_ascent, denies_read, framed, said}
+use Rattle.borsh_json.proofs.OpeningLaws.{no_ascent, framed, said, refuses_plain}
 use Rattle.borsh_json.proofs.ReaderLaws.{split, uncons}
 use Rattle.borsh_json.proofs.RepresentsLaws.{IsAmong, moved, kind_one, number_one}
+use Rattle.borsh_json.specs.NoValue.{Why}
 
 pub object_one : (j : Json) (ms ns : Members) → j ≡ object ms → j ≡ object ns → ms ≡ ns
 object_one j ms ns e f = let q : object ms ≡ object ns = sym e ∙ f in cc
@@ -176,8 +177,8 @@ module _ (F : List ℕ → Option Form) (ns : List Named) (x : List ℕ) (j : Js
         let q : own ≡ tag l.width (pos n) = append-nil (tag l.width (pos (length es))) ∙ ap (λ i. tag l.width (pos i)) (sym z) in
         (own, o ∙ ap (λ y. old ++ y) (sym q), framed F ns x j place s (MapEntries m n) (entries l keys k v) own left p g h there (t.0, es, t.2, t.3, t.4, (omega (arith, z, low), omega (arith, z, high), refl), refl) (l, keys, k, v, refl, refl) (no_ascent place none))
 
-    pub map_range : (e : ReadError) → DeniesRead e ((l.least ≤ n) × (n ≤ l.greatest)) → DeniesRead e (SaysSome F x j)
-    map_range e d = denies_read e (λ y.
+    pub map_range : (e : ReadError) → DeniesRead IsUnexpected e ((l.least ≤ n) × (n ≤ l.greatest)) → DeniesRead (Why F x j) e (SaysSome F x j)
+    map_range e d = refuses_plain F ns x j e (λ y.
         let u = map_said y in
         let q : length t.1 ≡ length u.1 = length_permutation (entries_of t.0) t.1 t.3 ∙ ap (λ ms. length (entries_of ms)) (object_one j t.0 u.0 t.2 u.3) ∙ sym (length_permutation (entries_of u.0) u.1 u.4) in
         let z = t.6 in

@@ -15,11 +15,12 @@ use Rattle.std.proofs.lemmas.List.Sorted.{IsPermutation-refl, IsPermutation-cons
 use Rattle.std.proofs.lemmas.Map.Text.{btree_map_updates_str, is_eq-slice_cmp}
 use Rattle.std.proofs.lemmas.Slice.Eq.{bytes_eq-Decides}
 use Rattle.json.specs.Token.{Token}
-use Rattle.json.specs.Json.{Json, Members, no_members, member}
+use Rattle.json.specs.Json.{Json, Members, no_members, member, object}
 use Rattle.json.specs.Find.{BeginsWith, InMembers, get_member, later_or, Finds}
 use Rattle.borsh_walks.specs.Tables.{mark_of}
 use Rattle.borsh_json.specs.Frames.{IsText, AreKeyed, HaveOneEach}
 use Rattle.borsh_json.specs.Table.{Entry, entries_of}
+use Rattle.borsh_json.specs.NoValue.{RepeatsKey}
 
 -- ---- entries by the keys of a map
 there_case : (b : Bool) (t : List Token) (o : Option (List Token)) → is_some (cond b (Some t) o) ≡ true → (b ≡ true) ⊎ (is_some o ≡ true)
@@ -113,14 +114,18 @@ module _ {A : Type 0} (K : A → List ℕ → Type 0) (ms : Members) (ts : List 
             same = IsPermutation-push_more p.passed p.es r.0 (s, u.0) p.same r.2;
           }
 
-      pub passed_twice : ((a : A) (t : List ℕ) → is_eq (cmp k a) ≡ true → K a t → s ≡ t) → is_some (lookup (is_at (cmp k)) m) ≡ true → ArePassed K ms ts m → HaveOneEach (entries_of ms) → ⊥
-      passed_twice one e p h =
+      pub passed_twice : ((a : A) (t : List ℕ) → is_eq (cmp k a) ≡ true → K a t → s ≡ t) → is_some (lookup (is_at (cmp k)) m) ≡ true → ArePassed K ms ts m → (j : Json) → j ≡ object ms → RepeatsKey j s
+      passed_twice one e p j o =
           let u = passed_here p in
           let test : Entry → Bool = λ x. bytes_eq s x.0 in
-          let a = list_any-IsPermutation test p.passed p.es p.same ∙ there_keyed K cmp k s one m p.es p.keyed e in
-          let b = h p.passed u.1 (s, u.0) u.2 in
-          let z : true ≡ false = sym a ∙ b in
-          cc
+          (ms, p.passed, (s, u.0), u.1, o, u.2, refl, list_any-IsPermutation test p.passed p.es p.same ∙ there_keyed K cmp k s one m p.es p.keyed e)
+
+-- no such object has each key once
+pub not_each : (j : Json) (name : List ℕ) → RepeatsKey j name → (ms : Members) → j ≡ object ms → HaveOneEach (entries_of ms) → ⊥
+not_each j name t ms e h =
+    let m : t.0 ≡ ms = (let q : object t.0 ≡ object ms = sym t.4 ∙ e in cc) in
+    let z : true ≡ false = sym t.7 ∙ h t.1 t.3 t.2 (ap (λ ms. entries_of ms) (sym m) ∙ t.5) in
+    cc
 
 -- ---- what a map finds of a key
 -- the last entry of that name

@@ -1,6 +1,6 @@
 -- What JSON of a kind opens.
 use Rattle.std.proofs.Common.{◌≡◌, inl, inr, ℕ, suc, zero, List, [], ◌∷◌, ◌++◌, length, map, replicate, drop, Bool, true, false, Option, Some, None, refl, sym, ◌∙◌, ap, subst, arith, append-nil}
-use Rattle.std.specs.Prelude.{Result, Ok, Err, ℤ, slice_get, is_some, MatchOption}
+use Rattle.std.specs.Prelude.{Result, Ok, Err, ℤ, slice_get, is_some, MatchOption, String}
 use Rattle.json.specs.Token.{Token}
 use Rattle.json.specs.Json.{Json, null, boolean, number, string, array, object, Items, no_items, item}
 use Rattle.json.specs.Find.{BeginsWith, is_null, as_bool, as_str, as_number}
@@ -15,16 +15,16 @@ use Rattle.borsh_json.specs.declared.position.Parts.{Parts}
 use Rattle.borsh_json.specs.declared.position.Place.{Place}
 use Rattle.borsh_json.specs.declared.sources.Source.{Source}
 use Rattle.borsh_json.specs.declared.sources.Source.TheVariants.{One}
-use Rattle.borsh_json.specs.Errors.{Denies}
 use Rattle.borsh_json.specs.Forms.{Form}
-use Rattle.borsh_json.specs.Frames.{DeniesRead, Left, items_left, IsExpected, SaysOn, IsPlaceOf, IsDoing, IsFound, IsOpened, IsOpenedOrFalls, HasLeft, IsWanted, IsListPlace, IsMapPlace, Wanted}
-use Rattle.borsh_json.specs.NoValue.{HasNeighbours}
+use Rattle.borsh_json.specs.Frames.{DeniesRead, Left, items_left, IsExpected, SaysOn, IsPlaceOf, IsDoing, IsFound, IsOpened, IsOpenedOrFalls, HasLeft, IsWanted, IsListPlace, IsMapPlace, Wanted, DeniesOr, IsUnexpected, IsKeyReason}
+use Rattle.borsh_json.specs.NoValue.{HasNeighbours, Why}
 use Rattle.borsh_json.specs.Represents.{SaysFirst, SaysSome}
 use Rattle.borsh_json.specs.Table.{Kind, HasKind, Part, row_parts, list_parts, IsVariant, this, that, Says}
 use Rattle.borsh_json.proofs.FrameLaws.{drop_at}
 use Rattle.borsh_json.proofs.ReaderLaws.{mapped, uncons}
 use Rattle.borsh_json.proofs.RepresentsLaws.{kind_one, says_one, kind_small}
 use Rattle.borsh_json.proofs.StepLaws.{item_back}
+use Rattle.std.specs.Global.{Global}
 
 -- ---- JSON by its type
 pub null_is : (j : Json) → is_null j ≡ true → j ≡ null
@@ -60,30 +60,60 @@ number_is (array js) s e = cc
 number_is (object ms) s e = cc
 
 -- ---- errors
-pub denies_from : (r : Refusal) (P Q : Type 0) → (Q → P) → Denies r P → Denies r Q
-denies_from TooDeep P Q f d = d
-denies_from (RepeatedName n) P Q f d = λ q. d (f q)
-denies_from EmptyElements P Q f d = λ q. d (f q)
-denies_from NotBool P Q f d = d
-denies_from NotUtf8 P Q f d = d
-denies_from Zero P Q f d = d
-denies_from NotNumber P Q f d = λ q. d (f q)
-denies_from Descends P Q f d = d
-denies_from OtherNodes P Q f d = λ q. d (f q)
-denies_from (Expected w) P Q f d = λ q. d (f q)
-denies_from MissingField P Q f d = d
-denies_from (UnknownName n) P Q f d = λ q. d (f q)
-denies_from (RepeatedKey n) P Q f d = λ q. d (f q)
-denies_from (Undefined n) P Q f d = λ q. d (f q)
+pub denies_or : {D E : Type 0} {Reason Other : Refusal → Type 0} (e : ReadError) {P Q : Type 0} → ((r : Refusal) → Reason r → Other r) → (Q → P) → (D → E) → DeniesOr D Reason e P → DeniesOr E Other e Q
+denies_or OutOfMemory w f g d = tt
+denies_or (Refused r) w f g d = (w r d.0, λ q. d.1 (f q))
+denies_or (DescendsAt i) w f g d = g d
 
-pub denies_read : (e : ReadError) {P Q : Type 0} → (Q → P) → DeniesRead e P → DeniesRead e Q
-denies_read OutOfMemory f d = tt
-denies_read (Refused r) {P} {Q} f d = denies_from r P Q f d
-denies_read (DescendsAt i) f d = d
+pub denies_read : (Reason : Refusal → Type 0) (e : ReadError) {P Q : Type 0} → (Q → P) → DeniesRead Reason e P → DeniesRead Reason e Q
+denies_read Reason e f d = denies_or e (λ r w. w) f (λ z. z) d
 
-pub denies_expected : (e : ReadError) {P : Type 0} → IsExpected e → (P → ⊥) → DeniesRead e P
-denies_expected e {P} (inl i) d = subst (λ (e : ReadError). DeniesRead e P) (sym i) tt
-denies_expected e {P} (inr i) d = subst (λ (e : ReadError). DeniesRead e P) (sym i.1) d
+pub denies_expected : (Reason : Refusal → Type 0) → ((wanted : String Global) → Reason (Expected wanted)) → (e : ReadError) {P : Type 0} → IsExpected e → (P → ⊥) → DeniesRead Reason e P
+denies_expected Reason w e {P} (inl i) d = subst (λ (e : ReadError). DeniesRead Reason e P) (sym i) tt
+denies_expected Reason w e {P} (inr i) d = subst (λ (e : ReadError). DeniesRead Reason e P) (sym i.1) (w i.0, d)
+
+-- what is denied of JSON of a name
+module _ (F : List ℕ → Option Form) (ns : List Named) (x : List ℕ) (j : Json) where
+  pub plain_why : (r : Refusal) → IsUnexpected r → Why F x j r
+  plain_why TooDeep p = absurd p
+  plain_why (RepeatedName name) p = absurd p
+  plain_why EmptyElements p = absurd p
+  plain_why NotBool p = absurd p
+  plain_why NotUtf8 p = absurd p
+  plain_why Zero p = absurd p
+  plain_why NotNumber p = absurd p
+  plain_why Descends p = absurd p
+  plain_why OtherNodes p = tt
+  plain_why (Expected wanted) p = tt
+  plain_why MissingField p = absurd p
+  plain_why (UnknownName name) p = absurd p
+  plain_why (RepeatedKey name) p = absurd p
+  plain_why (Undefined name) p = absurd p
+
+  key_why : (r : Refusal) → IsKeyReason j r → Why F x j r
+  key_why TooDeep p = absurd p
+  key_why (RepeatedName name) p = absurd p
+  key_why EmptyElements p = absurd p
+  key_why NotBool p = absurd p
+  key_why NotUtf8 p = absurd p
+  key_why Zero p = absurd p
+  key_why NotNumber p = absurd p
+  key_why Descends p = absurd p
+  key_why OtherNodes p = absurd p
+  key_why (Expected wanted) p = tt
+  key_why MissingField p = absurd p
+  key_why (UnknownName name) p = absurd p
+  key_why (RepeatedKey name) p = p
+  key_why (Undefined name) p = absurd p
+
+  pub refuses_plain : (e : ReadError) {P : Type 0} → (SaysSome F x j → P) → DeniesRead IsUnexpected e P → DeniesRead (Why F x j) e (SaysSome F x j)
+  refuses_plain e f d = denies_or e plain_why f (λ z. z) d
+
+  pub refuses_keys : (e : ReadError) {P : Type 0} → (SaysSome F x j → P) → DeniesRead (IsKeyReason j) e P → DeniesRead (Why F x j) e (SaysSome F x j)
+  refuses_keys e f d = denies_or e key_why f (λ z. z) d
+
+  pub refuses_expected : (e : ReadError) → IsExpected e → (SaysSome F x j → ⊥) → DeniesRead (Why F x j) e (SaysSome F x j)
+  refuses_expected e i d = denies_expected (Why F x j) (λ w. tt) e i d
 
 -- parts that need not ascend
 pub no_ascent : {A : Type 0} (p : Place) → p.ascent ≡ None → is_some p.ascent ≡ true → A

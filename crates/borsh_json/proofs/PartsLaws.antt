@@ -19,14 +19,14 @@ use Rattle.borsh_json.specs.declared.position.Place.{Place}
 use Rattle.borsh_json.specs.declared.sources.Source.{Source}
 use Rattle.borsh_json.specs.declared.sources.Source.TheVariants.{Items as TheItems}
 use Rattle.borsh_json.specs.Forms.{Form, primitive, sequence, tuple, newtype, unnamed, named, choice, shape_of_form, HasNoBytes}
-use Rattle.borsh_json.specs.Frames.{DeniesRead, Wanted, AreFound, HasFields, HasLeft, IsOpened, NamesVariant, items_left, fields_left, IsListKind}
-use Rattle.borsh_json.specs.NoValue.{HasNeighbours}
+use Rattle.borsh_json.specs.Frames.{DeniesRead, Wanted, AreFound, HasFields, HasLeft, IsOpened, NamesVariant, items_left, fields_left, IsListKind, IsUnexpected}
+use Rattle.borsh_json.specs.NoValue.{HasNeighbours, Why, NamesNoVariant}
 use Rattle.borsh_json.specs.Places.{IsAt, IsUnsayable}
 use Rattle.borsh_json.specs.Represents.{SaysSome}
 use Rattle.borsh_json.specs.Table.{Lengths, Kind, truth, whole, float, byte_list, row, inner, fields, variants, number_types, number_kind, primitive_kind, a_text, some_bytes, an_object, some_elements, nullable, by_name, DefinedKind, HasKind, Part, row_parts, list_parts, field_parts, entries_of, IsVariant, IsHex, IsPrefixed, IsArray, Says}
 use Rattle.borsh_json.proofs.ReaderLaws.{uncons}
 use Rattle.borsh_json.proofs.RepresentsLaws.{kind_one, variant_one}
-use Rattle.borsh_json.proofs.OpeningLaws.{no_ascent, denied, said, framed, denies_read, row_fits, rows_there, list_row, list_length, second_map, second_copies, some_one}
+use Rattle.borsh_json.proofs.OpeningLaws.{no_ascent, denied, said, framed, row_fits, rows_there, list_row, list_length, second_map, second_copies, some_one, refuses_plain}
 
 array_one : (js ks : Items) → array js ≡ array ks → js ≡ ks
 array_one js ks e = cc
@@ -77,8 +77,8 @@ module _ (F : List ℕ → Option Form) (ns : List Named) (x : List ℕ) (j : Js
     pub no_list : as_array j ≡ None → SaysSome F x j → ⊥
     no_list g = denied F ns x j kind h (λ own ps s. let q = back own ps s in let k = ap as_array q.1 in cc)
 
-    pub list_range : (error : ReadError) (js : Items) (n : ℕ) → j ≡ array js → n ≡ length (list_parts [] js) → DeniesRead error ((l.least ≤ n) × (n ≤ l.greatest)) → DeniesRead error (SaysSome F x j)
-    list_range error js n g c d = denies_read error (λ s.
+    pub list_range : (error : ReadError) (js : Items) (n : ℕ) → j ≡ array js → n ≡ length (list_parts [] js) → DeniesRead IsUnexpected error ((l.least ≤ n) × (n ≤ l.greatest)) → DeniesRead (Why F x j) error (SaysSome F x j)
+    list_range error js n g c d = refuses_plain F ns x j error (λ s.
         let t = said F ns x j kind h s in
         let q = back t.0 t.1 t.2 in
         let o = array_one q.0 js (sym q.1 ∙ g) in
@@ -211,6 +211,6 @@ third_names k n t [] = refl
 third_names k n t (x ∷ xs) = ap (λ l. n x ∷ l) (third_names k n t xs)
 
 -- a name that no variant has
-pub unknown_variant : (F : List ℕ → Option Form) (ns : List Named) (x : List ℕ) (j : Json) (w : ℕ) (vs : List (ℤ × List ℕ × List ℕ)) → HasKind F x (variants w vs) → (v : List ℕ) → IsDistinct bytes_eq (map (λ (v : ℤ × List ℕ × List ℕ). v.1) vs) → (o : Option (List Token)) → NamesVariant j (Some (v, o)) → ((k : ℤ) (p : List ℕ) → IsVariant k v p vs → ⊥) → SaysSome F x j → ⊥
-unknown_variant F ns x j w vs h v d None n f = no_name F ns x j w vs h v d n f
-unknown_variant F ns x j w vs h v d (Some e) n f = no_key F ns x j w vs h v d n.0 n.1 f
+pub unknown_variant : (F : List ℕ → Option Form) (ns : List Named) (x : List ℕ) (j : Json) (w : ℕ) (vs : List (ℤ × List ℕ × List ℕ)) → HasKind F x (variants w vs) → (v : List ℕ) → IsDistinct bytes_eq (map (λ (v : ℤ × List ℕ × List ℕ). v.1) vs) → (o : Option (List Token)) → NamesVariant j (Some (v, o)) → ((k : ℤ) (p : List ℕ) → IsVariant k v p vs → ⊥) → NamesNoVariant F x j v × (SaysSome F x j → ⊥)
+unknown_variant F ns x j w vs h v d None n f = ((w, vs, h, inl n, f), no_name F ns x j w vs h v d n f)
+unknown_variant F ns x j w vs h v d (Some e) n f = ((w, vs, h, inr (n.0, n.1), f), no_key F ns x j w vs h v d n.0 n.1 f)

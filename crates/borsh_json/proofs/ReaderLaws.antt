@@ -111,7 +111,7 @@ module _ (F : List ℕ → Option Form) where
     -- all that the whole says goes on, behind the bytes in front of a part, with those of the part
     pub reached_says : {n : ℕ} {path : List Step} {before : List ℕ} {p : Part} → IsReached F root j n path before p → (all : List ℕ) → HaveBytes F ((root, j) ∷ []) all → (rest : List ℕ) × (more : List Part) × (all ≡ before ++ rest) × HaveBytes F (p ∷ more) rest
     reached_says whole_value all h = (all, [], refl, h)
-    reached_says (part_of {before = before} {mid = mid} {x = x} {i = i} {ps = ps} {p = p} kind own r k f m t) all h =
+    reached_says (part_of {before = before} {mid = mid} {x = x} {i = i} {ps = ps} {p = p} kind own steps r k f m t) all h =
         let a = reached_says r all h in
         let u = uncons a.3 in
         let g = u.4 in

@@ -1,5 +1,5 @@
 -- The reader's loop.
-use Rattle.std.proofs.Common.{◌≡◌, ◌⊎◌, inl, inr, ℕ, suc, zero, ◌+◌, ◌-◌, ◌<◌, ◌≤◌, List, [], ◌∷◌, ◌++◌, length, map, Option, Some, None, refl, sym, ◌∙◌, ap, subst, arith, append_assoc, append-nil, length-append}
+use Rattle.std.proofs.Common.{◌≡◌, ◌⊎◌, inl, inr, ℕ, suc, zero, ◌+◌, ◌-◌, ◌<◌, ◌≤◌, List, [], ◌∷◌, ◌++◌, length, map, Option, Some, None, refl, sym, ◌∙◌, ap, subst, arith, append_assoc, append-nil, length-append, string_bytes}
 use Rattle.std.specs.Prelude.{Bool, true, false, is_some, codes, ℤ, slice_get, String, Result, Ok, Err, MatchResult, IfOk, OnOk, IfErr}
 use Rattle.std.specs.Global.{Global}
 use Rattle.std.specs.Borrow.{Bor}
@@ -22,11 +22,11 @@ use Rattle.borsh_json.specs.declared.position.Parts.TheVariants.{Root, List as E
 use Rattle.borsh_json.specs.declared.position.Place.{Place}
 use Rattle.borsh_json.specs.declared.sources.Source.{Source}
 use Rattle.borsh_json.specs.declared.sources.Source.TheVariants.{One}
-use Rattle.borsh_json.specs.Errors.{Denies, IsUnreadable}
+use Rattle.borsh_json.specs.Errors.{IsUnreadable}
 use Rattle.borsh_json.specs.Forms.{Form}
 use Rattle.borsh_json.specs.Found.{forms_of, names_of}
 use Rattle.borsh_json.specs.Frames.{DeniesRead, DeniesOr, HasPath, error_steps, name_step, first_steps, last_steps, steps_at, steps_through, IsUnread, IsOf, IsOfRead, Left, items_left, fields_left, entries_left, Wanted, IsListPlace, HasLeft, SaysOn, IsPlaceOf, IsPlaceIn, IsDoing, SaysAll, IsNext, NoneLeft, DeniesKey, IsFound, Stands, IsInside, IsBegun, IsEnded, HaveAround, HasRead, HasBegun, IsReadOn, ReadsOn}
-use Rattle.borsh_json.specs.NoValue.{Step, field as field_step, place as place_step, element as element_step, variant as variant_step, AreSteps, BeginsParts, LacksField, FallsFirst, HasNeighbours, IsReached, whole_value, part_of, FailsAt, SaysNothing}
+use Rattle.borsh_json.specs.NoValue.{Step, field as field_step, place as place_step, element as element_step, variant as variant_step, AreSteps, BeginsParts, LacksField, FallsFirst, HasNeighbours, IsReached, whole_value, part_of, FailsAt, SaysNothing, HasOthers, Why}
 use Rattle.borsh_json.specs.Places.{IsAt}
 use Rattle.borsh_json.specs.Represents.{SaysFirst, HaveBytes, none_left, next_part, SaysSome}
 use Rattle.borsh_json.specs.Table.{Kind, byte_list, list, row, inner, fields, optional, variants, entries, HasKind, Part as JsonPart, entry_parts, Says}
@@ -34,7 +34,7 @@ use Rattle.borsh_json.specs.Writes.{IsFull}
 use Rattle.borsh_json.proofs.FrameLaws.{get_there}
 use Rattle.borsh_json.proofs.ReaderLaws.{joined, no_parts, fields_count, reached_none, lacks_none}
 use Rattle.borsh_json.proofs.OpeningLaws.{no_ascent}
-use Rattle.borsh_json.proofs.LoopLaws.{alone}
+use Rattle.borsh_json.proofs.LoopLaws.{alone, others_none}
 
 fields_same : (fs gs : List Wanted) → fields fs ≡ fields gs → fs ≡ gs
 fields_same fs gs e = cc
@@ -90,9 +90,10 @@ module _ (F : List ℕ → Option Form) (ns : List Named) where
       ]
   steps_there (Row at n) b kind i own ds q h f = subst (λ (k : Kind). AreSteps k i (length ds) (place_step (b - 1) ∷ [])) (sym h.1) (ap (λ n. place_step n ∷ []) (before_last b ds q h.2))
   steps_there (Object at fs) b kind i own ds q h f =
-      let t = get_there _ (length ds) (fields_long _ i own ds q (subst (λ (k : Kind). BeginsParts F k i own (ds ++ q ∷ [])) h.0 f)) in
+      let names : List Wanted = map (λ f. (string_bytes f.0, string_bytes f.1)) fs.now.items in
+      let t = get_there names (length ds) (fields_long names i own ds q (subst (λ (k : Kind). BeginsParts F k i own (ds ++ q ∷ [])) h.0 f)) in
       subst (λ (k : Kind). AreSteps k i (length ds) (first_steps (Object at fs) b ++ [])) (sym h.0)
-      (t.0, t.1, ap (λ n. name_step (slice_get _ n) ++ []) (before_last b ds q h.1) ∙ ap (λ (o : Option Wanted). name_step o ++ []) t.1)
+      (t.0, t.1, ap (λ n. name_step (slice_get names n) ++ []) (before_last b ds q h.1) ∙ ap (λ (o : Option Wanted). name_step o ++ []) t.1)
   steps_there (MapEntries es n) b kind i own ds q h f =
       let l = length-append ds (q ∷ []) in
       let t = h.5 in
@@ -161,7 +162,7 @@ module _ (F : List ℕ → Option Form) (ns : List Named) (root : List ℕ) (j :
       let is = r.doing.is_place in
       let b = begins_parts F ns r.doing.kind i r.own (r.ds ++ (y, k) ∷ []) r.doing.left r.doing.says in
       subst (λ (l : List ℕ). IsReached F root j (suc d) (path ++ steps_at p) l (y, k)) (sym r.out_is)
-      (part_of r.doing.kind r.own r.stands is.0 b r.done (steps_there F ns p.parts p.begun r.doing.kind i r.own r.ds (y, k) is.1 b))
+      (part_of r.doing.kind r.own (steps_at p) r.stands is.0 b r.done (steps_there F ns p.parts p.begun r.doing.kind i r.own r.ds (y, k) is.1 b))
 
   -- ---- the places around
   pub around_map : (ps : List Place) (ss : List Source) (d : ℕ) (path : List Step) (before x : List ℕ) (i : Json) {R Q : Where} → ((d : ℕ) (path : List Step) (before x : List ℕ) (i : Json) → R d path before x i → Q d path before x i) → HaveAround F ns root j ps ss d path before x i R → HaveAround F ns root j ps ss d path before x i Q
@@ -179,31 +180,31 @@ module _ (F : List ℕ → Option Form) (ns : List Named) (root : List ℕ) (j :
       let r = around_here ps ss (suc d) (path ++ steps_at p) h.0 h.1 h.2 h.4 in
       (r.0, r.1, r.2, r.3, r.4, (let e = r.5 in omega (arith, e)), r.6 ∙ append_assoc path (steps_at p) (steps_through ps), r.7)
 
-  pub pushed : (ps : List Place) (ss : List Source) (p : Place) (s : Source) (d : ℕ) (path : List Step) (before x : List ℕ) (i : Json) {R Q : Where} → ((d : ℕ) (path : List Step) (before x : List ℕ) (i : Json) → R d path before x i → (out : List ℕ) × (y : List ℕ) × (k : Json) × IsBegun F ns root j p s out y k d path before x i × Q (suc d) (path ++ steps_at p) out y k) → HaveAround F ns root j ps ss d path before x i R → HaveAround F ns root j (ps ++ p ∷ []) (ss ++ s ∷ []) d path before x i Q
-  pushed [] [] p s d path before x i f h = f d path before x i h
-  pushed [] (t ∷ ss) p s d path before x i f h = absurd h
-  pushed (q ∷ ps) [] p s d path before x i f h = absurd h
-  pushed (q ∷ ps) (t ∷ ss) p s d path before x i f h = (h.0, h.1, h.2, h.3, pushed ps ss p s (suc d) (path ++ steps_at q) h.0 h.1 h.2 f h.4)
+  pub pushed : (ps : List Place) (ss : List Source) (p : Place) (s : Source) (d : ℕ) (path : List Step) (before x : List ℕ) (i : Json) (R Q : Where) → ((d : ℕ) (path : List Step) (before x : List ℕ) (i : Json) → R d path before x i → (out : List ℕ) × (y : List ℕ) × (k : Json) × IsBegun F ns root j p s out y k d path before x i × Q (suc d) (path ++ steps_at p) out y k) → HaveAround F ns root j ps ss d path before x i R → HaveAround F ns root j (ps ++ p ∷ []) (ss ++ s ∷ []) d path before x i Q
+  pushed [] [] p s d path before x i R Q f h = f d path before x i h
+  pushed [] (t ∷ ss) p s d path before x i R Q f h = absurd h
+  pushed (q ∷ ps) [] p s d path before x i R Q f h = absurd h
+  pushed (q ∷ ps) (t ∷ ss) p s d path before x i R Q f h = (h.0, h.1, h.2, h.3, pushed ps ss p s (suc d) (path ++ steps_at q) h.0 h.1 h.2 R Q f h.4)
 
-  pub popped : (ps : List Place) (ss : List Source) (p : Place) (s : Source) (d : ℕ) (path : List Step) (before x : List ℕ) (i : Json) {R Q : Where} → ((d : ℕ) (path : List Step) (before x : List ℕ) (i : Json) (out y : List ℕ) (k : Json) → IsBegun F ns root j p s out y k d path before x i → R (suc d) (path ++ steps_at p) out y k → Q d path before x i) → HaveAround F ns root j (ps ++ p ∷ []) (ss ++ s ∷ []) d path before x i R → HaveAround F ns root j ps ss d path before x i Q
-  popped [] [] p s d path before x i f h = f d path before x i h.0 h.1 h.2 h.3 h.4
-  popped [] (t ∷ []) p s d path before x i f h = absurd h.4
-  popped [] (t ∷ u ∷ ss) p s d path before x i f h = absurd h.4
-  popped (q ∷ []) [] p s d path before x i f h = absurd h.4
-  popped (q ∷ r ∷ ps) [] p s d path before x i f h = absurd h.4
-  popped (q ∷ ps) (t ∷ ss) p s d path before x i f h = (h.0, h.1, h.2, h.3, popped ps ss p s (suc d) (path ++ steps_at q) h.0 h.1 h.2 f h.4)
+  pub popped : (ps : List Place) (ss : List Source) (p : Place) (s : Source) (d : ℕ) (path : List Step) (before x : List ℕ) (i : Json) (R Q : Where) → ((d : ℕ) (path : List Step) (before x : List ℕ) (i : Json) (out y : List ℕ) (k : Json) → IsBegun F ns root j p s out y k d path before x i → R (suc d) (path ++ steps_at p) out y k → Q d path before x i) → HaveAround F ns root j (ps ++ p ∷ []) (ss ++ s ∷ []) d path before x i R → HaveAround F ns root j ps ss d path before x i Q
+  popped [] [] p s d path before x i R Q f h = f d path before x i h.0 h.1 h.2 h.3 h.4
+  popped [] (t ∷ []) p s d path before x i R Q f h = absurd h.4
+  popped [] (t ∷ u ∷ ss) p s d path before x i R Q f h = absurd h.4
+  popped (q ∷ []) [] p s d path before x i R Q f h = absurd h.4
+  popped (q ∷ r ∷ ps) [] p s d path before x i R Q f h = absurd h.4
+  popped (q ∷ ps) (t ∷ ss) p s d path before x i R Q f h = (h.0, h.1, h.2, h.3, popped ps ss p s (suc d) (path ++ steps_at q) h.0 h.1 h.2 R Q f h.4)
 
   -- no source is left where no place is
-  pub bottom : (ps : List Place) (ss : List Source) (d : ℕ) (path : List Step) (before x : List ℕ) (i : Json) {R : Where} → HaveAround F ns root j ps ss d path before x i R → ps ≡ [] → R d path before x i
-  bottom [] [] d path before x i h e = h
-  bottom [] (s ∷ ss) d path before x i h e = absurd h
-  bottom (p ∷ ps) ss d path before x i h e = cc
+  pub bottom : (ps : List Place) (ss : List Source) (d : ℕ) (path : List Step) (before x : List ℕ) (i : Json) (R : Where) → HaveAround F ns root j ps ss d path before x i R → ps ≡ [] → R d path before x i
+  bottom [] [] d path before x i R h e = h
+  bottom [] (s ∷ ss) d path before x i R h e = absurd h
+  bottom (p ∷ ps) ss d path before x i R h e = cc
 
-  pub no_around : (ps qs : List Place) (place : Place) (ss : List Source) (d : ℕ) (path : List Step) (before x : List ℕ) (i : Json) {R : Where} → HaveAround F ns root j ps ss d path before x i R → ss ≡ [] → ps ≡ qs ++ place ∷ [] → ⊥
-  no_around [] [] place ss d path before x i h e f = cc
-  no_around [] (q ∷ qs) place ss d path before x i h e f = cc
-  no_around (p ∷ ps) qs place [] d path before x i h e f = h
-  no_around (p ∷ ps) qs place (s ∷ ss) d path before x i h e f = cc
+  pub no_around : (ps qs : List Place) (place : Place) (ss : List Source) (d : ℕ) (path : List Step) (before x : List ℕ) (i : Json) (R : Where) → HaveAround F ns root j ps ss d path before x i R → ss ≡ [] → ps ≡ qs ++ place ∷ [] → ⊥
+  no_around [] [] place ss d path before x i R h e f = cc
+  no_around [] (q ∷ qs) place ss d path before x i R h e f = cc
+  no_around (p ∷ ps) qs place [] d path before x i R h e f = h
+  no_around (p ∷ ps) qs place (s ∷ ss) d path before x i R h e f = cc
 
   -- ---- steps of the loop
 
@@ -304,7 +305,7 @@ module _ (F : List ℕ → Option Form) (ns : List Named) (root : List ℕ) (j :
     out_is = n.0 ∙ h.out_is;
     at_root = no_steps d h.doing.is_place;
     all = n.1;
-    denied = n.2;
+    others = n.2;
   }
     where
       no_steps : (d : ℕ) → IsPlaceIn F ns d p x h.doing.kind i h.ds → d ≡ 0 → steps_at q ≡ []
@@ -318,26 +319,26 @@ module _ (F : List ℕ → Option Form) (ns : List Named) (root : List ℕ) (j :
       (subst (λ (r : Refusal). IsUnreadable r) (sym i) t.0, h.0 ∙ b, subst (λ (s : List Step). FailsAt F root j s q) (sym h.1) (subst (λ (r : Refusal). FailsAt F root j steps r) (sym i) t.1), subst (λ (r : Refusal). SaysNothing F root j r) (sym i) t.2)
 
   module _ (path : List Step) (before x : List ℕ) (i : Json) (n : ℕ) (at : IsReached F root j n path before (x, i)) where
-    failed : (r : Refusal) → Denies r (SaysSome F x i) → IsUnreadable r × FailsAt F root j path r × SaysNothing F root j r
-    failed TooDeep d = absurd d
-    failed (RepeatedName name) d = (tt, (n, before, x, i, at, d), reached_none F root j at d)
-    failed EmptyElements d = (tt, (n, before, x, i, at, d), reached_none F root j at d)
-    failed NotBool d = absurd d
-    failed NotUtf8 d = absurd d
-    failed Zero d = absurd d
-    failed NotNumber d = (tt, (n, before, x, i, at, d), reached_none F root j at d)
-    failed Descends d = absurd d
-    failed OtherNodes d = (tt, (n, before, x, i, at, d), reached_none F root j at d)
-    failed (Expected wanted) d = (tt, (n, before, x, i, at, d), reached_none F root j at d)
-    failed MissingField d = absurd d
-    failed (UnknownName name) d = (tt, (n, before, x, i, at, d), reached_none F root j at d)
-    failed (RepeatedKey name) d = (tt, (n, before, x, i, at, d), reached_none F root j at d)
-    failed (Undefined name) d = (tt, (n, before, x, i, at, d), reached_none F root j at d)
+    failed : (r : Refusal) → Why F x i r → (SaysSome F x i → ⊥) → IsUnreadable r × FailsAt F root j path r × SaysNothing F root j r
+    failed TooDeep w d = absurd w
+    failed (RepeatedName name) w d = (tt, (n, before, x, i, at, w, d), reached_none F root j at d)
+    failed EmptyElements w d = (tt, (n, before, x, i, at, w, d), reached_none F root j at d)
+    failed NotBool w d = absurd w
+    failed NotUtf8 w d = absurd w
+    failed Zero w d = absurd w
+    failed NotNumber w d = (tt, (n, before, x, i, at, w, d), reached_none F root j at d)
+    failed Descends w d = absurd w
+    failed OtherNodes w d = (tt, (n, before, x, i, at, w, d), reached_none F root j at d)
+    failed (Expected wanted) w d = (tt, (n, before, x, i, at, w, d), reached_none F root j at d)
+    failed MissingField w d = absurd w
+    failed (UnknownName name) w d = (tt, (n, before, x, i, at, w, d), reached_none F root j at d)
+    failed (RepeatedKey name) w d = (tt, (n, before, x, i, at, w, d), reached_none F root j at d)
+    failed (Undefined name) w d = (tt, (n, before, x, i, at, w, d), reached_none F root j at d)
 
     -- a part that isn't read
-    pub part_unread : (e : ReadError) (p : PartError) (base : List ℕ) → base ≡ root → IsOfRead e p → HasPath base (error_steps path e) p → DeniesOr (FallsFirst F x i) e (SaysSome F x i) → IsUnread F root j p
+    pub part_unread : (e : ReadError) (p : PartError) (base : List ℕ) → base ≡ root → IsOfRead e p → HasPath base (error_steps path e) p → DeniesOr (FallsFirst F x i) (Why F x i) e (SaysSome F x i) → IsUnread F root j p
     part_unread OutOfMemory p base b o h d = subst (λ (p : PartError). IsUnread F root j p) (sym o) tt
-    part_unread (Refused r) p base b o h d = told r p path base b o h (failed r d)
+    part_unread (Refused r) p base b o h d = told r p path base b o h (failed r d.0 d.1)
     part_unread (DescendsAt k) p base b o h d = told Descends p (path ++ element_step k ∷ []) base b o h (tt, (n, path, k, before, x, i, refl, at, inl d), tt)
 
     -- elements that don't ascend
@@ -349,8 +350,8 @@ module _ (F : List ℕ → Option Form) (ns : List Named) (root : List ℕ) (j :
     missing_unread p base steps name b o h e l = told MissingField p steps base b o h (tt, (n, path, name, before, x, i, e, at, l), reached_none F root j at (lacks_none F l))
 
     -- an object with other members
-    pub name_unread : (name : String Global) (p : PartError) (base : List ℕ) (steps : List Step) → base ≡ root → IsOf (UnknownName name) p → HasPath base steps p → steps ≡ path → (SaysSome F x i → ⊥) → IsUnread F root j p
-    name_unread name p base steps b o h e d = told (UnknownName name) p path base b o (subst (λ (s : List Step). HasPath base s p) e h) (failed (UnknownName name) d)
+    pub name_unread : (name : String Global) (p : PartError) (base : List ℕ) (steps : List Step) → base ≡ root → IsOf (UnknownName name) p → HasPath base steps p → steps ≡ path → HasOthers F x i → IsUnread F root j p
+    name_unread name p base steps b o h e others = told (UnknownName name) p path base b o (subst (λ (s : List Step). HasPath base s p) e h) (failed (UnknownName name) (inr others) (others_none F ns x i others))
 
   -- a part that is too deep
   pub deep_unread : (path : List Step) (before : List ℕ) (q : JsonPart) (n : ℕ) → IsReached F root j n path before q → (p : PartError) (base : List ℕ) (m : ℕ) → base ≡ root → n ≡ m → HasPath base path p → IsFull m p → IsUnread F root j p
@@ -365,8 +366,8 @@ module _ (F : List ℕ → Option Form) (ns : List Named) (root : List ℕ) (j :
   key_unread (suc d) path before x i own mid out ds q at done OutOfMemory p base outer b o i1 h k = subst (λ (p : PartError). IsUnread F root j p) (sym i1) tt
   key_unread (suc d) path before x i own mid out ds q at done (Refused r) p base outer b o i1 h k =
       let steps = first_steps q.parts q.begun ++ place_step 0 ∷ [] in
-      let there = part_of k.0 own at k.4 k.5 done k.6 in
-      told r p (path ++ steps) base b i1 (subst (λ (l : List Step). HasPath base (l ++ steps) p) o h) (failed (path ++ steps) (before ++ (own ++ mid)) k.1 k.2 (suc d) there r k.7)
+      let there = part_of k.0 own steps at k.4 k.5 done k.6 in
+      told r p (path ++ steps) base b i1 (subst (λ (l : List Step). HasPath base (l ++ steps) p) o h) (failed (path ++ steps) (before ++ (own ++ mid)) k.1 k.2 (suc d) there r k.7.0 k.7.1)
   key_unread (suc d) path before x i own mid out ds q at done (DescendsAt n) p base outer b o i1 h k = absurd k.7
 
 -- a frame was entered
@@ -380,7 +381,7 @@ module _ (d : Definitions) (root : List ℕ) (j : Json) (old new : Reading) (at 
   pub frame_read : HasBegun d root j old at e → ((y : List ℕ) (k : Json) → IsAt ns at y → BeginsWith e k → (own : List ℕ) × (bytes ≡ old.out.items ++ own) × IsDoing F ns f.place f.source 1 y k own []) → (r : Result Bool PartError) → IfOk r (λ more. more ≡ true) → OnOk r ((new.position.place ≡ f.place) × (new.source ≡ f.source)) → OnOk r ((new.position.outer.items ≡ old.position.outer.items ++ old.position.place ∷ []) × (new.outer.items ≡ old.outer.items ++ old.source ∷ [])) → OnOk r (new.out.items ≡ bytes) → OnOk r (new.position.root ≡ old.position.root) → IfErr r (λ e. IsFull (length old.position.outer.items) e) → IfErr r (λ e. HasPath old.position.root.now (steps_through old.position.outer.items ++ steps_at old.position.place) e) → ReadsOn d root j new r
   frame_read b opens (Ok more) m a o s base full path =
       let p = old.position.place in
-      let inside = pushed F ns root j old.position.outer.items old.outer.items p old.source 0 [] [] root j {Q = IsInside F ns root j f.place f.source bytes} (λ n to before x i h. let g = opens h.0 h.1 h.2 h.3 in (old.out.items, h.0, h.1, h.4, frame_inside F ns root j p old.source old.out.items bytes g.0 h.0 h.1 f.place f.source n to before x i g.1 g.2 h.4)) b.1 in
+      let inside = pushed F ns root j old.position.outer.items old.outer.items p old.source 0 [] [] root j _ (IsInside F ns root j f.place f.source bytes) (λ n to before x i h. let g = opens h.0 h.1 h.2 h.3 in (old.out.items, h.0, h.1, h.4, frame_inside F ns root j p old.source old.out.items bytes g.0 h.0 h.1 f.place f.source n to before x i g.1 g.2 h.4)) b.1 in
       let placed = subst (λ (q : Place). HaveAround F ns root j (old.position.outer.items ++ p ∷ []) (old.outer.items ++ old.source ∷ []) 0 [] [] root j (IsInside F ns root j q f.source bytes)) (sym a.0) inside in
       let sourced = subst (λ (t : Source). HaveAround F ns root j (old.position.outer.items ++ p ∷ []) (old.outer.items ++ old.source ∷ []) 0 [] [] root j (IsInside F ns root j new.position.place t bytes)) (sym a.1) placed in
       let written = subst (λ (l : List ℕ). HaveAround F ns root j (old.position.outer.items ++ p ∷ []) (old.outer.items ++ old.source ∷ []) 0 [] [] root j (IsInside F ns root j new.position.place new.source l)) (sym s) sourced in
@@ -392,4 +393,4 @@ module _ (d : Definitions) (root : List ℕ) (j : Json) (old new : Reading) (at 
       let h = around_here F ns root j old.position.outer.items old.outer.items 0 [] [] root j b.1 in
       let g = h.7 in
       let t = next_stands F ns root j old.position.place old.source old.out.items g.0 g.1 h.0 h.1 h.2 h.3 h.4 g.4 in
-      deep_unread F ns root j (h.1 ++ steps_at old.position.place) old.out.items (g.0, g.1) h.0 t p old.position.root.now (length old.position.outer.items) b.0 h.5 (subst (λ (l : List Step). HasPath old.position.root.now (l ++ steps_at old.position.place) p) (sym h.6) path) full
+      deep_unread F ns root j (h.1 ++ steps_at old.position.place) old.out.items (g.0, g.1) h.0 t p old.position.root.now (length old.position.outer.items) b.0 (let e = h.5 in omega (arith, e)) (subst (λ (l : List Step). HasPath old.position.root.now (l ++ steps_at old.position.place) p) (sym h.6) path) full

@@ -66,23 +66,6 @@ IsUnreadable (UnknownName name) = ⊤
 IsUnreadable (RepeatedKey name) = ⊤
 IsUnreadable (Undefined name) = ⊤
 
--- the refusal of a part shows that P doesn't hold; for its depth, its order or a missing field the reader refuses it elsewhere
-abbrev pub Denies : Refusal → Type 0 → Type 0
-Denies TooDeep P = ⊥
-Denies (RepeatedName name) P = P → ⊥
-Denies EmptyElements P = P → ⊥
-Denies NotBool P = ⊥
-Denies NotUtf8 P = ⊥
-Denies Zero P = ⊥
-Denies NotNumber P = P → ⊥
-Denies Descends P = ⊥
-Denies OtherNodes P = P → ⊥
-Denies (Expected wanted) P = P → ⊥
-Denies MissingField P = ⊥
-Denies (UnknownName name) P = P → ⊥
-Denies (RepeatedKey name) P = P → ⊥
-Denies (Undefined name) P = P → ⊥
-
 -- an allocation failed, or a part is refused in one of these ways
 abbrev pub IsPartError : (Refusal → Type 0) → PartError → Type 0
 IsPartError May NoMemory = ⊤

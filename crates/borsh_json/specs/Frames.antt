@@ -3,7 +3,7 @@ use Rattle.std.specs.Prelude.{◌≡◌, ◌⊎◌, ⊤, ℕ, suc, zero, ℤ, St
 use Rattle.std.specs.Borrow.{Bor}
 use Rattle.std.specs.Global.{Global}
 use Rattle.std.specs.Str.{bytes_eq}
-use Rattle.std.specs.List.{IsDistinct}
+use Rattle.std.specs.List.{IsDistinct, list_any}
 use Rattle.std.specs.List.Sorted.{IsPermutation, IsStrictlySortedBy}
 use Rattle.std.specs.BTreeMap.{BTreeMap, btree_map_len}
 use Rattle.json.specs.Token.{Token}
@@ -11,6 +11,7 @@ use Rattle.json.specs.Json.{Json, string, array, object, Items, no_items, item, 
 use Rattle.json.specs.Find.{BeginsWith, InItems, InMembers, get_member, Finds, as_array}
 use Rattle.borsh_walks.specs.Container.{references}
 use Rattle.borsh_walks.specs.Tables.{mark_of}
+use Rattle.borsh_values.specs.declared.faults.Path.{Path}
 use Rattle.borsh_values.specs.declared.faults.PathStep.{PathStep}
 use Rattle.borsh_values.specs.declared.layout.Named.{Named}
 use Rattle.borsh_json.specs.declared.definitions.Definitions.{Definitions}
@@ -19,8 +20,8 @@ use Rattle.borsh_json.specs.declared.error.PartError.TheVariants.{OutOfMemory as
 use Rattle.borsh_json.specs.declared.error.ReadError.{ReadError}
 use Rattle.borsh_json.specs.declared.error.ReadError.TheVariants.{OutOfMemory, Refused, Descends as DescendsAt}
 use Rattle.borsh_json.specs.declared.error.Refusal.{Refusal}
-use Rattle.borsh_json.specs.declared.error.Refusal.TheVariants.{Descends, Expected}
-use Rattle.borsh_json.specs.Errors.{Denies, IsUnreadable}
+use Rattle.borsh_json.specs.declared.error.Refusal.TheVariants.{Descends, OtherNodes, Expected, RepeatedKey}
+use Rattle.borsh_json.specs.Errors.{IsUnreadable}
 use Rattle.borsh_json.specs.declared.kinds.Elements.{Elements as FoundElements}
 use Rattle.borsh_json.specs.declared.kinds.KeyKind.{KeyKind}
 use Rattle.borsh_json.specs.declared.kinds.KeyKind.TheVariants.{Text as TextKeys, Number as NumberKeys}
@@ -45,7 +46,7 @@ use Rattle.borsh_json.specs.declared.sources.Source.TheVariants.{One, Items as T
 use Rattle.borsh_json.specs.Forms.{Form, named, form_of, shape_of_form}
 use Rattle.borsh_json.specs.Found.{forms_of, names_of}
 use Rattle.borsh_json.specs.Descents.{NumbersDescend}
-use Rattle.borsh_json.specs.NoValue.{Step, field as field_step, place as place_step, element as element_step, variant as variant_step, step_of, path_steps, AreSteps, BeginsParts, LacksField, FallsFirst, HasNeighbours, IsReached, FailsAt, SaysNothing}
+use Rattle.borsh_json.specs.NoValue.{Step, field as field_step, place as place_step, element as element_step, variant as variant_step, step_of, path_steps, AreSteps, BeginsParts, RepeatsKey, LacksField, HasOthers, Why, FallsFirst, HasNeighbours, IsReached, FailsAt, SaysNothing}
 use Rattle.borsh_json.specs.Orders.{AreOrderedNumbers}
 use Rattle.borsh_json.specs.Places.{IsAt, AreKeysOf}
 use Rattle.borsh_json.specs.Ranks.{HasRank}
@@ -54,25 +55,39 @@ use Rattle.borsh_json.specs.Table.{Lengths, Keys, Kind, byte_list, list, row, in
 
 -- ---- errors
 
--- the error shows that P doesn't hold; or, that elements don't ascend, D
-abbrev pub DeniesOr : Type 0 → ReadError → Type 0 → Type 0
-DeniesOr D OutOfMemory P = ⊤
-DeniesOr D (Refused refusal) P = Denies refusal P
-DeniesOr D (DescendsAt index) P = D
+-- the error shows that P doesn't hold, for a reason of these; or that elements don't ascend, D
+abbrev pub DeniesOr : Type 0 → (Refusal → Type 0) → ReadError → Type 0 → Type 0
+DeniesOr D Reason OutOfMemory P = ⊤
+DeniesOr D Reason (Refused refusal) P = Reason refusal × (P → ⊥)
+DeniesOr D Reason (DescendsAt index) P = D
 
-abbrev pub DeniesRead : ReadError → Type 0 → Type 0
-DeniesRead OutOfMemory P = ⊤
-DeniesRead (Refused refusal) P = Denies refusal P
-DeniesRead (DescendsAt index) P = ⊥
+abbrev pub DeniesRead : (Refusal → Type 0) → ReadError → Type 0 → Type 0
+DeniesRead Reason e P = DeniesOr ⊥ Reason e P
+
+-- other JSON is expected
+abbrev pub IsUnexpected : Refusal → Type 0
+IsUnexpected (Expected wanted) = ⊤
+IsUnexpected OtherNodes = ⊤
+IsUnexpected refusal = ⊥
+
+-- or a key comes twice
+abbrev pub IsKeyReason : Json → Refusal → Type 0
+IsKeyReason j (Expected wanted) = ⊤
+IsKeyReason j (RepeatedKey name) = RepeatsKey j (string_bytes name)
+IsKeyReason j refusal = ⊥
 
 -- the bytes are primitives that have to ascend, and two neighbours don't
 abbrev pub ElementsFall : FoundElements → List ℕ → Type 0
 ElementsFall es bytes = (found : Ordered) × (es.order ≡ Some found) × All (λ b. b < 256) bytes × ((signed : Bool) → AreOrderedNumbers found es.size signed bytes → (i : ℕ) × NumbersDescend es.size signed bytes i)
 
--- the path of an error, unless there was no memory for it
+-- the path leads from the root by these steps
+abbrev pub IsPath : List ℕ → List Step → Path → Type 0
+IsPath root steps path = (path.root.now ≡ root) × (path_steps path ≡ steps)
+
+-- so does the path of an error, unless there was no memory for it
 abbrev pub HasPath : List ℕ → List Step → PartError → Type 0
 HasPath root steps NoMemory = ⊤
-HasPath root steps (RefusedPart path refusal) = (path.root.now ≡ root) × (path_steps path ≡ steps)
+HasPath root steps (RefusedPart path refusal) = IsPath root steps path
 
 -- the steps to what a part's error is of: the part, or an element of it
 abbrev pub error_steps : List Step → ReadError → List Step
@@ -355,13 +370,13 @@ module _ (F : List ℕ → Option Form) (ns : List Named) where
   abbrev pub IsOpened : List ℕ → Json → List ℕ → List ℕ → Result (Option Frame) ReadError → Type 0
   IsOpened x j old new result = MatchResult result
       (λ found. (own : List ℕ) × (new ≡ old ++ own) × IsFound x j own found)
-      (λ e. DeniesRead e (SaysSome F x j))
+      (λ e. DeniesRead (Why F x j) e (SaysSome F x j))
 
   -- or its elements don't ascend
   abbrev pub IsOpenedOrFalls : List ℕ → Json → List ℕ → List ℕ → Result (Option Frame) ReadError → Type 0
   IsOpenedOrFalls x j old new result = MatchResult result
       (λ found. (own : List ℕ) × (new ≡ old ++ own) × IsFound x j own found)
-      (λ e. DeniesOr (FallsFirst F x j) e (SaysSome F x j))
+      (λ e. DeniesOr (FallsFirst F x j) (Why F x j) e (SaysSome F x j))
 
   -- all parts of a value were begun: its JSON says them
   abbrev pub SaysAll : ℕ → List ℕ → Json → List ℕ → List JsonPart → Type 0
@@ -374,13 +389,13 @@ module _ (F : List ℕ → Option Form) (ns : List Named) where
       (es : List JsonPart) × (key : List ℕ) × (y : List ℕ) × (k : Json)
       × HaveBytes F es key × (new ≡ old ++ key) × IsAt ns at y × BeginsWith e k × IsDoing p s d x i own (ds ++ (es ++ (y, k) ∷ []))
   IsNext d x i own ds p s old new Missing = (name : List ℕ) × LacksField F x i name × (0 < d) × (steps_at p ≡ field_step name ∷ [])
-  IsNext d x i own ds p s old new End = (new ≡ old) × (NoneLeft s → SaysAll d x i own ds) × ((NoneLeft s → ⊥) → SaysSome F x i → ⊥)
+  IsNext d x i own ds p s old new End = (new ≡ old) × (NoneLeft s → SaysAll d x i own ds) × ((NoneLeft s → ⊥) → HasOthers F x i)
 
   -- or the error denies that the key of the next entry says some bytes
   abbrev pub DeniesKey : ℕ → List ℕ → Json → List ℕ → List JsonPart → Place → ReadError → Type 0
   DeniesKey d x i own ds p e =
       (kind : Kind) × (y : List ℕ) × (k : Json) × (0 < d) × HasKind F x kind × BeginsParts F kind i own (ds ++ (y, k) ∷ [])
-      × AreSteps kind i (length ds) (first_steps p.parts p.begun ++ place_step 0 ∷ []) × DeniesRead e (SaysSome F y k)
+      × AreSteps kind i (length ds) (first_steps p.parts p.begun ++ place_step 0 ∷ []) × DeniesRead (Why F y k) e (SaysSome F y k)
 
   -- the next entry of a map, whose key was added
   abbrev pub IsNextEntry : Keys → List ℕ → List ℕ → List Entry → KeyKind → Source → List ℕ → List ℕ → Next → Type 0
@@ -456,7 +471,7 @@ module _ (F : List ℕ → Option Form) (ns : List Named) (root : List ℕ) (j :
     pub out_is : out ≡ before ++ (own ++ mid)
     pub at_root : d ≡ 0 → steps_at p ≡ []
     pub all : none → SaysAll F ns d x i own ds
-    pub denied : (none → ⊥) → SaysSome F x i → ⊥
+    pub others : (none → ⊥) → HasOthers F x i
 
   -- from a place on, which is inside of so many: the last part of each, that was begun, is the value of the next one; R holds of the innermost
   abbrev pub HaveAround : List Place → List Source → ℕ → List Step → List ℕ → List ℕ → Json → (ℕ → List Step → List ℕ → List ℕ → Json → Type 0) → Type 0
@@ -493,8 +508,8 @@ ReadsOn d root j r result = MatchResult result (λ more. IsReadOn d root j r mor
 
 -- a list of bytes was added, and its length in front; or the length is out of range
 abbrev pub AddsList : {A : Type 0} → Lengths → List ℕ → List ℕ → List ℕ → Result A ReadError → Type 0
-AddsList l bs old new result = MatchResult result (λ _. (own : List ℕ) × (new ≡ old ++ own) × IsPrefixed l (length bs) bs own) (λ e. DeniesRead e ((own : List ℕ) × IsPrefixed l (length bs) bs own))
+AddsList l bs old new result = MatchResult result (λ _. (own : List ℕ) × (new ≡ old ++ own) × IsPrefixed l (length bs) bs own) (λ e. DeniesRead IsUnexpected e ((own : List ℕ) × IsPrefixed l (length bs) bs own))
 
 -- or they don't ascend
 abbrev pub AddsOrFalls : {A : Type 0} → FoundElements → Lengths → List ℕ → List ℕ → List ℕ → Result A ReadError → Type 0
-AddsOrFalls es l bs old new result = MatchResult result (λ _. (own : List ℕ) × (new ≡ old ++ own) × IsPrefixed l (length bs) bs own) (λ e. DeniesOr (ElementsFall es bs) e ((own : List ℕ) × IsPrefixed l (length bs) bs own))
+AddsOrFalls es l bs old new result = MatchResult result (λ _. (own : List ℕ) × (new ≡ old ++ own) × IsPrefixed l (length bs) bs own) (λ e. DeniesOr (ElementsFall es bs) IsUnexpected e ((own : List ℕ) × IsPrefixed l (length bs) bs own))

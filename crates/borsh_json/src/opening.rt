@@ -1,5 +1,5 @@
 // What the JSON of a part says by its definition: its own bytes, and the parts that it has.
-ghost use Rattle.borsh_json.specs.Words.{AddsList, AddsOrFalls, BeginsWith, DeniesRead, ElementsFall, Form, FoundMap, FoundObject, FoundOrder, FoundRow, HasKeyOrder, HasKind, HasKinds, InItems, InMembers, IsArrayOf, IsAt, IsDistinct, IsExpected, IsHex, IsInfinity, IsKindOf, IsKnown, IsListOf, IsNumber, IsOpened, IsOpenedOrFalls, IsVariantAt, Json, JsonItems, JsonMembers, KindHasOrder, KnownAt, NamedPlace, NamesVariant, OneSource, Opens, OutOfMemory, SaysArray, TableKind, array, byte_list, bytes_eq, float, form_of, forms_in, lengths_of, list_parts, no_bytes, object, optional, raw, spec_variants, string, tag, truth, utf8, whole};
+ghost use Rattle.borsh_json.specs.Words.{AddsList, AddsOrFalls, BeginsWith, DeniesRead, ElementsFall, Form, FoundMap, FoundObject, FoundOrder, FoundRow, HasKeyOrder, HasKind, HasKinds, InItems, InMembers, IsArrayOf, IsAt, IsDistinct, IsExpected, IsHex, IsInfinity, IsKindOf, IsKnown, IsListOf, IsNumber, IsOpened, IsOpenedOrFalls, IsUnexpected, IsVariantAt, Json, JsonItems, JsonMembers, KindHasOrder, KnownAt, NamedPlace, NamesVariant, OneSource, Opens, OutOfMemory, SaysArray, TableKind, array, byte_list, bytes_eq, float, form_of, forms_in, lengths_of, list_parts, no_bytes, object, optional, raw, spec_variants, string, tag, truth, utf8, whole};
 ghost use Rattle.std.specs.Prelude.{◌≡◌, ◌++◌, ◌≤◌, ⊤, [], ℕ, List, IfErr, IfOk, IfSome, Option, MatchOption, MatchResult, None, OnOk, Some, false, length, map, option_map, pos, string_bytes, take};
 
 use crate::definitions::Definitions;
@@ -221,7 +221,7 @@ fn open_float<'a, 't, 's>(
 fn fixed_bytes(alloc: Global, size: u8, element: &Element<'_, '_>) -> Result<Vec<u8>, ReadError>
     ensures { (j : Json) → BeginsWith element.now j → MatchResult result
         (λ v. IsHex j v.items × (length v.items ≡ size))
-        (λ e. DeniesRead e ((bs : List ℕ) × IsHex j bs × (length bs ≡ size))) }
+        (λ e. DeniesRead IsUnexpected e ((bs : List ℕ) × IsHex j bs × (length bs ≡ size))) }
 {
     let Some(text) = element.as_str() else {
         return Err(wrong_size(alloc, size));
@@ -249,7 +249,7 @@ fn wrong_size(alloc: Global, size: u8) -> ReadError
 /// The bytes that `0x` and digits say.
 fn digits_of(alloc: Global, text: &str) -> Result<Vec<u8>, ReadError>
     ensures { MatchResult result (λ v. IsHex (string text.now) v.items)
-        (λ e. DeniesRead e ((bs : List ℕ) × IsHex (string text.now) bs)) }
+        (λ e. DeniesRead IsUnexpected e ((bs : List ℕ) × IsHex (string text.now) bs)) }
 {
     match hexadecimal(alloc, text) {
         Ok(found) => match found {
@@ -353,7 +353,7 @@ fn put_length(
     ensures { let l = lengths_of (form_of definition.now) in MatchResult result
         (λ _. (l.least ≤ count) × (count ≤ l.greatest) ×
         (out.new.items ≡ out.old.items ++ tag l.width (pos count)))
-        (λ e. DeniesRead e ((l.least ≤ count) × (count ≤ l.greatest))) }
+        (λ e. DeniesRead IsUnexpected e ((l.least ≤ count) × (count ≤ l.greatest))) }
 {
     let Definition::Sequence {
         length_width,

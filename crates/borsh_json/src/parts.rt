@@ -1,5 +1,5 @@
 // The reader's loop over the parts of a value.
-ghost use Rattle.borsh_json.specs.Words.{AreKeysOf, BeginsWith, DeniesKey, DeniesRead, Entry, Form, HasBegun, HasEnded, HasEntries, HasKinds, HasPath, HasRead, HaveBytes, IsAt, IsDoing, IsEntryKey, IsFull, IsKnown, IsNext, IsNextEntry, IsUnread, Json, JsonPart, Keys, NamedPlace, NextMissing, NextPart, ReadsOn, SaysFirst, SaysSome, form_of, forms_in, forms_of, key_json, names_of, steps_at, steps_through};
+ghost use Rattle.borsh_json.specs.Words.{AreKeysOf, BeginsWith, DeniesKey, DeniesRead, Entry, Form, HasBegun, HasEnded, HasEntries, HasKinds, HasPath, HasRead, HaveBytes, IsAt, IsDoing, IsEntryKey, IsFull, IsKnown, IsNext, IsNextEntry, IsUnread, Json, JsonPart, Keys, NamedPlace, NextMissing, NextPart, ReadsOn, SaysFirst, SaysSome, Why, form_of, forms_in, forms_of, key_json, names_of, steps_at, steps_through};
 ghost use Rattle.std.specs.Prelude.{◌≡◌, ◌∷◌, ◌++◌, [], false, is_some, true, IfErr, IfOk, ℕ, List, MatchOption, MatchResult, OnOk, Option, length};
 
 use crate::definitions::Definitions;
@@ -215,7 +215,7 @@ fn next_entry<'t, 's>(
         HasEntries entries.entry.key_kind source.old es → MatchResult result
         (IsNextEntry F ns keys k v es entries.entry.key_kind source.new out.old.items out.new.items)
         (λ e. (s : List ℕ) × (j : Json) × (rest : List Entry) × (es ≡ (s, j) ∷ rest) ×
-        DeniesRead e (SaysSome F k (key_json keys s))) }
+        DeniesRead (Why F k (key_json keys s)) e (SaysSome F k (key_json keys s))) }
 {
     match source.take_entry() {
         Some((key, element)) => {
@@ -239,7 +239,7 @@ fn put_key(
         AreKeysOf F ns k (form_of entries.entry.key_definition.now) entries.entry.key_kind keys →
         IsEntryKey entries.entry.key_kind key.entry s → MatchResult result
         (λ _. (own : List ℕ) × (out.new.items ≡ out.old.items ++ own) × SaysFirst F k (key_json keys s) own [])
-        (λ e. DeniesRead e (SaysSome F k (key_json keys s))) }
+        (λ e. DeniesRead (Why F k (key_json keys s)) e (SaysSome F k (key_json keys s))) }
 {
     match entries.key_kind {
         KeyKind::Text => match key {

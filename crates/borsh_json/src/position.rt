@@ -1,5 +1,5 @@
 // Where in a value the reader or writer is.
-ghost use Rattle.borsh_json.specs.Words.{AscendsFrom, GivesPart, HasPath, IsElementFall, IsFull, IsKnown, IsOf, IsOfRead, IsOfWrite, IsPartError, IsReadRefusal, IsUnreadable, IsUnwritable, Root, TooDeep, element_step, error_steps, first_steps, found_step, path_steps, place_step, step_of, steps_at, steps_through};
+ghost use Rattle.borsh_json.specs.Words.{AscendsFrom, GivesPart, HasPath, IsElementFall, IsFull, IsKnown, IsOf, IsOfRead, IsOfWrite, IsPartError, IsPath, IsReadRefusal, IsUnreadable, IsUnwritable, Root, Step, TooDeep, element_step, error_steps, first_steps, found_step, place_step, step_of, steps_at, steps_through};
 ghost use Rattle.borsh_json.specs.declared.error.Refusal.TheVariants.{Descends};
 ghost use Rattle.std.specs.Prelude.{◌≡◌, ◌+◌, ◌^◌, ◌<◌, ◌≤◌, ◌∷◌, ◌++◌, [], true, false, ℕ, List, None, length, map, IfErr, IfOk, IfSome, MatchOption, OnOk};
 
@@ -332,8 +332,7 @@ impl<'a, 'k> Position<'a, 'k> {
     }
 
     fn path(&self) -> Result<Path<'a>, AllocError>
-        ensures { IfOk result (λ path. (path.root ≡ self.now.root) ×
-            (path_steps path ≡ steps_through self.now.outer.items ++ steps_at self.now.place)) }
+        ensures { IfOk result (IsPath self.now.root.now (steps_through self.now.outer.items ++ steps_at self.now.place)) }
     {
         let mut path = self.path_to_place()?;
         self.place.add_steps(&mut path.steps)?;
@@ -341,8 +340,8 @@ impl<'a, 'k> Position<'a, 'k> {
     }
 
     fn path_to(&self, index: usize) -> Result<Path<'a>, AllocError>
-        ensures { IfOk result (λ path. (path.root ≡ self.now.root) × (path_steps path ≡
-            (steps_through self.now.outer.items ++ steps_at self.now.place) ++ element_step index ∷ [])) }
+        ensures { IfOk result (IsPath self.now.root.now
+            ((steps_through self.now.outer.items ++ steps_at self.now.place) ++ element_step index ∷ [])) }
     {
         let mut path = self.path()?;
         path.steps.push(PathStep::Element(index as u64))?;
@@ -350,7 +349,7 @@ impl<'a, 'k> Position<'a, 'k> {
     }
 
     fn path_of_key(&self) -> Result<Path<'a>, AllocError>
-        ensures { IfOk result (λ path. (path.root ≡ self.now.root) × (path_steps path ≡ steps_through self.now.outer.items ++
+        ensures { IfOk result (IsPath self.now.root.now (steps_through self.now.outer.items ++
             (first_steps self.now.place.parts self.now.place.begun ++ place_step 0 ∷ []))) }
     {
         let mut path = self.path_of_element()?;
@@ -359,8 +358,8 @@ impl<'a, 'k> Position<'a, 'k> {
     }
 
     fn path_of_element(&self) -> Result<Path<'a>, AllocError>
-        ensures { IfOk result (λ path. (path.root ≡ self.now.root) × (path_steps path ≡
-            steps_through self.now.outer.items ++ first_steps self.now.place.parts self.now.place.begun)) }
+        ensures { IfOk result (IsPath self.now.root.now
+            (steps_through self.now.outer.items ++ first_steps self.now.place.parts self.now.place.begun)) }
     {
         let mut path = self.path_to_place()?;
         self.place.add_first(&mut path.steps)?;
@@ -369,8 +368,7 @@ impl<'a, 'k> Position<'a, 'k> {
 
     /// The path to the value whose parts these are.
     fn path_to_place(&self) -> Result<Path<'a>, AllocError>
-        ensures { IfOk result (λ path. (path.root ≡ self.now.root) ×
-            (path_steps path ≡ steps_through self.now.outer.items)) }
+        ensures { IfOk result (IsPath self.now.root.now (steps_through self.now.outer.items)) }
     {
         let mut steps: Vec<PathStep<'a>> = Vec::new(self.alloc);
         for place in self.outer.as_slice() {
@@ -385,7 +383,7 @@ impl<'a, 'k> Position<'a, 'k> {
 
 pub fn refused_at<'a>(path: Result<Path<'a>, AllocError>, refusal: Refusal) -> PartError<'a>
     ensures same { IsOf refusal result }
-    ensures path { IfOk path.entry (λ p. HasPath p.root.now (path_steps p) result) }
+    ensures path { (root : List ℕ) (steps : List Step) → IfOk path.entry (IsPath root steps) → HasPath root steps result }
     ensures reading { IsUnreadable refusal → IsPartError IsUnreadable result }
     ensures writing { IsUnwritable refusal → IsPartError IsUnwritable result }
 {

@@ -20,12 +20,12 @@ use std::collections::BTreeMap;
 /// elements or keys don't ascend where they have to. The bytes are a member of the root.
 ///
 /// Determined: after `Ok` the text says the bytes, and no others. After any error but `OutOfMemory`, `Ambiguous`, `TooDeep` and
-/// `Descends` it says none. The path of a refusal leads from the root to the first place that fails: the parts before it, in the
-/// order of the bytes, have bytes, and the JSON of this part says none. After `MissingField` it is a field that the object
-/// hasn't; after `TooDeep` a part inside of 128 others; after `Descends` an element of a set or map of which two neighbours don't
-/// ascend, or that is an array of two elements or more. `NotJson` is of a text that isn't JSON, `Ambiguous` as of
-/// [`borsh_values::is_member`], and `NoMember` isn't returned. Left open: memory; whether the elements of an array ascend; which of
-/// the other refusals is returned, and its text; the byte of `NotJson`: tested.
+/// `Descends` it says none. A refusal's path leads from the root to the first place that fails: the parts before it, in the order
+/// of the bytes, have bytes. The JSON of this part says none, for the reason of the refusal; or it is a field that the object
+/// hasn't (`MissingField`), a part inside of 128 others (`TooDeep`), or an element of a set or map of which two neighbours don't
+/// ascend, or which is an array of two elements or more (`Descends`). `NotJson` is of a text that isn't JSON, `Ambiguous` as of
+/// [`borsh_values::is_member`], and `NoMember` isn't returned. Left open: memory; whether the elements of an array ascend; what is
+/// expected, in words; the byte of `NotJson`: tested.
 ///
 /// ```
 /// let bytes = from_json(alloc, "(u8, bool)", &definitions, "[7, true]")?;

@@ -1,16 +1,17 @@
-use Rattle.std.proofs.Common.{◌≡◌, ◌∙◌, sym, ap, subst, refl, Bool, true, false, Option, Some, None}
+use Rattle.std.proofs.Common.{◌≡◌, ◌∙◌, List, ℕ, sym, ap, subst, refl, Bool, true, false, Option, Some, None}
 use Rattle.std.specs.Prelude.{is_some}
 use Rattle.json.specs.Find.{as_object}
 use Rattle.borsh_walks.proofs.Tables.{marks_none}
 use Rattle.borsh_json.specs.Frames.{IsText, HaveOneEach}
 use Rattle.borsh_json.specs.Table.{entries_of}
 use Rattle.borsh_json.proofs.MapLaws.{object_one}
-use Rattle.borsh_json.proofs.MemberLaws.{found_start, found_more, found_all, passed_twice, text_cmp, text_one}
+use Rattle.borsh_json.proofs.MemberLaws.{found_start, found_more, found_all, passed_twice, text_cmp, text_one, not_each}
 use Rattle.borsh_json.proofs.OpeningLaws.{denies_expected}
+use Rattle.borsh_json.specs.NoValue.{RepeatsKey}
 use Rattle.borsh_json.proofs.maps.members_of.Goals as goal
 
 pub returns-in_default : goal.returns-in_default
-returns-in_default c j b = denies_expected c.expected.result c.expected.ensures (λ h. let f = ap as_object h.1 in let g = c.in_default.ensures j b in cc)
+returns-in_default c j b = denies_expected _ (λ w. tt) c.expected.result c.expected.ensures (λ h. let f = ap as_object h.1 in let g = c.in_default.ensures j b in cc)
 
 pub loop-key-init : goal.loop-key-init
 loop-key-init c ms h = found_start ms c.in-Some.members c.new-found.result h c.new-found.ensures.empty (marks_none c.new-found.result c.new-found.ensures.empty)
@@ -25,12 +26,13 @@ loop-key-preserved c ms h =
     found_more ms c.loop-key.members c.loop-key.found c.next.new.self c.insert.new.self c.in-Some-next.key c.in-Some-next.member c.in-Some-next.ensures.value c.in_ok-old.ensures.updates c.in_ok-old.ensures.entries z (c.loop-key.invariant ms h)
 
 pub returns-then-is_some : goal.returns-then-is_some
-returns-then-is_some c j b = λ s.
+returns-then-is_some c j b =
     let m = c.in-Some.ensures j b in
     let key = c.in-Some-next.key in
     let p = c.loop-key.invariant m.0 m.2 in
     let z = ap (λ o. is_some o) (sym c.in_ok-old.ensures.old) ∙ sym c.is_some.ensures ∙ c.if-is_some.true in
-    passed_twice IsText m.0 c.loop-key.members c.next.new.self c.loop-key.found.entries key.now c.in-Some-next.member c.in-Some-next.ensures.value text_cmp key (text_one key) z p.0 (subst (λ ms. HaveOneEach (entries_of ms)) (object_one j s.0 m.0 s.1 m.1) s.2)
+    let t = passed_twice IsText m.0 c.loop-key.members c.next.new.self c.loop-key.found.entries key.now c.in-Some-next.member c.in-Some-next.ensures.value text_cmp key (text_one key) z p.0 j m.1 in
+    (subst (λ (n : List ℕ). RepeatsKey j n) (sym c.in_ok-from_str.ensures.ok) t, λ s. not_each j key.now t s.0 s.1 s.2)
 
 pub returns : goal.returns
 returns c j b =

@@ -7,7 +7,7 @@ use Rattle.borsh_json.specs.Frames.{AreSorted}
 use Rattle.borsh_json.specs.Places.{AreKeysOf}
 use Rattle.borsh_json.specs.Table.{Keys}
 use Rattle.borsh_json.proofs.MapLaws.{texts_sorted, ranks_sorted, texts_said, numbers_said}
-use Rattle.borsh_json.proofs.OpeningLaws.{denies_read}
+use Rattle.borsh_json.proofs.OpeningLaws.{refuses_keys}
 use Rattle.borsh_json.proofs.RepresentsLaws.{kind_small}
 use Rattle.borsh_json.proofs.maps.sorted_entries.Goals as goal
 
@@ -24,7 +24,7 @@ returns-in-Ok c F ns x k v l g keys j h a b =
     subst (λ (q : KeyKind). AreSorted keys q j r) (sym c.in-Text.is) (texts_sorted keys j c.len-count.result m.0 m.1 m.2 m.3 c.in-Ok.members a2.0 m.4 c.len-count.ensures.ordered c.len-count.ensures.len)
 
 pub returns-in-Err : goal.returns-in-Err
-returns-in-Err c F ns x k v l g keys j h a b = denies_read c.in-Err.error (texts_said F ns x j l keys k v h) (c.in-Err.ensures j b)
+returns-in-Err c F ns x k v l g keys j h a b = refuses_keys F ns x j c.in-Err.error (texts_said F ns x j l keys k v h) (c.in-Err.ensures j b)
 
 pub returns-in-Ok-ranks_of : goal.returns-in-Ok-ranks_of
 returns-in-Ok-ranks_of c F ns x k v l g keys j h a b =
@@ -40,4 +40,4 @@ returns-in-Err-ranks_of c F ns x k v l g keys j h a b =
     let n = c.in-Number.number in
     let a2 = subst (λ (q : KeyKind). AreKeysOf F ns k g q keys) c.in-Number.is a in
     let small = kind_small F a2.1 n.size n.is_signed n.is_non_zero refl in
-    denies_read c.in-Err-ranks_of.error (numbers_said F ns x j l keys k v h n a2.0 a2.1) (c.in-Err-ranks_of.ensures small j b)
+    refuses_keys F ns x j c.in-Err-ranks_of.error (numbers_said F ns x j l keys k v h n a2.0 a2.1) (c.in-Err-ranks_of.ensures small j b)

@@ -1,7 +1,7 @@
 use Rattle.std.proofs.Common.{◌∙◌, arith}
 use Rattle.borsh_json.specs.Forms.{form_of}
 use Rattle.borsh_json.specs.Places.{lengths_of}
-use Rattle.borsh_json.proofs.OpeningLaws.{denies_expected, no_ascent}
+use Rattle.borsh_json.proofs.OpeningLaws.{no_ascent, refuses_expected}
 use Rattle.borsh_json.proofs.BytesFall.{neighbours_there}
 use Rattle.borsh_json.proofs.PartsLaws.{list_opened, list_range, no_list}
 use Rattle.borsh_json.proofs.opening.open_items.Goals as goal
@@ -27,4 +27,4 @@ returns-in-Err c F ns orders x j kind e i h order s b =
 
 pub returns-in-No : goal.returns-in-No
 returns-in-No c F ns orders x j kind e i h order s b =
-    denies_expected c.expected.result c.expected.ensures (no_list F ns x j kind (lengths_of (form_of c.args.definition.now)) e c.args.elements.at i h s.0 (λ own ps. (s.1 own ps).0) (λ own ps. (s.1 own ps).1) (c.in-No.ensures j b))
+    refuses_expected F ns x j c.expected.result c.expected.ensures (no_list F ns x j kind (lengths_of (form_of c.args.definition.now)) e c.args.elements.at i h s.0 (λ own ps. (s.1 own ps).0) (λ own ps. (s.1 own ps).1) (c.in-No.ensures j b))

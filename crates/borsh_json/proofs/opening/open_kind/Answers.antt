@@ -105,4 +105,5 @@ pub returns-in_ok-name-in-Repeated : goal.returns-in_ok-name-in-Repeated
 returns-in_ok-name-in-Repeated c known x j at e h order b =
     let F = forms_in c.args.definitions.now.layout.now.map.now in
     let ns = c.args.definitions.now.layout.now.names.items in
-    unsayable F ns x j (subst (λ (k : Kind). IsKindOf F ns x (form_of c.args.definition.now) k) c.in-Repeated.is h)
+    let none = subst (λ (k : Kind). IsKindOf F ns x (form_of c.args.definition.now) k) c.in-Repeated.is h in
+    (λ i. unsayable F ns x i none, unsayable F ns x j none)

@@ -6,7 +6,9 @@ use Rattle.borsh_json.proofs.PartsLaws.{unsayable}
 use Rattle.borsh_json.proofs.opening.open_list.Goals as goal
 
 pub returns-then-elements : goal.returns-then-elements
-returns-then-elements c F ns x j h b = unsayable F ns x j (subst (λ (r : Bool). IsListOf F ns x (form_of c.args.definition.now) c.args.elements.at r) c.if-elements.true h.2)
+returns-then-elements c F ns x j h b =
+    let none = subst (λ (r : Bool). IsListOf F ns x (form_of c.args.definition.now) c.args.elements.at r) c.if-elements.true h.2 in
+    (λ i. unsayable F ns x i none, unsayable F ns x j none)
 
 pub returns : goal.returns
 returns c F ns x j h b =

@@ -1,7 +1,7 @@
 use Rattle.std.proofs.Common.{map, string_bytes}
 use Rattle.borsh_json.specs.Table.{fields}
 use Rattle.borsh_json.proofs.EachLaws.{fields_each}
-use Rattle.borsh_json.proofs.OpeningLaws.{said, denies_read}
+use Rattle.borsh_json.proofs.OpeningLaws.{said, refuses_keys}
 use Rattle.borsh_json.proofs.PartsLaws.{object_opened}
 use Rattle.borsh_json.proofs.opening.open_object.Goals as goal
 
@@ -13,4 +13,4 @@ returns-in-Ok c F ns x j h b =
 pub returns-in-Err : goal.returns-in-Err
 returns-in-Err c F ns x j h b =
     let fs = map (λ f. (string_bytes f.0, string_bytes f.1)) c.args.fields.now.items in
-    denies_read c.in-Err.error (λ g. let s = (said F ns x j (fields fs) h.3.0 g).2 in (s.2, s.3, fields_each fs s.2 _ s.0 s.4 s.5)) (c.in-Err.ensures h.3.1 j b)
+    refuses_keys F ns x j c.in-Err.error (λ g. let s = (said F ns x j (fields fs) h.3.0 g).2 in (s.2, s.3, fields_each fs s.2 _ s.0 s.4 s.5)) (c.in-Err.ensures h.3.1 j b)

@@ -1,4 +1,4 @@
-use Rattle.std.proofs.Common.{◌≡◌, inl, inr, ℕ, List, Option, None, refl}
+use Rattle.std.proofs.Common.{◌≡◌, ◌∙◌, inl, inr, ℕ, List, Option, None, refl}
 use Rattle.json.specs.Json.{Json}
 use Rattle.borsh_json.specs.Forms.{Form, HasNoBytes, forms_in}
 use Rattle.borsh_json.specs.Represents.{SaysSome}
@@ -24,7 +24,8 @@ pub returns-in_default : goal.returns-in_default
 returns-in_default c k x j at b =
     let F = forms_in c.args.definitions.now.layout.now.map.now in
     let full : HasNoBytes F x → ⊥ = λ z. (let q = (c.is_zero_size.ensures k.known x at).1 z in let s = c.if-is_zero_size.false in cc) in
-    undefined_says F x j (c.in_default.ensures.kind k x at full) full
+    let none = c.in_default.ensures.kind k x at full in
+    ((c.in_ok-name.ensures.ok ∙ c.name.ensures k.known x at, none), undefined_says F x j none full)
 
 pub returns : goal.returns
 returns c k x j at b =

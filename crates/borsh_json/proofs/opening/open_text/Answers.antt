@@ -4,7 +4,7 @@ use Rattle.json.specs.Find.{as_str}
 use Rattle.borsh_json.specs.Forms.{form_of}
 use Rattle.borsh_json.specs.Places.{lengths_of}
 use Rattle.borsh_json.specs.Table.{utf8, IsPrefixed}
-use Rattle.borsh_json.proofs.OpeningLaws.{opened_leaf, denied, said, denies_expected, denies_read, string_is, one_string}
+use Rattle.borsh_json.proofs.OpeningLaws.{opened_leaf, denied, said, string_is, one_string, refuses_expected, refuses_plain}
 use Rattle.borsh_json.proofs.opening.open_text.Goals as goal
 
 pub returns-in-Ok : goal.returns-in-Ok
@@ -20,8 +20,8 @@ returns-in-Err c F ns x j h b =
     let l = lengths_of (form_of c.args.definition.now) in
     let s = string_is j c.in-Some.text.now (sym (c.in-Some.ensures j b)) in
     let e = c.as_bytes.ensures.value in
-    denies_read c.in-Err.error (λ g. let k = said F ns x j (utf8 l) h g in (k.0, subst (λ (t : List ℕ). IsPrefixed l (length t) t k.0) (one_string k.2.0 c.in-Some.text.now (sym k.2.1 ∙ s) ∙ sym e) k.2.3)) c.in-Err.ensures
+    refuses_plain F ns x j c.in-Err.error (λ g. let k = said F ns x j (utf8 l) h g in (k.0, subst (λ (t : List ℕ). IsPrefixed l (length t) t k.0) (one_string k.2.0 c.in-Some.text.now (sym k.2.1 ∙ s) ∙ sym e) k.2.3)) c.in-Err.ensures
 
 pub returns-in-None : goal.returns-in-None
 returns-in-None c F ns x j h b =
-    denies_expected c.expected.result c.expected.ensures (denied F ns x j (utf8 (lengths_of (form_of c.args.definition.now))) h (λ own ps s. let f = ap as_str s.1 in let g = c.in-None.ensures j b in cc))
+    refuses_expected F ns x j c.expected.result c.expected.ensures (denied F ns x j (utf8 (lengths_of (form_of c.args.definition.now))) h (λ own ps s. let f = ap as_str s.1 in let g = c.in-None.ensures j b in cc))

@@ -10,8 +10,9 @@ use Rattle.borsh_json.specs.declared.position.Parts.TheVariants.{Variant}
 use Rattle.borsh_json.specs.Forms.{forms_in, choice}
 use Rattle.borsh_json.specs.Frames.{NamesVariant}
 use Rattle.borsh_json.specs.Table.{variants}
-use Rattle.borsh_json.proofs.OpeningLaws.{opened_leaf, denies_expected, only_found}
+use Rattle.borsh_json.proofs.OpeningLaws.{opened_leaf, only_found, refuses_expected}
 use Rattle.borsh_json.proofs.PartsLaws.{third_names, no_variant_json, unknown_variant, wants_value, wants_none, form_choice, variant_part}
+use Rattle.borsh_json.specs.NoValue.{NamesNoVariant}
 use Rattle.borsh_json.proofs.opening.open_variant.Goals as goal
 
 distinct : (xs : List (ℤ × String Global × String Global)) → IsDistinct bytes_eq (map (λ v. string_bytes v.1) xs) → IsDistinct bytes_eq (map (λ (v : ℤ × List ℕ × List ℕ). v.1) (map (λ v. (v.0, string_bytes v.1, string_bytes v.2)) xs))
@@ -23,14 +24,15 @@ returns-in_default c k x j i d h b =
     let ns = c.args.definitions.now.layout.now.names.items in
     let vs : List (ℤ × List ℕ × List ℕ) = map (λ v. (v.0, string_bytes v.1, string_bytes v.2)) c.args.variants.now.items in
     let n = c.in_default.ensures j b in
-    denies_expected c.expected.result c.expected.ensures (no_variant_json F ns x j c.args.width vs h n.0 n.1)
+    refuses_expected F ns x j c.expected.result c.expected.ensures (no_variant_json F ns x j c.args.width vs h n.0 n.1)
 
 pub returns-in_default-variant_named : goal.returns-in_default-variant_named
 returns-in_default-variant_named c k x j i d h b =
     let F = forms_in c.args.definitions.now.layout.now.map.now in
     let ns = c.args.definitions.now.layout.now.names.items in
     let vs : List (ℤ × List ℕ × List ℕ) = map (λ v. (v.0, string_bytes v.1, string_bytes v.2)) c.args.variants.now.items in
-    unknown_variant F ns x j c.args.width vs h c.in-Some.name.now (distinct c.args.variants.now.items d) c.in-Some.value (c.in-Some.ensures j b) c.in_default-variant_named.ensures
+    let u = unknown_variant F ns x j c.args.width vs h c.in-Some.name.now (distinct c.args.variants.now.items d) c.in-Some.value (c.in-Some.ensures j b) c.in_default-variant_named.ensures in
+    (inl (subst (λ (v : List ℕ). NamesNoVariant F x j v) (sym c.in_ok-name.ensures.ok) u.0), u.1)
 
 pub returns-then-is_empty : goal.returns-then-is_empty
 returns-then-is_empty c k x j i d h b =
@@ -58,7 +60,7 @@ returns-else-is_empty c k x j i d h b =
     let at = c.part-part.ensures k x f.1 (choice w vs) i (form_choice F x w vs h) (variant_part vs c.in-Some-variant_named.index c.in-Some-variant_named.discriminant.now v f.1 f.2) in
     let zero = c.is_zero_size-is_empty.ensures k f.1 at in
     let n = subst (λ (o : Option (List Token)). NamesVariant j (Some (v, o))) c.in-None.is (c.in-Some.ensures j b) in
-    denies_expected c.expected-else-is_empty.result c.expected-else-is_empty.ensures (wants_value F ns x j w vs h v u n c.in-Some-variant_named.discriminant.now f.1 f.3 (λ z. let e = zero.1 z in let t = c.if-is_empty.false in cc))
+    refuses_expected F ns x j c.expected-else-is_empty.result c.expected-else-is_empty.ensures (wants_value F ns x j w vs h v u n c.in-Some-variant_named.discriminant.now f.1 f.3 (λ z. let e = zero.1 z in let t = c.if-is_empty.false in cc))
 
 pub returns-then-is_empty-2 : goal.returns-then-is_empty-2
 returns-then-is_empty-2 c k x j i d h b =
@@ -72,7 +74,7 @@ returns-then-is_empty-2 c k x j i d h b =
     let at = c.part-part.ensures k x f.1 (choice w vs) i (form_choice F x w vs h) (variant_part vs c.in-Some-variant_named.index c.in-Some-variant_named.discriminant.now v f.1 f.2) in
     let zero = c.is_zero_size-is_empty.ensures k f.1 at in
     let n = subst (λ (o : Option (List Token)). NamesVariant j (Some (v, o))) c.in-Some-value.is (c.in-Some.ensures j b) in
-    denies_expected c.expected-then-is_empty-2.result c.expected-then-is_empty-2.ensures (wants_none F ns x j w vs h v u n.0 n.1 c.in-Some-variant_named.discriminant.now f.1 f.3 (zero.0 c.if-is_empty-2.true))
+    refuses_expected F ns x j c.expected-then-is_empty-2.result c.expected-then-is_empty-2.ensures (wants_none F ns x j w vs h v u n.0 n.1 c.in-Some-variant_named.discriminant.now f.1 f.3 (zero.0 c.if-is_empty-2.true))
 
 pub returns-else-is_empty-2 : goal.returns-else-is_empty-2
 returns-else-is_empty-2 c k x j i d h b =
