@@ -1,5 +1,5 @@
 -- The reader's next part.
-use Rattle.std.proofs.Common.{◌≡◌, inl, inr, ℕ, suc, zero, ◌+◌, ◌-◌, ◌<◌, List, [], ◌∷◌, ◌++◌, length, map, Option, Some, None, refl, sym, ◌∙◌, ap, subst, arith, append_assoc, append-nil, length-append, string_bytes}
+use Rattle.std.proofs.Common.{◌≡◌, inl, ℕ, suc, zero, ◌+◌, ◌-◌, ◌<◌, List, [], ◌∷◌, ◌++◌, length, map, Option, Some, None, refl, sym, ◌∙◌, ap, subst, arith, append_assoc, append-nil, length-append, string_bytes}
 use Rattle.std.specs.Prelude.{is_some, true, MatchOption, Result, Ok, Err, MatchResult, slice_get}
 use Rattle.std.specs.Borrow.{Bor}
 use Rattle.std.specs.Str.{bytes_eq}
@@ -22,10 +22,10 @@ use Rattle.borsh_json.specs.declared.position.Place.{Place}
 use Rattle.borsh_json.specs.declared.sources.Source.{Source}
 use Rattle.borsh_json.specs.Forms.{Form, form_of}
 use Rattle.borsh_json.specs.Frames.{DeniesRead, name_step, first_steps, last_steps, steps_at, Left, items_left, fields_left, entries_left, Wanted, IsWanted, IsListPlace, IsObject, IsMapPlace, IsKey, HasItems, HasFields, HasEntries, NoneLeft, AreEntriesOf, HasLeft, SaysOn, IsPlaceOf, IsPlaceIn, IsDoing, SaysAll, IsNext, DeniesKey, IsNextEntry}
-use Rattle.borsh_json.specs.NoValue.{Step, field as field_step, place as place_step, element as element_step, AreSteps, BeginsParts, LacksField, HasNeighbours, HasOthers, Why}
+use Rattle.borsh_json.specs.NoValue.{field as field_step, place as place_step, element as element_step, AreSteps, LacksField, HasNeighbours, HasOthers, Why}
 use Rattle.borsh_json.specs.Places.{IsAt, AreKeysOf}
 use Rattle.borsh_json.specs.Represents.{SaysFirst, HaveBytes, none_left, next_part, SaysSome}
-use Rattle.borsh_json.specs.Table.{Keys, Kind, inner, fields, entries, HasKind, Part as JsonPart, row_parts, field_parts, Entry, entries_of, key_json, entry_parts, Says}
+use Rattle.borsh_json.specs.Table.{Keys, Kind, inner, fields, HasKind, Part as JsonPart, row_parts, field_parts, Entry, entries_of, key_json, entry_parts, Says}
 use Rattle.borsh_json.proofs.ReaderLaws.{uncons, object_one, fields_joined, fields_count}
 use Rattle.borsh_json.proofs.RepresentsLaws.{kind_one}
 use Rattle.borsh_json.proofs.StepLaws.{item_front, items_end, entries_end, fields_end, no_row, no_entries}
@@ -226,8 +226,7 @@ module _ (F : List ℕ → Option Form) (ns : List Named) (d : ℕ) (x : List �
       let gs = says.0 in
       let a : gs ++ fs ≡ gs = ap (λ l. gs ++ l) e ∙ append-nil gs in
       let count : length (gs ++ fs) ≡ length gs = ap (λ (l : List Wanted). length l) a in
-      let t = says.6 in
-      (
+      let t = says.6 in (
         λ z. says_all F ns d p x kind i own ds is (subst (λ (k : Kind). Says F k i own ds) (sym says.1) (says.2, says.3, ms, says.4, (let m = q.0 z in omega (arith, m, t, count)), ap (λ (l : List Wanted). field_parts l ms) a ∙ says.5)),
         λ z. too_many F ns d p x kind i ds (gs ++ fs) ms says.1 says.4 (λ m. z (q.1 (omega (arith, m, t, count)))) is,
       )

@@ -22,7 +22,7 @@ use Rattle.borsh_json.specs.Represents.{SaysFirst, SaysSome}
 use Rattle.borsh_json.specs.Table.{Kind, HasKind, Part, row_parts, list_parts, IsVariant, this, that, Says}
 use Rattle.borsh_json.proofs.FrameLaws.{drop_at}
 use Rattle.borsh_json.proofs.ReaderLaws.{mapped, uncons}
-use Rattle.borsh_json.proofs.RepresentsLaws.{kind_one, says_one, kind_small}
+use Rattle.borsh_json.proofs.RepresentsLaws.{kind_one}
 use Rattle.borsh_json.proofs.StepLaws.{item_back}
 use Rattle.std.specs.Global.{Global}
 

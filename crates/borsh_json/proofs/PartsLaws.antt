@@ -13,7 +13,6 @@ use Rattle.borsh_walks.specs.Container.{tag, references, variant_names}
 use Rattle.borsh_walks.specs.Tables.{mark_of}
 use Rattle.borsh_values.specs.declared.layout.Named.{Named}
 use Rattle.borsh_json.specs.declared.error.ReadError.{ReadError}
-use Rattle.borsh_json.specs.declared.position.Parts.{Parts}
 use Rattle.borsh_json.specs.declared.position.Parts.TheVariants.{List as Elements, Row, Object}
 use Rattle.borsh_json.specs.declared.position.Place.{Place}
 use Rattle.borsh_json.specs.declared.sources.Source.{Source}
@@ -23,10 +22,10 @@ use Rattle.borsh_json.specs.Frames.{DeniesRead, Wanted, AreFound, HasFields, Has
 use Rattle.borsh_json.specs.NoValue.{HasNeighbours, Why, NamesNoVariant}
 use Rattle.borsh_json.specs.Places.{IsAt, IsUnsayable}
 use Rattle.borsh_json.specs.Represents.{SaysSome}
-use Rattle.borsh_json.specs.Table.{Lengths, Kind, truth, whole, float, byte_list, row, inner, fields, variants, number_types, number_kind, primitive_kind, a_text, some_bytes, an_object, some_elements, nullable, by_name, DefinedKind, HasKind, Part, row_parts, list_parts, field_parts, entries_of, IsVariant, IsHex, IsPrefixed, IsArray, Says}
+use Rattle.borsh_json.specs.Table.{Lengths, Kind, truth, whole, float, byte_list, row, inner, fields, variants, number_types, number_kind, primitive_kind, a_text, some_bytes, an_object, some_elements, nullable, by_name, DefinedKind, HasKind, Part, row_parts, list_parts, entries_of, IsVariant, IsHex, IsPrefixed, IsArray, Says}
 use Rattle.borsh_json.proofs.ReaderLaws.{uncons}
-use Rattle.borsh_json.proofs.RepresentsLaws.{kind_one, variant_one}
-use Rattle.borsh_json.proofs.OpeningLaws.{no_ascent, denied, said, framed, row_fits, rows_there, list_row, list_length, second_map, second_copies, some_one, refuses_plain}
+use Rattle.borsh_json.proofs.RepresentsLaws.{variant_one}
+use Rattle.borsh_json.proofs.OpeningLaws.{no_ascent, denied, said, framed, row_fits, rows_there, list_row, list_length, second_map, second_copies, refuses_plain}
 
 array_one : (js ks : Items) → array js ≡ array ks → js ≡ ks
 array_one js ks e = cc

@@ -1,10 +1,10 @@
 -- The reader's loop.
-use Rattle.std.proofs.Common.{◌≡◌, ◌⊎◌, inl, inr, ℕ, suc, zero, ◌+◌, ◌-◌, ◌<◌, ◌≤◌, List, [], ◌∷◌, ◌++◌, length, map, Option, Some, None, refl, sym, ◌∙◌, ap, subst, arith, append_assoc, append-nil, length-append, string_bytes}
-use Rattle.std.specs.Prelude.{Bool, true, false, is_some, codes, ℤ, slice_get, String, Result, Ok, Err, MatchResult, IfOk, OnOk, IfErr}
+use Rattle.std.proofs.Common.{◌≡◌, inl, inr, ℕ, suc, zero, ◌+◌, ◌-◌, ◌<◌, List, [], ◌∷◌, ◌++◌, length, map, Option, Some, None, refl, sym, ◌∙◌, ap, subst, arith, append_assoc, append-nil, length-append, string_bytes}
+use Rattle.std.specs.Prelude.{Bool, true, false, is_some, codes, slice_get, String, Result, Ok, Err, IfOk, OnOk, IfErr}
 use Rattle.std.specs.Global.{Global}
 use Rattle.std.specs.Borrow.{Bor}
 use Rattle.json.specs.Token.{Token}
-use Rattle.json.specs.Json.{Json, object, no_members, member, no_items, item}
+use Rattle.json.specs.Json.{Json, no_items, item}
 use Rattle.json.specs.Find.{BeginsWith}
 use Rattle.borsh_values.specs.declared.layout.Named.{Named}
 use Rattle.borsh_json.specs.declared.error.PartError.{PartError}
@@ -25,11 +25,11 @@ use Rattle.borsh_json.specs.declared.sources.Source.TheVariants.{One}
 use Rattle.borsh_json.specs.Errors.{IsUnreadable}
 use Rattle.borsh_json.specs.Forms.{Form}
 use Rattle.borsh_json.specs.Found.{forms_of, names_of}
-use Rattle.borsh_json.specs.Frames.{DeniesRead, DeniesOr, HasPath, error_steps, name_step, first_steps, last_steps, steps_at, steps_through, IsUnread, IsOf, IsOfRead, Left, items_left, fields_left, entries_left, Wanted, IsListPlace, HasLeft, SaysOn, IsPlaceOf, IsPlaceIn, IsDoing, SaysAll, IsNext, NoneLeft, DeniesKey, IsFound, Stands, IsInside, IsBegun, IsEnded, HaveAround, HasRead, HasBegun, IsReadOn, ReadsOn}
+use Rattle.borsh_json.specs.Frames.{DeniesOr, HasPath, error_steps, name_step, first_steps, last_steps, steps_at, steps_through, IsUnread, IsOf, IsOfRead, Left, items_left, fields_left, entries_left, Wanted, IsListPlace, HasLeft, SaysOn, IsPlaceOf, IsPlaceIn, IsDoing, IsNext, NoneLeft, DeniesKey, Stands, IsInside, IsBegun, IsEnded, HaveAround, HasRead, HasBegun, IsReadOn, ReadsOn}
 use Rattle.borsh_json.specs.NoValue.{Step, field as field_step, place as place_step, element as element_step, variant as variant_step, AreSteps, BeginsParts, LacksField, FallsFirst, HasNeighbours, IsReached, whole_value, part_of, FailsAt, SaysNothing, HasOthers, Why}
 use Rattle.borsh_json.specs.Places.{IsAt}
 use Rattle.borsh_json.specs.Represents.{SaysFirst, HaveBytes, none_left, next_part, SaysSome}
-use Rattle.borsh_json.specs.Table.{Kind, byte_list, list, row, inner, fields, optional, variants, entries, HasKind, Part as JsonPart, entry_parts, Says}
+use Rattle.borsh_json.specs.Table.{Kind, inner, fields, Part as JsonPart, entry_parts}
 use Rattle.borsh_json.specs.Writes.{IsFull}
 use Rattle.borsh_json.proofs.FrameLaws.{get_there}
 use Rattle.borsh_json.proofs.ReaderLaws.{joined, no_parts, fields_count, reached_none, lacks_none}
@@ -38,9 +38,6 @@ use Rattle.borsh_json.proofs.LoopLaws.{alone, others_none}
 
 fields_same : (fs gs : List Wanted) → fields fs ≡ fields gs → fs ≡ gs
 fields_same fs gs e = cc
-
-part_eta : (a b : JsonPart) → a ∷ [] ≡ b ∷ [] → a ≡ b
-part_eta a b e = cc
 
 -- ---- the steps through places
 pub steps_last : (ps : List Place) (p : Place) → steps_through (ps ++ p ∷ []) ≡ steps_through ps ++ steps_at p
@@ -129,7 +126,7 @@ module _ (F : List ℕ → Option Form) (ns : List Named) where
 
   -- a frame that was opened, at any depth
   deeper : (p : Place) (s : Source) (d : ℕ) (x : List ℕ) (i : Json) (own : List ℕ) → IsDoing F ns p s 1 x i own [] → IsDoing F ns p s (suc d) x i own []
-  deeper p s d x i own r = record { left = r.left; here = r.here; kind = r.kind; says = r.says; is_place = r.is_place; falls = r.falls; }
+  deeper p s d x i own r = record { left = r.left; here = r.here; kind = r.kind; says = r.says; is_place = r.is_place; falls = r.falls }
 
 -- ---- where the reader is
 abbrev Where : Type 1

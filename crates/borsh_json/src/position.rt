@@ -235,7 +235,8 @@ impl<'a, 'k> Position<'a, 'k> {
     /// Goes back to the parts around these; says no at the value itself.
     pub fn leave(&mut self) -> bool
         ensures left { result ≡ true → self.old.outer.items ≡ self.new.outer.items ++ self.new.place ∷ [] }
-        ensures all { result ≡ false → (self.old.outer.items ≡ []) × (self.new.place ≡ self.old.place) × (self.new.outer.items ≡ []) }
+        ensures all { result ≡ false → self.old.outer.items ≡ [] }
+        ensures stays { result ≡ false → (self.new.place ≡ self.old.place) × (self.new.outer.items ≡ []) }
         ensures root { self.new.root ≡ self.old.root }
     {
         match self.outer.pop() {

@@ -2,9 +2,7 @@ use Rattle.std.proofs.Common.{◌≡◌, ◌∙◌, List, ℕ, sym, ap, subst, r
 use Rattle.std.specs.Prelude.{is_some}
 use Rattle.json.specs.Find.{as_object}
 use Rattle.borsh_walks.proofs.Tables.{marks_none}
-use Rattle.borsh_json.specs.Frames.{IsText, HaveOneEach}
-use Rattle.borsh_json.specs.Table.{entries_of}
-use Rattle.borsh_json.proofs.MapLaws.{object_one}
+use Rattle.borsh_json.specs.Frames.{IsText}
 use Rattle.borsh_json.proofs.MemberLaws.{found_start, found_more, found_all, passed_twice, text_cmp, text_one, not_each}
 use Rattle.borsh_json.proofs.OpeningLaws.{denies_expected}
 use Rattle.borsh_json.specs.NoValue.{RepeatsKey}

@@ -2,7 +2,7 @@ use Rattle.std.proofs.Common.{◌≡◌, ◌∙◌, List, ℕ, sym, ap, subst, r
 use Rattle.std.specs.Prelude.{is_some}
 use Rattle.std.specs.Ordering.{nat_cmp}
 use Rattle.json.specs.Find.{as_object}
-use Rattle.borsh_json.specs.Frames.{IsRank, HaveOneEach, HaveNumbers}
+use Rattle.borsh_json.specs.Frames.{IsRank, HaveNumbers}
 use Rattle.borsh_json.specs.Table.{entries_of}
 use Rattle.borsh_json.proofs.MapLaws.{object_one}
 use Rattle.borsh_json.proofs.MemberLaws.{passed_start, passed_here, passed_more, passed_twice, passed_all, not_each}
@@ -37,13 +37,16 @@ returns-then-is_some c small j b =
     (subst (λ (n : List ℕ). RepeatsKey j n) (sym c.in_ok-from_str.ensures.ok) t, λ s. not_each j key t s.0 s.1 s.2)
 
 pub returns-in_default-rank_of : goal.returns-in_default-rank_of
-returns-in_default-rank_of c small j b = (tt, λ s.
-    let n = c.args.number in
-    let m = c.in-Some.ensures j b in
-    let p = c.loop-key.invariant small m.0 m.2 in
-    let u = passed_here (IsRank n) m.0 c.loop-key.members c.next.new.self c.loop-key.found.entries c.in-Some-next.key.now c.in-Some-next.member c.in-Some-next.ensures.value p in
-    let w = subst (λ ms. HaveNumbers n (entries_of ms)) (object_one j s.0 m.0 s.1 m.1) s.3 p.passed u.1 (c.in-Some-next.key.now, u.0) u.2 in
-    c.in_default-rank_of.ensures small w.0 w.1)
+returns-in_default-rank_of c small j b = (
+  tt,
+  λ s.
+      let n = c.args.number in
+      let m = c.in-Some.ensures j b in
+      let p = c.loop-key.invariant small m.0 m.2 in
+      let u = passed_here (IsRank n) m.0 c.loop-key.members c.next.new.self c.loop-key.found.entries c.in-Some-next.key.now c.in-Some-next.member c.in-Some-next.ensures.value p in
+      let w = subst (λ ms. HaveNumbers n (entries_of ms)) (object_one j s.0 m.0 s.1 m.1) s.3 p.passed u.1 (c.in-Some-next.key.now, u.0) u.2 in
+      c.in_default-rank_of.ensures small w.0 w.1,
+)
 
 pub returns : goal.returns
 returns c small j b =

@@ -19,7 +19,7 @@ returns-in-Some c root j b =
     let h = around_here F ns root j old.position.outer.items old.outer.items 0 [] [] root j b.1 in
     let t = h.7 in
     let at = reached F ns root j h.0 h.1 h.2 h.3 h.4 t.stands in
-    let steps = left_steps c.leave-is_part.result old.position.outer.items new.outer.items old.position.place new.place c.leave-is_part.ensures.left c.leave-is_part.ensures.all (λ z. t.at_root (let e = h.5 in omega (arith, e, z))) in
+    let steps = left_steps c.leave-is_part.result old.position.outer.items new.outer.items old.position.place new.place c.leave-is_part.ensures.left (λ e. let s = c.leave-is_part.ensures.stays e in (c.leave-is_part.ensures.all e, s.0, s.1)) (λ z. t.at_root (let e = h.5 in omega (arith, e, z))) in
     name_unread F ns root j h.1 h.2 h.3 h.4 at.0 at.1 c.in_ok-name.name c.refused.result new.root.now (steps_through new.outer.items ++ steps_at new.place) (ap (λ r. r.now) c.leave-is_part.ensures.root ∙ b.0) c.refused.ensures.same c.refused.ensures.path (steps ∙ sym h.6) (t.others c.in-Some.ensures)
 
 pub returns-then-not-is_part : goal.returns-then-not-is_part
@@ -29,7 +29,7 @@ returns-then-not-is_part c root j b =
     let ns = c.args.definitions.now.layout.now.names.items in
     let t = c.if-not-is_part.true in
     let e : c.leave-is_part.result ≡ false = cc in
-    reading_end F ns root j old.position.place (NoneLeft old.source) old.out.items c.in_default.ensures (bottom F ns root j old.position.outer.items old.outer.items 0 [] [] root j _ b.1 (c.leave-is_part.ensures.all e).0)
+    reading_end F ns root j old.position.place (NoneLeft old.source) old.out.items c.in_default.ensures (bottom F ns root j old.position.outer.items old.outer.items 0 [] [] root j _ b.1 (c.leave-is_part.ensures.all e))
 
 pub returns-in-Some-pop : goal.returns-in-Some-pop
 returns-in-Some-pop c root j b =

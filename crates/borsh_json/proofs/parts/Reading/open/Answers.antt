@@ -23,10 +23,12 @@ pub returns-in-None : goal.returns-in-None
 returns-in-None c k root j b =
     let old = c.args.self.now in
     let F = forms_in c.args.definitions.now.layout.now.map.now in
-    let ns = c.args.definitions.now.layout.now.names.items in
-    (b.0, around_map F ns root j old.position.outer.items old.outer.items 0 [] [] root j (λ d path before x i h.
-        let o = c.in-Ok.ensures k h.0 h.1 h.2 h.3 in
-        leaf_inside F ns root j old.position.place old.source old.out.items c.open_part.new.out.items o.0 h.0 h.1 d path before x i o.1 (subst (λ (f : Option Frame). IsFound F ns h.0 h.1 o.0 f) c.in-None.is o.2) h.4) b.1)
+    let ns = c.args.definitions.now.layout.now.names.items in (
+      b.0,
+      around_map F ns root j old.position.outer.items old.outer.items 0 [] [] root j (λ d path before x i h.
+          let o = c.in-Ok.ensures k h.0 h.1 h.2 h.3 in
+          leaf_inside F ns root j old.position.place old.source old.out.items c.open_part.new.out.items o.0 h.0 h.1 d path before x i o.1 (subst (λ (f : Option Frame). IsFound F ns h.0 h.1 o.0 f) c.in-None.is o.2) h.4) b.1,
+    )
 
 pub returns-in-Err : goal.returns-in-Err
 returns-in-Err c k root j b =

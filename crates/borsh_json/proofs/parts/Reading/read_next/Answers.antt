@@ -1,8 +1,6 @@
-use Rattle.std.proofs.Common.{◌≡◌, ◌∷◌, ◌++◌, [], ap, sym, ◌∙◌, subst, false}
-use Rattle.borsh_json.specs.declared.parts.Next.{Next}
+use Rattle.std.proofs.Common.{◌≡◌, ◌++◌, [], ap, sym, ◌∙◌, subst, false}
 use Rattle.borsh_json.specs.Forms.{forms_in}
 use Rattle.borsh_json.specs.Frames.{IsNext, first_steps, steps_at, steps_through}
-use Rattle.borsh_json.specs.NoValue.{element}
 use Rattle.borsh_json.proofs.ReadingLaws.{doing_same, around_map, around_here, reached, inside_begun, inside_ended, missing_unread, descends_unread, key_unread}
 use Rattle.borsh_json.proofs.parts.Reading.read_next.Goals as goal
 
@@ -14,10 +12,13 @@ returns-in-Part c k root j r =
     let p = old.position.place in
     let a = c.ascends.ensures.same in
     let t = c.take_next.new in
-    c.open.ensures k root j (r.0, around_map F ns root j old.position.outer.items old.outer.items 0 [] [] root j (λ d path before x i h.
-        let doing = doing_same F ns p c.ascends.new.place old.source d x i h.own h.ds a.0 a.1 a.2 h.doing in
-        let n = subst (λ n. IsNext F ns d x i h.own h.ds t.place t.source old.out.items t.out.items n) c.in-Part.is (c.in-Ok.ensures.next k.known d x i h.own h.ds doing) in
-        inside_begun F ns root j p t.place old.source t.source old.out.items t.out.items _ _ d path before x i h n) r.1)
+    c.open.ensures k root j (
+      r.0,
+      around_map F ns root j old.position.outer.items old.outer.items 0 [] [] root j (λ d path before x i h.
+          let doing = doing_same F ns p c.ascends.new.place old.source d x i h.own h.ds a.0 a.1 a.2 h.doing in
+          let n = subst (λ n. IsNext F ns d x i h.own h.ds t.place t.source old.out.items t.out.items n) c.in-Part.is (c.in-Ok.ensures.next k.known d x i h.own h.ds doing) in
+          inside_begun F ns root j p t.place old.source t.source old.out.items t.out.items _ _ d path before x i h n) r.1,
+    )
 
 pub returns-in-Missing : goal.returns-in-Missing
 returns-in-Missing c k root j r =
@@ -41,10 +42,13 @@ returns-in-End c k root j r =
     let p = old.position.place in
     let a = c.ascends.ensures.same in
     let t = c.take_next.new in
-    c.leave.ensures root j (r.0, around_map F ns root j old.position.outer.items old.outer.items 0 [] [] root j (λ d path before x i h.
-        let doing = doing_same F ns p c.ascends.new.place old.source d x i h.own h.ds a.0 a.1 a.2 h.doing in
-        let n = subst (λ n. IsNext F ns d x i h.own h.ds t.place t.source old.out.items t.out.items n) c.in-End.is (c.in-Ok.ensures.next k.known d x i h.own h.ds doing) in
-        inside_ended F ns root j p t.place old.source t.source old.out.items t.out.items d path before x i h (c.take_next.ensures.parts ∙ a.0) n) r.1)
+    c.leave.ensures root j (
+      r.0,
+      around_map F ns root j old.position.outer.items old.outer.items 0 [] [] root j (λ d path before x i h.
+          let doing = doing_same F ns p c.ascends.new.place old.source d x i h.own h.ds a.0 a.1 a.2 h.doing in
+          let n = subst (λ n. IsNext F ns d x i h.own h.ds t.place t.source old.out.items t.out.items n) c.in-End.is (c.in-Ok.ensures.next k.known d x i h.own h.ds doing) in
+          inside_ended F ns root j p t.place old.source t.source old.out.items t.out.items d path before x i h (c.take_next.ensures.parts ∙ a.0) n) r.1,
+    )
 
 pub returns-in-Err : goal.returns-in-Err
 returns-in-Err c k root j r =

@@ -1,6 +1,5 @@
-use Rattle.std.proofs.Common.{◌≡◌, ◌∙◌, ◌≤◌, ◌++◌, length, take, sym, ap, arith}
-use Rattle.std.proofs.lemmas.List.{take_all}
-use Rattle.borsh_json.specs.Frames.{steps_at, steps_through}
+use Rattle.std.proofs.Common.{◌∙◌, ◌++◌, sym, ap}
+use Rattle.borsh_json.specs.Frames.{steps_at}
 use Rattle.borsh_json.proofs.FrameLaws.{steps_taken}
 use Rattle.borsh_json.proofs.position.Position.path_to_place.Goals as goal
 
