@@ -15,7 +15,7 @@ use Rattle.borsh_json.specs.Descents.{HasKeys, HasDescent}
 use Rattle.borsh_json.specs.Forms.{Form}
 use Rattle.borsh_json.specs.Ordered.{IsOrdered}
 use Rattle.borsh_json.specs.Represents.{SaysFirst, HaveBytes, SaysSome, TextSays}
-use Rattle.borsh_json.specs.Table.{Kind, no_bytes, truth, whole, float, raw, utf8, byte_list, list, row, inner, fields, optional, variants, entries, HasKind, Part, list_parts, field_parts, Entry, entries_of, IsVariant, IsHex, IsNoNan, Says}
+use Rattle.borsh_json.specs.Table.{Lengths, Kind, no_bytes, truth, whole, float, raw, utf8, byte_list, list, row, inner, fields, optional, variants, entries, HasKind, Part, list_parts, field_parts, Entry, entries_of, IsVariant, IsHex, IsNoNan, Says}
 
 -- ---- the path of a refusal
 
@@ -93,9 +93,9 @@ module _ (F : List ℕ → Option Form) where
   Why x i (RepeatedKey name) = RepeatsKey i (string_bytes name)
   Why x i refusal = ⊥
 
-  -- whatever own bytes JSON of the name says, they begin a set of which two neighbours don't ascend
+  -- of a set of bytes, their digits, which begin a set of which two neighbours don't ascend
   abbrev pub FallsFirst : List ℕ → Json → Type 0
-  FallsFirst x i = (own : List ℕ) (ps : List Part) → SaysFirst F x i own ps → (rest : List ℕ) → HasDescent F x (own ++ rest)
+  FallsFirst x i = (l : Lengths) × (e : List ℕ) × (k : List ℕ) × (digits : List ℕ) × HasKind F x (byte_list l e) × HasKeys F x e k × IsOrdered F k × IsHex i digits × ((own : List ℕ) (ps : List Part) → SaysFirst F x i own ps → (rest : List ℕ) → HasDescent F x (own ++ rest))
 
   -- JSON of a set or a map whose order is known that is an array of two elements or more
   abbrev pub HasNeighbours : List ℕ → Json → Type 0
