@@ -5,10 +5,11 @@ use Rattle.std.specs.Ordering.{nat_cmp, int_cmp, ordering_then}
 use Rattle.std.specs.Cmp.Lexicographic.{slice_cmp}
 use Rattle.std.specs.declared.cmp.Ordering.{Ordering}
 use Rattle.std.specs.declared.cmp.Ordering.TheVariants.{Less, Equal, Greater}
-use Rattle.std.proofs.Math.Nat.{suc-mul, zero-mul}
+use Rattle.std.proofs.Math.Nat.{suc-mul, zero-mul, mul-le-mul_left, mul-le-mul_right}
 use Rattle.borsh_walks.specs.Container.{Member, of_primitive, Members, tag}
 use Rattle.borsh_walks.specs.Container as shape
 use Rattle.borsh_values.proofs.Packed.{copies_of}
+use Rattle.borsh_values.proofs.PrefixFree.{same_front}
 use Rattle.borsh_json.specs.Descents.{NumbersDescend, HasKeys, HasDescent}
 use Rattle.borsh_json.specs.Forms.{Form, primitive, shapes}
 use Rattle.borsh_json.specs.Table.{InRange}
@@ -28,7 +29,7 @@ all_left P [] ys h i d l = absurd (omega (arith, l))
 all_left P (x ∷ xs) ys h zero d l = h 0 d (omega arith)
 all_left P (x ∷ xs) ys h (suc i) d l = all_left P xs ys (λ j e m. h (suc j) e (omega (arith, m))) i d (omega (arith, l))
 
-all_right : (P : ℕ → Type 0) (xs ys : List ℕ) → All P (xs ++ ys) → All P ys
+pub all_right : (P : ℕ → Type 0) (xs ys : List ℕ) → All P (xs ++ ys) → All P ys
 all_right P [] ys h = h
 all_right P (x ∷ xs) ys h = all_right P xs ys (λ j e m. h (suc j) e (omega (arith, m)))
 
@@ -147,3 +148,42 @@ falls_at signed bytes rest element after next before n m index h g e b r l cut a
       second = z.1.1;
       falls = falls y.0 z.0 y.1.1 z.1.1 y.1.0 z.1.0;
     }
+
+-- the bytes have room for two elements that don't ascend
+fall_room : (signed : Bool) (bytes : List ℕ) (n i : ℕ) → NumbersDescend n signed bytes i → (i - 1) * n + (n + n) ≤ length bytes
+fall_room signed bytes n i d =
+    let a = ap (λ l. length l) d.bytes_are ∙ length-append d.before (tag n d.y ++ (tag n d.z ++ d.after)) in
+    let b = length-append (tag n d.y) (tag n d.z ++ d.after) in
+    let g = length-append (tag n d.z) d.after in
+    let p = long_tag n d.y in
+    let q = long_tag n d.z in
+    let t = d.passed in
+    omega (arith, a, b, g, p, q, t)
+
+-- before the first element there is none to fall below
+pub none_first : (signed : Bool) (bytes : List ℕ) (n i : ℕ) → i < 1 → NumbersDescend n signed bytes i → ⊥
+none_first signed bytes n i l d = let s = d.some in omega (arith, l, s)
+
+-- an element that is above the one before it doesn't fall
+pub none_here : (signed : Bool) (bytes rest element after next before : List ℕ) (n index i : ℕ) → index ≤ i → i < index + 1 → bytes ≡ before ++ rest → length before ≡ (index - 1) * n → ((xs bs : List ℕ) → rest ≡ xs ++ bs → length xs ≡ n → (element ≡ xs) × (after ≡ bs)) → ((xs bs : List ℕ) → after ≡ xs ++ bs → length xs ≡ n → next ≡ xs) → ((y z : ℤ) → InRange n signed y → InRange n signed z → element ≡ tag n y → next ≡ tag n z → int_cmp y z ≡ Less) → NumbersDescend n signed bytes i → ⊥
+none_here signed bytes rest element after next before n index i g l e b cut again less d =
+    let q : index ≡ i = omega (arith, g, l) in
+    let s = same_front before d.before rest (tag n d.y ++ (tag n d.z ++ d.after)) (sym e ∙ d.bytes_are) (b ∙ ap (λ i. (i - 1) * n) q ∙ sym d.passed) in
+    let u = cut (tag n d.y) (tag n d.z ++ d.after) s.1 (long_tag n d.y) in
+    let v = again (tag n d.z) d.after u.1 (long_tag n d.z) in
+    d.falls (less d.y d.z d.first d.second u.0 v)
+
+-- where at most one element is left none falls
+pub none_left : (signed : Bool) (bytes rest before : List ℕ) (n index i : ℕ) → 0 < n → index ≤ i → bytes ≡ before ++ rest → length before ≡ (index - 1) * n → length rest ≤ n → NumbersDescend n signed bytes i → ⊥
+none_left signed bytes rest before n index i h g e b l d =
+    let r = fall_room signed bytes n i d in
+    let a = ap (λ l. length l) e ∙ length-append before rest in
+    let m : (index - 1) * n ≤ (i - 1) * n = mul-le-mul_right n (omega (arith, g)) in
+    omega (arith, r, a, b, l, h, m)
+
+-- nor does one whose index isn't less than the number of bytes
+pub none_past : (signed : Bool) (bytes : List ℕ) (n index i : ℕ) → 0 < n → index ≤ i → length bytes ≤ index → NumbersDescend n signed bytes i → ⊥
+none_past signed bytes n index i h g l d =
+    let r = fall_room signed bytes n i d in
+    let m : (i - 1) * 1 ≤ (i - 1) * n = mul-le-mul_left (i - 1) (omega (arith, h)) in
+    omega (arith, r, l, g, h, m)

@@ -43,7 +43,7 @@ module _ (F : List ℕ → Option Form) where
       formed_if x d (bytes_eq x (codes "bool") && (n == 1)) truth _ tt floats
 
   -- the elements of a map are tuples of its keys and values
-  map_elements : {x k v : List ℕ} (w lo hi : ℕ) (e : List ℕ) → F x ≡ Some (sequence w lo hi e) → IsMap F x k v → F e ≡ Some (tuple (k ∷ v ∷ []))
+  pub map_elements : {x k v : List ℕ} (w lo hi : ℕ) (e : List ℕ) → F x ≡ Some (sequence w lo hi e) → IsMap F x k v → F e ≡ Some (tuple (k ∷ v ∷ []))
   map_elements w lo hi e c m =
       let q : Some (sequence w lo hi e) ≡ Some (sequence 4 0 4294967295 m.0) = sym c ∙ m.1 in
       let s : e ≡ m.0 = cc in

@@ -12,6 +12,7 @@ use Rattle.borsh_values.specs.declared.layout.Layout.{Layout}
 use Rattle.borsh_values.specs.Layouts.{IsLayout, IsLaidOut}
 use Rattle.borsh_json.specs.declared.definitions.Definitions.{Definitions}
 use Rattle.borsh_json.specs.Forms.{forms_in}
+use Rattle.borsh_json.specs.InOrder.{InOrder}
 use Rattle.borsh_json.specs.Known.{SaysBy}
 use Rattle.borsh_json.specs.Represents.{HaveBytes}
 use Rattle.borsh_json.proofs.FormsLaws.{shapes_are}
@@ -23,6 +24,6 @@ pub laid_by : (l : Layout) (root : Bor (List ℕ)) (map : Bor (BTreeMap (String 
 laid_by l root map f g p = subst (λ (m : Bor (BTreeMap (String Global) Definition)). IsLayout m.now l.root.now l.names.items l.parts.items) (sym g) (subst (λ (r : Bor (List ℕ)). IsLayout map.now r.now l.names.items l.parts.items) (sym f) p)
 
 -- the text that was read says the member
-pub said_by : (d : Definitions) (text bytes read : List ℕ) → ((j : Json) × (document text ≡ Some j) × HaveBytes (forms_in d.layout.now.map.now) ((d.layout.now.root.now, j) ∷ []) read) → read ≡ bytes → Member (definitions_in d.layout.now.map.now) d.layout.now.root.now bytes → SaysBy d text bytes
+pub said_by : (d : Definitions) (text bytes read : List ℕ) → ((j : Json) × (document text ≡ Some j) × HaveBytes (forms_in d.layout.now.map.now) ((d.layout.now.root.now, j) ∷ []) read × InOrder (forms_in d.layout.now.map.now) d.layout.now.root.now j) → read ≡ bytes → Member (definitions_in d.layout.now.map.now) d.layout.now.root.now bytes → SaysBy d text bytes
 said_by d text bytes read s e m =
     (s.0, s.1, subst (λ b. HaveBytes (forms_in d.layout.now.map.now) ((d.layout.now.root.now, s.0) ∷ []) b) e s.2, subst (λ C. Member C d.layout.now.root.now bytes) (sym (shapes_are d.layout.now.map.now)) m)

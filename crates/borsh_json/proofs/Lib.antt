@@ -46,10 +46,16 @@ pub mod OrderNumbers
 pub mod PendingLaws
 pub mod OrderedLaws
 pub mod WaitingLaws
+pub mod SearchLaws
+pub mod UnorderedLaws
 pub mod KindOrders
+pub mod KindTells
 pub mod RankLaws
 pub mod DescentLaws
 pub mod KeyRanks
+pub mod SaidRanks
+pub mod InOrderLaws
+pub mod AscentLaws
 pub mod PackedDescent
 pub mod UnitLaws
 pub mod WordLaws

@@ -1,10 +1,11 @@
 -- What JSON of a kind opens.
-use Rattle.std.proofs.Common.{◌≡◌, inl, inr, ℕ, suc, zero, List, [], ◌∷◌, ◌++◌, length, map, replicate, drop, Bool, true, false, Option, Some, None, refl, sym, ◌∙◌, ap, subst, arith, append-nil}
-use Rattle.std.specs.Prelude.{Result, Ok, Err, ℤ, slice_get, is_some, MatchOption, String}
+use Rattle.std.proofs.Common.{◌≡◌, inl, inr, ℕ, suc, zero, List, [], ◌∷◌, ◌++◌, length, map, replicate, drop, Bool, true, Option, Some, None, refl, sym, ◌∙◌, ap, subst, arith, append-nil}
+use Rattle.std.specs.Prelude.{Result, Ok, Err, ℤ, slice_get, MatchOption, String}
 use Rattle.json.specs.Token.{Token}
 use Rattle.json.specs.Json.{Json, null, boolean, number, string, array, object, Items, no_items, item}
 use Rattle.json.specs.Find.{BeginsWith, is_null, as_bool, as_str, as_number}
 use Rattle.borsh_values.specs.declared.layout.Named.{Named}
+use Rattle.borsh_json.specs.declared.definitions.Known.{Known}
 use Rattle.borsh_json.specs.declared.error.ReadError.{ReadError}
 use Rattle.borsh_json.specs.declared.error.ReadError.TheVariants.{OutOfMemory, Refused, Descends as DescendsAt}
 use Rattle.borsh_json.specs.declared.error.Refusal.{Refusal}
@@ -16,10 +17,11 @@ use Rattle.borsh_json.specs.declared.position.Place.{Place}
 use Rattle.borsh_json.specs.declared.sources.Source.{Source}
 use Rattle.borsh_json.specs.declared.sources.Source.TheVariants.{One}
 use Rattle.borsh_json.specs.Forms.{Form}
-use Rattle.borsh_json.specs.Frames.{DeniesRead, Left, items_left, IsExpected, SaysOn, IsPlaceOf, IsDoing, IsFound, IsOpened, IsOpenedOrFalls, HasLeft, IsWanted, IsListPlace, IsMapPlace, Wanted, DeniesOr, IsUnexpected, IsKeyReason}
-use Rattle.borsh_json.specs.NoValue.{HasNeighbours, Why}
+use Rattle.borsh_json.specs.Frames.{DeniesRead, Left, items_left, IsExpected, SaysOn, IsPlaceOf, AscendIn, IsUnbegun, IsFound, IsOpened, IsOpenedOrFalls, HasLeft, IsWanted, IsListPlace, IsMapPlace, Wanted, DeniesOr, IsUnexpected, IsKeyReason}
+use Rattle.borsh_json.specs.InOrder.{DigitsFall, ItemsFall}
+use Rattle.borsh_json.specs.NoValue.{Why}
 use Rattle.borsh_json.specs.Represents.{SaysFirst, SaysSome}
-use Rattle.borsh_json.specs.Table.{Kind, HasKind, Part, row_parts, list_parts, IsVariant, this, that, Says}
+use Rattle.borsh_json.specs.Table.{Lengths, Kind, byte_list, HasKind, Part, row_parts, list_parts, IsVariant, this, that, Says}
 use Rattle.borsh_json.proofs.FrameLaws.{drop_at}
 use Rattle.borsh_json.proofs.ReaderLaws.{mapped, uncons}
 use Rattle.borsh_json.proofs.RepresentsLaws.{kind_one}
@@ -60,13 +62,13 @@ number_is (array js) s e = cc
 number_is (object ms) s e = cc
 
 -- ---- errors
-pub denies_or : {D E : Type 0} {Reason Other : Refusal → Type 0} (e : ReadError) {P Q : Type 0} → ((r : Refusal) → Reason r → Other r) → (Q → P) → (D → E) → DeniesOr D Reason e P → DeniesOr E Other e Q
+pub denies_or : {D E : ℕ → Type 0} {Reason Other : Refusal → Type 0} (e : ReadError) {P Q : Type 0} → ((r : Refusal) → Reason r → Other r) → (Q → P) → ((i : ℕ) → D i → E i) → DeniesOr D Reason e P → DeniesOr E Other e Q
 denies_or OutOfMemory w f g d = tt
 denies_or (Refused r) w f g d = (w r d.0, λ q. d.1 (f q))
-denies_or (DescendsAt i) w f g d = g d
+denies_or (DescendsAt i) w f g d = g i d
 
 pub denies_read : (Reason : Refusal → Type 0) (e : ReadError) {P Q : Type 0} → (Q → P) → DeniesRead Reason e P → DeniesRead Reason e Q
-denies_read Reason e f d = denies_or e (λ r w. w) f (λ z. z) d
+denies_read Reason e f d = denies_or e (λ r w. w) f (λ i z. z) d
 
 pub denies_expected : (Reason : Refusal → Type 0) → ((wanted : String Global) → Reason (Expected wanted)) → (e : ReadError) {P : Type 0} → IsExpected e → (P → ⊥) → DeniesRead Reason e P
 denies_expected Reason w e {P} (inl i) d = subst (λ (e : ReadError). DeniesRead Reason e P) (sym i) tt
@@ -107,17 +109,13 @@ module _ (F : List ℕ → Option Form) (ns : List Named) (x : List ℕ) (j : Js
   key_why (Undefined name) p = absurd p
 
   pub refuses_plain : (e : ReadError) {P : Type 0} → (SaysSome F x j → P) → DeniesRead IsUnexpected e P → DeniesRead (Why F x j) e (SaysSome F x j)
-  refuses_plain e f d = denies_or e plain_why f (λ z. z) d
+  refuses_plain e f d = denies_or e plain_why f (λ i z. z) d
 
   pub refuses_keys : (e : ReadError) {P : Type 0} → (SaysSome F x j → P) → DeniesRead (IsKeyReason j) e P → DeniesRead (Why F x j) e (SaysSome F x j)
-  refuses_keys e f d = denies_or e key_why f (λ z. z) d
+  refuses_keys e f d = denies_or e key_why f (λ i z. z) d
 
   pub refuses_expected : (e : ReadError) → IsExpected e → (SaysSome F x j → ⊥) → DeniesRead (Why F x j) e (SaysSome F x j)
   refuses_expected e i d = denies_expected (Why F x j) (λ w. tt) e i d
-
--- parts that need not ascend
-pub no_ascent : {A : Type 0} (p : Place) → p.ascent ≡ None → is_some p.ascent ≡ true → A
-no_ascent p e t = (let q : is_some p.ascent ≡ false = ap (λ (a : Option Ascent). is_some a) e in let z : true ≡ false = sym t ∙ q in cc)
 
 module _ (F : List ℕ → Option Form) (ns : List Named) (x : List ℕ) (j : Json) where
   -- JSON of which nothing is said by its kind
@@ -136,29 +134,40 @@ module _ (F : List ℕ → Option Form) (ns : List Named) (x : List ℕ) (j : Js
   pub unsaid : ((own : List ℕ) (ps : List Part) → SaysFirst F x j own ps → ⊥) → SaysSome F x j → ⊥
   unsaid d s = let u = uncons F s.1 in d u.0 u.1 u.4
 
+module _ (F : List ℕ → Option Form) (ns : List Named) (orders : List Known) (x : List ℕ) (j : Json) where
   -- the frame of a place whose value was opened
-  pub framed : (place : Place) (t : Source) (p : Parts) (kind : Kind) (own : List ℕ) (l : Left) → place.parts ≡ p → place.begun ≡ 0 → HasKind F x kind → HasLeft F ns p 0 t l → SaysOn F ns kind j own [] l → IsPlaceOf F ns p 0 kind j [] → (is_some place.ascent ≡ true → HasNeighbours F x j × IsListPlace p) → IsDoing F ns place t 1 x j own []
-  framed place t p kind own l e b h there says is falls = record {
-    left = l;
-    here = subst (λ (q : Parts). HasLeft F ns q place.begun t l) (sym e) (subst (λ (k : ℕ). HasLeft F ns p k t l) (sym b) there);
-    kind = kind;
-    says = says;
-    is_place = (h, subst (λ (q : Parts). IsPlaceOf F ns q place.begun kind j []) (sym e) (subst (λ (k : ℕ). IsPlaceOf F ns p k kind j []) (sym b) is));
-    falls = λ q. let f = falls q in (f.0, subst (λ (q : Parts). IsListPlace q) (sym e) f.1);
-  }
+  pub framed : (place : Place) (t : Source) (p : Parts) (kind : Kind) (own : List ℕ) (l : Left) → place.parts ≡ p → place.begun ≡ 0 → HasKind F x kind → HasLeft F ns p 0 t l → SaysOn F ns kind j own [] l → IsPlaceOf F ns p 0 kind j [] → AscendIn F ns orders place.ascent p x j × IsUnbegun place.ascent → IsFound F ns orders x j own (Some (record { place = place; source = t }))
+  framed place t p kind own l e b h there says is a = (
+    record {
+      left = l;
+      here = subst (λ (q : Parts). HasLeft F ns q place.begun t l) (sym e) (subst (λ (k : ℕ). HasLeft F ns p k t l) (sym b) there);
+      kind = kind;
+      says = says;
+      is_place = (h, subst (λ (q : Parts). IsPlaceOf F ns q place.begun kind j []) (sym e) (subst (λ (k : ℕ). IsPlaceOf F ns p k kind j []) (sym b) is));
+      ascends = subst (λ (q : Parts). AscendIn F ns orders place.ascent q x j) (sym e) a.0;
+    },
+    a.1,
+  )
 
-  pub opened_leaf : (kind : Kind) (old new own : List ℕ) → HasKind F x kind → new ≡ old ++ own → Says F kind j own [] → IsOpened F ns x j old new (Ok None)
-  opened_leaf kind old new own h e s = (own, e, (kind, h, s))
+  -- parts that need not ascend
+  pub no_ascent : (place : Place) (p : Parts) → (IsListPlace p → (index : ℕ) → ItemsFall F x j index → ⊥) → place.ascent ≡ None → AscendIn F ns orders place.ascent p x j × IsUnbegun place.ascent
+  no_ascent place p none e = subst (λ (a : Option Ascent). AscendIn F ns orders a p x j × IsUnbegun a) (sym e) (none, tt)
+
+  pub opened_digits : (kind : Kind) (old new own : List ℕ) → HasKind F x kind → ((index : ℕ) → DigitsFall F x j index → ⊥) → new ≡ old ++ own → Says F kind j own [] → IsOpened F ns orders x j old new (Ok None)
+  opened_digits kind old new own h none e s = (own, e, ((kind, h, s), none))
+
+  pub opened_leaf : (kind : Kind) → ((l : Lengths) (e : List ℕ) → kind ≡ byte_list l e → ⊥) → (old new own : List ℕ) → HasKind F x kind → new ≡ old ++ own → Says F kind j own [] → IsOpened F ns orders x j old new (Ok None)
+  opened_leaf kind plain old new own h e s = opened_digits kind old new own h (λ index d. plain d.0 d.1 (kind_one F h d.6)) e s
 
   -- what is opened doesn't fall
-  pub opened : (old new : List ℕ) (r : Result (Option Frame) ReadError) → IsOpened F ns x j old new r → IsOpenedOrFalls F ns x j old new r
+  pub opened : (old new : List ℕ) (r : Result (Option Frame) ReadError) → IsOpened F ns orders x j old new r → IsOpenedOrFalls F ns orders x j old new r
   opened old new (Ok found) o = o
   opened old new (Err OutOfMemory) o = o
   opened old new (Err (Refused r)) o = o
   opened old new (Err (DescendsAt i)) o = absurd o
 
   -- without own bytes the output may be any
-  pub unmoved : (out : List ℕ) (r : Result (Option Frame) ReadError) → IsOpened F ns x j [] [] r → IsOpened F ns x j out out r
+  pub unmoved : (out : List ℕ) (r : Result (Option Frame) ReadError) → IsOpened F ns orders x j [] [] r → IsOpened F ns orders x j out out r
   unmoved out (Ok found) o = (o.0, sym (append-nil out) ∙ ap (λ l. out ++ l) o.1, o.2)
   unmoved out (Err e) o = o
 
@@ -219,12 +228,12 @@ pub no_variant : (k : ℤ) (v p : List ℕ) (vs : List (ℤ × List ℕ × List 
 no_variant k v p vs e h = elim (subst (λ (l : List (ℤ × List ℕ × List ℕ)). IsVariant k v p l) e h) [ ]
 
 -- ---- a value whose only part is another
-module _ (F : List ℕ → Option Form) (ns : List Named) (x : List ℕ) (j : Json) where
+module _ (F : List ℕ → Option Form) (ns : List Named) (orders : List Known) (x : List ℕ) (j : Json) where
   -- where the place wants one part
-  pub only_found : (kind : Kind) (own : List ℕ) (p : Parts) (y : List ℕ) (i : Json) (e : List Token) (o : Option Frame) → MatchOption o ⊥ (λ f. (f.place.parts ≡ p) × (f.place.begun ≡ 0) × (f.source ≡ One (Some e)) × (f.place.ascent ≡ None)) → ((b : ℕ) → (z : List ℕ) × (z ≡ y) × ((ws : List Wanted) → ws ≡ drop b (([], z) ∷ []) → IsWanted F ns p b ws)) → (IsMapPlace p → ⊥) → IsPlaceOf F ns p 0 kind j [] → HasKind F x kind → BeginsWith e i → Says F kind j own ((y, i) ∷ []) → IsFound F ns x j own o
-  only_found kind own p y i e None o g n is h b s = absurd o
-  only_found kind own p y i e (Some f) o g n is h b s =
+  pub only_found : (kind : Kind) (own : List ℕ) (p : Parts) (y : List ℕ) (i : Json) (e : List Token) (o : Option Frame) → MatchOption o ⊥ (λ f. (f.place.parts ≡ p) × (f.place.begun ≡ 0) × (f.source ≡ One (Some e)) × (f.place.ascent ≡ None)) → ((b : ℕ) → (z : List ℕ) × (z ≡ y) × ((ws : List Wanted) → ws ≡ drop b (([], z) ∷ []) → IsWanted F ns p b ws)) → (IsMapPlace p → ⊥) → (IsListPlace p → ⊥) → IsPlaceOf F ns p 0 kind j [] → HasKind F x kind → BeginsWith e i → Says F kind j own ((y, i) ∷ []) → IsFound F ns orders x j own o
+  only_found kind own p y i e None o g n nl is h b s = absurd o
+  only_found kind own p y i e (Some f) o g n nl is h b s =
       let w = g 0 in
       let l = items_left (y ∷ []) (item i no_items) in
       let there : HasLeft F ns p 0 (One (Some e)) l = (([], y) ∷ [], w.2 (([], y) ∷ []) (ap (λ (z : List ℕ). ([], z) ∷ []) (sym w.1)), refl, (i, refl, b), (y, i) ∷ [], refl, n) in
-      framed F ns x j f.place f.source p kind own l o.0 o.1 h (subst (λ (t : Source). HasLeft F ns p 0 t l) (sym o.2) there) ((y, i) ∷ [], refl, s) is (no_ascent f.place o.3)
+      framed F ns orders x j f.place f.source p kind own l o.0 o.1 h (subst (λ (t : Source). HasLeft F ns p 0 t l) (sym o.2) there) ((y, i) ∷ [], refl, s) is (no_ascent F ns orders x j f.place p (λ z. absurd (nl z)) o.3)

@@ -68,12 +68,12 @@ tuple_named ps (q ∷ others) p head name rest last e t f n r l =
     nil (c ∷ p) = ap (λ p. c ∷ p) (nil p)
 
 -- ---- what is known at places
-get_same : (xs : List Known) (i : ℕ) (v : Known) → i < length xs → slice_get (set xs i v) i ≡ Some v
+pub get_same : (xs : List Known) (i : ℕ) (v : Known) → i < length xs → slice_get (set xs i v) i ≡ Some v
 get_same [] i v h = absurd (omega (arith, h))
 get_same (x ∷ xs) zero v h = refl
 get_same (x ∷ xs) (suc i) v h = get_same xs i v (omega (arith, h))
 
-get_other : (xs : List Known) (i k : ℕ) (v : Known) → (k ≡ i → ⊥) → slice_get (set xs i v) k ≡ slice_get xs k
+pub get_other : (xs : List Known) (i k : ℕ) (v : Known) → (k ≡ i → ⊥) → slice_get (set xs i v) k ≡ slice_get xs k
 get_other [] i k v n = refl
 get_other (x ∷ xs) zero zero v n = absurd (n refl)
 get_other (x ∷ xs) zero (suc k) v n = refl

@@ -18,7 +18,7 @@ use Rattle.borsh_json.proofs.RankLaws.{shaped}
 
 module _ (F : List ℕ → Option Form) (ns : List Named) where
   -- the order of a primitive is that of its numbers
-  packed_order : (e : List ℕ) (n : ℕ) (o : Order) → F e ≡ Some (primitive (suc n)) → HasOrder F e o → (signed : Bool) × (o ≡ numbers (suc n) signed)
+  pub packed_order : (e : List ℕ) (n : ℕ) (o : Order) → F e ≡ Some (primitive (suc n)) → HasOrder F e o → (signed : Bool) × (o ≡ numbers (suc n) signed)
   packed_order e n o f (inl z) = absurd (full_primitive F f z.0)
   packed_order e n single f (inr b) = absurd b.1
   packed_order e n (numbers m signed) f (inr b) =
@@ -31,7 +31,7 @@ module _ (F : List ℕ → Option Form) (ns : List Named) where
   packed_order e n (list w d) f (inr (z, inr b)) = absurd (clash (F e) f b.1.1 (λ q. cc))
   packed_order e n (parts ps) f (inr b) = absurd (clash (F e) f b.1.0 (λ q. cc))
 
-  packed_found : (e : List ℕ) (n : ℕ) (signed : Bool) (found : Ordered) → IsOrderOf F ns e found (numbers n signed) → found ≡ Number n signed
+  pub packed_found : (e : List ℕ) (n : ℕ) (signed : Bool) (found : Ordered) → IsOrderOf F ns e found (numbers n signed) → found ≡ Number n signed
   packed_found e n signed Single i = cc
   packed_found e n signed (Number m s) i = let p : m ≡ n = cc in let q : s ≡ signed = cc in ap (λ m. Number m s) p ∙ ap (λ s. Number n s) q
   packed_found e n signed Text i = cc

@@ -38,7 +38,7 @@ module _ (F : List ℕ → Option Form) where
   one_more : {p : List ℕ} {ps : List (List ℕ)} {bs : List ℕ} → Members (shapes F) (p ∷ ps) bs → (xs : List ℕ) × (ys : List ℕ) × Member (shapes F) p xs × Members (shapes F) ps ys × (bs ≡ xs ++ ys)
   one_more (more_members {bs = bs} {cs = cs} m ms) = (bs, cs, m, ms, refl)
 
-  ranks_elements : (e : List ℕ) → Ranks e → (n : ℕ) (bs more : List ℕ) (ts : List Ranked) (rs : List ℤ) → Members (shapes F) (replicate n e) bs → Rank F ts more rs → (zs : List ℤ) × Rank F (elements e n ∷ ts) (bs ++ more) zs
+  pub ranks_elements : (e : List ℕ) → Ranks e → (n : ℕ) (bs more : List ℕ) (ts : List Ranked) (rs : List ℤ) → Members (shapes F) (replicate n e) bs → Rank F ts more rs → (zs : List ℤ) × Rank F (elements e n ∷ ts) (bs ++ more) zs
   ranks_elements e f zero bs more ts rs ms r =
       (pos 0 ∷ rs, subst (λ l. Rank F (elements e 0 ∷ ts) (l ++ more) (pos 0 ∷ rs)) (sym (nothing ms)) (more_rank [] (pos 0 ∷ []) [] (refl, refl, refl) r))
   ranks_elements e f (suc n) bs more ts rs ms r =
@@ -109,7 +109,7 @@ module _ (F : List ℕ → Option Form) where
       (rs, subst (λ l. Rank F (a_value x ∷ ts) (l ++ more) rs) (sym (zero_member (shapes F) m z.0)) (more_rank [] [] [] (single, h, (refl, refl, refl)) r))
   by_order x o (inr b) f bs more ts rs m r = by_bytes x o (inr b) b.1 f bs more ts rs m r
 
-  ranks : {x : List ℕ} → IsOrdered F x → Ranks x
+  pub ranks : {x : List ℕ} → IsOrdered F x → Ranks x
   ranks (ordered {x = x} o h f) = by_order x o h (λ p i. ranks (f p i))
 
   -- a value of an ordered name has numbers

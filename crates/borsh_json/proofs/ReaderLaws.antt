@@ -5,7 +5,8 @@ use Rattle.json.specs.Json.{Json, Members, object}
 use Rattle.json.specs.Find.{get_member}
 use Rattle.borsh_json.specs.Forms.{Form}
 use Rattle.borsh_json.specs.Frames.{Wanted}
-use Rattle.borsh_json.specs.NoValue.{Step, BeginsParts, LacksField, IsReached, whole_value, part_of}
+use Rattle.borsh_json.specs.InOrder.{Step, BeginsParts, IsReached, whole_value, part_of}
+use Rattle.borsh_json.specs.NoValue.{LacksField}
 use Rattle.borsh_json.specs.Represents.{SaysFirst, HaveBytes, none_left, next_part, SaysSome}
 use Rattle.borsh_json.specs.Table.{Kind, HasKind, Part, field_parts, Says}
 use Rattle.borsh_json.proofs.RepresentsLaws.{says_one, kind_one, kind_small, bytes_one}
@@ -99,7 +100,7 @@ module _ (F : List ℕ → Option Form) where
       cc
 
   -- JSON of a kind says its first parts, whatever it says
-  first_says : (x : List ℕ) (kind : Kind) (i : Json) (own bs : List ℕ) (ps qs : List Part) → HasKind F x kind → BeginsParts F kind i own ps → Says F kind i bs qs → (more : List Part) × (bs ≡ own) × (qs ≡ ps ++ more)
+  pub first_says : (x : List ℕ) (kind : Kind) (i : Json) (own bs : List ℕ) (ps qs : List Part) → HasKind F x kind → BeginsParts F kind i own ps → Says F kind i bs qs → (more : List Part) × (bs ≡ own) × (qs ≡ ps ++ more)
   first_says x kind i own bs ps qs h (inl f) s = let o = says_one F kind i {a = bs} {b = own} {ps = qs} {qs = ps ++ f.0} (kind_small F h) s f.1 in (f.0, o.0, o.1)
   first_says x kind i own bs ps qs h (inr f) s =
       let v = subst (λ k. Says F k i bs qs) f.3 s in

@@ -1,11 +1,13 @@
 -- What the frames of the reader stand for, and what its steps return.
-use Rattle.std.specs.Prelude.{◌≡◌, ◌⊎◌, ⊤, ℕ, suc, zero, ℤ, String, slice_get, List, [], ◌∷◌, ◌++◌, ◌+◌, ◌-◌, ◌*◌, ◌<◌, All, length, map, drop, replicate, is_some, Bool, true, false, Option, Some, None, Result, MatchOption, MatchResult, codes, string_bytes}
+use Rattle.std.specs.Prelude.{◌≡◌, ◌⊎◌, ⊤, ℕ, suc, zero, ℤ, String, slice_get, List, [], ◌∷◌, ◌++◌, ◌+◌, ◌-◌, ◌*◌, ◌<◌, ◌≤◌, All, length, map, drop, replicate, Bool, true, false, Option, Some, None, Result, MatchOption, MatchResult, codes, string_bytes}
 use Rattle.std.specs.Borrow.{Bor}
 use Rattle.std.specs.Global.{Global}
 use Rattle.std.specs.Str.{bytes_eq}
-use Rattle.std.specs.List.{IsDistinct, list_any}
+use Rattle.std.specs.List.{AllByRecursion, IsDistinct, list_any}
 use Rattle.std.specs.List.Sorted.{IsPermutation, IsStrictlySortedBy}
 use Rattle.std.specs.BTreeMap.{BTreeMap, btree_map_len}
+use Rattle.std.specs.declared.cmp.Ordering.{Ordering}
+use Rattle.std.specs.declared.cmp.Ordering.TheVariants.{Less}
 use Rattle.json.specs.Token.{Token}
 use Rattle.json.specs.Json.{Json, string, array, object, Items, no_items, item, Members, no_members, member}
 use Rattle.json.specs.Find.{BeginsWith, InItems, InMembers, get_member, Finds, as_array}
@@ -15,6 +17,7 @@ use Rattle.borsh_values.specs.declared.faults.Path.{Path}
 use Rattle.borsh_values.specs.declared.faults.PathStep.{PathStep}
 use Rattle.borsh_values.specs.declared.layout.Named.{Named}
 use Rattle.borsh_json.specs.declared.definitions.Definitions.{Definitions}
+use Rattle.borsh_json.specs.declared.definitions.Known.{Known}
 use Rattle.borsh_json.specs.declared.error.PartError.{PartError}
 use Rattle.borsh_json.specs.declared.error.PartError.TheVariants.{OutOfMemory as NoMemory, Refused as RefusedPart}
 use Rattle.borsh_json.specs.declared.error.ReadError.{ReadError}
@@ -26,6 +29,7 @@ use Rattle.borsh_json.specs.declared.kinds.Elements.{Elements as FoundElements}
 use Rattle.borsh_json.specs.declared.kinds.KeyKind.{KeyKind}
 use Rattle.borsh_json.specs.declared.kinds.KeyKind.TheVariants.{Text as TextKeys, Number as NumberKeys}
 use Rattle.borsh_json.specs.declared.numbers.Number.{Number}
+use Rattle.borsh_json.specs.declared.order.Ascent.{Ascent}
 use Rattle.borsh_json.specs.declared.order.Ordered.{Ordered}
 use Rattle.borsh_json.specs.declared.opening.Array.{Array}
 use Rattle.borsh_json.specs.declared.opening.Array.TheVariants.{No, TooLong, Of}
@@ -46,8 +50,9 @@ use Rattle.borsh_json.specs.declared.sources.Source.TheVariants.{One, Items as T
 use Rattle.borsh_json.specs.Forms.{Form, named, form_of, shape_of_form}
 use Rattle.borsh_json.specs.Found.{forms_of, names_of}
 use Rattle.borsh_json.specs.Descents.{NumbersDescend}
-use Rattle.borsh_json.specs.NoValue.{Step, field as field_step, place as place_step, element as element_step, variant as variant_step, step_of, path_steps, AreSteps, BeginsParts, RepeatsKey, LacksField, HasOthers, Why, FallsFirst, HasNeighbours, IsReached, FailsAt, SaysNothing}
-use Rattle.borsh_json.specs.Orders.{AreOrderedNumbers}
+use Rattle.borsh_json.specs.InOrder.{Step, field as field_step, place as place_step, element as element_step, variant as variant_step, AreSteps, BeginsParts, DigitsFall, IsReached, ItemsFall, InOrder}
+use Rattle.borsh_json.specs.NoValue.{step_of, path_steps, RepeatsKey, LacksField, HasOthers, Why, FailsAt, SaysNothing}
+use Rattle.borsh_json.specs.Orders.{AreOrderedNumbers, KeysAscend, OrderedBy, ValuesCompare}
 use Rattle.borsh_json.specs.Places.{IsAt, AreKeysOf}
 use Rattle.borsh_json.specs.Ranks.{HasRank}
 use Rattle.borsh_json.specs.Represents.{SaysFirst, HaveBytes, SaysSome}
@@ -55,14 +60,14 @@ use Rattle.borsh_json.specs.Table.{Lengths, Keys, Kind, byte_list, list, row, in
 
 -- ---- errors
 
--- the error shows that P doesn't hold, for a reason of these; or that elements don't ascend, D
-abbrev pub DeniesOr : Type 0 → (Refusal → Type 0) → ReadError → Type 0 → Type 0
-DeniesOr D Reason OutOfMemory P = ⊤
-DeniesOr D Reason (Refused refusal) P = Reason refusal × (P → ⊥)
-DeniesOr D Reason (DescendsAt index) P = D
+-- the error shows that P doesn't hold, for a reason of these; or that the element at an index falls
+abbrev pub DeniesOr : (ℕ → Type 0) → (Refusal → Type 0) → ReadError → Type 0 → Type 0
+DeniesOr Falls Reason OutOfMemory P = ⊤
+DeniesOr Falls Reason (Refused refusal) P = Reason refusal × (P → ⊥)
+DeniesOr Falls Reason (DescendsAt index) P = Falls index
 
 abbrev pub DeniesRead : (Refusal → Type 0) → ReadError → Type 0 → Type 0
-DeniesRead Reason e P = DeniesOr ⊥ Reason e P
+DeniesRead Reason e P = DeniesOr (λ index. ⊥) Reason e P
 
 -- other JSON is expected
 abbrev pub IsUnexpected : Refusal → Type 0
@@ -76,9 +81,13 @@ IsKeyReason j (Expected wanted) = ⊤
 IsKeyReason j (RepeatedKey name) = RepeatsKey j (string_bytes name)
 IsKeyReason j refusal = ⊥
 
--- the bytes are primitives that have to ascend, and two neighbours don't
-abbrev pub ElementsFall : FoundElements → List ℕ → Type 0
-ElementsFall es bytes = (found : Ordered) × (es.order ≡ Some found) × All (λ b. b < 256) bytes × ((signed : Bool) → AreOrderedNumbers found es.size signed bytes → (i : ℕ) × NumbersDescend es.size signed bytes i)
+-- the bytes are primitives that have to ascend, and the one at the index isn't above the one before it
+abbrev pub ElementsFall : FoundElements → List ℕ → ℕ → Type 0
+ElementsFall es bytes index = (found : Ordered) × (es.order ≡ Some found) × All (λ b. b < 256) bytes × ((signed : Bool) → AreOrderedNumbers found es.size signed bytes → NumbersDescend es.size signed bytes index)
+
+-- where the bytes are primitives that have to ascend, none of them isn't above the one before it
+abbrev pub NoneFalls : FoundElements → List ℕ → Type 0
+NoneFalls es bytes = (found : Ordered) → es.order ≡ Some found → (signed : Bool) → AreOrderedNumbers found es.size signed bytes → (i : ℕ) → NumbersDescend es.size signed bytes i → ⊥
 
 -- the path leads from the root by these steps
 abbrev pub IsPath : List ℕ → List Step → Path → Type 0
@@ -312,6 +321,30 @@ NoneLeft (InPlace ts) = ⊤
 NoneLeft (Texts m) = ⊤
 NoneLeft (Ranks m) = ⊤
 
+-- all these parts are in order
+abbrev pub AreInOrder : (List ℕ → Option Form) → List JsonPart → Type 0
+AreInOrder F ds = AllByRecursion (λ q. InOrder F q.0 q.1) ds
+
+-- no part was begun of those that have to ascend
+abbrev pub IsUnbegun : Option Ascent → Type 0
+IsUnbegun None = ⊤
+IsUnbegun (Some a) = (a.earlier ≡ None) × (a.last ≡ None)
+
+-- the next one begins at the offset
+abbrev pub BeginsAscending : Option Ascent → ℕ → Option Ascent → Type 0
+BeginsAscending None i new = new ≡ None
+BeginsAscending (Some a) i new = (b : Ascent) × (new ≡ Some b) × (b.order ≡ a.order) × (b.earlier ≡ a.last) × (b.last ≡ Some i)
+
+-- of the last two of those that were begun, the second isn't above the first
+abbrev pub AscentFalls : Definitions → Option Ascent → List ℕ → Type 0
+AscentFalls d None bytes = ⊥
+AscentFalls d (Some a) bytes = (i : ℕ) × (a.earlier ≡ Some i) × ((k : List ℕ) → OrderedBy d k a.order → (j : ℕ) → a.last ≡ Some j → (r : Ordering) → ValuesCompare d k (drop i bytes) (drop j bytes) r → r ≡ Less → ⊥)
+
+-- it is, if there are two
+abbrev pub AscentRises : Definitions → Option Ascent → List ℕ → Type 0
+AscentRises d None bytes = ⊤
+AscentRises d (Some a) bytes = (i j : ℕ) → a.earlier ≡ Some i → a.last ≡ Some j → (k : List ℕ) → OrderedBy d k a.order → (r : Ordering) → ValuesCompare d k (drop i bytes) (drop j bytes) r → r ≡ Less
+
 module _ (F : List ℕ → Option Form) (ns : List Named) where
   -- the entries of a place
   abbrev pub AreEntriesOf : Parts → Source → Keys → List ℕ → List ℕ → List Entry → Type 0
@@ -339,7 +372,7 @@ module _ (F : List ℕ → Option Form) (ns : List Named) where
   -- a place of a value of this kind, of which so many parts were begun
   abbrev pub IsPlaceOf : Parts → ℕ → Kind → Json → List JsonPart → Type 0
   IsPlaceOf Root b kind i ds = ⊥
-  IsPlaceOf (Elements at n) b kind i ds = IsListKind kind × (b ≡ length ds)
+  IsPlaceOf (Elements at n) b kind i ds = IsListKind kind × (b ≡ length ds) × ((js : Items) × (i ≡ array js))
   IsPlaceOf (Row at n) b kind i ds = (xs : List (List ℕ)) × (kind ≡ row xs) × (b ≡ length ds)
   IsPlaceOf (Object at fs) b kind i ds = (kind ≡ fields (map (λ f. (string_bytes f.0, string_bytes f.1)) fs.now.items)) × (b ≡ length ds)
   IsPlaceOf (MapEntries es n) b kind i ds = (l : Lengths) × (keys : Keys) × (k : List ℕ) × (v : List ℕ) × (kind ≡ entries l keys k v) × (2 * b ≡ length ds)
@@ -352,46 +385,12 @@ module _ (F : List ℕ → Option Form) (ns : List Named) where
   IsPlaceIn zero p x kind i ds = (p.parts ≡ Root) × (kind ≡ inner x)
   IsPlaceIn (suc d) p x kind i ds = HasKind F x kind × IsPlaceOf p.parts p.begun kind i ds
 
-  -- inside of so many places, a place whose parts are those of the JSON i of x: its own bytes, the parts that were begun, and the source of those that are left. Parts that have to ascend are two or more
-  pub record IsDoing (p : Place) (s : Source) (d : ℕ) (x : List ℕ) (i : Json) (own : List ℕ) (ds : List JsonPart) : Type 0 where
-    pub left : Left
-    pub here : HasLeft p.parts p.begun s left
-    pub kind : Kind
-    pub says : SaysOn kind i own ds left
-    pub is_place : IsPlaceIn d p x kind i ds
-    pub falls : is_some p.ascent ≡ true → HasNeighbours F x i × IsListPlace p.parts
-
-  -- what was opened: the JSON of the name says these own bytes and no parts, or those of a frame
-  abbrev pub IsFound : List ℕ → Json → List ℕ → Option Frame → Type 0
-  IsFound x j own None = SaysFirst F x j own []
-  IsFound x j own (Some f) = IsDoing f.place f.source 1 x j own []
-
-  -- the JSON of the name was read: its own bytes were added, or there are none
-  abbrev pub IsOpened : List ℕ → Json → List ℕ → List ℕ → Result (Option Frame) ReadError → Type 0
-  IsOpened x j old new result = MatchResult result
-      (λ found. (own : List ℕ) × (new ≡ old ++ own) × IsFound x j own found)
-      (λ e. DeniesRead (Why F x j) e (SaysSome F x j))
-
-  -- or its elements don't ascend
-  abbrev pub IsOpenedOrFalls : List ℕ → Json → List ℕ → List ℕ → Result (Option Frame) ReadError → Type 0
-  IsOpenedOrFalls x j old new result = MatchResult result
-      (λ found. (own : List ℕ) × (new ≡ old ++ own) × IsFound x j own found)
-      (λ e. DeniesOr (FallsFirst F x j) (Why F x j) e (SaysSome F x j))
-
   -- all parts of a value were begun: its JSON says them
   abbrev pub SaysAll : ℕ → List ℕ → Json → List ℕ → List JsonPart → Type 0
   SaysAll zero x i own ds = (own ≡ []) × (ds ≡ (x, i) ∷ [])
   SaysAll (suc d) x i own ds = SaysFirst F x i own ds
 
-  -- what comes next of a place: a part, behind the key of an entry; a field that the object hasn't; or nothing
-  abbrev pub IsNext : ℕ → List ℕ → Json → List ℕ → List JsonPart → Place → Source → List ℕ → List ℕ → Next → Type 0
-  IsNext d x i own ds p s old new (Part at e) =
-      (es : List JsonPart) × (key : List ℕ) × (y : List ℕ) × (k : Json)
-      × HaveBytes F es key × (new ≡ old ++ key) × IsAt ns at y × BeginsWith e k × IsDoing p s d x i own (ds ++ (es ++ (y, k) ∷ []))
-  IsNext d x i own ds p s old new Missing = (name : List ℕ) × LacksField F x i name × (0 < d) × (steps_at p ≡ field_step name ∷ [])
-  IsNext d x i own ds p s old new End = (new ≡ old) × (NoneLeft s → SaysAll d x i own ds) × ((NoneLeft s → ⊥) → HasOthers F x i)
-
-  -- or the error denies that the key of the next entry says some bytes
+  -- the error denies that the key of the next entry says some bytes
   abbrev pub DeniesKey : ℕ → List ℕ → Json → List ℕ → List JsonPart → Place → ReadError → Type 0
   DeniesKey d x i own ds p e =
       (kind : Kind) × (y : List ℕ) × (k : Json) × (0 < d) × HasKind F x kind × BeginsParts F kind i own (ds ++ (y, k) ∷ [])
@@ -405,9 +404,49 @@ module _ (F : List ℕ → Option Form) (ns : List Named) where
   IsNextEntry keys k v es kind s old new Missing = es ≡ []
   IsNextEntry keys k v es kind s old new End = ⊥
 
+  module _ (orders : List Known) where
+    -- parts of x that have to ascend are elements, and ascend in the order of the keys; of a list whose elements need not, none falls
+    abbrev pub AscendIn : Option Ascent → Parts → List ℕ → Json → Type 0
+    AscendIn None p x i = IsListPlace p → (index : ℕ) → ItemsFall F x i index → ⊥
+    AscendIn (Some a) p x i = IsListPlace p × ((k : List ℕ) × KeysAscend F ns orders x k a.order)
+
+    -- inside of so many places, a place whose parts are those of the JSON i of x: its own bytes, the parts that were begun, and the source of those that are left
+    pub record IsDoing (p : Place) (s : Source) (d : ℕ) (x : List ℕ) (i : Json) (own : List ℕ) (ds : List JsonPart) : Type 0 where
+      pub left : Left
+      pub here : HasLeft p.parts p.begun s left
+      pub kind : Kind
+      pub says : SaysOn kind i own ds left
+      pub is_place : IsPlaceIn d p x kind i ds
+      pub ascends : AscendIn p.ascent p.parts x i
+
+    -- what was opened: the JSON of the name says these own bytes and no parts, or those of a frame
+    abbrev pub IsFound : List ℕ → Json → List ℕ → Option Frame → Type 0
+    IsFound x j own None = SaysFirst F x j own [] × ((index : ℕ) → DigitsFall F x j index → ⊥)
+    IsFound x j own (Some f) = IsDoing f.place f.source 1 x j own [] × IsUnbegun f.place.ascent
+
+    -- the JSON of the name was read: its own bytes were added, or there are none
+    abbrev pub IsOpened : List ℕ → Json → List ℕ → List ℕ → Result (Option Frame) ReadError → Type 0
+    IsOpened x j old new result = MatchResult result
+        (λ found. (own : List ℕ) × (new ≡ old ++ own) × IsFound x j own found)
+        (λ e. DeniesRead (Why F x j) e (SaysSome F x j))
+
+    -- or its digits don't ascend
+    abbrev pub IsOpenedOrFalls : List ℕ → Json → List ℕ → List ℕ → Result (Option Frame) ReadError → Type 0
+    IsOpenedOrFalls x j old new result = MatchResult result
+        (λ found. (own : List ℕ) × (new ≡ old ++ own) × IsFound x j own found)
+        (λ e. DeniesOr (DigitsFall F x j) (Why F x j) e (SaysSome F x j))
+
+    -- what comes next of a place: a part, behind the key if it is of an entry; a field that the object hasn't; or nothing
+    abbrev pub IsNext : ℕ → List ℕ → Json → List ℕ → List JsonPart → Place → Source → List ℕ → List ℕ → Next → Type 0
+    IsNext d x i own ds p s old new (Part at e) =
+        (es : List JsonPart) × (key : List ℕ) × (y : List ℕ) × (k : Json)
+        × HaveBytes F es key × (new ≡ old ++ key) × IsAt ns at y × BeginsWith e k × IsDoing p s d x i own (ds ++ (es ++ (y, k) ∷ [])) × ((es ≡ []) ⊎ IsMapPlace p.parts) × AreInOrder F es
+    IsNext d x i own ds p s old new Missing = (name : List ℕ) × LacksField F x i name × (0 < d) × (steps_at p ≡ field_step name ∷ [])
+    IsNext d x i own ds p s old new End = (new ≡ old) × (NoneLeft s → SaysAll d x i own ds) × ((NoneLeft s → ⊥) → HasOthers F x i)
+
 -- for any definitions and places: the JSON of a name of this kind was opened
 abbrev pub Opens : ((List ℕ → Option Form) → List Named → List ℕ → Type 0) → List Token → List ℕ → List ℕ → Result (Option Frame) ReadError → Type 0
-Opens K e old new result = (F : List ℕ → Option Form) (ns : List Named) (x : List ℕ) (j : Json) → K F ns x → BeginsWith e j → IsOpened F ns x j old new result
+Opens K e old new result = (F : List ℕ → Option Form) (ns : List Named) (orders : List Known) (x : List ℕ) (j : Json) → K F ns x → BeginsWith e j → IsOpened F ns orders x j old new result
 
 -- no memory, or other JSON is wanted
 abbrev pub IsExpected : ReadError → Type 0
@@ -435,7 +474,21 @@ abbrev pub SaysArray : (List ℕ → Option Form) → Json → Kind → Lengths 
 SaysArray F j kind l e = IsListKind kind × ((own : List ℕ) (ps : List JsonPart) → (IsArray l e j own ps → Says F kind j own ps) × (Says F kind j own ps → IsArray l e j own ps))
 
 -- ---- the reader's loop
-module _ (F : List ℕ → Option Form) (ns : List Named) (root : List ℕ) (j : Json) where
+module _ (F : List ℕ → Option Form) (base : ℕ) (ds : List JsonPart) where
+  -- where parts that have to ascend begin is known: the first of them at the base
+  abbrev pub AreStarts : Option Ascent → Type 0
+  AreStarts None = ⊤
+  AreStarts (Some a) =
+      ((es : List JsonPart) (q : JsonPart) (mid : List ℕ) → ds ≡ es ++ q ∷ [] → HaveBytes F es mid → a.last ≡ Some (base + length mid))
+      × ((es : List JsonPart) (q r : JsonPart) (mid : List ℕ) → ds ≡ es ++ q ∷ r ∷ [] → HaveBytes F es mid → a.earlier ≡ Some (base + length mid))
+      × ((i : ℕ) → a.last ≡ Some i → 1 ≤ length ds)
+      × ((i : ℕ) → a.earlier ≡ Some i → 2 ≤ length ds)
+
+  -- of the elements of a list's place none falls but perhaps the last
+  abbrev pub AreRisen : Parts → List ℕ → Json → Type 0
+  AreRisen p x i = IsListPlace p → (index : ℕ) → suc index < length ds → ItemsFall F x i index → ⊥
+
+module _ (F : List ℕ → Option Form) (ns : List Named) (orders : List Known) (root : List ℕ) (j : Json) where
   -- the value of a place inside of so many is there, behind these bytes; the place inside of none is in front of the whole
   abbrev pub Stands : ℕ → List Step → List ℕ → List ℕ → Json → Type 0
   Stands zero path before x i = (path ≡ []) × (before ≡ []) × (x ≡ root) × (i ≡ j)
@@ -447,7 +500,10 @@ module _ (F : List ℕ → Option Form) (ns : List Named) (root : List ℕ) (j :
     pub ds : List JsonPart
     pub mid : List ℕ
     pub stands : Stands d path before x i
-    pub doing : IsDoing F ns p s d x i own ds
+    pub doing : IsDoing F ns orders p s d x i own ds
+    pub starts : AreStarts F (length (before ++ own)) ds p.ascent
+    pub risen : AreRisen F (length (before ++ own)) ds p.parts x i
+    pub in_order : AreInOrder F ds
     pub done : HaveBytes F ds mid
     pub out_is : out ≡ before ++ (own ++ mid)
 
@@ -457,7 +513,10 @@ module _ (F : List ℕ → Option Form) (ns : List Named) (root : List ℕ) (j :
     pub ds : List JsonPart
     pub mid : List ℕ
     pub stands : Stands d path before x i
-    pub doing : IsDoing F ns p s d x i own (ds ++ (y, k) ∷ [])
+    pub doing : IsDoing F ns orders p s d x i own (ds ++ (y, k) ∷ [])
+    pub starts : AreStarts F (length (before ++ own)) (ds ++ (y, k) ∷ []) p.ascent
+    pub risen : AreRisen F (length (before ++ own)) (ds ++ (y, k) ∷ []) p.parts x i
+    pub in_order : AreInOrder F ds
     pub done : HaveBytes F ds mid
     pub out_is : out ≡ before ++ (own ++ mid)
 
@@ -471,6 +530,7 @@ module _ (F : List ℕ → Option Form) (ns : List Named) (root : List ℕ) (j :
     pub out_is : out ≡ before ++ (own ++ mid)
     pub at_root : d ≡ 0 → steps_at p ≡ []
     pub all : none → SaysAll F ns d x i own ds
+    pub in_order : none → InOrder F x i
     pub others : (none → ⊥) → HasOthers F x i
 
   -- from a place on, which is inside of so many: the last part of each, that was begun, is the value of the next one; R holds of the innermost
@@ -483,24 +543,24 @@ module _ (F : List ℕ → Option Form) (ns : List Named) (root : List ℕ) (j :
 
 -- R holds of the innermost place of a reader of the root's JSON
 abbrev pub Holds : Definitions → List ℕ → Json → Reading → (ℕ → List Step → List ℕ → List ℕ → Json → Type 0) → Type 0
-Holds d root j r R = (r.position.root.now ≡ root) × HaveAround (forms_of d) (names_of d) root j r.position.outer.items r.outer.items 0 [] [] root j R
+Holds d root j r R = (r.position.root.now ≡ root) × HaveAround (forms_of d) (names_of d) d.orders.items root j r.position.outer.items r.outer.items 0 [] [] root j R
 
 -- what a reader has read, and what is left to it
 abbrev pub HasRead : Definitions → List ℕ → Json → Reading → Type 0
-HasRead d root j r = Holds d root j r (IsInside (forms_of d) (names_of d) root j r.position.place r.source r.out.items)
+HasRead d root j r = Holds d root j r (IsInside (forms_of d) (names_of d) d.orders.items root j r.position.place r.source r.out.items)
 
 -- it began the part with the name at this place and the JSON of these tokens
 abbrev pub HasBegun : Definitions → List ℕ → Json → Reading → ℕ → List Token → Type 0
-HasBegun d root j r at e = Holds d root j r (λ n path before x i. (y : List ℕ) × (k : Json) × IsAt (names_of d) at y × BeginsWith e k × IsBegun (forms_of d) (names_of d) root j r.position.place r.source r.out.items y k n path before x i)
+HasBegun d root j r at e = Holds d root j r (λ n path before x i. (y : List ℕ) × (k : Json) × IsAt (names_of d) at y × BeginsWith e k × IsBegun (forms_of d) (names_of d) d.orders.items root j r.position.place r.source r.out.items y k n path before x i)
 
 -- it read the last part of a value
 abbrev pub HasEnded : Definitions → List ℕ → Json → Reading → Type 0
-HasEnded d root j r = Holds d root j r (IsEnded (forms_of d) (names_of d) root j r.position.place (NoneLeft r.source) r.out.items)
+HasEnded d root j r = Holds d root j r (IsEnded (forms_of d) (names_of d) d.orders.items root j r.position.place (NoneLeft r.source) r.out.items)
 
--- more is to be read; or all was, and the root's JSON says these bytes
+-- more is to be read; or all was, and the root's JSON says these bytes, in order
 abbrev pub IsReadOn : Definitions → List ℕ → Json → Reading → Bool → Type 0
 IsReadOn d root j r true = HasRead d root j r
-IsReadOn d root j r false = HaveBytes (forms_of d) ((root, j) ∷ []) r.out.items
+IsReadOn d root j r false = HaveBytes (forms_of d) ((root, j) ∷ []) r.out.items × InOrder (forms_of d) root j
 
 -- a step of a reader of these definitions, after which it is so
 abbrev pub ReadsOn : Definitions → List ℕ → Json → Reading → Result Bool PartError → Type 0

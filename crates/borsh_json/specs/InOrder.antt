@@ -1,39 +1,92 @@
--- Whether the elements of sets and the keys of maps ascend in a value's bytes, where names and definitions tell their order.
-use Rattle.std.specs.Prelude.{◌≡◌, ◌⊎◌, ℕ, ◌≤◌, ℤ, pos, List, [], ◌∷◌, ◌++◌, length, replicate, codes, Option, Some}
-use Rattle.std.specs.List.{concat}
-use Rattle.std.specs.List.Sorted.{IsStrictlySortedBy}
-use Rattle.std.specs.Ordering.{int_cmp}
-use Rattle.std.specs.Cmp.Lexicographic.{slice_cmp}
-use Rattle.borsh_walks.specs.Container.{IsListedVariant, tag}
-use Rattle.borsh_walks.specs.Container as shape
-use Rattle.borsh_json.specs.Forms.{Form, shapes, IsList, IsMap}
-use Rattle.borsh_json.specs.Ordered.{IsOrdered, a_value, Rank}
+-- JSON of a name, in which the elements of sets and the keys of maps ascend, where names and definitions tell their order.
+use Rattle.std.specs.Prelude.{◌≡◌, ◌⊎◌, ℕ, suc, ◌≤◌, ◌+◌, ◌*◌, List, [], ◌∷◌, ◌++◌, length, codes, Option, Some, slice_get}
+use Rattle.std.specs.declared.cmp.Ordering.{Ordering}
+use Rattle.std.specs.declared.cmp.Ordering.TheVariants.{Less}
+use Rattle.json.specs.Json.{Json, array, object, Items, Members, no_members, member, document}
+use Rattle.borsh_walks.specs.Container.{Member}
+use Rattle.borsh_json.specs.Descents.{HasKeys}
+use Rattle.borsh_json.specs.Forms.{Form, shapes}
+use Rattle.borsh_json.specs.Found.{IsSet}
+use Rattle.borsh_json.specs.Ordered.{IsOrdered, a_value, Compare}
+use Rattle.borsh_json.specs.Represents.{HaveBytes}
+use Rattle.borsh_json.specs.Table.{Lengths, Kind, no_bytes, truth, whole, float, raw, utf8, byte_list, list, row, inner, fields, optional, variants, entries, HasKind, Part, list_parts, field_parts, IsHex, Says}
+
+-- ---- the parts of JSON, by their paths
+
+-- a step to a part: a field by its name; one without a name, or the key or the value of an entry, by its place; an element or entry by its index; what a variant has
+pub data Step : Type 0 where
+  field : List ℕ → Step
+  place : ℕ → Step
+  element : ℕ → Step
+  variant : List ℕ → Step
+
+-- in JSON of this kind these steps lead to the part that so many are in front of; the entries of an object count in the order of their keys
+abbrev pub AreSteps : Kind → Json → ℕ → List Step → Type 0
+AreSteps no_bytes i n steps = ⊥
+AreSteps truth i n steps = ⊥
+AreSteps (whole m signed non_zero) i n steps = ⊥
+AreSteps (float m infinity) i n steps = ⊥
+AreSteps (raw m) i n steps = ⊥
+AreSteps (utf8 l) i n steps = ⊥
+AreSteps (byte_list l e) i n steps = steps ≡ element n ∷ []
+AreSteps (list l e) i n steps = steps ≡ element n ∷ []
+AreSteps (row xs) i n steps = steps ≡ place n ∷ []
+AreSteps (inner x) i n steps = steps ≡ place n ∷ []
+AreSteps (fields fs) i n steps = (f : List ℕ × List ℕ) × (slice_get fs n ≡ Some f) × (steps ≡ field f.0 ∷ [])
+AreSteps (optional x) i n steps = steps ≡ variant (codes "Some") ∷ []
+AreSteps (variants w vs) i n steps = (v : List ℕ) × (value : Json) × (i ≡ object (member v value no_members)) × (steps ≡ variant v ∷ [])
+AreSteps (entries l keys k v) i n steps = (m : ℕ) × (((n ≡ 2 * m) × (steps ≡ element m ∷ place 0 ∷ [])) ⊎ ((n ≡ 2 * m + 1) × (steps ≡ element m ∷ place 1 ∷ [])))
 
 module _ (F : List ℕ → Option Form) where
-  -- each of the byte strings begins with a value of the name, which has this rank
-  pub data BeginWith (x : List ℕ) : List (List ℕ) → List (List ℤ) → Type 0 where
-    no_values : BeginWith x [] []
-    more_values : {t : List ℕ} {ts : List (List ℕ)} {rs : List ℤ} {rss : List (List ℤ)} → Rank F (a_value x ∷ []) t rs → BeginWith x ts rss → BeginWith x (t ∷ ts) (rs ∷ rss)
+  -- JSON of this kind says the own bytes and then parts that begin with these; or they are the first fields of a struct, which its object has
+  abbrev pub BeginsParts : Kind → Json → List ℕ → List Part → Type 0
+  BeginsParts kind i own ps =
+      ((more : List Part) × Says F kind i own (ps ++ more))
+      ⊎ ((gs : List (List ℕ × List ℕ)) × (hs : List (List ℕ × List ℕ)) × (ms : Members) × (kind ≡ fields (gs ++ hs)) × (own ≡ []) × (i ≡ object ms) × (field_parts gs ms ≡ Some ps))
 
-  -- these values ascend
-  abbrev pub Ascend : List ℕ → List (List ℕ) → Type 0
-  Ascend x ts = (rss : List (List ℤ)) × BeginWith x ts rss × IsStrictlySortedBy (slice_cmp int_cmp) rss
+  module _ (root : List ℕ) (j : Json) where
+    -- behind these bytes, inside of so many others, is the part that the path leads to: it is the whole; or it is a part of one, and the bytes are those before that one,
+    -- its own, and those of its parts before this one
+    pub data IsReached : ℕ → List Step → List ℕ → Part → Type 0 where
+      whole_value : IsReached 0 [] [] (root, j)
+      part_of : {n : ℕ} {path : List Step} {before mid x : List ℕ} {i : Json} {ps : List Part} {p : Part} (kind : Kind) (own : List ℕ) (steps : List Step) → IsReached n path before (x, i) → HasKind F x kind → BeginsParts kind i own (ps ++ p ∷ []) → HaveBytes F ps mid → AreSteps kind i (length ps) steps → IsReached (suc n) (path ++ steps) (before ++ (own ++ mid)) p
 
-  -- the elements of a set, which are these bytes, or the keys of a map, which its elements begin with, ascend if their order is known
-  abbrev pub AreInOrder : List ℕ → List ℕ → List (List ℕ) → Type 0
-  AreInOrder x e ts =
-      (IsList F x e → (x ≡ codes "BTreeSet<" ++ e ++ codes ">") ⊎ (x ≡ codes "HashSet<" ++ e ++ codes ">") → IsOrdered F e → Ascend e ts)
-      × ((k v : List ℕ) → IsMap F x k v → IsOrdered F k → Ascend k ts)
+  -- ---- what ascends
 
-  -- the bytes are a value of the name, in which all sets and maps are in order
-  mutual
-    pub data InOrder : List ℕ → List ℕ → Type 0 where
-      in_primitive : {x bs : List ℕ} → shapes F x ≡ Some (shape.primitive (length bs)) → InOrder x bs
-      in_parts : {x : List ℕ} (ps ts : List (List ℕ)) → shapes F x ≡ Some (shape.product ps) → AllInOrder ps ts → InOrder x (concat ts)
-      in_variant : {x bs : List ℕ} (w : ℕ) (vs : List (ℤ × List ℕ)) (k : ℤ) (p : List ℕ) → shapes F x ≡ Some (shape.choice w vs) → IsListedVariant k p vs → InOrder p bs → InOrder x (tag w k ++ bs)
-      in_sequence : {x : List ℕ} (w lo hi : ℕ) (e : List ℕ) (ts : List (List ℕ)) → shapes F x ≡ Some (shape.sequence w lo hi e) → lo ≤ length ts → length ts ≤ hi → AllInOrder (replicate (length ts) e) ts → AreInOrder x e ts → InOrder x (tag w (pos (length ts)) ++ concat ts)
+  -- of a set of bytes, their digits: the byte at the index isn't greater than the one before it
+  abbrev pub DigitsFall : List ℕ → Json → ℕ → Type 0
+  DigitsFall x i index = (l : Lengths) × (e : List ℕ) × (before : List ℕ) × (b : ℕ) × (c : ℕ) × (after : List ℕ) × HasKind F x (byte_list l e) × IsSet F x e × IsHex i (before ++ b ∷ c ∷ after) × (index ≡ suc (length before)) × (c ≤ b)
 
-    -- and so are values of several names
-    pub data AllInOrder : List (List ℕ) → List (List ℕ) → Type 0 where
-      none_in_order : AllInOrder [] []
-      more_in_order : {p t : List ℕ} {ps ts : List (List ℕ)} → InOrder p t → AllInOrder ps ts → AllInOrder (p ∷ ps) (t ∷ ts)
+  -- of a set or map x, the order of whose keys is known, an array: the elements before the index and at it have these bytes, and the key of the second isn't above that of the first
+  pub record ItemsFall (x : List ℕ) (i : Json) (index : ℕ) : Type 0 where
+    pub e : List ℕ
+    pub k : List ℕ
+    pub items : Items
+    pub before : List Part
+    pub left : Json
+    pub right : Json
+    pub after : List Part
+    pub first : List ℕ
+    pub second : List ℕ
+    pub result : Ordering
+    pub keys : HasKeys F x e k
+    pub known : IsOrdered F k
+    pub is_array : i ≡ array items
+    pub parts : list_parts e items ≡ before ++ (e, left) ∷ (e, right) ∷ after
+    pub index_is : index ≡ suc (length before)
+    pub left_says : HaveBytes F ((e, left) ∷ []) first
+    pub right_says : HaveBytes F ((e, right) ∷ []) second
+    pub compares : Compare F (a_value k ∷ []) (a_value k ∷ []) (first ++ second) second result
+    pub falls : result ≡ Less → ⊥
+
+  -- an element of a set or map isn't above the one before it
+  abbrev pub Falls : List ℕ → Json → ℕ → Type 0
+  Falls x i index = DigitsFall x i index ⊎ ItemsFall x i index
+
+  -- JSON of the name, in which no path leads to a set or map of which an element falls; the keys of objects ascend by the table
+  abbrev pub InOrder : List ℕ → Json → Type 0
+  InOrder root j = (n : ℕ) (path : List Step) (before x : List ℕ) (i : Json) → IsReached root j n path before (x, i) → (index : ℕ) → Falls x i index → ⊥
+
+  -- the text is JSON that says the bytes, these are a member of the root, and what has to ascend does
+  abbrev pub TextRepresents : List ℕ → List ℕ → List ℕ → Type 0
+  TextRepresents root text bytes = (j : Json) × (document text ≡ Some j) × HaveBytes F ((root, j) ∷ []) bytes × Member (shapes F) root bytes × InOrder root j

@@ -1,5 +1,5 @@
 -- What the code finds of the orders of names, and what is still to be compared.
-use Rattle.std.specs.Prelude.{◌≡◌, ◌⊎◌, ⊤, ℕ, ◌*◌, ◌<◌, ◌≤◌, ◌^◌, ℤ, pos, All, Bool, true, Decides, List, [], ◌∷◌, ◌++◌, length, map, drop, reverse, Option, None, Some, Result, IfOk, IfSome, slice_get, MatchOption}
+use Rattle.std.specs.Prelude.{◌≡◌, ◌⊎◌, ⊤, ℕ, ◌*◌, ◌<◌, ◌≤◌, ◌^◌, ℤ, pos, All, Bool, true, false, Decides, MatchBool, List, [], ◌∷◌, ◌++◌, length, map, drop, reverse, Option, None, Some, Result, IfOk, IfSome, slice_get, MatchOption}
 use Rattle.std.specs.Borrow.{Bor}
 use Rattle.std.specs.Cmp.Lexicographic.{slice_cmp}
 use Rattle.std.specs.Ordering.{MatchOrdering, int_cmp, nat_cmp}
@@ -124,12 +124,44 @@ module _ (F : List ℕ → Option Form) (ns : List Named) (orders : List Known) 
   abbrev pub KindsHaveOrders : List (Option (Bor Definition × Kind)) → Type 0
   KindsHaveOrders kinds = (i : ℕ) (x : List ℕ) (r : Bor Definition × Kind) → slice_get kinds i ≡ Some (Some r) → IsAt ns i x → KindHasOrder x r.1
 
+module _ (F : List ℕ → Option Form) where
+  -- x is no set or map whose keys have a known order
+  abbrev pub KnowsNoOrder : List ℕ → Type 0
+  KnowsNoOrder x = (e k : List ℕ) → HasKeys F x e k → IsOrdered F k → ⊥
+
+  -- where no order of its keys was found, there is none
+  abbrev pub TellsNoOrder : List ℕ → Option Ordered → Type 0
+  TellsNoOrder x order = order ≡ None → KnowsNoOrder x
+
+  -- a kind of x without an order tells that its keys have none, unless the list is refused
+  abbrev pub KindTellsOrder : List ℕ → Kind → Type 0
+  KindTellsOrder x (NumberKind n) = ⊤
+  KindTellsOrder x Truth = ⊤
+  KindTellsOrder x TextKind = ⊤
+  KindTellsOrder x (Bytes n) = ⊤
+  KindTellsOrder x (Float n) = ⊤
+  KindTellsOrder x (ByteList es) = TellsNoOrder x es.order
+  KindTellsOrder x (Numbers es) = TellsNoOrder x es.order
+  KindTellsOrder x (ListKind es) = es.is_refused ≡ false → TellsNoOrder x es.order
+  KindTellsOrder x (Map es found) = ⊤
+  KindTellsOrder x (Row n) = ⊤
+  KindTellsOrder x (Newtype at) = ⊤
+  KindTellsOrder x (Object fs) = ⊤
+  KindTellsOrder x (Optional at) = ⊤
+  KindTellsOrder x (Choice w vs) = ⊤
+  KindTellsOrder x (Repeated name) = ⊤
+
+  -- and so do all kinds that were found
+  abbrev pub KindsTellOrders : List Named → List (Option (Bor Definition × Kind)) → Type 0
+  KindsTellOrders ns kinds = (i : ℕ) (x : List ℕ) (r : Bor Definition × Kind) → slice_get kinds i ≡ Some (Some r) → IsAt ns i x → KindTellsOrder x r.1
+
 -- what is known is right, with the kinds of all names
 pub record HasKinds (d : Definitions) : Type 0 where
   pub known : IsKnown d
   pub whole : length d.kinds.items ≡ length d.layout.now.names.items
   pub orders : AreOrders (forms_of d) (names_of d) d.orders.items
   pub ascending : KindsHaveOrders (forms_of d) (names_of d) d.orders.items d.kinds.items
+  pub telling : KindsTellOrders (forms_of d) (names_of d) d.kinds.items
 
 -- what is pending of these bytes compares so
 abbrev pub PendingCompares : Definitions → List Pending → List ℕ → List ℕ → Ordering → Type 0
@@ -257,6 +289,89 @@ FindsKindAt d orders at result = HasOrders d → (x : List ℕ) → IsAt (names_
 -- the kind has the order of x
 abbrev pub HasOrderAt : Definitions → List ℕ → Option (Bor Definition × Kind) → Type 0
 HasOrderAt d x found = IfSome found (λ r. KindHasOrder (forms_of d) (names_of d) d.orders.items x r.1)
+
+-- ---- names without orders
+
+-- the name at the place, which has this definition and some bytes, isn't ordered where no order was found
+abbrev pub FindsNoBytesAt : Definitions → ℕ → Form → Option Ordered → Type 0
+FindsNoBytesAt d at f result = (x : List ℕ) → HasForm d at f x → result ≡ None → (o : Order) → OrdersBytes (forms_of d) x o → ⊥
+
+-- something was found of the place: an order, or that none is known
+abbrev pub IsLookedAt : List Known → ℕ → Type 0
+IsLookedAt orders k = (order : Option Ordered) × (slice_get orders k ≡ Some (KnownOrder order))
+
+-- as it was found of as many places as before
+abbrev pub KeepsLooked : List Known → List Known → Type 0
+KeepsLooked old new = (length new ≡ length old) × ((k : ℕ) → IsLookedAt old k → IsLookedAt new k)
+
+-- the name at the place is open
+abbrev pub IsWaitingAt : List Open → ℕ → Type 0
+IsWaitingAt [] k = ⊥
+IsWaitingAt (e ∷ es) k = (e.0 ≡ k) ⊎ IsWaitingAt es k
+
+module _ (F : List ℕ → Option Form) (ns : List Named) where
+  -- no order is known of a name where none was found
+  abbrev pub AreNone : List Known → Type 0
+  AreNone orders = (i : ℕ) (x : List ℕ) → slice_get orders i ≡ Some (KnownOrder None) → IsAt ns i x → IsOrdered F x → ⊥
+
+  -- unless the name is open
+  abbrev pub AreNoneBut : List Known → List Open → Type 0
+  AreNoneBut orders es = (i : ℕ) (x : List ℕ) → slice_get orders i ≡ Some (KnownOrder None) → IsAt ns i x → (IsOrdered F x → ⊥) ⊎ IsWaitingAt es i
+
+  -- the order of the name at a place needs that of the name at another
+  abbrev pub NeedsAt : ℕ → ℕ → Type 0
+  NeedsAt i k = (x : List ℕ) × (o : Order) × (p : List ℕ) × IsAt ns i x × HasOrder F x o × IsIn p (needs o) × IsAt ns k p
+
+  -- the last open name first: it needs the name at the place, and each other the one before it
+  abbrev pub LeadTo : List Open → ℕ → Type 0
+  LeadTo [] k = ⊤
+  LeadTo (e ∷ es) k = NeedsAt e.0 k × LeadTo es e.0
+
+  -- the same up to the last open name
+  abbrev pub AreLinked : List Open → Type 0
+  AreLinked [] = ⊤
+  AreLinked (e ∷ es) = LeadTo es e.0
+
+-- there are orders of no name or of all, and where none was found none is known
+abbrev pub KnowsNone : Definitions → List Known → Type 0
+KnowsNone d orders = ((length orders ≡ 0) ⊎ (length orders ≡ length (names_of d))) × AreNone (forms_of d) (names_of d) orders
+
+-- there are orders of all names
+abbrev pub KnowsNoneOfAll : Definitions → List Known → Type 0
+KnowsNoneOfAll d orders = (length orders ≡ length (names_of d)) × AreNone (forms_of d) (names_of d) orders
+
+-- where no order was found, none is known, or the name is open and leads to that at the place
+abbrev pub SearchesAt : Definitions → List Known → List Open → ℕ → Type 0
+SearchesAt d orders es k = AreNoneBut (forms_of d) (names_of d) orders (reverse es) × LeadTo (forms_of d) (names_of d) (reverse es) k
+
+-- or to the last open name
+abbrev pub SearchesOn : Definitions → List Known → List Open → Type 0
+SearchesOn d orders es = AreNoneBut (forms_of d) (names_of d) orders (reverse es) × AreLinked (forms_of d) (names_of d) (reverse es)
+
+-- the name at the place was looked at, and the search goes on, or none of the open names has a known order
+abbrev pub BeginsNone : Definitions → List Known → List Open → ℕ → Bool → Type 0
+BeginsNone d orders es at more = KeepsLooked d.orders.items orders × IsLookedAt orders at × MatchBool more (SearchesOn d orders es) (AreNone (forms_of d) (names_of d) orders)
+
+-- the next name that is waited for; or all open names have their orders
+abbrev pub FindsNone : Definitions → List Known → List Open → Option ℕ → Type 0
+FindsNone d orders es next = KeepsLooked d.orders.items orders × MatchOption next (AreNone (forms_of d) (names_of d) orders) (λ k. SearchesAt d orders es k)
+
+-- no order of the name at the place is known, if none was found
+abbrev pub FindsNoOrderAt : {E : Type 0} → Definitions → List Known → ℕ → Result (Option Ordered) E → Type 0
+FindsNoOrderAt d orders at result = HasOrders d → KnowsNone d d.orders.items → (x : List ℕ) → IsAt (names_of d) at x → IfOk result (λ found. KnowsNone d orders × (found ≡ None → IsOrdered (forms_of d) x → ⊥))
+
+-- and none of a set's elements or a map's keys
+abbrev pub FindsNoKeysOf : {E : Type 0} → Definitions → List Known → ℕ → Collection → Result (Option Ordered) E → Type 0
+FindsNoKeysOf d orders element c result = HasOrders d → KnowsNone d d.orders.items → (x e : List ℕ) (w lo hi : ℕ) → IsCollection (forms_of d) (names_of d) x c → IsAt (names_of d) element e → forms_of d x ≡ Some (sequence w lo hi e) → IfOk result (λ found. KnowsNone d orders × TellsNoOrder (forms_of d) x found)
+
+-- a kind was found, which tells its order
+abbrev pub TellsKindOrder : {E : Type 0} → Definitions → List Known → ℕ → Form → Result Kind E → Type 0
+TellsKindOrder d orders at f result = HasOrders d → KnowsNone d d.orders.items → (x : List ℕ) → HasForm d at f x → IfOk result (λ kind. KnowsNone d orders × KindTellsOrder (forms_of d) x kind)
+
+abbrev pub TellsKindOrderAt : {E : Type 0} → Definitions → List Known → ℕ → Result (Option (Bor Definition × Kind)) E → Type 0
+TellsKindOrderAt d orders at result = HasOrders d → KnowsNone d d.orders.items → (x : List ℕ) → IsAt (names_of d) at x → IfOk result (λ found. KnowsNone d orders × IfSome found (λ r. KindTellsOrder (forms_of d) x r.1))
+
+-- ---- kinds with orders
 
 -- the name at the place is that of the elements of a sequence
 abbrev pub HasElements : Definitions → ℕ → Form → Type 0

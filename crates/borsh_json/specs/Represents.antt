@@ -4,7 +4,6 @@ use Rattle.json.specs.Json.{Json, document}
 use Rattle.borsh_walks.specs.Container.{Member}
 use Rattle.borsh_json.specs.Forms.{Form, shapes}
 use Rattle.borsh_json.specs.Table.{Kind, HasKind, Part, Says}
-use Rattle.borsh_json.specs.InOrder.{InOrder}
 
 module _ (F : List ℕ → Option Form) where
   -- JSON of the name says these bytes, and then those of its parts
@@ -23,7 +22,3 @@ module _ (F : List ℕ → Option Form) where
   -- the text is JSON that says the bytes, and these are a member of the root
   abbrev pub TextSays : List ℕ → List ℕ → List ℕ → Type 0
   TextSays root text bytes = (j : Json) × (document text ≡ Some j) × HaveBytes ((root, j) ∷ []) bytes × Member (shapes F) root bytes
-
-  -- and the elements of its sets and the keys of its maps are in order
-  abbrev pub TextRepresents : List ℕ → List ℕ → List ℕ → Type 0
-  TextRepresents root text bytes = TextSays root text bytes × InOrder F root bytes

@@ -3,12 +3,14 @@ pub use Rattle.borsh_json.specs.Descents.{HasDescent, HasKeys, NumbersDescend}
 pub use Rattle.borsh_json.specs.Errors.{IsNoJsonReason, IsNoMemberReason, IsNoRowsReason, IsPartError, IsReadRefusal, IsTextReason, IsTooDeep, IsUnreadable, IsUnwritable}
 pub use Rattle.borsh_json.specs.Forms.{Form, HasNoBytes, IsByte, IsMap, IsOption, choice, form_of, form_of_struct, forms_in, newtype, sequence, shape_of_form, shapes, tuple}
 pub use Rattle.borsh_json.specs.Found.{AreEntries, HasForm, IsAlike, IsCollection, IsMapName, IsNamed, IsPrimitiveKind, IsRefusedList, IsRepeated, IsSetName, TellsKind, forms_of, joined, names_of}
-pub use Rattle.borsh_json.specs.Frames.{AddsList, AddsOrFalls, AreKeyed, AreSorted, DeniesKey, DeniesRead, ElementsFall, GivesPart, HasBegun, HasEnded, HasEntries, HasFields, HasItems, HasPath, HasRead, HaveNumbers, HaveOneEach, IsArrayOf, IsDoing, IsEntryKey, IsExpected, IsKey, IsKeyReason, IsNext, IsNextEntry, IsOf, IsOfRead, IsOpened, IsOpenedOrFalls, IsPath, IsRank, IsUnexpected, IsText, IsUnread, IsVariantAt, IsWanted, Left, NamesVariant, NoneLeft, Opens, ReadsOn, SaysArray, Wanted, entries_left, error_steps, first_steps, found_step, steps_at, steps_through}
+pub use Rattle.borsh_json.specs.Frames.{AddsList, AddsOrFalls, AreKeyed, AreSorted, AscentFalls, AscentRises, BeginsAscending, DeniesKey, DeniesRead, ElementsFall, GivesPart, HasBegun, HasEnded, HasEntries, HasFields, HasItems, HasPath, HasRead, HaveNumbers, HaveOneEach, IsArrayOf, IsDoing, IsEntryKey, IsExpected, IsKey, IsKeyReason, IsNext, IsNextEntry, IsOf, IsOfRead, IsOpened, IsOpenedOrFalls, IsPath, IsRank, IsUnexpected, IsText, IsUnread, IsVariantAt, IsWanted, Left, NamesVariant, NoneFalls, NoneLeft, Opens, ReadsOn, SaysArray, Wanted, entries_left, error_steps, first_steps, found_step, steps_at, steps_through}
 pub use Rattle.borsh_json.specs.Known.{IsKnown, SaysBy}
 pub use Rattle.borsh_json.specs.NoJson.{ShowsNoJson}
-pub use Rattle.borsh_json.specs.NoValue.{ShowsNoValue, Step, Why, element as element_step, place as place_step, step_of}
-pub use Rattle.borsh_json.specs.Ordered.{AreNumbers, IsSequenceName, IsTreeMapName, Order, is_below_zero, listed, needs, tuple_name}
-pub use Rattle.borsh_json.specs.Orders.{AreOpenIn, AreOrderedNumbers, AwaitsOrder, BeginsOrder, ComparesFronts, ComparesNumbers, ComparesTexts, FindsBytesAt, FindsKeysOf, FindsKind, FindsKindAt, FindsNeeded, FindsNext, FindsOrder, FindsOrderAt, HasElements, HasFound, HasKeyOrder, HasKinds, HasOrderAt, HasOrders, IsCut, IsElementFall, IsFoundAt, IsKnownAt, IsNeeded, IsOrderOf, KindHasOrder, KnowsMore, OrderedBy, OrdersKeys, TakesCount, DecidesAscent, ValuesCompare}
+pub use Rattle.borsh_json.specs.InOrder.{InOrder, Step, TextRepresents, element as element_step, place as place_step}
+pub use Rattle.borsh_json.specs.NoValue.{IsGivenUp, ShowsNoValue, Why, step_of}
+pub use Rattle.borsh_json.specs.Ordered.{AreNumbers, HasOrder, IsOrdered, IsSequenceName, IsTreeMapName, Order, OrdersBytes, is_below_zero, listed, needs, tuple_name}
+pub use Rattle.borsh_json.specs.Ordered.{array as array_order}
+pub use Rattle.borsh_json.specs.Orders.{AreNone, AreOpenIn, AreOrderedNumbers, AwaitsOrder, BeginsNone, BeginsOrder, ComparesFronts, ComparesNumbers, ComparesTexts, FindsBytesAt, FindsKeysOf, FindsKind, FindsKindAt, FindsNeeded, FindsNext, FindsNoBytesAt, FindsNoKeysOf, FindsNoOrderAt, FindsNone, FindsOrder, FindsOrderAt, HasElements, HasFound, HasKeyOrder, HasKinds, HasOrderAt, HasOrders, IsCut, IsElementFall, IsFoundAt, IsKnownAt, IsLookedAt, IsNeeded, IsOrderOf, KindHasOrder, KindTellsOrder, KnowsMore, KnowsNoOrder, KnowsNone, KnowsNoneOfAll, OrderedBy, OrdersKeys, SearchesAt, SearchesOn, TakesCount, DecidesAscent, TellsKindOrder, TellsKindOrderAt, ValuesCompare}
 pub use Rattle.borsh_json.specs.Places.{AreKeysOf, IsAt, IsInfinity, IsKindAt, IsKindOf, IsListOf, lengths_of}
 pub use Rattle.borsh_json.specs.Ranks.{HasRank, IsLeading, IsPlain, magnitude, number_found, rank_of}
 pub use Rattle.borsh_json.specs.Represents.{HaveBytes, SaysFirst, SaysSome, TextSays}

@@ -467,7 +467,7 @@ TellsAscent d bytes (Some a) j ascends = MatchOption a.last (ascends ≡ true) (
 -- a place's ascent in this order, in front of the first part
 abbrev pub AscendsFrom : Option Ordered → Option Ascent → Type 0
 AscendsFrom None new = new ≡ None
-AscendsFrom (Some order) new = (a : Ascent) × (new ≡ Some a) × (a.order ≡ order) × (a.last ≡ None)
+AscendsFrom (Some order) new = (a : Ascent) × (new ≡ Some a) × (a.order ≡ order) × (a.last ≡ None) × (a.earlier ≡ None)
 
 -- the part is begun of the place p, which is q now
 abbrev pub IsBegunOf : Definitions → ℕ → Place → Place → FoundPart → Type 0

@@ -1,6 +1,6 @@
 // A layout, and what was found out about its names. Names are known by their places.
-ghost use Rattle.borsh_json.specs.Words.{AreOpenIn, AwaitsOrder, BeginsOrder, FindsKindAt, FindsNeeded, FindsOrder, FindsOrderAt, Form, HasKinds, HasNoBytes, HasOrderAt, HasOrders, IsAlike, IsAt, IsFoundAt, IsKindAt, IsKnown, IsKnownAt, IsLaidOut, IsNamed, KnownOrder, KnowsMore, KnowsSizes, form_of, forms_in, forms_of, names_of, references, shape_of_form};
-ghost use Rattle.std.specs.Prelude.{◌≡◌, ℕ, List, Decides, IfOk, IfSome, OnOk, Some, option_map, slice_get, slice_set};
+ghost use Rattle.borsh_json.specs.Words.{AreOpenIn, AwaitsOrder, BeginsNone, BeginsOrder, FindsKindAt, FindsNeeded, FindsNoOrderAt, FindsNone, FindsOrder, FindsOrderAt, Form, HasKinds, HasNoBytes, HasOrder, HasOrderAt, HasOrders, IsAlike, IsAt, IsFoundAt, IsKindAt, IsKnown, IsKnownAt, IsLaidOut, IsLookedAt, IsNamed, KindTellsOrder, KnownOrder, KnowsMore, KnowsNone, KnowsNoneOfAll, KnowsSizes, Order, SearchesAt, SearchesOn, TellsKindOrderAt, form_of, forms_in, forms_of, names_of, references, shape_of_form};
+ghost use Rattle.std.specs.Prelude.{◌≡◌, ℕ, List, Decides, IfOk, IfSome, None, OnOk, Some, length, option_map, slice_get, slice_set};
 
 use crate::kinds::{Kind, kind_of};
 use crate::order::{Ordered, ordered_as};
@@ -64,6 +64,7 @@ impl<'a, 'l> Definitions<'a, 'l> {
             IsKnown self.old → IfOk result (λ kind. IsKindAt F ns at kind) }
         ensures same { OnOk result (IsAlike self.old self.new) }
         ensures orders { FindsKindAt self.old self.new.orders.items at result }
+        ensures tells { TellsKindOrderAt self.old self.new.orders.items at result }
     {
         match self.get(at) {
             Some(definition) => {
@@ -133,6 +134,8 @@ impl<'a, 'l> Definitions<'a, 'l> {
         ensures kind { let ns = self.now.layout.now.names.items in let F = forms_in self.now.layout.now.map.now in
             HasKinds self.now → IsKindAt F ns at result }
         ensures order { HasKinds self.now → (x : List ℕ) → IsAt (names_of self.now) at x → HasOrderAt self.now x result }
+        ensures telling { HasKinds self.now → (x : List ℕ) → IsAt (names_of self.now) at x →
+            IfSome result (λ r. KindTellsOrder (forms_of self.now) x r.1) }
     {
         match self.kinds.as_slice().get(at).copied() {
             Some(found) => found,
@@ -144,6 +147,7 @@ impl<'a, 'l> Definitions<'a, 'l> {
     pub(crate) fn order_of(&mut self, at: usize) -> Result<Option<Ordered>, AllocError>
         ensures same { OnOk result (IsAlike self.old self.new) }
         ensures orders { FindsOrderAt self.old self.new.orders.items at result }
+        ensures none { FindsNoOrderAt self.old self.new.orders.items at result }
     {
         self.begin_orders()?;
         self.find_order(at)?;
@@ -153,6 +157,8 @@ impl<'a, 'l> Definitions<'a, 'l> {
     fn begin_orders(&mut self) -> Result<(), AllocError>
         ensures same { OnOk result (IsAlike self.old self.new) }
         ensures orders { HasOrders self.old → OnOk result (KnowsMore self.old self.new.orders.items) }
+        ensures none { KnowsNone self.old self.old.orders.items →
+            OnOk result (KnowsNoneOfAll self.old self.new.orders.items) }
     {
         if self.orders.is_empty() {
             self.orders = vec![in self.alloc; Known::Nothing; self.layout.names.len()]?;
@@ -194,19 +200,23 @@ impl<'a, 'l> Definitions<'a, 'l> {
         ensures same { OnOk result (IsAlike self.old self.new) }
         ensures orders { HasOrders self.old → (x : List ℕ) → IsAt (names_of self.old) at x →
             OnOk result (KnowsMore self.old self.new.orders.items) }
+        ensures none { HasOrders self.old → KnowsNoneOfAll self.old self.old.orders.items → (x : List ℕ) →
+            IsAt (names_of self.old) at x → OnOk result
+            (KnowsNoneOfAll self.old self.new.orders.items × IsLookedAt self.new.orders.items at) }
     {
         let mut waiting: Vec<(usize, Ordered, usize)> = Vec::new(self.alloc);
         let mut at = at;
         for _ in 0..u64::MAX {
             if !self.begin_order(at, &mut waiting)? {
-                break;
+                return Ok(());
             }
             match self.next_needed(&mut waiting)? {
                 Some(needed) => at = needed,
-                None => break,
+                None => return Ok(()),
             }
         }
-        Ok(())
+        // No container has so many names.
+        Err(AllocError)
     }
 
     /// Whether the order of a name is known, or may be, if its parts' orders are: then the name waits for them.
@@ -218,6 +228,10 @@ impl<'a, 'l> Definitions<'a, 'l> {
         ensures same { OnOk result (IsAlike self.old self.new) }
         ensures orders { HasOrders self.old → AwaitsOrder self.old self.old.orders.items waiting.old.items at →
             IfOk result (BeginsOrder self.old self.new.orders.items waiting.new.items) }
+        ensures none { HasOrders self.old → length self.old.orders.items ≡ length (names_of self.old) →
+            AwaitsOrder self.old self.old.orders.items waiting.old.items at →
+            SearchesAt self.old self.old.orders.items waiting.old.items at →
+            IfOk result (BeginsNone self.old self.new.orders.items waiting.new.items at) }
     {
         match self.known_at(at) {
             Known::Order(Some(_)) => Ok(true),
@@ -243,10 +257,13 @@ impl<'a, 'l> Definitions<'a, 'l> {
         ensures same { OnOk result (IsAlike self.old self.new) }
         ensures orders { HasOrders self.old → AreOpenIn self.old self.old.orders.items waiting.old.items →
             IfOk result (FindsNeeded self.old self.new.orders.items waiting.new.items) }
+        ensures none { HasOrders self.old → AreOpenIn self.old self.old.orders.items waiting.old.items →
+            SearchesOn self.old self.old.orders.items waiting.old.items →
+            IfOk result (FindsNone self.old self.new.orders.items waiting.new.items) }
     {
         for _ in 0..u64::MAX {
             let Some((at, order, index)) = waiting.pop() else {
-                break;
+                return Ok(None);
             };
             if let Some(part) = order.part(self, index) {
                 waiting.push((at, order, index + 1))?;
@@ -254,13 +271,16 @@ impl<'a, 'l> Definitions<'a, 'l> {
             }
             self.set_order(at, Some(order));
         }
-        Ok(None)
+        // No container has so many names.
+        Err(AllocError)
     }
 
     /// How the values of the name are ordered, if its parts are.
     fn order_by_parts(&self, at: usize) -> Option<Ordered>
-        ensures { (x : List ℕ) → IsNamed self.now at x →
+        ensures order { (x : List ℕ) → IsNamed self.now at x →
             IfSome result (FindsOrder (forms_of self.now) (names_of self.now) x) }
+        ensures none { (x : List ℕ) → IsNamed self.now at x → result ≡ None → (o : Order) →
+            HasOrder (forms_of self.now) x o → ⊥ }
     {
         if self.is_zero_size(at) {
             return Some(Ordered::Single);

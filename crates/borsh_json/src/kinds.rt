@@ -1,5 +1,5 @@
 // How the values of a name are written in JSON.
-ghost use Rattle.borsh_json.specs.Words.{AreEntries, AreKeys, AreKeysOf, FindsKeysOf, FindsKind, HasElements, HasForm, HasNoBytes, IsAlike, IsAt, IsByte, IsCollection, IsKindOf, IsKnown, IsMap, IsNamed, IsNullable, IsPrimitiveKind, IsRefusedList, IsRepeated, Keys, MayBeNull, OrdersKeys, TellsKind, form_of, form_of_struct, forms_in, forms_of, packed_size, primitive_kind, sequence, shape_of_form, texts};
+ghost use Rattle.borsh_json.specs.Words.{AreEntries, AreKeys, AreKeysOf, FindsKeysOf, FindsKind, FindsNoKeysOf, HasElements, HasForm, HasNoBytes, IsAlike, IsAt, IsByte, IsCollection, IsKindOf, IsKnown, IsMap, IsNamed, IsNullable, IsPrimitiveKind, IsRefusedList, IsRepeated, Keys, MayBeNull, OrdersKeys, TellsKind, TellsKindOrder, form_of, form_of_struct, forms_in, forms_of, packed_size, primitive_kind, sequence, shape_of_form, texts};
 ghost use Rattle.std.specs.Prelude.{◌≡◌, ℕ, List, Decides, IfOk, MatchBool, MatchOption, OnOk, Some, map, option_map, string_bytes};
 
 use crate::definitions::Definitions;
@@ -91,6 +91,7 @@ pub fn kind_of<'a>(
         F x ≡ Some (form_of definition.now) → (HasNoBytes F x → ⊥) → IsKindOf F ns x (form_of definition.now) kind) }
     ensures same { OnOk result (IsAlike definitions.old definitions.new) }
     ensures orders { FindsKind definitions.old definitions.new.orders.items at (form_of definition.now) result }
+    ensures tells { TellsKindOrder definitions.old definitions.new.orders.items at (form_of definition.now) result }
 {
     match definition {
         Definition::Primitive(size) => Ok(kind_of_primitive(definitions.name(at), *size)),
@@ -151,6 +152,7 @@ fn kind_of_struct<'a>(
 ) -> Result<Kind<'a>, AllocError>
     ensures kind { IfOk result (TellsKind definitions.now at (form_of_struct fields.now)) }
     ensures orders { FindsKind definitions.now definitions.now.orders.items at (form_of_struct fields.now) result }
+    ensures tells { TellsKindOrder definitions.now definitions.now.orders.items at (form_of_struct fields.now) result }
 {
     match fields {
         Fields::NamedFields(fields) => match repeated_field(definitions.alloc, fields)? {
@@ -216,6 +218,8 @@ fn kind_of_sequence<'a>(
     ensures same { OnOk result (IsAlike definitions.old definitions.new) }
     ensures orders { (w lo hi : ℕ) (e : List ℕ) → form_of definition.now ≡ sequence w lo hi e →
         FindsKind definitions.old definitions.new.orders.items at (form_of definition.now) result }
+    ensures tells { (w lo hi : ℕ) (e : List ℕ) → form_of definition.now ≡ sequence w lo hi e →
+        TellsKindOrder definitions.old definitions.new.orders.items at (form_of definition.now) result }
 {
     let element = definitions.part(at, 0);
     if is_byte(definitions, element) {
@@ -237,6 +241,8 @@ fn kind_of_bytes<'a>(
     ensures same { OnOk result (IsAlike definitions.old definitions.new) }
     ensures orders { HasElements definitions.old element (form_of definition.now) →
         FindsKind definitions.old definitions.new.orders.items at (form_of definition.now) result }
+    ensures tells { HasElements definitions.old element (form_of definition.now) →
+        TellsKindOrder definitions.old definitions.new.orders.items at (form_of definition.now) result }
 {
     if definitions.name(at) == "String" {
         return Ok(Kind::Text);
@@ -263,6 +269,8 @@ fn kind_of_list<'a>(
     ensures same { OnOk result (IsAlike definitions.old definitions.new) }
     ensures orders { HasElements definitions.old element (form_of definition.now) →
         FindsKind definitions.old definitions.new.orders.items at (form_of definition.now) result }
+    ensures tells { HasElements definitions.old element (form_of definition.now) →
+        TellsKindOrder definitions.old definitions.new.orders.items at (form_of definition.now) result }
 {
     let collection = collection_of(definitions, at, definition);
     if definitions.is_zero_size(element) {
@@ -332,6 +340,7 @@ fn order_in(
 ) -> Result<Option<Ordered>, AllocError>
     ensures same { OnOk result (IsAlike definitions.old definitions.new) }
     ensures orders { FindsKeysOf definitions.old definitions.new.orders.items element collection result }
+    ensures none { FindsNoKeysOf definitions.old definitions.new.orders.items element collection result }
 {
     match collection {
         Collection::List => Ok(None),

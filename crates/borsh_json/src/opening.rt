@@ -1,5 +1,5 @@
 // What the JSON of a part says by its definition: its own bytes, and the parts that it has.
-ghost use Rattle.borsh_json.specs.Words.{AddsList, AddsOrFalls, BeginsWith, DeniesRead, ElementsFall, Form, FoundMap, FoundObject, FoundOrder, FoundRow, HasKeyOrder, HasKind, HasKinds, InItems, InMembers, IsArrayOf, IsAt, IsDistinct, IsExpected, IsHex, IsInfinity, IsKindOf, IsKnown, IsListOf, IsNumber, IsOpened, IsOpenedOrFalls, IsUnexpected, IsVariantAt, Json, JsonItems, JsonMembers, KindHasOrder, KnownAt, NamedPlace, NamesVariant, OneSource, Opens, OutOfMemory, SaysArray, TableKind, array, byte_list, bytes_eq, float, form_of, forms_in, lengths_of, list_parts, no_bytes, object, optional, raw, spec_variants, string, tag, truth, utf8, whole};
+ghost use Rattle.borsh_json.specs.Words.{AddsList, AddsOrFalls, BeginsWith, DeniesRead, ElementsFall, Form, FoundMap, FoundObject, FoundOrder, FoundRow, HasKeyOrder, HasKind, HasKinds, InItems, InMembers, IsArrayOf, IsAt, IsDistinct, IsExpected, IsHex, IsInfinity, IsKindOf, IsKnown, IsListOf, IsNumber, IsOpened, IsOpenedOrFalls, IsUnexpected, IsVariantAt, Json, JsonItems, JsonMembers, KindHasOrder, KindTellsOrder, KnownAt, KnowsNoOrder, NamedPlace, NamesVariant, NoneFalls, OneSource, Opens, OutOfMemory, SaysArray, TableKind, array, byte_list, bytes_eq, float, form_of, forms_in, lengths_of, list_parts, no_bytes, object, optional, raw, spec_variants, string, tag, truth, utf8, whole};
 ghost use Rattle.std.specs.Prelude.{◌≡◌, ◌++◌, ◌≤◌, ⊤, [], ℕ, List, IfErr, IfOk, IfSome, Option, MatchOption, MatchResult, None, OnOk, Some, false, length, map, option_map, pos, string_bytes, take};
 
 use crate::definitions::Definitions;
@@ -37,7 +37,8 @@ pub fn open_part<'a, 't, 's>(
     ensures { let F = forms_in definitions.now.layout.now.map.now in
         let ns = definitions.now.layout.now.names.items in
         HasKinds definitions.now → (x : List ℕ) (j : Json) → IsAt ns at x →
-        BeginsWith element.entry j → IsOpenedOrFalls F ns x j out.old.items out.new.items result }
+        BeginsWith element.entry j →
+        IsOpenedOrFalls F ns definitions.now.orders.items x j out.old.items out.new.items result }
 {
     if definitions.is_zero_size(at) {
         return open_null(definitions.alloc, &element);
@@ -59,9 +60,10 @@ fn open_kind<'a, 't, 's>(
 ) -> Opened<'a, 't, 's>
     ensures { let F = forms_in definitions.now.layout.now.map.now in
         let ns = definitions.now.layout.now.names.items in let f = form_of definition.now in
+        let orders = definitions.now.orders.items in
         IsKnown definitions.now → (x : List ℕ) (j : Json) → IsAt ns at x → F x ≡ Some f →
-        IsKindOf F ns x f kind.entry → KindHasOrder F ns definitions.now.orders.items x kind.entry →
-        BeginsWith element.entry j → IsOpenedOrFalls F ns x j out.old.items out.new.items result }
+        IsKindOf F ns x f kind.entry → KindHasOrder F ns orders x kind.entry → KindTellsOrder F x kind.entry →
+        BeginsWith element.entry j → IsOpenedOrFalls F ns orders x j out.old.items out.new.items result }
 {
     let alloc = definitions.alloc;
     match kind {
@@ -287,8 +289,9 @@ fn open_byte_list<'a, 't, 's>(
 ) -> Opened<'a, 't, 's>
     ensures { (F : List ℕ → Option Form) (ns : List NamedPlace) (orders : List KnownAt) (x : List ℕ) (j : Json) (e : List ℕ) →
         IsAt ns elements.at e → HasKind F x (byte_list (lengths_of (form_of definition.now)) e) →
-        elements.size ≡ 1 → HasKeyOrder F ns orders x elements.order → BeginsWith element.now j →
-        IsOpenedOrFalls F ns x j out.old.items out.new.items result }
+        elements.size ≡ 1 → HasKeyOrder F ns orders x elements.order → (elements.order ≡ None → KnowsNoOrder F x) →
+        BeginsWith element.now j →
+        IsOpenedOrFalls F ns orders x j out.old.items out.new.items result }
 {
     let Some(text) = element.as_str() else {
         return open_items(alloc, definition, elements, element, out);
@@ -310,7 +313,8 @@ fn put_ascending(
     bytes: &[u8],
     out: &mut Vec<u8>,
 ) -> Result<(), ReadError>
-    ensures { AddsOrFalls elements (lengths_of (form_of definition.now)) bytes.now out.old.items out.new.items result }
+    ensures added { AddsOrFalls elements (lengths_of (form_of definition.now)) bytes.now out.old.items out.new.items result }
+    ensures ascends { OnOk result (NoneFalls elements bytes.now) }
 {
     match descent_in(elements, bytes) {
         Some(index) => Err(ReadError::Descends(index)),
@@ -320,7 +324,7 @@ fn put_ascending(
 
 /// The first primitive of a list that isn't above the one before it, where these have to ascend.
 fn descent_in(elements: Elements, bytes: &[u8]) -> Option<usize>
-    ensures { IfSome result (λ index. ElementsFall elements bytes.now) }
+    ensures { MatchOption result (NoneFalls elements bytes.now) (ElementsFall elements bytes.now) }
 {
     first_descent(elements.order?, usize::from(elements.size), bytes)
 }
@@ -424,9 +428,11 @@ fn open_list<'a, 't, 's>(
     element: &Element<'t, 's>,
     out: &mut Vec<u8>,
 ) -> Opened<'a, 't, 's>
-    ensures { Opens (λ F ns x. (orders : List KnownAt) × HasKeyOrder F ns orders x elements.order ×
-        IsListOf F ns x (form_of definition.now) elements.at elements.is_refused)
-        element.now out.old.items out.new.items result }
+    ensures { (F : List ℕ → Option Form) (ns : List NamedPlace) (orders : List KnownAt) (x : List ℕ) (j : Json) →
+        HasKeyOrder F ns orders x elements.order →
+        (elements.is_refused ≡ false → elements.order ≡ None → KnowsNoOrder F x) →
+        IsListOf F ns x (form_of definition.now) elements.at elements.is_refused → BeginsWith element.now j →
+        IsOpened F ns orders x j out.old.items out.new.items result }
 {
     if elements.is_refused {
         return Err(ReadError::Refused(Refusal::EmptyElements));
@@ -444,8 +450,9 @@ fn open_items<'a, 't, 's>(
     ensures { (F : List ℕ → Option Form) (ns : List NamedPlace) (orders : List KnownAt) (x : List ℕ) (j : Json)
         (kind : TableKind) (e : List ℕ) →
         IsAt ns elements.at e → HasKind F x kind → HasKeyOrder F ns orders x elements.order →
+        (elements.order ≡ None → KnowsNoOrder F x) →
         SaysArray F j kind (lengths_of (form_of definition.now)) e → BeginsWith element.now j →
-        IsOpened F ns x j out.old.items out.new.items result }
+        IsOpened F ns orders x j out.old.items out.new.items result }
 {
     match array_of(element) {
         Array::Of(items, count) => match put_length(alloc, definition, count, out) {
@@ -566,7 +573,8 @@ fn open_variant<'a, 't, 's>(
         IsKnown definitions.now → (x : List ℕ) (j : Json) → IsAt ns at x →
         IsDistinct bytes_eq (map (λ v. string_bytes v.1) variants.now.items) →
         HasKind F x (spec_variants width (map (λ v. (v.0, string_bytes v.1, string_bytes v.2)) variants.now.items)) →
-        BeginsWith element.now j → IsOpened F ns x j out.old.items out.new.items result }
+        BeginsWith element.now j →
+        IsOpened F ns definitions.now.orders.items x j out.old.items out.new.items result }
 {
     let alloc = definitions.alloc;
     let Some((name, value)) = variant_in(element) else {

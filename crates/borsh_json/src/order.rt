@@ -1,6 +1,6 @@
 // The order of the keys of maps and sets, where names and definitions tell it.
-ghost use Rattle.borsh_json.specs.Words.{AreNumbers, AreOrderedNumbers, Comparison, ComparesFronts, ComparesNumbers, ComparesTexts, DecidesAscent, FindsBytesAt, FindsNext, HasFound, HasOrders, InRange, IsAt, IsCut, IsKnown, IsNeeded, IsOrderOf, IsSequenceName, IsTreeMapName, NumberOrder, NumbersDescend, Order, OrderedBy, TakesCount, ValuesCompare, decimal, form_of, forms_of, int_cmp, is_below_zero, listed, low_bytes, names_of, nat_cmp, needs, primitive_kind, sequence, tag, tuple, tuple_name};
-ghost use Rattle.std.specs.Prelude.{◌≡◌, ◌⊎◌, ◌+◌, ◌++◌, ◌∷◌, [], ◌<◌, ◌^◌, ℕ, ℤ, Bool, List, Decides, IfOk, IfSome, None, Some, codes, drop, length, map, option_map, pos, string_bytes, true};
+ghost use Rattle.borsh_json.specs.Words.{AreNumbers, AreOrderedNumbers, Comparison, ComparesFronts, ComparesNumbers, ComparesTexts, DecidesAscent, FindsBytesAt, FindsNext, FindsNoBytesAt, HasForm, HasFound, HasOrders, InRange, IsAt, IsCut, IsKnown, IsNeeded, IsOrderOf, IsSequenceName, IsTreeMapName, NumberOrder, NumbersDescend, Order, OrderedBy, OrdersBytes, TakesCount, ValuesCompare, array_order, decimal, form_of, forms_of, int_cmp, is_below_zero, listed, low_bytes, names_of, nat_cmp, needs, primitive_kind, sequence, tag, tuple, tuple_name};
+ghost use Rattle.std.specs.Prelude.{◌≡◌, ◌⊎◌, ◌+◌, ◌++◌, ◌∷◌, [], ◌<◌, ◌^◌, ℕ, ℤ, Bool, List, Decides, IfOk, IfSome, MatchBool, MatchOption, None, Some, codes, drop, length, map, option_map, pos, string_bytes, true};
 
 use crate::definitions::Definitions;
 use crate::formats::{behind, is_composed, is_list, option_part};
@@ -60,7 +60,8 @@ pub fn ordered_as(
     at: usize,
     definition: &Definition,
 ) -> Option<Ordered>
-    ensures { FindsBytesAt definitions.now at (form_of definition.now) result }
+    ensures order { FindsBytesAt definitions.now at (form_of definition.now) result }
+    ensures none { FindsNoBytesAt definitions.now at (form_of definition.now) result }
 {
     let name = definitions.name(at);
     match definition {
@@ -85,8 +86,9 @@ pub fn ordered_as(
 }
 
 fn number_as(name: &str, size: u8) -> Option<Ordered>
-    ensures { IfSome result (λ found. (signed : Bool) × (found ≡ NumberOrder size signed) ×
+    ensures order { IfSome result (λ found. (signed : Bool) × (found ≡ NumberOrder size signed) ×
         AreNumbers (primitive_kind name.now size) size signed) }
+    ensures none { result ≡ None → (signed : Bool) → AreNumbers (primitive_kind name.now size) size signed → ⊥ }
 {
     match kind_of_primitive(name, size) {
         Kind::Bool => Some(Ordered::Number(size, false)),
@@ -101,8 +103,10 @@ fn list_as(
     definition: &Definition,
     element: &str,
 ) -> Option<Ordered>
-    ensures { (e : List ℕ) → form_of definition.now ≡ sequence 4 0 4294967295 e → element.now ≡ e →
+    ensures order { (e : List ℕ) → form_of definition.now ≡ sequence 4 0 4294967295 e → element.now ≡ e →
         FindsBytesAt definitions.now at (form_of definition.now) result }
+    ensures none { (e : List ℕ) → form_of definition.now ≡ sequence 4 0 4294967295 e → element.now ≡ e →
+        FindsNoBytesAt definitions.now at (form_of definition.now) result }
 {
     if is_text(definitions, at, definition) {
         return Some(Ordered::Text);
@@ -124,7 +128,9 @@ fn array_as(
     at: usize,
     definition: &Definition,
 ) -> Option<Ordered>
-    ensures { FindsBytesAt definitions.now at (form_of definition.now) result }
+    ensures order { FindsBytesAt definitions.now at (form_of definition.now) result }
+    ensures none { (x : List ℕ) → HasForm definitions.now at (form_of definition.now) x → result ≡ None →
+        (n : ℕ) (e : List ℕ) → OrdersBytes (forms_of definitions.now) x (array_order n e) → ⊥ }
 {
     let Definition::Sequence {
         length_width: 0,
@@ -156,8 +162,9 @@ fn is_list_name(name: &str, element: &str) -> bool
 
 /// Whether a name is that of an ordered map, of whose entries this is the definition.
 fn is_tree_map(name: &str, definition: Option<&Definition>) -> bool
-    ensures { result ≡ true → (k v : List ℕ) ×
-        (option_map (λ d. form_of d.now) definition.entry ≡ Some (tuple (k ∷ v ∷ []))) × IsTreeMapName name.now k v }
+    ensures { let form = option_map (λ d. form_of d.now) definition.entry in MatchBool result
+        ((k v : List ℕ) × (form ≡ Some (tuple (k ∷ v ∷ []))) × IsTreeMapName name.now k v)
+        ((k v : List ℕ) → form ≡ Some (tuple (k ∷ v ∷ [])) → IsTreeMapName name.now k v → ⊥) }
 {
     match definition {
         Some(Definition::Tuple { elements }) => is_tree_map_name(name, elements.as_slice()),
@@ -166,8 +173,9 @@ fn is_tree_map(name: &str, definition: Option<&Definition>) -> bool
 }
 
 fn is_tree_map_name(name: &str, parts: &[Declaration]) -> bool
-    ensures { result ≡ true → (k v : List ℕ) × (map (λ p. string_bytes p) parts.now ≡ k ∷ v ∷ []) ×
-        IsTreeMapName name.now k v }
+    ensures { MatchBool result
+        ((k v : List ℕ) × (map (λ p. string_bytes p) parts.now ≡ k ∷ v ∷ []) × IsTreeMapName name.now k v)
+        ((k v : List ℕ) → map (λ p. string_bytes p) parts.now ≡ k ∷ v ∷ [] → IsTreeMapName name.now k v → ⊥) }
 {
     if parts.len() != 2 {
         return false;
@@ -186,7 +194,7 @@ fn is_array_name(name: &str, element: &str, count: u64) -> bool
 
 /// Whether a name is that of the tuple of these parts: `(A, B)`, and `(A,)` of one.
 fn is_tuple_name(name: &str, parts: &[Declaration]) -> bool
-    ensures { result ≡ true → name.now ≡ tuple_name (map (λ p. string_bytes p) parts.now) }
+    ensures { Decides result (name.now ≡ tuple_name (map (λ p. string_bytes p) parts.now)) }
 {
     let Some((first, others)) = parts.split_first() else {
         return name == "()";
@@ -206,7 +214,8 @@ fn is_tuple_name(name: &str, parts: &[Declaration]) -> bool
 
 /// What of a text comes behind these parts, each behind a comma.
 fn behind_parts<'n>(text: &'n str, parts: &[Declaration]) -> Option<&'n str>
-    ensures { IfSome result (λ rest. text.now ≡ listed (map (λ p. string_bytes p) parts.now) ++ rest.now) }
+    ensures { let front = listed (map (λ p. string_bytes p) parts.now) in MatchOption result
+        ((rest : List ℕ) → text.now ≡ front ++ rest → ⊥) (λ rest. text.now ≡ front ++ rest.now) }
 {
     let mut rest = text;
     for part in parts {
@@ -490,7 +499,7 @@ fn from(bytes: &[u8], start: usize) -> &[u8]
 /// The first element of a list of primitives of so many bytes that isn't above the one before it.
 pub fn first_descent(order: Ordered, size: usize, bytes: &[u8]) -> Option<usize>
     ensures { (signed : Bool) → AreOrderedNumbers order size signed bytes.now →
-        IfSome result (NumbersDescend size signed bytes.now) }
+        MatchOption result ((i : ℕ) → NumbersDescend size signed bytes.now i → ⊥) (NumbersDescend size signed bytes.now) }
 {
     let Ordered::Number(_, is_signed) = order else {
         return None;

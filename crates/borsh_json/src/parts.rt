@@ -1,6 +1,6 @@
 // The reader's loop over the parts of a value.
-ghost use Rattle.borsh_json.specs.Words.{AreKeysOf, BeginsWith, DeniesKey, DeniesRead, Entry, Form, HasBegun, HasEnded, HasEntries, HasKinds, HasPath, HasRead, HaveBytes, IsAt, IsDoing, IsEntryKey, IsFull, IsKnown, IsNext, IsNextEntry, IsUnread, Json, JsonPart, Keys, NamedPlace, NextMissing, NextPart, ReadsOn, SaysFirst, SaysSome, Why, form_of, forms_in, forms_of, key_json, names_of, steps_at, steps_through};
-ghost use Rattle.std.specs.Prelude.{◌≡◌, ◌∷◌, ◌++◌, [], false, is_some, true, IfErr, IfOk, ℕ, List, MatchOption, MatchResult, OnOk, Option, length};
+ghost use Rattle.borsh_json.specs.Words.{AreKeysOf, AscentFalls, AscentRises, BeginsAscending, BeginsWith, DeniesKey, DeniesRead, Entry, Form, HasBegun, HasEnded, HasEntries, HasKinds, HasOrders, HasPath, HasRead, HaveBytes, InOrder, IsAt, IsDoing, IsEntryKey, IsFull, IsKnown, IsNext, IsNextEntry, IsUnread, Json, JsonPart, Keys, NamedPlace, NextMissing, NextPart, ReadsOn, SaysFirst, SaysSome, Why, form_of, forms_in, forms_of, key_json, names_of, steps_at, steps_through};
+ghost use Rattle.std.specs.Prelude.{◌≡◌, ◌∷◌, ◌++◌, [], true, IfErr, IfOk, ℕ, List, MatchBool, MatchOption, MatchResult, OnOk, Option, length};
 
 use crate::definitions::Definitions;
 use crate::error::{PartError, PartResult, ReadError, Refusal};
@@ -31,7 +31,7 @@ pub fn read_value<'a>(
     ensures { let F = forms_in definitions.now.layout.now.map.now in
         let root = definitions.now.layout.now.root.now in
         HasKinds definitions.now → (j : Json) → BeginsWith element.entry j →
-        MatchResult result (λ v. HaveBytes F ((root, j) ∷ []) v.items)
+        MatchResult result (λ v. HaveBytes F ((root, j) ∷ []) v.items × InOrder F root j)
         (λ e. IsUnread F root j e) }
 {
     let alloc = definitions.alloc;
@@ -158,9 +158,10 @@ fn ascends(
     place: &mut Place<'_, '_>,
     bytes: &[u8],
 ) -> Result<bool, AllocError>
-    ensures same { (place.new.parts ≡ place.old.parts) × (place.new.begun ≡ place.old.begun) ×
-        (is_some place.new.ascent ≡ is_some place.old.ascent) }
-    ensures falls { IfOk result (λ ascends. ascends ≡ false → is_some place.old.ascent ≡ true) }
+    ensures same { (place.new.parts ≡ place.old.parts) × (place.new.begun ≡ place.old.begun) }
+    ensures begins { IfOk result (λ ascends. BeginsAscending place.old.ascent (length bytes.now) place.new.ascent) }
+    ensures tells { HasOrders definitions.now → IfOk result (λ ascends. MatchBool ascends
+        (AscentRises definitions.now place.old.ascent bytes.now) (AscentFalls definitions.now place.old.ascent bytes.now)) }
 {
     let Some(ascent) = &mut place.ascent else {
         return Ok(true);
@@ -177,11 +178,12 @@ fn take_next<'a, 't, 's>(
     source: &mut Source<'t, 's>,
     out: &mut Vec<u8>,
 ) -> Result<Next<'t, 's>, ReadError>
-    ensures parts { place.new.parts ≡ place.old.parts }
+    ensures parts { (place.new.parts ≡ place.old.parts) × (place.new.ascent ≡ place.old.ascent) }
     ensures next { let F = forms_of definitions.now in let ns = names_of definitions.now in
+        let orders = definitions.now.orders.items in
         IsKnown definitions.now → (d : ℕ) (x : List ℕ) (i : Json) (own : List ℕ) (ds : List JsonPart) →
-        IsDoing F ns place.old source.old d x i own ds → MatchResult result
-        (IsNext F ns d x i own ds place.new source.new out.old.items out.new.items)
+        IsDoing F ns orders place.old source.old d x i own ds → MatchResult result
+        (IsNext F ns orders d x i own ds place.new source.new out.old.items out.new.items)
         (DeniesKey F ns d x i own ds place.new) }
 {
     let Some(part) = place.next_part(definitions) else {

@@ -1,6 +1,6 @@
 // The bytes of a value that JSON says.
-ghost use Rattle.borsh_json.specs.Words.{HasKinds, HaveBytes, IsTextReason, Json, SaysBy, ShowsNoValue, TextSays, definitions_in, document, forms_in};
-ghost use Rattle.std.specs.Prelude.{◌≡◌, ◌∷◌, [], ℕ, IfErr, IfOk, List, Some};
+ghost use Rattle.borsh_json.specs.Words.{HasKinds, HaveBytes, InOrder, IsGivenUp, IsTextReason, Json, SaysBy, ShowsNoValue, TextRepresents, TextSays, definitions_in, document, forms_in};
+ghost use Rattle.std.specs.Prelude.{◌≡◌, ◌∷◌, [], ℕ, IfErr, IfOk, List, MatchResult, OnOk, Some};
 
 use crate::definitions::Definitions;
 use crate::error::JsonError;
@@ -19,13 +19,13 @@ use std::collections::BTreeMap;
 /// definitions is refused with its path and what was expected; so are keys that come twice, the bits of a NaN, and arrays whose
 /// elements or keys don't ascend where they have to. The bytes are a member of the root.
 ///
-/// Determined: after `Ok` the text says the bytes, and no others. After any error but `OutOfMemory`, `Ambiguous`, `TooDeep` and
-/// `Descends` it says none. A refusal's path leads from the root to the first place that fails: the parts before it, in the order
-/// of the bytes, have bytes. The JSON of this part says none, for the reason of the refusal; or it is a field that the object
-/// hasn't (`MissingField`), a part inside of 128 others (`TooDeep`), or an element of a set or map of which two neighbours don't
-/// ascend, or which is an array of two elements or more (`Descends`). `NotJson` is of a text that isn't JSON, `Ambiguous` as of
-/// [`borsh_values::is_member`], and `NoMember` isn't returned. Left open: memory; whether the elements of an array ascend; what is
-/// expected, in words; the byte of `NotJson`: tested.
+/// Determined: after `Ok` the text says the bytes, and no others, and sets and maps ascend where their order is known. Of a text
+/// that says bytes so the only errors are `OutOfMemory`, `Ambiguous` and `TooDeep`; after any but these and `Descends` the text says
+/// no bytes at all. A refusal's path leads from the root to the first place that fails: the parts before it, in the order of the
+/// bytes, have bytes. The JSON of this part says none, for the reason of the refusal; or it is a field that the object hasn't
+/// (`MissingField`), a part inside of 128 others (`TooDeep`), or an element of a set or map that isn't above the one before it
+/// (`Descends`). `NotJson` is of a text that isn't JSON, `Ambiguous` as of [`borsh_values::is_member`], and `NoMember` isn't
+/// returned. Left open: memory; what is expected, in words; the byte of `NotJson`: tested.
 ///
 /// ```
 /// let bytes = from_json(alloc, "(u8, bool)", &definitions, "[7, true]")?;
@@ -41,6 +41,9 @@ pub fn from_json<'a>(
         IfOk result (λ bytes. TextSays F root.now text.now bytes.items) }
     ensures determined { let F = forms_in map.now in (bytes : List ℕ) →
         TextSays F root.now text.now bytes → IfOk result (λ found. found.items ≡ bytes) }
+    ensures in_order { (j : Json) → document text.now ≡ Some j → OnOk result (InOrder (forms_in map.now) root.now j) }
+    ensures answers { (bytes : List ℕ) → TextRepresents (forms_in map.now) root.now text.now bytes →
+        MatchResult result (λ found. found.items ≡ bytes) IsGivenUp }
     ensures denies { IfErr result (ShowsNoValue (forms_in map.now) root.now text.now) }
     ensures reason { IfErr result (λ e. IsTextReason (definitions_in map.now) root.now text.now e) }
 {
@@ -56,6 +59,11 @@ impl<'a, 'l> Definitions<'a, 'l> {
         ensures says { IfOk result (λ bytes. SaysBy self.now text.now bytes.items) }
         ensures determined { (bytes : List ℕ) → SaysBy self.now text.now bytes →
             IfOk result (λ found. found.items ≡ bytes) }
+        ensures in_order { let layout = self.now.layout.now in (j : Json) → document text.now ≡ Some j →
+            OnOk result (InOrder (forms_in layout.map.now) layout.root.now j) }
+        ensures answers { let layout = self.now.layout.now in (bytes : List ℕ) →
+            TextRepresents (forms_in layout.map.now) layout.root.now text.now bytes →
+            MatchResult result (λ found. found.items ≡ bytes) IsGivenUp }
         ensures denies { let layout = self.now.layout.now in
             IfErr result (ShowsNoValue (forms_in layout.map.now) layout.root.now text.now) }
         ensures reason { let layout = self.now.layout.now in
@@ -74,7 +82,7 @@ impl<'a, 'l> Definitions<'a, 'l> {
         requires { HasKinds self.now }
         ensures says { let layout = self.now.layout.now in let F = forms_in layout.map.now in
             IfOk result (λ bytes. (j : Json) × (document text.now ≡ Some j) ×
-            HaveBytes F ((layout.root.now, j) ∷ []) bytes.items) }
+            HaveBytes F ((layout.root.now, j) ∷ []) bytes.items × InOrder F layout.root.now j) }
         ensures denies { let layout = self.now.layout.now in
             IfErr result (ShowsNoValue (forms_in layout.map.now) layout.root.now text.now) }
         ensures reason { let layout = self.now.layout.now in

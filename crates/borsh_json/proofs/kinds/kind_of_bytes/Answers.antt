@@ -33,3 +33,10 @@ pub returns-clause-orders : goal.returns-clause-orders
 returns-clause-orders c = λ s h x f.
     let o = c.in_ok-order.ensures.orders h x s.3 s.0 s.1 s.2 (c.collection_of-collection.ensures x f) s.5.1 (f.2 ∙ ap (λ f. Some f) s.4) in
     (o.0, (refl, o.1))
+
+pub returns-then-eq-clause-tells : goal.returns-then-eq-clause-tells
+returns-then-eq-clause-tells c = λ s h n x f. (n, tt)
+
+pub returns-clause-tells : goal.returns-clause-tells
+returns-clause-tells c = λ s h n x f.
+    c.in_ok-order.ensures.none h n x s.3 s.0 s.1 s.2 (c.collection_of-collection.ensures x f) s.5.1 (f.2 ∙ ap (λ f. Some f) s.4)

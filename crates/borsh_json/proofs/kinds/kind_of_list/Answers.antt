@@ -7,6 +7,7 @@ use Rattle.borsh_json.specs.Places.{lengths_of}
 use Rattle.borsh_json.specs.Found.{forms_of, names_of}
 use Rattle.borsh_json.proofs.FoundLaws.{on_true, on_false, not_true}
 use Rattle.borsh_json.proofs.KindOrders.{refused_order, key_found}
+use Rattle.borsh_json.proofs.KindTells.{refused_tells}
 use Rattle.borsh_json.proofs.NameLaws.{elements_found, numbers_found, refused, refused_is, entries_kind, list_kind}
 use Rattle.borsh_json.proofs.kinds.kind_of_list.Goals as goal
 
@@ -93,3 +94,21 @@ returns-then-size-eq0-clause-orders c = λ s h x f.
 pub returns-else-size-eq0-clause-orders : goal.returns-else-size-eq0-clause-orders
 returns-else-size-eq0-clause-orders c = λ s h x f.
     c.in_ok-order.ensures.orders h x s.3 s.0 s.1 s.2 (c.collection_of-collection.ensures x f) s.5.1 (f.2 ∙ ap (λ f. Some f) s.4)
+
+pub returns-then-is_zero_size-clause-tells : goal.returns-then-is_zero_size-clause-tells
+returns-then-is_zero_size-clause-tells c = λ s h n x f. (n, refused_tells (forms_of c.args.definitions.now) x c.refused_list.result c.refused_list.ensures)
+
+pub returns-then-has_empty_keys-clause-tells : goal.returns-then-has_empty_keys-clause-tells
+returns-then-has_empty_keys-clause-tells c = λ s h n x f. (n, refused_tells (forms_of c.args.definitions.now) x c.refused_list-then-has_empty_keys.result c.refused_list-then-has_empty_keys.ensures)
+
+pub returns-in-Some-clause-tells : goal.returns-in-Some-clause-tells
+returns-in-Some-clause-tells c = λ s h n x f. (n, tt)
+
+pub returns-then-size-eq0-clause-tells : goal.returns-then-size-eq0-clause-tells
+returns-then-size-eq0-clause-tells c = λ s h n x f.
+    let o = c.in_ok-order.ensures.none h n x s.3 s.0 s.1 s.2 (c.collection_of-collection.ensures x f) s.5.1 (f.2 ∙ ap (λ f. Some f) s.4) in
+    (o.0, λ r. o.1)
+
+pub returns-else-size-eq0-clause-tells : goal.returns-else-size-eq0-clause-tells
+returns-else-size-eq0-clause-tells c = λ s h n x f.
+    c.in_ok-order.ensures.none h n x s.3 s.0 s.1 s.2 (c.collection_of-collection.ensures x f) s.5.1 (f.2 ∙ ap (λ f. Some f) s.4)

@@ -28,3 +28,11 @@ returns-then-is_byte-clause-orders c = λ w lo hi e q h x f.
 pub returns-else-is_byte-clause-orders : goal.returns-else-is_byte-clause-orders
 returns-else-is_byte-clause-orders c = λ w lo hi e q h x f.
     c.kind_of_list.ensures.orders (w, lo, hi, e, q, (f.0, c.part-element.ensures f.0 x e (sequence w lo hi e) f.1 (f.2 ∙ ap (λ f. Some f) q) refl)) h x f
+
+pub returns-then-is_byte-clause-tells : goal.returns-then-is_byte-clause-tells
+returns-then-is_byte-clause-tells c = λ w lo hi e q h n x f.
+    c.kind_of_bytes.ensures.tells (w, lo, hi, e, q, (f.0, c.part-element.ensures f.0 x e (sequence w lo hi e) f.1 (f.2 ∙ ap (λ f. Some f) q) refl)) h n x f
+
+pub returns-else-is_byte-clause-tells : goal.returns-else-is_byte-clause-tells
+returns-else-is_byte-clause-tells c = λ w lo hi e q h n x f.
+    c.kind_of_list.ensures.tells (w, lo, hi, e, q, (f.0, c.part-element.ensures f.0 x e (sequence w lo hi e) f.1 (f.2 ∙ ap (λ f. Some f) q) refl)) h n x f

@@ -6,11 +6,11 @@ use Rattle.borsh_json.proofs.PartsLaws.{unsayable}
 use Rattle.borsh_json.proofs.opening.open_list.Goals as goal
 
 pub returns-then-elements : goal.returns-then-elements
-returns-then-elements c F ns x j h b =
-    let none = subst (λ (r : Bool). IsListOf F ns x (form_of c.args.definition.now) c.args.elements.at r) c.if-elements.true h.2 in
+returns-then-elements c F ns orders x j o none h b =
+    let none = subst (λ (r : Bool). IsListOf F ns x (form_of c.args.definition.now) c.args.elements.at r) c.if-elements.true h in
     (λ i. unsayable F ns x i none, unsayable F ns x j none)
 
 pub returns : goal.returns
-returns c F ns x j h b =
-    let k = subst (λ (r : Bool). IsListOf F ns x (form_of c.args.definition.now) c.args.elements.at r) c.if-elements.false h.2 in
-    c.open_items.ensures F ns h.0 x j (list (lengths_of (form_of c.args.definition.now)) k.0) k.0 k.1 k.2 h.1 ((lengths_of (form_of c.args.definition.now), k.0, inl refl), λ own ps. ((λ q. q), (λ q. q))) b
+returns c F ns orders x j o none h b =
+    let k = subst (λ (r : Bool). IsListOf F ns x (form_of c.args.definition.now) c.args.elements.at r) c.if-elements.false h in
+    c.open_items.ensures F ns orders x j (list (lengths_of (form_of c.args.definition.now)) k.0) k.0 k.1 k.2 o (λ e. none c.if-elements.false e) ((lengths_of (form_of c.args.definition.now), k.0, inl refl), λ own ps. ((λ q. q), (λ q. q))) b

@@ -18,7 +18,8 @@ pub returns-then-is_zero_size : goal.returns-then-is_zero_size
 returns-then-is_zero_size c k x j at b =
     let F = forms_in c.args.definitions.now.layout.now.map.now in
     let ns = c.args.definitions.now.layout.now.names.items in
-    opened F ns x j c.args.out.now.items c.args.out.now.items c.open_null.result (unmoved F ns x j c.args.out.now.items c.open_null.result (c.open_null.ensures F ns x j (inl ((c.is_zero_size.ensures k.known x at).0 c.if-is_zero_size.true, refl)) b))
+    let orders = c.args.definitions.now.orders.items in
+    opened F ns orders x j c.args.out.now.items c.args.out.now.items c.open_null.result (unmoved F ns orders x j c.args.out.now.items c.open_null.result (c.open_null.ensures F ns orders x j (inl ((c.is_zero_size.ensures k.known x at).0 c.if-is_zero_size.true, refl)) b))
 
 pub returns-in_default : goal.returns-in_default
 returns-in_default c k x j at b =
@@ -32,4 +33,4 @@ returns c k x j at b =
     let F = forms_in c.args.definitions.now.layout.now.map.now in
     let full : HasNoBytes F x → ⊥ = λ z. (let q = (c.is_zero_size.ensures k.known x at).1 z in let s = c.if-is_zero_size.false in cc) in
     let r = c.in-Some.ensures.kind k x at full in
-    c.open_kind.ensures k.known x j at r.0 r.1 (c.in-Some.ensures.order k x at) b
+    c.open_kind.ensures k.known x j at r.0 r.1 (c.in-Some.ensures.order k x at) (c.in-Some.ensures.telling k x at) b

@@ -7,8 +7,8 @@ use Rattle.borsh_json.specs.Found.{forms_of}
 use Rattle.borsh_json.specs.Ordered.{array}
 use Rattle.borsh_json.proofs.order.array_as.Goals as goal
 
-pub returns-then-is_array_name : goal.returns-then-is_array_name
-returns-then-is_array_name c x h =
+pub returns-then-is_array_name-clause-order : goal.returns-then-is_array_name-clause-order
+returns-then-is_array_name-clause-order c x h =
     let s = c.in-Sequence-eq0-default-default in
     let n = s.range.start in
     let e = string_bytes s.elements in

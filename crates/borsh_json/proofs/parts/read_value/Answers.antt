@@ -11,7 +11,7 @@ loop-init c a j b =
     let y = c.args.definitions.now.layout.now in
     let p = c.new-position in
     let at = p.ensures.place in
-    (ap (λ (r : Bor (List ℕ)). r.now) p.ensures.root, reading_start (forms_in y.map.now) y.names.items y.root.now j p.result.place c.args.element p.result.outer.items c.new-outer.result.items c.new-out.result.items a.known.laid_out.first b at.0 at.1 at.2 p.ensures.outer c.new-outer.ensures.items c.new-out.ensures.items)
+    (ap (λ (r : Bor (List ℕ)). r.now) p.ensures.root, reading_start (forms_in y.map.now) y.names.items c.args.definitions.now.orders.items y.root.now j p.result.place c.args.element p.result.outer.items c.new-outer.result.items c.new-out.result.items a.known.laid_out.first b at.0 at.1 at.2 p.ensures.outer c.new-outer.ensures.items c.new-out.ensures.items)
 
 pub loop-preserved : goal.loop-preserved
 loop-preserved c a j b =

@@ -14,3 +14,9 @@ returns-in_ok-kind-in-Some-clause-orders c = λ h x i. c.in_ok-kind-in-Some.ensu
 
 pub returns-in-None-clause-orders : goal.returns-in-None-clause-orders
 returns-in-None-clause-orders c = λ h x i. ((h.1, λ k z. z), tt)
+
+pub returns-in_ok-kind-in-Some-clause-tells : goal.returns-in_ok-kind-in-Some-clause-tells
+returns-in_ok-kind-in-Some-clause-tells c = λ h n x i. c.in_ok-kind-in-Some.ensures.tells h n x (h.0, i, sym (c.in-Some.ensures h.0 x i))
+
+pub returns-in-None-clause-tells : goal.returns-in-None-clause-tells
+returns-in-None-clause-tells c = λ h n x i. (n, tt)

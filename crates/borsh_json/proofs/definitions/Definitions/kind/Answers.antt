@@ -1,6 +1,6 @@
 use Rattle.std.proofs.Common.{◌∙◌, Some, ap, sym}
 use Rattle.borsh_json.specs.Found.{forms_of, names_of}
-use Rattle.borsh_json.specs.Orders.{KindHasOrder}
+use Rattle.borsh_json.specs.Orders.{KindHasOrder, KindTellsOrder}
 use Rattle.borsh_json.proofs.FoundLaws.{got}
 use Rattle.borsh_json.proofs.KindOrders.{if_some}
 use Rattle.borsh_json.proofs.PlaceLaws.{kind_there}
@@ -20,3 +20,9 @@ returns-in-Some-clause-order c = λ k x i.
     let d = c.args.self.now in
     let s = sym (got d.kinds.items c.as_slice.result.now c.args.at c.get.result c.as_slice.ensures.value c.get.ensures.lookup.3) ∙ sym c.copied.ensures ∙ c.in-Some.is in
     if_some (λ r. KindHasOrder (forms_of d) (names_of d) d.orders.items x r.1) c.in-Some.found (λ r e. k.ascending c.args.at x r (s ∙ ap (λ f. Some f) e) i)
+
+pub returns-in-Some-clause-telling : goal.returns-in-Some-clause-telling
+returns-in-Some-clause-telling c = λ k x i.
+    let d = c.args.self.now in
+    let s = sym (got d.kinds.items c.as_slice.result.now c.args.at c.get.result c.as_slice.ensures.value c.get.ensures.lookup.3) ∙ sym c.copied.ensures ∙ c.in-Some.is in
+    if_some (λ r. KindTellsOrder (forms_of d) x r.1) c.in-Some.found (λ r e. k.telling c.args.at x r (s ∙ ap (λ f. Some f) e) i)

@@ -3,12 +3,26 @@ use Rattle.borsh_json.specs.Found.{forms_of, names_of}
 use Rattle.borsh_json.specs.Ordered.{single}
 use Rattle.borsh_json.proofs.FoundLaws.{not_true}
 use Rattle.borsh_json.proofs.OrderedLaws.{finds_order}
+use Rattle.borsh_json.proofs.UnorderedLaws.{finds_none, no_definition}
 use Rattle.borsh_json.proofs.definitions.Definitions.order_by_parts.Goals as goal
 
-pub returns-then-is_zero_size : goal.returns-then-is_zero_size
-returns-then-is_zero_size c x h = (single, inl ((c.is_zero_size.ensures h.0 x h.1).0 c.if-is_zero_size.true, refl), refl)
+pub returns-then-is_zero_size-clause-order : goal.returns-then-is_zero_size-clause-order
+returns-then-is_zero_size-clause-order c x h = (single, inl ((c.is_zero_size.ensures h.0 x h.1).0 c.if-is_zero_size.true, refl), refl)
 
-pub returns : goal.returns
-returns c x h =
+pub returns-clause-order : goal.returns-clause-order
+returns-clause-order c x h =
     let d = c.args.self.now in
-    finds_order (forms_of d) (names_of d) x c.ordered_as.result (not_true c.is_zero_size.result (c.is_zero_size.ensures h.0 x h.1) c.if-is_zero_size.false) (c.ordered_as.ensures x (h.0, h.1, sym (c.in_ok-get.ensures h.0 x h.1)))
+    finds_order (forms_of d) (names_of d) x c.ordered_as.result (not_true c.is_zero_size.result (c.is_zero_size.ensures h.0 x h.1) c.if-is_zero_size.false) (c.ordered_as.ensures.order x (h.0, h.1, sym (c.in_ok-get.ensures h.0 x h.1)))
+
+pub returns-then-is_zero_size-clause-none : goal.returns-then-is_zero_size-clause-none
+returns-then-is_zero_size-clause-none c x h e = cc
+
+pub returns-clause-none : goal.returns-clause-none
+returns-clause-none c x h e =
+    let d = c.args.self.now in
+    finds_none (forms_of d) x (not_true c.is_zero_size.result (c.is_zero_size.ensures h.0 x h.1) c.if-is_zero_size.false) (c.ordered_as.ensures.none x (h.0, h.1, sym (c.in_ok-get.ensures h.0 x h.1)) e)
+
+pub returns-in_err-get-clause-none : goal.returns-in_err-get-clause-none
+returns-in_err-get-clause-none c x h e =
+    let d = c.args.self.now in
+    finds_none (forms_of d) x (not_true c.is_zero_size.result (c.is_zero_size.ensures h.0 x h.1) c.if-is_zero_size.false) (no_definition (forms_of d) x (sym (c.in_err-get.ensures h.0 x h.1)))

@@ -27,3 +27,11 @@ returns-in_err-read_value-in-Ok-clause-reason c =
     let e = c.in_err-read_value-in-Ok in
     let p = err_from_is_err_and c.from_residual.result c.from_residual.ensures.1 in
     rw (p.1, p.2) (part_reason (forms_in y.map.now) (definitions_in y.map.now) y.root.now c.args.text.now t.0 t.1 e.field-0.0 s (e.ensures c.requires t.0 b))
+
+pub returns-in-Ok-clause-says : goal.returns-in-Ok-clause-says
+returns-in-Ok-clause-says c =
+    let t = there (document c.args.text.now) c.in-Ok.ensures.ok.1 in
+    let q : c.root.result ≡ c.in-Ok.tape = cc in
+    let b = subst (λ ts. BeginsWith ts t.0) (sym q) (c.in-Ok.ensures.value t.0 t.1) in
+    let r = c.in_ok-read_value-in-Ok.ensures c.requires t.0 b in
+    (t.0, t.1, r.0, r.1)
