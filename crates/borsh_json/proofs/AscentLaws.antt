@@ -16,7 +16,7 @@ use Rattle.borsh_json.specs.Orders.{ValuesCompare}
 use Rattle.borsh_json.specs.Represents.{HaveBytes}
 use Rattle.borsh_json.specs.Table.{Lengths, Kind, list, byte_list, fields, HasKind, Part as JsonPart, list_parts, IsArray, Says}
 use Rattle.borsh_json.proofs.FormKinds.{form_known}
-use Rattle.borsh_json.proofs.InOrderLaws.{array_one, keys_one}
+use Rattle.borsh_json.proofs.InOrderLaws.{array_one, array_said, keys_one}
 use Rattle.borsh_json.proofs.ReaderLaws.{split, joined}
 use Rattle.borsh_json.proofs.RepresentsLaws.{bytes_one}
 use Rattle.borsh_json.proofs.SaidRanks.{said_compares}
@@ -125,14 +125,7 @@ listed e (item j js) (a ∷ es) q rest h = let g : list_parts e js ≡ es ++ q �
 
 -- an array of a list's kind
 list_said : (F : List ℕ → Option Form) (kind : Kind) (l : Lengths) (e : List ℕ) (i : Json) (js : Items) (own : List ℕ) (ds : List JsonPart) → (kind ≡ list l e) ⊎ (kind ≡ byte_list l e) → i ≡ array js → BeginsParts F kind i own ds → (more : List JsonPart) × (list_parts e js ≡ ds ++ more)
-list_said F kind l e i js own ds (inl k) a (inl b) =
-    let s : IsArray l e i own (ds ++ b.0) = subst (λ (k : Kind). Says F k i own (ds ++ b.0)) k b.1 in
-    (b.0, ap (λ js. list_parts e js) (array_one i js s.0 a s.1) ∙ sym s.2)
-list_said F kind l e i js own ds (inr k) a (inl b) =
-    elim (subst (λ (k : Kind). Says F k i own (ds ++ b.0)) k b.1) [
-      | inl h ↦ (let g : array js ≡ string _ = sym a ∙ h.1.1 in cc)
-      | inr s ↦ (b.0, ap (λ js. list_parts e js) (array_one i js s.0 a s.1) ∙ sym s.2)
-    ]
+list_said F kind l e i js own ds k a (inl b) = (b.0, sym (array_said F e kind i js own (ds ++ b.0) (inr (inl (l, elim k [ inl p ↦ inr p | inr p ↦ inl p ]))) a b.1).1)
 list_said F kind l e i js own ds (inl k) a (inr b) = let g : list l e ≡ fields (b.0 ++ b.1) = sym k ∙ b.3 in cc
 list_said F kind l e i js own ds (inr k) a (inr b) = let g : byte_list l e ≡ fields (b.0 ++ b.1) = sym k ∙ b.3 in cc
 

@@ -63,7 +63,7 @@ module _ (F : List ℕ → Option Form) where
       sequence_kind kind (subst (λ (f : Form). DefinedKind F x f kind) f d.3)
 
   -- ---- arrays of sets and maps
-  array_said : (e : List ℕ) (kind : Kind) (i : Json) (items : Items) (own : List ℕ) (ds : List Part) → IsKindOfList e kind → i ≡ array items → Says F kind i own ds → IsListKind kind × (ds ≡ list_parts e items)
+  pub array_said : (e : List ℕ) (kind : Kind) (i : Json) (items : Items) (own : List ℕ) (ds : List Part) → IsKindOfList e kind → i ≡ array items → Says F kind i own ds → IsListKind kind × (ds ≡ list_parts e items)
   array_said e kind i items own ds (inl k) a s = let t = subst (λ (k : Kind). Says F k i own ds) k.1 s in let q : array items ≡ string t.0 = sym a ∙ t.1 in cc
   array_said e kind i items own ds (inr (inl (l, inl k))) a s = elim (subst (λ (k : Kind). Says F k i own ds) k s) [
     | inl t ↦ (let q : array items ≡ string _ = sym a ∙ t.1.1 in cc)

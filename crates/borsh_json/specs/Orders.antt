@@ -17,7 +17,7 @@ use Rattle.borsh_json.specs.declared.formats.Collection.{Collection}
 use Rattle.borsh_json.specs.declared.kinds.Elements.{Elements}
 use Rattle.borsh_json.specs.declared.kinds.KeyKind.{KeyKind}
 use Rattle.borsh_json.specs.declared.kinds.Kind.{Kind}
-use Rattle.borsh_json.specs.declared.kinds.Kind.TheVariants.{Number as NumberKind, Bool as Truth, Text as TextKind, Bytes, Float, ByteList, Numbers, List as ListKind, Map, Row, Newtype, Object, Optional, Choice, Repeated}
+use Rattle.borsh_json.specs.declared.kinds.Kind.TheVariants.{ByteList, Numbers, List as ListKind, Map}
 use Rattle.borsh_json.specs.declared.order.Ascent.{Ascent}
 use Rattle.borsh_json.specs.declared.order.Next.{Next}
 use Rattle.borsh_json.specs.declared.order.Next.TheVariants.{Value, Decided}
@@ -104,21 +104,11 @@ module _ (F : List ℕ → Option Form) (ns : List Named) (orders : List Known) 
 
   -- an order that a kind of x has is that of its keys
   abbrev pub KindHasOrder : List ℕ → Kind → Type 0
-  KindHasOrder x (NumberKind n) = ⊤
-  KindHasOrder x Truth = ⊤
-  KindHasOrder x TextKind = ⊤
-  KindHasOrder x (Bytes n) = ⊤
-  KindHasOrder x (Float n) = ⊤
   KindHasOrder x (ByteList es) = (es.size ≡ 1) × HasKeyOrder x es.order
   KindHasOrder x (Numbers es) = HasKeyOrder x es.order
   KindHasOrder x (ListKind es) = HasKeyOrder x es.order
   KindHasOrder x (Map es found) = (k : List ℕ) × IsAt ns es.key k × KeysAscend x k found
-  KindHasOrder x (Row n) = ⊤
-  KindHasOrder x (Newtype at) = ⊤
-  KindHasOrder x (Object fs) = ⊤
-  KindHasOrder x (Optional at) = ⊤
-  KindHasOrder x (Choice w vs) = ⊤
-  KindHasOrder x (Repeated name) = ⊤
+  KindHasOrder x kind = ⊤
 
   -- and so are those of all kinds that were found
   abbrev pub KindsHaveOrders : List (Option (Bor Definition × Kind)) → Type 0
@@ -135,21 +125,10 @@ module _ (F : List ℕ → Option Form) where
 
   -- a kind of x without an order tells that its keys have none, unless the list is refused
   abbrev pub KindTellsOrder : List ℕ → Kind → Type 0
-  KindTellsOrder x (NumberKind n) = ⊤
-  KindTellsOrder x Truth = ⊤
-  KindTellsOrder x TextKind = ⊤
-  KindTellsOrder x (Bytes n) = ⊤
-  KindTellsOrder x (Float n) = ⊤
   KindTellsOrder x (ByteList es) = TellsNoOrder x es.order
   KindTellsOrder x (Numbers es) = TellsNoOrder x es.order
   KindTellsOrder x (ListKind es) = es.is_refused ≡ false → TellsNoOrder x es.order
-  KindTellsOrder x (Map es found) = ⊤
-  KindTellsOrder x (Row n) = ⊤
-  KindTellsOrder x (Newtype at) = ⊤
-  KindTellsOrder x (Object fs) = ⊤
-  KindTellsOrder x (Optional at) = ⊤
-  KindTellsOrder x (Choice w vs) = ⊤
-  KindTellsOrder x (Repeated name) = ⊤
+  KindTellsOrder x kind = ⊤
 
   -- and so do all kinds that were found
   abbrev pub KindsTellOrders : List Named → List (Option (Bor Definition × Kind)) → Type 0

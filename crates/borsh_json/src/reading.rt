@@ -19,13 +19,13 @@ use std::collections::BTreeMap;
 /// definitions is refused with its path and what was expected; so are keys that come twice, the bits of a NaN, and arrays whose
 /// elements or keys don't ascend where they have to. The bytes are a member of the root.
 ///
-/// Determined: after `Ok` the text says the bytes, and no others, and sets and maps ascend where their order is known. Of a text
-/// that says bytes so the only errors are `OutOfMemory`, `Ambiguous` and `TooDeep`; after any but these and `Descends` the text says
-/// no bytes at all. A refusal's path leads from the root to the first place that fails: the parts before it, in the order of the
-/// bytes, have bytes. The JSON of this part says none, for the reason of the refusal; or it is a field that the object hasn't
-/// (`MissingField`), a part inside of 128 others (`TooDeep`), or an element of a set or map that isn't above the one before it
-/// (`Descends`). `NotJson` is of a text that isn't JSON, `Ambiguous` as of [`borsh_values::is_member`], and `NoMember` isn't
-/// returned. Left open: memory; what is expected, in words; the byte of `NotJson`: tested.
+/// Determined: after `Ok` the text says the bytes, and no others, and the keys of its sets and maps ascend where their order is
+/// known. A text that says bytes, with its keys in order, is refused with `OutOfMemory`, `Ambiguous` or `TooDeep` alone; after any
+/// other error but `Descends` the text says no bytes at all. A refusal's path leads from the root to the first place that fails: the
+/// parts before it, in the order of the bytes, have bytes. The JSON of this part says none, for the reason of the refusal; or it is a
+/// field that the object hasn't (`MissingField`), a part inside of 128 others (`TooDeep`), or an element of a set or map that isn't
+/// above the one before it (`Descends`). `NotJson` is of a text that isn't JSON, `Ambiguous` as of [`borsh_values::is_member`], and
+/// `NoMember` isn't returned. Left open: memory; what is expected, in words; the byte of `NotJson`: tested.
 ///
 /// ```
 /// let bytes = from_json(alloc, "(u8, bool)", &definitions, "[7, true]")?;
