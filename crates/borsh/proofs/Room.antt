@@ -1,10 +1,10 @@
 -- A value that fits into a slice is written there.
-use Rattle.std.proofs.Common.{◌≡◌, ℕ, ◌-◌, ◌<◌, ◌≤◌, Bool, true, false, ◌||◌, List, length, Option, Some, None, refl, sym, ◌∙◌, ap, subst, Result, Ok, Err, arith, eqb-true, true≢false}
+use Rattle.std.proofs.Common.{◌≡◌, ℕ, ◌≤◌, Bool, false, ◌||◌, List, length, Option, Some, refl, sym, ◌∙◌, ap, Ok, Err, arith, eqb-true, true≢false}
 use Rattle.std.proofs.lemmas.List.{length-drop}
 use Rattle.borsh_io.specs.declared.error.ErrorKind.{ErrorKind}
 use Rattle.borsh_io.specs.Sink.{overwriting}
 use Rattle.borsh_codec.specs.Codec.{Codec}
-use Rattle.borsh_codec.specs.Writing.{WriteFailure, NotWritten}
+use Rattle.borsh_codec.specs.Writing.{WriteFailure}
 use Rattle.borsh_codec.specs.Writing.WriteFailure.{no_encoding, no_memory, full, writer_failed}
 use Rattle.borsh_codec.proofs.ReadWhole.{no_fault}
 use Rattle.borsh.specs.Room.{FitsIntoRoom}
