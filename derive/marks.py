@@ -58,9 +58,9 @@ def refuse_stray_marks(reader, seen):
                 raise Refusal(comment.line, reason)
 
 
-# a comment that is nearly a mark
-ALMOST = re.compile(r'(?://[/!]?|/\*+)\s*#?\[?(?:derive\s*[:(=]?\s*borsh\w*(?:\s*,\s*\w+)*|borsh\s*[:(]\s*derive)[)\]\s]*(?:\*/)?$',
-                    re.I)
+# a comment that is nearly a mark: all that it says is that something is derived
+DERIVED = r'(?:deriv\w*|d[a-z]{3,6}(?=\s*:))[\W_]*borsh\w*|borsh[\W_]*deriv\w+|borsh'
+ALMOST = re.compile(r'(?://[/!]*|/\*+!?)[\s*#\[(@-]*(?:%s)(?:[\W_]+(?:borsh\w*|schema|key)|\s*,\s*\w+)*[\W_]*$' % DERIVED, re.I)
 
 
 def refuse_almost_marks(reader):

@@ -6,6 +6,7 @@ from marks import mark_above, mark_of, options_of, refuse_almost_marks, refuse_m
 from refusal import Refusal
 from rust_types import BORROWS, borrows, heads, holds_two_lifetimes, joined, parse_type
 from tokens import tokens_of
+from words import comment_of, refuse_doc, refuse_near, refuse_unused
 
 # what a key is compared by
 COMPARED = ('PartialEq', 'Eq', 'PartialOrd', 'Ord')
@@ -244,8 +245,7 @@ def read_module(text):
             break
         if mark is not None:
             check_attributes(attributes, TYPE_ATTRIBUTES, 'type')
-            marked = read_marked(reader, mark)
-            refuse_unused(reader, start)
+            marked = read_marked(reader, mark, start)
             marked.options = options_of(mark_of(mark))
             marked.derived = ' '.join(text for name, text, _ in attributes if name.startswith('derive'))
             check_options_of(marked)
@@ -403,6 +403,8 @@ def check_attributes(attributes, allowed, what):
         if name not in allowed:
             reason = 'the attribute `#%s` of a %s is not taken: %s'
             raise Refusal(line, reason % (text, what, instead_of(name, text, what)))
+        if name == 'doc' and what != 'type':
+            refuse_doc(text, line)
         if name == 'derive' and re.search(r'\bBorsh\w+', text):
             reason = '`%s` in `#%s`: the comment is in its place, so remove it'
             raise Refusal(line, reason % (re.search(r'\bBorsh\w+', text)[0], text))
@@ -507,8 +509,8 @@ def check_schema(marked):
 
 # ---- marked types
 
-def read_marked(reader, mark):
-    """The struct or the enum below a mark."""
+def read_marked(reader, mark, start):
+    """The struct or the enum below a mark; `start` is where its attributes begin."""
     line = reader.peek().line
     if reader.is_next('union') or reader.is_next('pub', 'union'):
         reason = 'a union has no encoding, since its bytes don\'t say which field they are: write an enum'
@@ -518,8 +520,12 @@ def read_marked(reader, mark):
         raise Refusal(mark.line, reason)
     what = reader.next().text
     name = reader.word()
+    body = reader.place
     try:
-        return read_type(reader, what, name, line)
+        marked = read_type(reader, what, name, line)
+        refuse_unused(reader, start)
+        refuse_near(reader, start, body)
+        return marked
     except Refusal as refusal:
         raise refusal.of(name)
 
@@ -653,27 +659,11 @@ def is_skipped(reader, comments, last_line):
     return found
 
 
-def comment_of(comment):
-    """'skip' or 'tag' for a comment that says something of a field or a variant."""
-    match = re.match(r'//(?![/!])\s*(skip\s*$|tag\s*:)', comment.text)
-    return match and match[1].rstrip(': ')
-
-
 def refuse_behind(reader, comment, last_line, what):
     """A comment behind code could be meant for what is before it."""
     if comment.line == last_line:
         raise Refusal(comment.line, '`%s` is behind code: write it above the %s' % (comment.shown(), what))
     reader.used.add(comment)
-
-
-def refuse_unused(reader, start):
-    """A comment `// skip` or `// tag: 7` that is above no field and no variant, from a token on."""
-    for place in range(start, reader.place + 1):
-        for comment in reader.before.get(place, []):
-            told = comment_of(comment)
-            if told and comment not in reader.used and (place < reader.place or comment.line == reader.last_line()):
-                reason = '`%s` is not above a %s: write it in a line of its own above the one that it is for'
-                raise Refusal(comment.line, reason % (comment.shown(), {'skip': 'field'}.get(told, 'variant')))
 
 
 def read_variants(reader):

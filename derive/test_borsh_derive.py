@@ -13,6 +13,7 @@ import unittest.mock
 import borsh_derive
 from cases import HEAD, Cases, droppable
 from test_refused import Refused  # noqa: F401, which is run with the others
+from test_words import Words  # noqa: F401, which is run with the others
 
 
 class Taken(Cases):
@@ -368,7 +369,7 @@ class Taken(Cases):
     def test_comments_beside_attributes_and_docs(self):
         field = '// derive: borsh\npub struct A {\n    pub a: u8,\n%s    pub b: u16,\n}\n'
         for above in ('    // skip\n    #[allow(unused)]\n', '    #[allow(unused)]\n    // skip\n', '    /// A doc.\n    // skip\n',
-                      '    // skip\n    /// A doc.\n', '    #[allow(unused)] // skip\n', '    /* A block. */\n    //skip\n    #[doc = "skip"]\n    /// A doc.\n'):
+                      '    // skip\n    /// A doc.\n', '    #[allow(unused)] // skip\n', '    /* A block. */\n    //skip\n    #[doc = "a skip"]\n    /// A doc.\n'):
             self.assertIn('type Fields = u8;', self.written(field % above, 'types_a'), above)
         variant = '// derive: borsh\npub enum A {\n%s    B(u8),\n    C,\n}\n'
         for above in ('    // tag: 7\n    #[default]\n', '    #[default]\n    // tag: 7\n', '    /// A doc.\n    // tag: 7\n',

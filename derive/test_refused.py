@@ -44,7 +44,8 @@ class Refused(Cases):
 
     def test_comments_that_are_almost_marks(self):
         for comment in ('/// derive: borsh', '//! derive: borsh', '// Derive: Borsh', '/* derive: borsh */', '// derive(borsh)', '// derive borsh, schema',
-                        '// #[derive(BorshSerialize)]', '// borsh: derive'):
+                        '// #[derive(BorshSerialize)]', '// borsh: derive', '// derive - borsh', '// derives: borsh', '// Derived: borsh, key', '// drive: borsh', '// dervie: borsh, schema',
+                        '// borsh', '// Borsh.', '// borsh: schema', '// borsh, key', '//// derive: borsh', '/// derive: borsh, json', '// deriving borsh;', '// @derive borsh'):
             self.refused(comment + '\npub struct A(pub u8);\n', 1, '`%s` marks nothing: write `// derive: borsh`' % comment)
         self.one('struct A;\n\n// This derives borsh: all of it.\n// Derive Borsh by hand.\n// Derive: of borsh.\n'.replace('struct', 'pub struct') + '/// derive: Borsh\npub fn f() {}\n', 7, 'marks nothing')
         self.refused('#[derive(Drop, BorshSerialize)]\npub struct A(pub u8);\n', 1, '`BorshSerialize` in `#[derive(Drop, BorshSerialize)]`: there is no such macro here, so write `// derive: borsh`')
