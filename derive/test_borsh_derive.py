@@ -454,7 +454,7 @@ class Taken(Cases):
                 fields = [(name % n, kinds[(n + count) % len(kinds)]) for n in range(count)]
                 rows = ''.join('    pub %s: %s,\n' % row for row in fields)
                 types.append('// derive: borsh, schema\npub struct %s%d {\n%s}\n' % (title, count, rows))
-                generic = rows.replace('String', 'Vec<A>').replace('u8;', 'Vec<A>;')
+                generic = rows.replace('(u64, String)', '(u64, Vec<A>)').replace('u8;', 'Vec<A>;')
                 types.append('// derive: borsh, schema\npub struct %sOf%d<A> {\n%s}\n' % (title, count, generic))
                 lengths = rows.replace('; 32', '; N')
                 types.append('// derive: borsh\npub struct %sWith%d<const N: usize> {\n%s}\n' % (title, count, lengths))
