@@ -14,9 +14,10 @@ from source import Fields
 NUMBERS = ('zero', 'one', 'two', 'three', 'four', 'five', 'six', 'seven', 'eight', 'nine', 'ten', 'eleven',
            'twelve')
 
-# the most parts that a tuple has, and that are written in one call; and how many are written where the last one is the rest
+# the most parts that a tuple has, and that are written in one call; and the most fields of a type, whose last ones are one part,
+# with one of their own where they are too many
 TUPLE = 12
-WRITTEN = 23
+WRITTEN = 200
 
 # the module of the library that has what is written here, and what it has
 DERIVED = 'borsh::derived'
@@ -55,14 +56,19 @@ class Writer:
         if not any(group.encoded() for group in marked.groups()):
             self.list = self.alias
         self.is_paired = is_paired(marked, place)
+        # of the last fields: how many types they are within, and whether these types refer to the whole value
+        self.level = 0
+        self.holds_whole = marked.variants is None and not marked.parameters
+        self.whole = self.own()
         self.sink = free_name('W', self.taken)
         self.source = free_name('R', self.taken)
 
     # ---- names
 
     def rest_name(self, variant='', kind='Rest'):
-        """The name of a type for the last fields of a struct or a variant of many."""
-        return free_name((variant or 'Last') + kind, self.taken)
+        """The name of a type for the last fields of a struct or a variant of many, or for the last ones of these."""
+        number = str(self.level + 1) if self.level else ''
+        return free_name((variant or 'Last') + kind + number, self.taken)
 
     def lib(self, name):
         """A name of the library, or its path where the type uses that name for something else."""
@@ -184,9 +190,11 @@ class Rest(Writer):
         self.marked = copy.copy(writer.marked)
         self.marked.parameters, self.marked.where = parameters, ', '.join(bounds)
         self.marked.fields, self.marked.variants = Fields('tuple', fields), None
-        self.owner = '%s::%s' % (writer.marked.name, variant) if variant else writer.marked.name
+        if not writer.level:
+            self.owner = '%s::%s' % (writer.marked.name, variant) if variant else writer.marked.name
         self.marked.name = writer.rest_name(variant)
         self.alias = writer.rest_name(variant, 'Fields')
+        self.level = writer.level + 1
 
     def own(self):
         return "%s<%s>" % (self.marked.name, ', '.join(["'a"] + [parameter.name for parameter in self.marked.parameters]))
@@ -347,11 +355,11 @@ def struct_fields(writer):
     return '%s\n%s' % (doc, tuple_alias(writer, writer.alias_head(), fields))
 
 
-def tuple_alias(writer, head, fields):
+def tuple_alias(writer, head, fields, variant=''):
     """The declaration of a name for the tuple of fields; one that is too wide is named by its length."""
     types = [type_layout(field.type) for field in fields] + (['()'] if writer.is_paired else [])
     if len(fields) > TUPLE:
-        types = types[:TUPLE - 1] + [Rest(writer, fields[TUPLE - 1:]).alias_use()]
+        types = types[:TUPLE - 1] + [Rest(writer, fields[TUPLE - 1:], variant).alias_use()]
     start = 'type %s = ' % head
     line = statement(start, parts(types, tuple_type) if types else '()', ';', 0)
     if '\n' in line:
@@ -439,7 +447,7 @@ def struct_encoding(writer):
         body = chain('self', [names[0][len('self'):], '.serialize(alloc, writer)'], 8)
     else:
         body = statement('', written_parts(writer, ['&' + name for name in names]), '', 8)
-        if len(names) > TUPLE and holds_whole(writer):
+        if len(names) > TUPLE and writer.holds_whole:
             body = '        let last = %s(self);\n%s' % (writer.rest_name(), body)
     rows = [serialize_head(writer, used=bool(names)), body, '    }'] + struct_put(writer, names)
     block = writer.block('BorshSerialize', 'BorshSerialize', rows)
@@ -449,39 +457,39 @@ def struct_encoding(writer):
 def written_parts(writer, parts, variant=''):
     """The call that writes parts in order; past twelve, the last ones are one part."""
     if len(parts) > TUPLE:
-        last = '&last' if holds_whole(writer) else within('&', call(writer.rest_name(variant), parts[TUPLE - 1:]), '')
+        last = '&last' if writer.holds_whole else within('&', call(writer.rest_name(variant), parts[TUPLE - 1:]), '')
         parts = parts[:TUPLE - 1] + [last]
     return call(writer.lib('write_' + NUMBERS[len(parts)]), parts + ['alloc', 'writer'])
 
 
-def holds_whole(writer):
-    """Whether the type for the last fields refers to the whole value. One with parameters can't quote the view of it."""
-    return writer.marked.variants is None and not writer.marked.parameters
-
-
 def rest_blocks(writer, fields, variant=''):
-    """The type of references to the last fields of a struct or a variant of many, which are written as one part."""
+    """The type of references to the last fields of a struct or a variant of many, which are written as one part. One with
+    parameters can't quote the view of the whole."""
     if len(fields) < 2:
         return []
     rest = Rest(writer, fields, variant)
-    if holds_whole(writer):
-        held = ["&'a " + writer.own()]
-        parts_of = quote(writer, writer.own(), 'FromParts', '.view').flat()
-        view = Term('(λ r. ', ['(%s r.0.now).%d' % (parts_of, TUPLE - 1)], ')')
+    within_it = rest_blocks(rest, fields[TUPLE - 1:], variant)
+    last = ''
+    if writer.holds_whole:
+        held = ["&'a " + writer.whole]
+        parts_of = quote(writer, writer.whole, 'FromParts', '.view').flat()
+        view = Term('(λ r. ', ['(%s r.0.now)%s' % (parts_of, '.%d' % (TUPLE - 1) * rest.level)], ')')
         places = ['&self.0.%s' % field.name for field in fields]
+        last = '        let last = %s(self.0);\n' % rest.rest_name() if within_it else ''
     else:
         held = ["&'a " + type_text(field.type) for field in fields]
-        view = Term('(λ r. ', ['r.%d.now' % index for index in range(len(fields))], ')')
+        view = Term('(λ r. ', ghost_parts(['r.%d.now' % index for index in range(len(fields))]), ')')
         places = ['self.%d' % index for index in range(len(fields))]
     laws_of_fields = quote(rest, rest.alias_use(), 'BorshType', '.lawful_if')
     laws = ghost_member('lawful_if', 'from', [view.within('(contramap-lawful ', ')'), laws_of_fields])
-    writes = [serialize_head(rest, used=True), statement('', written_parts(rest, places), '', 8), '    }']
+    writes = [serialize_head(rest, used=True), last + statement('', written_parts(rest, places, variant), '', 8), '    }']
     doc = 'The last fields of [`%s`]' % rest.owner
-    return ['%s\n%s' % (doc_line(doc + ', in order.'), tuple_alias(rest, rest.alias_head(), fields)),
-            '%s\n#[derive(Drop)]\n%s' % (doc_line(doc + ', which are written as one part.'),
-                        statement('', call('struct ' + rest.declared(), held), ';', 0)),
-            meaning(rest, view, 'BorshType', laws, encodes_empty(rest), chain_of_sizes(rest)),
-            rest.block('BorshSerialize', 'BorshSerialize', writes)]
+    return within_it + [
+        '%s\n%s' % (doc_line(doc + ', in order.'), tuple_alias(rest, rest.alias_head(), fields, variant)),
+        '%s\n#[derive(Drop)]\n%s' % (doc_line(doc + ', which are written as one part.'),
+                                     statement('', call('struct ' + rest.declared(), held), ';', 0)),
+        meaning(rest, view, 'BorshType', laws, encodes_empty(rest), chain_of_sizes(rest)),
+        rest.block('BorshSerialize', 'BorshSerialize', writes)]
 
 
 # the head of the method by which a list writes many elements at a time
