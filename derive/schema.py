@@ -1,7 +1,7 @@
 """What is written for a type's schema: its name, its definitions, and why they describe its encodings."""
 
 from describe import describes_fields
-from emit import TUPLE, Rest, free_name, generic_group, quote, tree
+from emit import NAMED, TUPLE, Rest, free_name, generic_group, named, names_of_many, quote, tree
 from ghost import Applied, Term, ghost_list, ghost_member, ghost_name, nested_pairs
 from layout import (ARRAY_WIDTH, TUPLE_WIDTH, Group, call, doc_line, flat, function_head, statement, tuple_type,
                     type_layout)
@@ -55,10 +55,13 @@ def chain(items, end):
 
 def chain_type(fields, end='()'):
     """The types of fields one after another."""
-    node = end
-    for field in reversed(fields):
-        node = tuple_type([type_layout(field.type), node])
-    return node
+    return chain_of([type_layout(field.type) for field in fields], end)
+
+
+def chain_of(types, end):
+    for one in reversed(types):
+        end = tuple_type([one, end])
+    return end
 
 
 def fields_view(names):
@@ -88,31 +91,18 @@ def struct_schema(writer):
     block = schema(writer, data, struct_call(writer, kind, chained), describes)
     if len(fields) <= TUPLE:
         return [block]
-    if len(fields) > CHAINED + 1:
-        return chain_aliases(writer, fields, writer.list, '') + [block]
+    if len(fields) > NAMED + 1:
+        return names_in_chain(writer, fields, writer.list, writer.marked.name) + [block]
     doc = doc_line('The fields of [`%s`] as its schema goes through them.' % writer.marked.name)
     last = '%s<%s>' % (writer.lib('Chain'), Rest(writer, fields[TUPLE - 1:]).alias_use())
     types = chain_type(fields[:TUPLE - 1], last)
     return ['%s\n%s' % (doc, statement('type %s = ' % writer.list_head(), types, ';', 0)), block]
 
 
-# the most fields of a variant, and of a struct but for one, whose types are named in one line after another
-CHAINED = 22
-
-
-def chain_aliases(writer, fields, name, variant):
-    """The declarations of names for the types of many fields one after another: each is that of some of them and of the next."""
-    rest = Rest(writer, fields, variant)
-    doc = doc_line('The fields of [`%s`] as its schema goes through them.' % rest.owner)
-    found = []
-    for index in range(0, len(fields), TUPLE - 1):
-        part, behind = fields[index:index + TUPLE - 1], fields[index + TUPLE - 1:]
-        number = index // (TUPLE - 1) + 1
-        end = Rest(writer, behind, variant).alias_use('%s%d' % (name, number + 1)) if behind else '()'
-        head = Rest(writer, fields[index:], variant).alias_head(name + (str(number) if index else ''))
-        found.append('%s\n%s' % (doc, statement('type %s = ' % head, chain_type(part, end), ';', 0)))
-        doc = doc_line('The last fields of [`%s`] as its schema goes through them.' % rest.owner)
-    return found
+def names_in_chain(writer, fields, name, owner):
+    """The declarations of names for the types of many fields one after another."""
+    what = 'The %%sfields of [`%s`] as its schema goes through them.' % owner
+    return names_of_many(writer, fields, name, what, lambda types, last: chain_of(types, last[0] if last else '()'))
 
 
 def types_in_chain(writer, fields):
@@ -184,21 +174,16 @@ def enum_schema(writer):
     data = enum_parts(writer) + [''] + enum_described(writer)
     describes = '    ghost describes = { Self.described.describes };'
     block = schema(writer, data, enum_call(writer), describes)
-    wide = [variant for variant in variants if len(variant.fields.encoded()) > CHAINED]
-    lists = [chain_aliases(writer, variant.fields.encoded(), list_name(writer, variant), variant.name) for variant in wide]
+    wide = [variant for variant in variants if len(variant.fields.encoded()) > NAMED]
+    lists = [names_in_chain(writer, variant.fields.encoded(), variant.name + 'FieldList', '%s::%s' % (writer.marked.name, variant.name))
+             for variant in wide]
     return sum(lists, []) + ([alias, block] if has_list(writer) else [block])
 
 
 def chain_of_variant(writer, variant):
     """The types of the fields of a variant one after another; of many by a name of their own."""
     fields = variant.fields.encoded()
-    if len(fields) > CHAINED:
-        return Rest(writer, fields, variant.name).alias_use(list_name(writer, variant))
-    return chain_type(fields)
-
-
-def list_name(writer, variant):
-    return free_name(variant.name + 'FieldList', writer.taken)
+    return named(writer, fields, free_name(variant.name + 'FieldList', writer.taken)) if len(fields) > NAMED else chain_type(fields)
 
 
 def has_list(writer):
