@@ -230,18 +230,21 @@ def snake(name):
 # ---- refusals over the whole crate
 
 def clashes(places, root):
-    """Refusals of two types of one name, or with one file."""
+    """Refusals of two types of one name, if one file has both or a field is of one of them, and of two types with one file."""
+    held = {declared_at(name, place) for place, marked in places for name in marked.heads()}
     names, files, found = {}, {}, []
     for place, marked in places:
         file = source_name(place, root)
         own = file_name(place, marked)
-        if marked.name in names:
-            reason = 'a second type `%s`: the other one is in src/%s' % (marked.name, names[marked.name])
+        others = names.setdefault(marked.name, [])
+        modules = [place.module_name] + [other.module_name for other in others]
+        if place in others or others and any((module, marked.name) in held for module in modules):
+            reason = 'a second type `%s`: the other one is in src/%s' % (marked.name, source_name(others[-1], root))
             found.append(Refusal(marked.line, reason, 'src/' + file))
         elif own in files:
             reason = '`%s` and `%s` would have one file, %s' % (files[own], marked.name, own)
             found.append(Refusal(marked.line, reason, 'src/' + file))
-        names[marked.name] = file
+        others.append(place)
         files[own] = marked.name
     return found
 
