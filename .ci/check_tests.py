@@ -6,7 +6,8 @@ functions, `| `CRATE` | NUMBER | ..`, once with the number of its rows, and of t
 for which tests of the original are left out, `| REASON | NUMBER |`.
 
 docs/original-tests.txt has the paths of the original's files of tests; below each, indented by two, names of tests; below these,
-indented by four, where they are tested here: `PATH: SECTION` of a file of rows, `PATH: FUNCTION`, or `left out: REASON`.
+indented by four, where they are tested here: `PATH: SECTION` of a file of rows, `PATH: FUNCTION`, or `left out: REASON`; and
+`differs: WHAT AND WHY`.
 """
 
 import pathlib
@@ -33,7 +34,7 @@ def sections(file):
 
 def tests():
     """Of each file its sections with the number of their rows, or its test functions, each counting as one."""
-    files = {file: sections(file) for file in TOP.glob("crates/test_*/data/*.tsv")}
+    files = {file: sections(file) for file in [*TOP.glob("crates/test_*/data/*.tsv"), *TOP.glob("derive/originals/*.tsv")]}
     for file in TOP.glob("crates/*/src/**/*.rt"):
         found = TEST.findall(file.read_text(encoding="utf-8"))
         if found:
@@ -42,7 +43,9 @@ def tests():
 
 
 def short(path):
-    """`crates/CRATE/data/FILE.tsv` as `CRATE/FILE`, and `crates/CRATE/src/FILE.rt` as `CRATE`."""
+    """`crates/CRATE/data/FILE.tsv` as `CRATE/FILE`, `crates/CRATE/src/FILE.rt` as `CRATE`; else the folder."""
+    if not path.startswith("crates/"):
+        return path.rsplit("/", 1)[0]
     _, crate, _, name = path.split("/", 3)
     return f"{crate}/{name[:-4]}" if name.endswith(".tsv") else crate
 
@@ -82,14 +85,14 @@ def main():
     left_out = 0
     wrong = []
     for test, places in originals.items():
-        if not places:
+        if not [place for place in places if not place.startswith("differs: ")]:
             wrong.append(f"docs/original-tests.txt: `{test}` is nowhere")
         for place in places:
             reason = re.match(r"left out: (.+)", place)
             if reason:
                 numbers[reason[1]] = numbers.get(reason[1], 0) + 1
                 left_out += 1
-            elif place not in there:
+            elif not place.startswith("differs: ") and place not in there:
                 wrong.append(f"docs/original-tests.txt: there is no `{place}`")
     rows = told()
     if len(rows) != len({name for name, *_ in rows}):
