@@ -6,7 +6,7 @@ use example_generated::discriminants::{
 use example_generated::roundtrips::{B, C, CustomStruct, MixedWithUnitVariants, Serializable};
 use example_generated::{
     boxed, mixed_phantom_enum, phantom_enum, phantom_struct, simple_struct, tuple_struct,
-    unit_struct,
+    unit_struct, without_bytes,
 };
 use std::alloc::Global;
 use std::collections::{LinkedList, VecDeque};
@@ -56,9 +56,9 @@ fn encodings(alloc: Global, name: &str, call: &Call<'_>) -> Result<Report, Fault
         "Serializable" => call_at::<Serializable>(alloc, call),
         "[CustomStruct; 3]" => call_at::<[CustomStruct; 3]>(alloc, call),
         "Vec<B>" => call_at::<Vec<B>>(alloc, call),
-        "Vec<unit_struct::A>" => call_at::<Vec<unit_struct::A>>(alloc, call),
-        "VecDeque<unit_struct::A>" => call_at::<VecDeque<unit_struct::A>>(alloc, call),
-        "LinkedList<unit_struct::A>" => call_at::<LinkedList<unit_struct::A>>(alloc, call),
+        "Vec<without_bytes::A>" => call_at::<Vec<without_bytes::A>>(alloc, call),
+        "VecDeque<without_bytes::A>" => call_at::<VecDeque<without_bytes::A>>(alloc, call),
+        "LinkedList<without_bytes::A>" => call_at::<LinkedList<without_bytes::A>>(alloc, call),
         _ => Err(Fault::UnknownType),
     }
 }

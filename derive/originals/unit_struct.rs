@@ -1,4 +1,4 @@
-// The unit struct of the original's tests of schemas and of elements without bytes.
+// The unit struct of the original's tests of schemas.
 
 /// No fields.
 // derive: borsh, schema
