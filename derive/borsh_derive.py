@@ -208,18 +208,20 @@ def snake(name):
 # ---- refusals over the whole crate
 
 def refuse_clashes(places, root):
-    """Two types of one name, or with one file, are refused."""
+    """Two types of one name are refused if a field is of one of them, and two types with one file."""
+    held = {declared_at(name, place) for place, marked in places for name in marked.heads()}
     names, files = {}, {}
     for place, marked in places:
-        file = source_name(place, root)
-        if marked.name in names:
-            reason = 'a second type `%s`: the other one is in src/%s' % (marked.name, names[marked.name])
+        file, others = source_name(place, root), names.setdefault(marked.name, [])
+        others.append(place)
+        if file in [source_name(other, root) for other in others[:-1]] or len(others) > 1 and any(
+                (other.module_name, marked.name) in held for other in others):
+            reason = 'a second type `%s`: the other one is in src/%s' % (marked.name, source_name(others[-2], root))
             raise Refusal(marked.line, reason, 'src/' + file)
         own = file_name(place, marked)
         if own in files:
             reason = '`%s` and `%s` would have one file, %s' % (files[own], marked.name, own)
             raise Refusal(marked.line, reason, 'src/' + file)
-        names[marked.name] = file
         files[own] = marked.name
 
 

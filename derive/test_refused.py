@@ -90,7 +90,13 @@ class Refused(Cases):
         self.one('pub struct A(pub Vec<B>);\n\n// derive: borsh\npub struct B(pub Option<A>);\n', 2, '`A` holds itself through `B`')
 
     def test_two_types_of_one_name(self):
-        self.refused('// derive: borsh\npub struct A;\n', 2, 'a second type `A`: the other one is in src/other.rt', root=HEAD + 'pub mod other;\n', other='// derive: borsh\npub enum A {\n    B,\n}\n')
+        root, other = HEAD + 'pub mod other;\n', '// derive: borsh\npub enum A {\n    B,\n}\n'
+        reason = 'a second type `A`: the other one is in src/other.rt'
+        self.refused('// derive: borsh\npub struct A;\n\n// derive: borsh\npub struct C(pub A);\n', 2, reason, root=root, other=other)
+        self.refused('use super::other::A as D;\n\n// derive: borsh\npub struct A;\n\n// derive: borsh\npub struct C(pub D);\n', 4, reason, root=root, other=other)
+        self.refused('// derive: borsh\npub struct A;\n\n// derive: borsh\npub enum A {\n    B,\n}\n', 5, 'a second type `A`: the other one is in src/types.rt')
+        text = self.written('// derive: borsh\npub struct A;\n', 'types_a', root=root, other=other)
+        self.assertIn('use super::types::A;\n', text)
 
     def test_two_types_with_one_file(self):
         self.refused('// derive: borsh\npub struct ABC;\n\n// derive: borsh\npub struct Abc;\n', 5, 'would have one file, types_abc.rt')

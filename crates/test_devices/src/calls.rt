@@ -131,6 +131,12 @@ pub fn call_with_schema<T: BorshSerialize + BorshDeserialize + BorshSchema>(
     call_at::<T>(alloc, call)
 }
 
+/// Makes the calls of the type's schema: no other row names the type, which may be one that isn't decoded.
+pub fn schema_at<T: BorshSchema>(alloc: Global, call: &Call<'_>) -> Result<Report> {
+    check(call.how == How::Schema, "a schema alone", 0)?;
+    schema::<T>(alloc, call)
+}
+
 /// Makes a call that decodes, and encodes the value again.
 fn decode<T: BorshSerialize + BorshDeserialize>(alloc: Global, call: &Call<'_>) -> Result<Report> {
     let mut rest = call.bytes;

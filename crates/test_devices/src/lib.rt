@@ -18,7 +18,7 @@ mod sweeps;
 mod writer;
 mod writing;
 
-pub use calls::{Call, How, Report, Subject, call_at, call_with_schema};
+pub use calls::{Call, How, Report, Subject, call_at, call_with_schema, schema_at};
 pub use checks::{CALLS, Checks};
 pub use course::{ABORTED, Course, Failure, courses};
 pub use fault::Fault;

@@ -24,7 +24,7 @@ use std::ops::{Range, RangeFrom, RangeFull, RangeInclusive, RangeTo, RangeToIncl
 use std::rc::{Rc, RcSlice, RcStr};
 use std::sync::{Arc, ArcSlice, ArcStr};
 use test_devices::fault::Fault;
-use test_devices::{Call, Report, Subject, call_at, call_with_schema};
+use test_devices::{Call, Report, Subject, call_at, call_with_schema, schema_at};
 use uuid::Uuid;
 
 /// A type by its name.
@@ -67,6 +67,7 @@ fn sums(alloc: Global, name: &str, call: &Call<'_>) -> Result<Report, Fault> {
 fn tuples(alloc: Global, name: &str, call: &Call<'_>) -> Result<Report, Fault> {
     at_one_of!(call_with_schema, alloc, name, call, arrays;
         (bool,), (u8, u16), (String, u64), (u8, bool, u16), (i32, String, u64), (i32, String, f64),
+        (u8, u16, u32, u64, i8, i16, i32, i64),
         (u8, String, i8, bool, u16, u32, u64, i16, i32, i64, u128, usize),
         ((u8, u8, u8, u8), (u8, u8, u8, u8, u8), (u8, u8, u8, u8, u8, u8),
         (u8, u8, u8, u8, u8, u8, u8), (u8, u8, u8, u8, u8, u8, u8, u8),
@@ -180,9 +181,27 @@ fn types_without_schema(alloc: Global, name: &str, call: &Call<'_>) -> Result<Re
 }
 
 fn lists_of_types(alloc: Global, name: &str, call: &Call<'_>) -> Result<Report, Fault> {
-    at_one_of!(call_at, alloc, name, call, no_type;
+    at_one_of!(call_at, alloc, name, call, schemas;
         Vec<Marker>, Vec<Session>, Vec<Level>, Vec<Pair<Level, u16>>, Vec<Pair<u8, String>>,
         Vec<B<String, u64>>, Vec<Boxed<String, u64>>)
+}
+
+fn schemas(alloc: Global, name: &str, call: &Call<'_>) -> Result<Report, Fault> {
+    at_one_of!(schema_at, alloc, name, call, more_schemas;
+        Option<u64>, Option<Option<u64>>, [u64; 32], [[[u64; 9]; 10]; 32], Vec<u64>, VecDeque<u64>,
+        LinkedList<u64>, Vec<Vec<u64>>, Vec<i64>, BTreeMap<u64, String>, HashMap<u64, String>,
+        (u64, NonZeroU16, String), (u64, (u8, bool), String), PhantomData<String>,
+        PhantomData<Vec<u8>>, RangeFull, Range<u64>, RangeTo<u64>, Rc<i32>, Arc<i32>;
+        "&str" = &str, "&[i64]" = &[i64], "Cow<[Cow<str>]>" = CowSlice<CowStr>,
+        "Rc<[i32]>" = RcSlice<i32>, "Arc<[i32]>" = ArcSlice<i32>)
+}
+
+fn more_schemas(alloc: Global, name: &str, call: &Call<'_>) -> Result<Report, Fault> {
+    at_one_of!(schema_at, alloc, name, call, no_type;
+        (u8, u16, u32, u64, i8, i16, i32), (u8, u16, u32, u64, i8, i16, i32, i64, bool),
+        (u8, u16, u32, u64, i8, i16, i32, i64, bool, u128),
+        (u8, u16, u32, u64, i8, i16, i32, i64, bool, u128, i128),
+        (u8, u16, u32, u64, i8, i16, i32, i64, bool, u128, i128, String))
 }
 
 fn no_type(_alloc: Global, _name: &str, _call: &Call<'_>) -> Result<Report, Fault> {
