@@ -6,8 +6,9 @@ functions, `| `CRATE` | NUMBER | ..`, once with the number of its rows, and of t
 for which tests of the original are left out, `| REASON | NUMBER |`.
 
 docs/original-tests.txt has the paths of the original's files of tests; below each, indented by two, names of tests; below these,
-indented by four, where they are tested here: `PATH: SECTION` of a file of rows, `PATH: FUNCTION`, or `left out: REASON`; and
-`differs: WHAT AND WHY`.
+indented by four, where they are tested here: `PATH: SECTION` of a file of rows, `PATH: FUNCTION`, or `left out: REASON`; and, if
+a type isn't the original's, `differs: WHY`. Below a section, indented by six, are beginnings of its rows, with a space for each tab:
+the types that the original's tests are of, so that none of them is exchanged.
 """
 
 import pathlib
@@ -32,9 +33,23 @@ def sections(file):
     return counts
 
 
+def files_of_rows():
+    return [*TOP.glob("crates/test_*/data/*.tsv"), *TOP.glob("derive/originals/*.tsv")]
+
+
+def rows_of():
+    """The rows of each section, `PATH: SECTION`, with a space for each tab and one behind them."""
+    found = {}
+    for file in files_of_rows():
+        for part in re.findall(r"(?:^#.*\n)+(?:^(?!#).*\n)*", file.read_text(encoding="utf-8"), re.M):
+            section = part.split("\n")[0][2:]
+            found[f"{file.relative_to(TOP)}: {section}"] = [f"{row} ".replace("\t", " ") for row in part.splitlines()]
+    return found
+
+
 def tests():
     """Of each file its sections with the number of their rows, or its test functions, each counting as one."""
-    files = {file: sections(file) for file in [*TOP.glob("crates/test_*/data/*.tsv"), *TOP.glob("derive/originals/*.tsv")]}
+    files = {file: sections(file) for file in files_of_rows()}
     for file in TOP.glob("crates/*/src/**/*.rt"):
         found = TEST.findall(file.read_text(encoding="utf-8"))
         if found:
@@ -43,18 +58,22 @@ def tests():
 
 
 def short(path):
-    """`crates/CRATE/data/FILE.tsv` as `CRATE/FILE`, `crates/CRATE/src/FILE.rt` as `CRATE`; else the folder."""
-    if not path.startswith("crates/"):
-        return path.rsplit("/", 1)[0]
+    """`crates/CRATE/data/FILE.tsv` as `CRATE/FILE`, and `crates/CRATE/src/FILE.rt` as `CRATE`."""
+    if path.startswith("derive/"):
+        return path
     _, crate, _, name = path.split("/", 3)
     return f"{crate}/{name[:-4]}" if name.endswith(".tsv") else crate
 
 
-def original_tests():
-    """The tests of the original, `path: test`, each with where it is tested here."""
-    places, path, names, in_names = {}, None, [], False
+def original_tests(rows, wrong):
+    """The tests of the original, `path: test`, each with where it is tested here; the rows named there are in their sections."""
+    places, path, names, in_names, place = {}, None, [], False, ""
     for line in (TOP / "docs/original-tests.txt").read_text(encoding="utf-8").splitlines():
-        if line.startswith("    "):
+        if line.startswith("      "):
+            if not any(row.startswith(line.strip() + " ") for row in rows.get(place, [])):
+                wrong.append(f"docs/original-tests.txt: `{place}` has no row `{line.strip()}`")
+        elif line.startswith("    "):
+            place = line.strip()
             for name in names:
                 places[f"{path}: {name}"].append(line.strip())
         elif line.startswith("  "):
@@ -75,7 +94,8 @@ def told():
 
 
 def main():
-    files, originals = tests(), original_tests()
+    wrong = []
+    files, originals = tests(), original_tests(rows_of(), wrong)
     there = {f"{path}: {name}" for path, names in files.items() for name in names}
     numbers, in_sections = {}, {}
     for path, counts in files.items():
@@ -83,16 +103,15 @@ def main():
         if path.endswith(".tsv"):
             in_sections[short(path)] = len(counts)
     left_out = 0
-    wrong = []
     for test, places in originals.items():
-        if not [place for place in places if not place.startswith("differs: ")]:
+        if all(place.startswith("differs: ") for place in places):
             wrong.append(f"docs/original-tests.txt: `{test}` is nowhere")
         for place in places:
             reason = re.match(r"left out: (.+)", place)
             if reason:
                 numbers[reason[1]] = numbers.get(reason[1], 0) + 1
                 left_out += 1
-            elif not place.startswith("differs: ") and place not in there:
+            elif place not in there and not place.startswith("differs: "):
                 wrong.append(f"docs/original-tests.txt: there is no `{place}`")
     rows = told()
     if len(rows) != len({name for name, *_ in rows}):
