@@ -316,7 +316,8 @@ def refuse_fields(marked, place):
         raise Refusal(marked.line, reason % (marked.name, private[0]))
     for group in marked.groups():
         encoded = group.encoded()
-        most = TUPLE if marked.is_only_encoded() or marked.lifetimes() else WRITTEN
+        most = WRITTEN if marked.variants is None else WRITTEN - 1
+        most = TUPLE if marked.is_only_encoded() or marked.lifetimes() else most
         if len(encoded) > most:
             reason = 'more than %d fields: put some of them into a struct of their own, whose bytes are the same'
             raise Refusal(encoded[most].line, reason % most)

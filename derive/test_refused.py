@@ -209,9 +209,9 @@ class Refused(Cases):
         self.refused('struct B; impl BorshType for B {}\n\n// derive: borsh\npub struct A(pub B);\n', 4, 'names `B`, which is private')
 
     def test_too_many_fields(self):
-        fields = ''.join('    pub f%d: u8,\n' % index for index in range(201))
-        self.one('pub struct A {\n%s}\n' % fields, 203, 'more than 200 fields')
-        self.one('pub enum A {\n    B(%s),\n}\n' % ', '.join(['u8'] * 201), 3, 'more than 200 fields')
+        fields = ''.join('    pub f%d: u8,\n' % index for index in range(24))
+        self.one('pub struct A {\n%s}\n' % fields, 26, 'more than 23 fields')
+        self.one('pub enum A {\n    B(%s),\n}\n' % ', '.join(['u8'] * 23), 3, 'more than 22 fields')
 
     def test_parameters(self):
         self.one('pub struct A<T = u8>(pub T);\n', 2, 'the parameter `T` has a default')
