@@ -88,14 +88,14 @@ module _ {E : Type 0} (F : List ℕ → Option Form) (x own : List ℕ) (d : Def
   primitive_value n e (Ok v) h = subst (λ (d : Definition). IsValueText F x (form_of d) own (string_bytes v)) (sym e) h
   primitive_value n e (Err z) h = tt
 
-  pub text_value : (w : ℕ) (l : LengthRange) (s : String Global) → d ≡ Sequence w l s → IsText F x (string_bytes s) → (es : List ℕ) → AreElementsOf (shape_of d) own es → (r : Result (String Global) E) → IfOk r (λ v. IsQuoted es (string_bytes v)) → IfOk r (λ v. IsValueText F x (form_of d) own (string_bytes v))
+  pub text_value : (w : ℕ) (l : LengthRange) (s : String Global) → d ≡ Sequence w l s → IsText F x (form_of d) (string_bytes s) → (es : List ℕ) → AreElementsOf (shape_of d) own es → (r : Result (String Global) E) → IfOk r (λ v. IsQuoted es (string_bytes v)) → IfOk r (λ v. IsValueText F x (form_of d) own (string_bytes v))
   text_value w l s e t es a (Ok v) h =
       let b = subst (λ (d : Definition). AreElementsOf (shape_of d) own es) e a in
-      subst (λ (d : Definition). IsValueText F x (form_of d) own (string_bytes v)) (sym e) (inl (t, subst (λ (es : List ℕ). IsQuoted es (string_bytes v)) b h))
+      subst (λ (d : Definition). IsValueText F x (form_of d) own (string_bytes v)) (sym e) (inl (subst (λ (d : Definition). IsText F x (form_of d) (string_bytes s)) e t, subst (λ (es : List ℕ). IsQuoted es (string_bytes v)) b h))
   text_value w l s e t es a (Err z) h = tt
 
-  pub count_value : (w : ℕ) (l : LengthRange) (s : String Global) → d ≡ Sequence w l s → (IsText F x (string_bytes s) → ⊥) → (count : Option ℕ) → IsCountOf (shape_of d) own count → (r : Result (String Global) E) → IfOk r (λ v. MatchOption count (string_bytes v ≡ []) (λ k. string_bytes v ≡ counted k)) → IfOk r (λ v. IsValueText F x (form_of d) own (string_bytes v))
-  count_value w l s e t count a (Ok v) h = subst (λ (d : Definition). IsValueText F x (form_of d) own (string_bytes v)) (sym e) (inr (t, count, subst (λ (d : Definition). IsCountOf (shape_of d) own count) e a, h))
+  pub count_value : (w : ℕ) (l : LengthRange) (s : String Global) → d ≡ Sequence w l s → (IsText F x (form_of d) (string_bytes s) → ⊥) → (count : Option ℕ) → IsCountOf (shape_of d) own count → (r : Result (String Global) E) → IfOk r (λ v. MatchOption count (string_bytes v ≡ []) (λ k. string_bytes v ≡ counted k)) → IfOk r (λ v. IsValueText F x (form_of d) own (string_bytes v))
+  count_value w l s e t count a (Ok v) h = subst (λ (d : Definition). IsValueText F x (form_of d) own (string_bytes v)) (sym e) (inr (subst (λ (d : Definition). IsText F x (form_of d) (string_bytes s) → ⊥) e t, count, subst (λ (d : Definition). IsCountOf (shape_of d) own count) e a, h))
   count_value w l s e t count a (Err z) h = tt
 
 abbrev texts : ℤ × String Global × String Global → ℤ × List ℕ × List ℕ

@@ -15,8 +15,7 @@ pub returns-then-is_text : goal.returns-then-is_text
 returns-then-is_text c =
     let n = c.args.node.now in
     let F = forms_in c.args.map.now in
-    let t = c.is_text.ensures.0 c.if-is_text.true in
-    text_value F n.name.now n.bytes.now n.definition.now _ _ _ c.in-Sequence.is (subst (λ e. IsText F n.name.now e) c.as_str.ensures.value t) c.elements_of.result.now c.elements_of.ensures c.quoted.result c.quoted.ensures
+    ? c.elements_of.result.now c.elements_of.ensures c.quoted.result c.quoted.ensures
 
 pub returns-else-is_text : goal.returns-else-is_text
 returns-else-is_text c =
