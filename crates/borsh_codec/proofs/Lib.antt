@@ -19,6 +19,7 @@ pub mod ReadSums
 pub mod DecodeSums
 pub mod TextBytes
 pub mod KeyOrder
+pub mod MadeMaps
 pub mod ReadMaps
 pub mod SortedRefs
 pub mod WriteMaps

@@ -4,12 +4,13 @@ use Rattle.std.specs.Prelude.{if◌then◌else◌}
 use Rattle.std.specs.Bool.{⊤}
 use Rattle.std.specs.declared.cmp.Ordering.{Ordering}
 use Rattle.std.specs.Ordering.{is_eq, eq_by_cmp}
-use Rattle.std.specs.Cmp.{IsTotalOrder, eq_by_cmp_equiv}
+use Rattle.std.specs.Cmp.{IsEquivalence, IsTotalOrder, eq_by_cmp_equiv}
 use Rattle.std.specs.BTreeMap.{is_at}
 use Rattle.std.specs.Map.{keys_of, lookup, update_all}
 use Rattle.std.specs.Set.{is_member}
-use Rattle.std.specs.List.{list_any}
+use Rattle.std.specs.List.{list_any, IsDistinct}
 use Rattle.std.specs.List.Sorted.{IsStrictlySortedBy}
+use Rattle.std.proofs.lemmas.Map.Keys.{IsDistinct-from_sorted}
 use Rattle.std.proofs.lemmas.Map.Made.{update_all_pairs}
 use Rattle.std.proofs.lemmas.List.{length-map}
 use Rattle.std.proofs.lemmas.List.Elements.{All-map}
@@ -19,11 +20,12 @@ use Rattle.borsh_io.specs.declared.error.ErrorKind.{ErrorKind}
 use Rattle.borsh_io.specs.Stream.{ReaderState}
 use Rattle.borsh_codec.specs.Codec.{Codec, IsDecodable, Lawful}
 use Rattle.borsh_codec.specs.Shapes.{unsigned_encoding, refused_if, DecodesEach, length_prefixed}
-use Rattle.borsh_codec.specs.Maps.{HasLastValues, IsOutOfOrder, entries, hash_entries, btree_entries, after_inserts, index_entries, unit_entries, key_only}
+use Rattle.borsh_codec.specs.Maps.{HasLastValues, IsOutOfOrder, entries, MadeEntries, hash_entries, btree_entries, after_inserts, index_entries, unit_entries, key_only}
 use Rattle.borsh_codec.specs.Reading.{NoPrefix, IsInvalidData, Decoded, NotDecoded}
 use Rattle.borsh_codec.proofs.Laws.Rows.{counted_fronts}
 use Rattle.borsh_codec.proofs.Laws.Maps.Sorted.{IsKeyed}
 use Rattle.borsh_codec.proofs.Laws.Maps.Ordered.{ascending_back}
+use Rattle.borsh_codec.proofs.MadeMaps.{made_collected, made_after}
 use Rattle.borsh_codec.proofs.ReadSteps.{took_weaker, told_after, refused_map, refused_here}
 
 -- what one meaning reads as v, another one reads as w
@@ -57,22 +59,24 @@ module _ {K V : Type 0} {cmp : K → K → Ordering} {item : Codec (K × V)} (re
 
   -- ---- the map
 
-  pub reads_sorted : (S : V → V → Type 0) {s t : ReaderState} {read : List (K × V)} (es : List (K × V)) → HasLastValues cmp read es → Decoded (List (K × V)) (refused_if refused (entries cmp item)) s t read → Decoded (List (K × V)) (refused_if refused (hash_entries cmp S item)) s t es
-  reads_sorted S {read = read} es values = reads_as (refused_if refused (hash_entries cmp S item)) es (λ m x h. record { allowed = h.allowed; decodes = record { read = read; entries = h.decodes; values = values } }) (λ h. tt)
+  pub reads_sorted : (S : V → V → Type 0) {s t : ReaderState} {read : List (K × V)} (es : List (K × V)) → IsTotalOrder cmp → HasLastValues cmp read es → IsDistinct (eq_by_cmp cmp) (keys_of es) → Decoded (List (K × V)) (refused_if refused (entries cmp item)) s t read
+      → Decoded (List (K × V)) (refused_if refused (hash_entries cmp S item)) s t es
+  reads_sorted S {read = read} es o values d = reads_as (refused_if refused (hash_entries cmp S item)) es (λ m x h. record { allowed = h.allowed; decodes = record { read = read; entries = h.decodes; values = values } }) (made_collected (eq_by_cmp_equiv o) item read es d values)
 
   pub denied_sorted : (S : V → V → Type 0) {s t : ReaderState} {k : ErrorKind} → NotDecoded (List (K × V)) (refused_if refused (entries cmp item)) s t k → NotDecoded (List (K × V)) (refused_if refused (hash_entries cmp S item)) s t k
   denied_sorted S = denied_as (refused_if refused (hash_entries cmp S item)) (λ e. e) (λ e. e) (λ m x h. (h.1.decodes.read, record { allowed = h.1.allowed; decodes = h.1.decodes.entries }))
 
-  pub reads_ordered : {s t : ReaderState} {read : List (K × V)} (es : List (K × V)) → HasLastValues cmp read es → IsStrictlySortedBy cmp (keys_of es) → Decoded (List (K × V)) (refused_if refused (entries cmp item)) s t read
+  pub reads_ordered : {s t : ReaderState} {read : List (K × V)} (es : List (K × V)) → IsTotalOrder cmp → HasLastValues cmp read es → IsStrictlySortedBy cmp (keys_of es) → Decoded (List (K × V)) (refused_if refused (entries cmp item)) s t read
       → Decoded (List (K × V)) (refused_if refused (btree_entries cmp item)) s t es
-  reads_ordered {read = read} es values up = reads_as (refused_if refused (btree_entries cmp item)) es (λ m x h. record { allowed = h.allowed; decodes = record { ordered = up; decodes = record { read = read; entries = h.decodes; values = values } } }) (λ h. tt)
+  reads_ordered {read = read} es o values up = reads_as (refused_if refused (btree_entries cmp item)) es (λ m x h. record { allowed = h.allowed; decodes = record { ordered = up; decodes = record { read = read; entries = h.decodes; values = values } } })
+      (made_collected (eq_by_cmp_equiv o) item read es (IsDistinct-from_sorted cmp (keys_of es) up) values)
 
   pub denied_ordered : {s t : ReaderState} {k : ErrorKind} → NotDecoded (List (K × V)) (refused_if refused (entries cmp item)) s t k → NotDecoded (List (K × V)) (refused_if refused (btree_entries cmp item)) s t k
   denied_ordered = denied_as (refused_if refused (btree_entries cmp item)) (λ e. e) (λ e. e) (λ m x h. (h.1.decodes.decodes.read, record { allowed = h.1.allowed; decodes = h.1.decodes.decodes.entries }))
 
 module _ {K V : Type 0} {item : Codec (K × V)} (refused : Bool) where
-  pub reads_inserted : {eq : K → K → Bool} {s t : ReaderState} {read : List (K × V)} (es : List (K × V)) → es ≡ after_inserts eq read → Decoded (List (K × V)) (refused_if refused (length_prefixed item)) s t read → Decoded (List (K × V)) (refused_if refused (index_entries eq item)) s t es
-  reads_inserted {eq = eq} {read = read} es e = reads_as (refused_if refused (index_entries eq item)) es (λ m x h. record { allowed = h.allowed; decodes = record { read = read; bytes = h.decodes; entries = e } }) (λ h. tt)
+  pub reads_inserted : {eq : K → K → Bool} {s t : ReaderState} {read : List (K × V)} (es : List (K × V)) → IsEquivalence eq → es ≡ after_inserts eq read → Decoded (List (K × V)) (refused_if refused (length_prefixed item)) s t read → Decoded (List (K × V)) (refused_if refused (index_entries eq item)) s t es
+  reads_inserted {eq = eq} {read = read} es laws e = reads_as (refused_if refused (index_entries eq item)) es (λ m x h. record { allowed = h.allowed; decodes = record { read = read; bytes = h.decodes; entries = e } }) (λ a. subst (MadeEntries eq item) (sym e) (made_after laws item read a))
 
   pub denied_inserted : (eq : K → K → Bool) {s t : ReaderState} {k : ErrorKind} → NotDecoded (List (K × V)) (refused_if refused (length_prefixed item)) s t k → NotDecoded (List (K × V)) (refused_if refused (index_entries eq item)) s t k
   denied_inserted eq = denied_as (refused_if refused (index_entries eq item)) (λ e. e) (λ e. e) (λ m x h. (h.1.decodes.read, record { allowed = h.1.allowed; decodes = h.1.decodes.bytes }))
@@ -80,6 +84,9 @@ module _ {K V : Type 0} {item : Codec (K × V)} (refused : Bool) where
 -- `==` of keys answers by the order
 pub last_values_from_eq : {K V : Type 0} (eq : K → K → Bool) (cmp : K → K → Ordering) → ((x y : K) → eq x y ≡ is_eq (cmp x y)) → (read es : List (K × V)) → ((q : K) → lookup (eq q) es ≡ update_all eq (λ _. None) read q) → HasLastValues cmp read es
 last_values_from_eq {K = K} eq cmp t read es h = subst (λ (E : K → K → Bool). (q : K) → lookup (E q) es ≡ update_all E (λ _. None) read q) (λ i x y. t x y i) h
+
+pub distinct_from_eq : {K : Type 0} (eq : K → K → Bool) (cmp : K → K → Ordering) → ((x y : K) → eq x y ≡ is_eq (cmp x y)) → (ks : List K) → IsDistinct eq ks → IsDistinct (eq_by_cmp cmp) ks
+distinct_from_eq eq cmp t ks = subst (λ E. IsDistinct E ks) (λ i x y. t x y i)
 
 -- ---- sets, as maps of keys to nothing
 

@@ -2,7 +2,7 @@
 use Rattle.std.proofs.Common.{◌≡◌, ◌≢◌, ℕ, ◌+◌, ◌<◌, Bool, true, false, List, [], ◌∷◌, ◌++◌, length, Option, Some, None, IfSome, OnSome, Result, Ok, Err, IfOk, IfErr, MatchResult, ◌⊎◌, refl, sym, ◌∙◌, ap, subst, inl, inr, append-nil, arith, eqb, eqb-true, eq-eqb, true≢false}
 use Rattle.std.specs.Io.KnownBytes.{Consumes, IsAtEnd}
 use Rattle.borsh_io.specs.declared.error.ErrorKind.{ErrorKind}
-use Rattle.borsh_io.specs.declared.error.ErrorKind.TheVariants.{InvalidData, OutOfMemory}
+use Rattle.borsh_io.specs.declared.error.ErrorKind.TheVariants.{InvalidData, OutOfMemory, UnexpectedEof}
 use Rattle.borsh_io.specs.declared.error.Error.{Error}
 use Rattle.borsh_io.specs.Errors.{error_kind}
 use Rattle.borsh_io.specs.Stream.{ReaderState, CountedUp, Consumed, ConsumedSome, ReadExactFailure, slice_state}
@@ -65,9 +65,17 @@ denied_more {A = A} {c = c} {s = s} {t = t} {u = u} {v = v} {b = b} l p q one is
         let left = l.prefix_free s.strict_order p.took.front o.0 v w.decodes.0 p.took.holds (subst (λ z. c.decodes s.strict_order z w.decodes.0) o.2 w.decodes.1) in
         omega (arith, ap length left, ap length o'.2, Rattle.std.proofs.Common.length-append b o'.0)
 
--- the reader failed behind the value
-pub denied_failed : {A : Type 0} {c : Codec A} {s t u : ReaderState} {v : A} {k : ErrorKind} → Decoded A c s t v → ConsumedSome t u → CountedUp t.faults u.faults → k ≡ InvalidData → NotDecodedAll A c s u k
-denied_failed {t = t} {v = v} p tail r is = inr (record { value = v; mid = t; decoded = p; tail = tail; invalid = is; why = inr (Rose-after p.took.takes.faults r) })
+-- the reader failed behind the value, with another kind than `UnexpectedEof`
+pub denied_failed : {A : Type 0} {c : Codec A} {s t u : ReaderState} {v : A} {k e : ErrorKind} → Decoded A c s t v → ConsumedSome t u → ReadExactFailure t u 1 e → e ≢ UnexpectedEof → k ≡ InvalidData → NotDecodedAll A c s u k
+denied_failed p tail (inl x) other is = absurd (other x.0)
+denied_failed {t = t} {v = v} p tail (inr r) other is = inr (record {
+  value = v;
+  mid = t;
+  decoded = p;
+  tail = tail;
+  invalid = is;
+  why = inr (Rose-after p.took.takes.faults r.0, λ h. other (cc (r.2, h)));
+})
 
 -- the reader ends behind the value, or failed
 module _ {A : Type 0} {c : Codec A} {s t u : ReaderState} {v : A} (p : Decoded A c s t v) (tail : ConsumedSome t u) where
@@ -93,14 +101,15 @@ module _ {A : Type 0} {c : Codec A} {s t u : ReaderState} {v : A} (p : Decoded A
   at_end None e short = tt
   at_end (Some xs) e short = subst IsAtEnd (sym (ended xs e short).1) refl
 
-  pub reads_all : {k : ErrorKind} → ReadExactFailure t u 1 k → DecodedAll A c s u v
-  reads_all (inl x) = inl (record {
+  pub reads_all : {k : ErrorKind} → k ≡ UnexpectedEof → ReadExactFailure t u 1 k → DecodedAll A c s u v
+  reads_all is (inl x) = inl (record {
     decoded = record {
       took = record {
         front = p.took.front;
         takes = record {
           bytes = takes s.bytes refl x.1;
           faults = x.2 ∙ p.took.takes.faults;
+          last_failure = x.3 ∙ p.took.takes.last_failure;
           interruptions = omega (arith, p.took.takes.interruptions, tail.interruptions);
           reads_left = omega (arith, p.took.takes.reads_left, tail.reads_left);
           strict_order = tail.strict_order ∙ p.took.takes.strict_order;
@@ -112,7 +121,7 @@ module _ {A : Type 0} {c : Codec A} {s t u : ReaderState} {v : A} (p : Decoded A
     whole = whole s.bytes refl x.1;
     ended = at_end s.bytes refl x.1;
   })
-  reads_all (inr r) = inr (record { mid = t; decoded = p; tail = tail; failed = Rose-after p.took.takes.faults r.0 })
+  reads_all is (inr r) = inr (record { mid = t; decoded = p; tail = tail; failed = Rose-after p.took.takes.faults r.0; as_end = r.2 ∙ ap Some is })
 
 -- ---- a reader whose bytes are known, and of which no fault was counted
 
@@ -134,7 +143,7 @@ module _ {A : Type 0} {c : Codec A} {s t : ReaderState} (xs : List ℕ) (told : 
   not_whole_of_all (inl r) = why r.refused.why
   not_whole_of_all (inr r) = elim r.why [
     | inl h ↦ not_reading (inl r.invalid) (λ w. h.1 xs [] (told ∙ ap Some (sym (append-nil xs))) (record { decodes = w; all = told }))
-    | inr f ↦ absurd (calm f)
+    | inr f ↦ absurd (calm f.0)
   ]
 
 -- ---- what a call over all of the bytes must return

@@ -5,7 +5,7 @@ use Rattle.std.specs.declared.cmp.Ordering.{Ordering}
 use Rattle.std.specs.Ordering.{is_lt, eq_by_cmp}
 use Rattle.std.specs.BTreeMap.{insert_entry, is_at}
 use Rattle.std.specs.Map.{keys_of, lookup, update_all}
-use Rattle.std.specs.List.{AllZip, list_all}
+use Rattle.std.specs.List.{All, list_all}
 use Rattle.std.specs.List.Sorted.{IsStrictlySortedBy}
 use Rattle.indexmap.specs.IndexMap.{insert_all}
 use Rattle.borsh_codec.specs.Codec.{Codec}
@@ -59,21 +59,20 @@ pub record MapDecodes {K V : Type 0} (cmp : K → K → Ordering) (item : Codec 
   pub entries : EntriesDecode cmp item strict x read
   pub values : HasLastValues cmp read es
 
+-- each entry was made as `item` makes it, with its own key or one that is equal
+abbrev pub MadeEntries : {K V : Type 0} → (K → K → Bool) → Codec (K × V) → List (K × V) → Type 0
+MadeEntries {K = K} eq item es = All (λ e. (k : K) × (eq k e.0 ≡ true) × item.made (k, e.1)) es
+
 -- ---- in no order of their own
 
 -- entries of a map that are written by ascending key: `item` is the meaning of an entry, S says which values are the same
 abbrev pub hash_entries : {K V : Type 0} → (K → K → Ordering) → (V → V → Type 0) → Codec (K × V) → Codec (List (K × V))
-hash_entries cmp S item = record {
+hash_entries cmp S item = record (length_prefixed item) {
   encoding = λ es. (length_prefixed item).encoding (sorted_by_key cmp es);
   equivalent = EquivalentMaps cmp S;
   decodes = MapDecodes cmp item;
-  made = λ _. ⊤;
-  is_zero_width = false;
-  is_canonical = item.is_canonical;
-  decoding_allocates = true;
+  made = MadeEntries (eq_by_cmp cmp) item;
   encoding_allocates = true;
-  refuses = false;
-  texts_allocate = item.texts_allocate;
 }
 
 -- ---- by ascending key
@@ -90,17 +89,10 @@ pub record BTreeMapDecodes {K V : Type 0} (cmp : K → K → Ordering) (item : C
 
 -- entries of a map that holds them by ascending key; entries that don't ascend, as in no such map, have no encoding
 abbrev pub btree_entries : {K V : Type 0} → (K → K → Ordering) → Codec (K × V) → Codec (List (K × V))
-btree_entries cmp item = record {
+btree_entries cmp item = record (length_prefixed item) {
   encoding = λ es. cond (ascends cmp (keys_of es)) ((length_prefixed item).encoding es) None;
-  equivalent = AllZip item.equivalent;
   decodes = BTreeMapDecodes cmp item;
-  made = λ _. ⊤;
-  is_zero_width = false;
-  is_canonical = item.is_canonical;
-  decoding_allocates = true;
-  encoding_allocates = item.encoding_allocates;
-  refuses = false;
-  texts_allocate = item.texts_allocate;
+  made = MadeEntries (eq_by_cmp cmp) item;
 }
 
 -- ---- in the order of insertion
@@ -122,17 +114,11 @@ pub record IndexMapDecodes {K V : Type 0} (eq : K → K → Bool) (item : Codec 
 
 -- entries of a map in the order of insertion; bytes with a key twice are read too; entries with a key twice, as in no such map, have no encoding
 abbrev pub index_entries : {K V : Type 0} → (K → K → Bool) → Codec (K × V) → Codec (List (K × V))
-index_entries eq item = record {
+index_entries eq item = record (length_prefixed item) {
   encoding = λ es. cond (are_distinct eq (keys_of es)) ((length_prefixed item).encoding es) None;
-  equivalent = AllZip item.equivalent;
   decodes = IndexMapDecodes eq item;
-  made = λ _. ⊤;
-  is_zero_width = false;
+  made = MadeEntries eq item;
   is_canonical = false;
-  decoding_allocates = true;
-  encoding_allocates = item.encoding_allocates;
-  refuses = false;
-  texts_allocate = item.texts_allocate;
 }
 
 -- ---- the types; keys whose encodings are empty are refused

@@ -4,14 +4,14 @@ use Rattle.std.specs.Global.{Global}
 use Rattle.std.specs.Io.KnownBytes.{IsAtEnd}
 use Rattle.borsh_io.specs.declared.error.Error.{Error}
 use Rattle.borsh_io.specs.declared.error.ErrorKind.{ErrorKind}
-use Rattle.borsh_io.specs.declared.error.ErrorKind.TheVariants.{InvalidData, OutOfMemory, Interrupted}
+use Rattle.borsh_io.specs.declared.error.ErrorKind.TheVariants.{InvalidData, OutOfMemory, Interrupted, UnexpectedEof}
 use Rattle.borsh_io.specs.Errors.{error_kind}
 use Rattle.borsh_io.specs.Stream.{ReaderState, CountedUp, Consumed, ConsumedSome}
 use Rattle.borsh_codec.specs.Codec.{Codec, IsDecodable}
 use Rattle.borsh_codec.specs.Shapes.{by_encoding, allocated_array}
 use Rattle.borsh_codec.specs.Untouched.{Untouched}
 
--- a prefix of the bytes to come was taken, which has the property P; the count of faults is unchanged
+-- a prefix of the bytes to come was taken, which has the property P; no failure was counted
 pub record TakesPrefix (P : List ℕ → Type 0) (old new : ReaderState) : Type 0 where
   pub front : List ℕ
   pub takes : Consumed old new front
@@ -76,12 +76,13 @@ pub record DecodedWhole (A : Type 0) (c : Codec A) (old new : ReaderState) (v : 
   pub whole : IfSome old.bytes (λ xs. c.decodes old.strict_order xs v)
   pub ended : OnSome old.bytes (IsAtEnd new.bytes)
 
--- bytes that decode to the value were taken, and then the reader failed
+-- bytes that decode to the value were taken, and then the reader failed with `UnexpectedEof`, which is taken for the end
 pub record DecodedThenFailed (A : Type 0) (c : Codec A) (old new : ReaderState) (v : A) : Type 0 where
   pub mid : ReaderState
   pub decoded : Decoded A c old mid v
   pub tail : ConsumedSome mid new
   pub failed : CountedUp old.faults new.faults
+  pub as_end : new.last_failure ≡ Some UnexpectedEof
 
 abbrev pub DecodedAll : (A : Type 0) → Codec A → ReaderState → ReaderState → A → Type 0
 DecodedAll A c old new v = DecodedWhole A c old new v ⊎ DecodedThenFailed A c old new v
@@ -91,14 +92,14 @@ pub record IsWhole (A : Type 0) (c : Codec A) (s : ReaderState) (x : List ℕ) :
   pub decodes : IsDecodable c s.strict_order x
   pub all : s.bytes ≡ Some x
 
--- a value was decoded, and then either bytes were left or the reader failed
+-- a value was decoded, and then either bytes were left or the reader failed with another kind
 pub record DecodedInPart (A : Type 0) (c : Codec A) (old new : ReaderState) (kind : ErrorKind) : Type 0 where
   pub value : A
   pub mid : ReaderState
   pub decoded : Decoded A c old mid value
   pub tail : ConsumedSome mid new
   pub invalid : kind ≡ InvalidData
-  pub why : ((new.faults ≡ old.faults) × NoPrefix (IsWhole A c old) old.bytes) ⊎ CountedUp old.faults new.faults
+  pub why : ((new.faults ≡ old.faults) × NoPrefix (IsWhole A c old) old.bytes) ⊎ (CountedUp old.faults new.faults × (new.last_failure ≢ Some UnexpectedEof))
 
 -- all of the bytes to come were to be decoded as a value, and were not: none was decoded, or the bytes behind it were not seen to end
 abbrev pub NotDecodedAll : (A : Type 0) → Codec A → ReaderState → ReaderState → ErrorKind → Type 0
@@ -166,7 +167,7 @@ pub record DecodesAll {A : Type 0} (c : Codec A) (strict : Bool) (bytes : List �
 
 -- the outcome of a call that is to decode all that a reader has
 pub record DecodesReader {A R : Type 0} (c : Codec A) (state : R → ReaderState) (old new : R) (result : Result A Error) : Type 0 where
-  -- `Ok`: the bytes to come decoded to the value, and none is left; or the reader failed after the value
+  -- `Ok`: the bytes to come decoded to the value, and none is left; or the reader failed with `UnexpectedEof` after the value
   pub ok : IfOk result (λ v. DecodedAll A c (state old) (state new) v)
   -- `Err`: a tail of the bytes to come is left, and the kind of the error says why there is no value
   pub err : IfErr result (λ e. NotDecodedAll A c (state old) (state new) (error_kind e))

@@ -81,17 +81,10 @@ pub record RefusedIfDecodes (A : Type 0) (refused : Bool) (c : Codec A) (strict 
 
 -- where `refused` is true no value has an encoding, and nothing is read
 abbrev pub refused_if : {A : Type 0} → Bool → Codec A → Codec A
-refused_if {A = A} refused c = record {
+refused_if {A = A} refused c = record c {
   encoding = λ a. cond refused None (c.encoding a);
-  equivalent = c.equivalent;
   decodes = RefusedIfDecodes A refused c;
-  made = c.made;
-  is_zero_width = c.is_zero_width;
-  is_canonical = c.is_canonical;
-  decoding_allocates = c.decoding_allocates;
-  encoding_allocates = c.encoding_allocates;
   refuses = refused;
-  texts_allocate = c.texts_allocate;
 }
 
 -- ---- values that pass a test
@@ -104,16 +97,9 @@ pub record FilteredDecodes (A : Type 0) (test : A → Bool) (c : Codec A) (stric
 -- a value that doesn't pass has no encoding, and nothing is read as it; `texts` is whether the text of that error has to be
 -- put together
 abbrev pub filtered : {A : Type 0} → (texts : Bool) → (A → Bool) → Codec A → Codec A
-filtered {A = A} texts test c = record {
+filtered {A = A} texts test c = record c {
   encoding = λ a. cond (test a) (c.encoding a) None;
-  equivalent = c.equivalent;
   decodes = FilteredDecodes A test c;
-  made = c.made;
-  is_zero_width = c.is_zero_width;
-  is_canonical = c.is_canonical;
-  decoding_allocates = c.decoding_allocates;
-  encoding_allocates = c.encoding_allocates;
-  refuses = c.refuses;
   texts_allocate = texts || c.texts_allocate;
 }
 

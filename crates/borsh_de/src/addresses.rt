@@ -34,7 +34,7 @@ impl BorshDeserialize for Ipv6Addr {
 }
 
 impl BorshDeserialize for IpAddr {
-    #[inline]
+    #[inline(always)]
     fn deserialize_reader<R: Read>(alloc: Global, reader: &mut R) -> Result<IpAddr> {
         match read_tag(reader)? {
             0 => Ok(IpAddr::V4(Ipv4Addr::deserialize_reader(alloc, reader)?)),

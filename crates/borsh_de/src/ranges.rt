@@ -50,7 +50,7 @@ impl<T: BorshDeserialize> BorshDeserialize for RangeFrom<T> {
     }
 }
 
-impl<T: BorshDeserialize + Copy> FromParts for RangeTo<T> {
+impl<T: BorshDeserialize> FromParts for RangeTo<T> {
     type Parts = T;
 
     ghost view = { λ r. r.end };
@@ -61,14 +61,14 @@ impl<T: BorshDeserialize + Copy> FromParts for RangeTo<T> {
     }
 }
 
-impl<T: BorshDeserialize + Copy> BorshDeserialize for RangeTo<T> {
+impl<T: BorshDeserialize> BorshDeserialize for RangeTo<T> {
     #[inline]
     fn deserialize_reader<R: Read>(alloc: Global, reader: &mut R) -> Result<RangeTo<T>> {
         read_parts(alloc, reader)
     }
 }
 
-impl<T: BorshDeserialize + Copy> FromParts for RangeToInclusive<T> {
+impl<T: BorshDeserialize> FromParts for RangeToInclusive<T> {
     type Parts = T;
 
     ghost view = { λ r. r.end };
@@ -79,7 +79,7 @@ impl<T: BorshDeserialize + Copy> FromParts for RangeToInclusive<T> {
     }
 }
 
-impl<T: BorshDeserialize + Copy> BorshDeserialize for RangeToInclusive<T> {
+impl<T: BorshDeserialize> BorshDeserialize for RangeToInclusive<T> {
     #[inline]
     fn deserialize_reader<R: Read>(alloc: Global, reader: &mut R) -> Result<RangeToInclusive<T>> {
         read_parts(alloc, reader)

@@ -1,5 +1,5 @@
 -- The adapters for std's readers and writers.
-use Rattle.std.specs.Prelude.{◌≡◌, ℕ, ◌<◌, ◌-◌, ◌^◌, ◌⊎◌, true, false, List, Option, None}
+use Rattle.std.specs.Prelude.{◌≡◌, ℕ, ◌<◌, ◌-◌, ◌^◌, ◌⊎◌, true, false, List, Option, None, Some}
 use Rattle.std.specs.Io.KnownBytes.{Appends}
 use Rattle.std.proofs.KnownBytes.{Appends-nil, Appends-trans}
 use Rattle.std.specs.declared.io.ErrorKind.{ErrorKind as StdKind}
@@ -40,11 +40,13 @@ kind_of_std _ = Other
 pub record CountsInterrupted (before after : Counts) : Type 0 where
   pub interruptions : after.interruptions < before.interruptions
   pub faults : after.faults ≡ before.faults
+  pub last_failure : after.last_failure ≡ before.last_failure
 
--- a fault was counted
-pub record CountsFailed (before after : Counts) : Type 0 where
+-- a fault of this kind was counted
+pub record CountsFailed (before after : Counts) (kind : ErrorKind) : Type 0 where
   pub interruptions : after.interruptions ≡ before.interruptions
   pub faults : CountedUp before.faults after.faults
+  pub last_failure : after.last_failure ≡ Some kind
 
 -- the stream inside
 abbrev pub inner_of_reader : {R : Type 0} → StdReader R → R
@@ -55,7 +57,7 @@ inner_of_writer s = s.inner
 
 -- the state of the adapter of a std reader
 abbrev pub reader_stream : {R : Type 0} → (R → Option (List ℕ)) → StdReader R → ReaderState
-reader_stream remaining s = record { bytes = remaining s.inner; faults = s.counts.faults; interruptions = s.counts.interruptions; reads_left = s.reads_left; strict_order = true }
+reader_stream remaining s = record { bytes = remaining s.inner; faults = s.counts.faults; last_failure = s.counts.last_failure; interruptions = s.counts.interruptions; reads_left = s.reads_left; strict_order = true }
 
 -- what writing into the adapter of a std writer means: the inner writer took the bytes
 abbrev pub device_writing : {W : Type 0} → (W → Option (List ℕ)) → WriterModel (StdWriter W)
@@ -73,7 +75,7 @@ device-laws contents = record {
 
 -- the state of a reader that was just made over these bytes to come
 abbrev pub first_reader_state : Option (List ℕ) → ℕ → ReaderState
-first_reader_state bytes interruptions = record { bytes = bytes; faults = 0; interruptions = interruptions; reads_left = 2 ^ 64 - 1; strict_order = true }
+first_reader_state bytes interruptions = record { bytes = bytes; faults = 0; last_failure = None; interruptions = interruptions; reads_left = 2 ^ 64 - 1; strict_order = true }
 
 -- the counts of a writer that was just made
 abbrev pub first_writer_state : ℕ → WriterState

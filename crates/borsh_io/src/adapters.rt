@@ -1,7 +1,7 @@
 // The adapters for std's readers and writers. Left open of each call: none.
-ghost use Rattle.std.specs.Prelude.{◌≡◌, ◌≢◌, IfErr};
+ghost use Rattle.std.specs.Prelude.{◌≡◌, ◌≢◌, None, IfErr};
 ghost use Rattle.borsh_io.specs.Errors.{error_kind};
-ghost use Rattle.borsh_io.specs.Stream.{CountedUp, ReadsSome};
+ghost use Rattle.borsh_io.specs.Stream.{ReadsSome};
 ghost use Rattle.borsh_io.specs.Sink.{WritesSome, Flushes};
 ghost use Rattle.borsh_io.specs.Adapters.{inner_of_reader, inner_of_writer, kind_of_std, reader_stream, device_writing, device-laws, CountsInterrupted, CountsFailed, first_reader_state, first_writer_state, OnlyOtherHasText, OnlyOtherOrFullHasText};
 
@@ -36,30 +36,33 @@ fn kind_by_name(kind: std::io::ErrorKind) -> ErrorKind
     }
 }
 
-/// How many interruptions may still be passed on, and how many faults there were.
+/// How many interruptions may still be passed on, how many faults there were, and the kind of the last.
 #[derive(Drop)]
 pub struct Counts {
     interruptions: u32,
     faults: u64,
+    last_failure: Option<ErrorKind>,
 }
 
 impl Counts {
     fn new(interruptions: u32) -> Counts
         ensures interruptions { result.interruptions ≡ interruptions }
         ensures faults { result.faults ≡ 0 }
+        ensures last_failure { result.last_failure ≡ None }
     {
         Counts {
             interruptions,
             faults: 0,
+            last_failure: None,
         }
     }
 
-    /// Counts a fault.
-    fn fault(&mut self)
-        ensures interruptions { self.new.interruptions ≡ self.old.interruptions }
-        ensures faults { CountedUp self.old.faults self.new.faults }
+    /// Counts a fault of this kind.
+    fn fault(&mut self, kind: ErrorKind)
+        ensures { CountsFailed self.old self.new kind }
     {
         self.faults = self.faults.saturating_add(1);
+        self.last_failure = Some(kind);
     }
 
     /// The error of this kind that is returned for an I/O error of the device. It is counted.
@@ -67,7 +70,8 @@ impl Counts {
     fn error(&mut self, kind: std::io::ErrorKind) -> Error
         ensures interrupted { error_kind result ≡ ErrorKind.Interrupted
             → CountsInterrupted self.old self.new }
-        ensures failed { error_kind result ≢ ErrorKind.Interrupted → CountsFailed self.old self.new }
+        ensures failed { error_kind result ≢ ErrorKind.Interrupted
+            → CountsFailed self.old self.new (error_kind result) }
         ensures text { OnlyOtherHasText result }
     {
         let kind = kind_by_name(kind);
@@ -76,10 +80,10 @@ impl Counts {
                 self.interruptions -= 1;
                 return Error::from(kind);
             }
-            self.fault();
+            self.fault(ErrorKind::Other);
             return Error::other("interrupted too often");
         }
-        self.fault();
+        self.fault(kind);
         Error::from(kind)
     }
 }
@@ -142,7 +146,7 @@ impl<R: std::io::Read> Read for StdReader<R> {
         ensures text { IfErr result OnlyOtherHasText }
     {
         if self.reads_left == 0 {
-            self.counts.fault();
+            self.counts.fault(ErrorKind::Other);
             return Err(Error::other("read too often"));
         }
         match std::io::Read::read(&mut self.inner, buf) {
@@ -215,7 +219,7 @@ impl<W: std::io::Write> Write for StdWriter<W> {
         match std::io::Write::write(&mut self.inner, buf) {
             Ok(n) => {
                 if n == 0 && !buf.is_empty() {
-                    self.counts.fault();
+                    self.counts.fault(ErrorKind::WriteZero);
                     return Err(short_write());
                 }
                 Ok(n)

@@ -8,8 +8,12 @@ use super::error::{Error, ErrorKind, Result, pass_over};
 /// A source of bytes.
 ///
 /// An implementation says by the ghost member `stream` which bytes are still to come (if it knows them),
-/// how often it has failed, how often it may still be interrupted, and how many reads may still take
-/// bytes. So a loop over a reader ends: it yields bytes a bounded number of times.
+/// how often it has failed, and with which kind last, how often it may still be interrupted, and how many
+/// reads may still take bytes. So a loop over a reader ends: it yields bytes a bounded number of times.
+///
+/// So a reader that can fail has two fields that only a failure changes: the count of failures, which rises
+/// by one and stays at 2^64 - 1, and the kind of the last error returned, `None` before the first. For one
+/// that never fails they are 0 and `None`.
 pub trait Read {
     ghost stream: { Self → ReaderState };
 
@@ -17,7 +21,7 @@ pub trait Read {
     /// is left and the buffer isn't empty.
     ///
     /// After an error of kind `Interrupted` nothing was read, and the call may be made again. After any
-    /// other error nothing was read, and the count of faults has risen. Left open: how many bytes are read,
+    /// other error nothing was read, and the failure is counted with its kind. Left open: how many bytes are read,
     /// what the buffer holds behind them, and when the reader fails.
     ///
     /// ```

@@ -41,7 +41,8 @@ impl BorshSchemaContainer {
         check_rules(alloc, self.declaration.as_str(), &mut counted)
     }
 
-    /// The greatest size of the root in bytes, as the definitions give it. No encoding is longer.
+    /// The greatest size of the root in bytes, as the definitions give it. No encoding is longer. If
+    /// `validate` accepts the container and its enums have variants, some member of the root has that size.
     ///
     /// Returns `Overflow` if it doesn't fit in a `usize`, `Recursive` if a definition that it needs
     /// contains itself, `MissingDefinition` if one is missing, and `OutOfMemory` if an allocation fails.

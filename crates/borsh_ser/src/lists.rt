@@ -6,10 +6,10 @@ ghost use Rattle.borsh_codec.specs.Shapes.{
   list,
   unsigned_encoding,
 };
-ghost use Rattle.borsh_codec.specs.Writing.{Writes, WritesEncoding};
+ghost use Rattle.borsh_codec.specs.Writing.{Puts, Writes, WritesEncoding};
 
 use super::numbers::bytes_of_u32;
-use super::puts::put_front;
+use super::puts::{put_counted, put_front};
 use super::raw_bytes::write_bytes;
 use super::serialize::BorshSerialize;
 use borsh_io::{Error, ErrorKind, Result, Write};
@@ -135,10 +135,26 @@ pub(crate) fn write_list<T: BorshSerialize, W: Write>(
     write_counted(items, alloc, writer)
 }
 
+/// Puts the count and the elements, unless their encodings are empty.
+#[inline]
+pub(crate) fn put_list<T: BorshSerialize>(items: &[T], room: &mut [u8]) -> Option<usize>
+    ensures { Puts ((list T.codec).encoding items.now) room.old room.new result }
+{
+    if T::encodes_empty() {
+        return None;
+    }
+    put_counted(items, room)
+}
+
 impl<T: BorshSerialize> BorshSerialize for Vec<T> {
     #[inline]
     fn serialize<W: Write>(&self, alloc: Global, writer: &mut W) -> Result<()> {
         write_list(self.as_slice(), alloc, writer)
+    }
+
+    #[inline]
+    fn put(&self, room: &mut [u8]) -> Option<usize> {
+        put_list(self.as_slice(), room)
     }
 }
 
@@ -147,12 +163,22 @@ impl<T: BorshSerialize> BorshSerialize for BoxedSlice<T> {
     fn serialize<W: Write>(&self, alloc: Global, writer: &mut W) -> Result<()> {
         write_list(self.as_slice(), alloc, writer)
     }
+
+    #[inline]
+    fn put(&self, room: &mut [u8]) -> Option<usize> {
+        put_list(self.as_slice(), room)
+    }
 }
 
 impl<T: BorshSerialize> BorshSerialize for RcSlice<T> {
     #[inline]
     fn serialize<W: Write>(&self, alloc: Global, writer: &mut W) -> Result<()> {
         write_list(self.as_slice(), alloc, writer)
+    }
+
+    #[inline]
+    fn put(&self, room: &mut [u8]) -> Option<usize> {
+        put_list(self.as_slice(), room)
     }
 }
 
@@ -161,12 +187,22 @@ impl<T: BorshSerialize> BorshSerialize for ArcSlice<T> {
     fn serialize<W: Write>(&self, alloc: Global, writer: &mut W) -> Result<()> {
         write_list(self.as_slice(), alloc, writer)
     }
+
+    #[inline]
+    fn put(&self, room: &mut [u8]) -> Option<usize> {
+        put_list(self.as_slice(), room)
+    }
 }
 
 impl<T: BorshSerialize> BorshSerialize for CowSlice<'_, T> {
     #[inline]
     fn serialize<W: Write>(&self, alloc: Global, writer: &mut W) -> Result<()> {
         write_list(self.as_slice(), alloc, writer)
+    }
+
+    #[inline]
+    fn put(&self, room: &mut [u8]) -> Option<usize> {
+        put_list(self.as_slice(), room)
     }
 }
 
@@ -175,5 +211,10 @@ impl<T: BorshSerialize> BorshSerialize for &[T] {
     #[inline]
     fn serialize<W: Write>(&self, alloc: Global, writer: &mut W) -> Result<()> {
         write_counted(*self, alloc, writer)
+    }
+
+    #[inline]
+    fn put(&self, room: &mut [u8]) -> Option<usize> {
+        put_counted(*self, room)
     }
 }

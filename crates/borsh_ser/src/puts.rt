@@ -1,10 +1,17 @@
 // Encodings that are written over the front of a buffer, the room: each of these calls returns how
 // many bytes it put, or `None` if they don't fit or a part doesn't support it. Lists fill one room,
 // and write it at once. Left open of each call: as of [`BorshSerialize::put`].
-ghost use Rattle.borsh_codec.specs.Shapes.{concat_encodings, pair, tagged};
+ghost use Rattle.borsh_codec.specs.Shapes.{
+  concat_encodings,
+  length_prefixed,
+  pair,
+  tagged,
+  unsigned_encoding,
+};
 ghost use Rattle.borsh_codec.specs.Writing.{Puts};
 ghost use Rattle.std.specs.Prelude.{◌≤◌, Some, length, take};
 
+use super::numbers::bytes_of_u32;
 use super::serialize::BorshSerialize;
 
 /// Puts bytes that are an encoding.
@@ -43,6 +50,26 @@ pub(crate) fn put_elements<T: BorshSerialize>(items: &[T], room: &mut [u8]) -> O
         return None;
     }
     Some(filled)
+}
+
+/// Puts the count of the elements, four bytes, and the elements.
+#[inline]
+#[tactic(auto, using(borsh_codec::proofs::PutSteps::puts_then))]
+pub(crate) fn put_counted<T: BorshSerialize>(items: &[T], room: &mut [u8]) -> Option<usize>
+    ensures { Puts ((length_prefixed T.codec).encoding items.now) room.old room.new result }
+{
+    let first = put_count(items.len(), room)?;
+    let second = put_elements(items, &mut room[first..])?;
+    Some(first + second)
+}
+
+/// Puts a count of elements, four bytes.
+#[inline]
+fn put_count(count: usize, room: &mut [u8]) -> Option<usize>
+    ensures { Puts (unsigned_encoding 4 count) room.old room.new result }
+{
+    let number = u32::try_from(count).ok()?;
+    put_bytes(&bytes_of_u32(number), room)
 }
 
 /// Puts elements one after another, as many as fit: how many these are, and how many bytes.

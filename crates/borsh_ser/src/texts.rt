@@ -1,8 +1,9 @@
 // Texts: a count of four bytes and the bytes of the characters, in UTF-8.
 ghost use Rattle.borsh_codec.specs.Types.Texts.{text};
-ghost use Rattle.borsh_codec.specs.Writing.{Writes};
+ghost use Rattle.borsh_codec.specs.Writing.{Puts, Writes};
 
 use super::lists::write_counted;
+use super::puts::put_counted;
 use super::serialize::BorshSerialize;
 use borsh_io::{Result, Write};
 use std::alloc::Global;
@@ -20,10 +21,24 @@ pub(crate) fn write_text<W: Write>(string: &str, alloc: Global, writer: &mut W) 
     write_counted(string.as_bytes(), alloc, writer)
 }
 
+/// Puts the count of bytes and the bytes.
+#[inline]
+#[tactic(auto, using(borsh_codec::proofs::PutSteps::puts_is, borsh_codec::proofs::TextBytes::text_encoding))]
+pub(crate) fn put_text(string: &str, room: &mut [u8]) -> Option<usize>
+    ensures { Puts (text.encoding string.now) room.old room.new result }
+{
+    put_counted(string.as_bytes(), room)
+}
+
 impl BorshSerialize for String {
     #[inline]
     fn serialize<W: Write>(&self, alloc: Global, writer: &mut W) -> Result<()> {
         write_text(self.as_str(), alloc, writer)
+    }
+
+    #[inline]
+    fn put(&self, room: &mut [u8]) -> Option<usize> {
+        put_text(self.as_str(), room)
     }
 }
 
@@ -32,12 +47,22 @@ impl BorshSerialize for &str {
     fn serialize<W: Write>(&self, alloc: Global, writer: &mut W) -> Result<()> {
         write_text(*self, alloc, writer)
     }
+
+    #[inline]
+    fn put(&self, room: &mut [u8]) -> Option<usize> {
+        put_text(*self, room)
+    }
 }
 
 impl BorshSerialize for BoxedStr {
     #[inline]
     fn serialize<W: Write>(&self, alloc: Global, writer: &mut W) -> Result<()> {
         write_text(self.as_str(), alloc, writer)
+    }
+
+    #[inline]
+    fn put(&self, room: &mut [u8]) -> Option<usize> {
+        put_text(self.as_str(), room)
     }
 }
 
@@ -46,6 +71,11 @@ impl BorshSerialize for RcStr {
     fn serialize<W: Write>(&self, alloc: Global, writer: &mut W) -> Result<()> {
         write_text(self.as_str(), alloc, writer)
     }
+
+    #[inline]
+    fn put(&self, room: &mut [u8]) -> Option<usize> {
+        put_text(self.as_str(), room)
+    }
 }
 
 impl BorshSerialize for ArcStr {
@@ -53,11 +83,21 @@ impl BorshSerialize for ArcStr {
     fn serialize<W: Write>(&self, alloc: Global, writer: &mut W) -> Result<()> {
         write_text(self.as_str(), alloc, writer)
     }
+
+    #[inline]
+    fn put(&self, room: &mut [u8]) -> Option<usize> {
+        put_text(self.as_str(), room)
+    }
 }
 
 impl BorshSerialize for CowStr<'_> {
     #[inline]
     fn serialize<W: Write>(&self, alloc: Global, writer: &mut W) -> Result<()> {
         write_text(self.as_str(), alloc, writer)
+    }
+
+    #[inline]
+    fn put(&self, room: &mut [u8]) -> Option<usize> {
+        put_text(self.as_str(), room)
     }
 }

@@ -25,5 +25,7 @@ pub record AnswersSize (C : List ℕ → Option Shape) (root : List ℕ) (r : Re
   pub complete : (n : ℕ) → MaxSize C root n → IsAnswered n r
   -- where no needed name is missing or leads back to itself, there is a `MaxSize`
   pub size_exists : ((x : List ℕ) → SizeReaches C root x → C x ≡ None → ⊥) → (IsRecursive C root → ⊥) → (n : ℕ) × MaxSize C root n
-  -- in a valid container that is not recursive and whose reached enums have variants, the longest length is returned
-  pub longest : IsValid C root → HasVariants C root → (IsRecursive C root → ⊥) → AnswersLongest C root r
+  -- in a valid container whose reached enums have variants, a returned size is the length of a member of the root, and none is longer
+  pub longest : IsValid C root → HasVariants C root → IfOk r (IsLongest C root)
+  -- and where no needed name leads back to itself, the longest length is returned
+  pub longest_answered : IsValid C root → HasVariants C root → (IsRecursive C root → ⊥) → AnswersLongest C root r

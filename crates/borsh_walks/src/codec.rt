@@ -7,7 +7,7 @@ use crate::definition::{
 };
 use borsh_de::{BorshDeserialize, EnumExt, FromParts, invalid_data, read_parts, read_tag};
 use borsh_io::{Read, Result, Write};
-use borsh_ser::{BorshSerialize, write_bytes, write_tagged, write_three, write_two};
+use borsh_ser::{BorshSerialize, put_bytes, put_tagged, put_three, put_two, write_bytes, write_tagged, write_three, write_two};
 use borsh_types::BorshType;
 use std::alloc::Global;
 
@@ -31,6 +31,11 @@ impl BorshSerialize for LengthRange {
     #[inline]
     fn serialize<W: Write>(&self, alloc: Global, writer: &mut W) -> Result<()> {
         write_two(&self.start, &self.end, alloc, writer)
+    }
+
+    #[inline]
+    fn put(&self, room: &mut [u8]) -> Option<usize> {
+        put_two(&self.start, &self.end, room)
     }
 }
 
@@ -75,6 +80,15 @@ impl BorshSerialize for Fields {
             Fields::NamedFields(fields) => write_tagged(0, fields, alloc, writer),
             Fields::UnnamedFields(fields) => write_tagged(1, fields, alloc, writer),
             Fields::Empty => write_bytes(&[2], writer),
+        }
+    }
+
+    #[inline]
+    fn put(&self, room: &mut [u8]) -> Option<usize> {
+        match self {
+            Fields::NamedFields(fields) => put_tagged(0, fields, room),
+            Fields::UnnamedFields(fields) => put_tagged(1, fields, room),
+            Fields::Empty => put_bytes(&[2], room),
         }
     }
 }
@@ -142,6 +156,31 @@ impl BorshSerialize for Definition {
                 write_two(tag_width, variants, alloc, writer)
             }
             Definition::Struct { fields } => write_tagged(4, fields, alloc, writer),
+        }
+    }
+
+    fn put(&self, room: &mut [u8]) -> Option<usize> {
+        match self {
+            Definition::Primitive(size) => put_tagged(0, size, room),
+            Definition::Sequence {
+                length_width,
+                length_range,
+                elements,
+            } => {
+                let first = put_bytes(&[1], room)?;
+                let second = put_three(length_width, length_range, elements, &mut room[first..])?;
+                Some(first + second)
+            }
+            Definition::Tuple { elements } => put_tagged(2, elements, room),
+            Definition::Enum {
+                tag_width,
+                variants,
+            } => {
+                let first = put_bytes(&[3], room)?;
+                let second = put_two(tag_width, variants, &mut room[first..])?;
+                Some(first + second)
+            }
+            Definition::Struct { fields } => put_tagged(4, fields, room),
         }
     }
 }

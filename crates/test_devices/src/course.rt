@@ -1,7 +1,8 @@
 // What goes wrong at which call.
-ghost use Rattle.std.specs.Prelude.{◌≡◌, ◌≢◌, ◌<◌, IfOk, IfErr, OnOk};
+ghost use Rattle.std.specs.Prelude.{◌≡◌, ◌≢◌, ◌<◌, Some, IfOk, IfErr, OnOk};
 ghost use Rattle.borsh.specs.Errors.{error_kind};
 ghost use Rattle.borsh.specs.Stream.{CountedUp};
+ghost use Rattle.test_devices.specs.Devices.{SameFailures};
 
 use borsh::io::{Error, ErrorKind, Result};
 
@@ -17,6 +18,17 @@ pub enum Failure {
     End,
 }
 
+impl Failure {
+    fn error(self) -> Error
+        ensures { error_kind result ≢ ErrorKind.Interrupted }
+    {
+        match self {
+            Failure::Aborted => Error::new(ErrorKind::ConnectionAborted, ABORTED),
+            Failure::End => Error::new(ErrorKind::UnexpectedEof, "the device says so"),
+        }
+    }
+}
+
 /// What goes wrong at which call: a number of interruptions, and perhaps one failure.
 #[derive(Clone, Copy)]
 pub struct Course {
@@ -27,6 +39,8 @@ pub struct Course {
     // How many calls succeed before the one that fails.
     failure: Option<(u32, Failure)>,
     faults: u64,
+    // The kind of the last failure.
+    last_failure: Option<ErrorKind>,
     calls: u64,
 }
 
@@ -42,6 +56,7 @@ impl Course {
             interrupted: false,
             failure: None,
             faults: 0,
+            last_failure: None,
             calls: 0,
         }
     }
@@ -99,9 +114,14 @@ impl Course {
     /// Begins a call: the greatest number of bytes that it may take or give, or its error.
     pub fn begin(&mut self) -> Result<usize>
         ensures some { IfOk result (λ n. 0 < n) }
-        ensures ok { OnOk result ((self.new.interruptions ≡ self.old.interruptions) × (self.new.faults ≡ self.old.faults)) }
-        ensures interrupted { IfErr result (λ e. error_kind e ≡ ErrorKind.Interrupted → (self.new.interruptions < self.old.interruptions) × (self.new.faults ≡ self.old.faults)) }
-        ensures failed { IfErr result (λ e. error_kind e ≢ ErrorKind.Interrupted → (self.new.interruptions ≡ self.old.interruptions) × CountedUp self.old.faults self.new.faults) }
+        ensures ok { OnOk result ((self.new.interruptions ≡ self.old.interruptions)
+            × SameFailures self.old self.new) }
+        ensures interrupted { IfErr result (λ e. error_kind e ≡ ErrorKind.Interrupted
+            → (self.new.interruptions < self.old.interruptions) × SameFailures self.old self.new) }
+        ensures failed { IfErr result (λ e. error_kind e ≢ ErrorKind.Interrupted
+            → (self.new.interruptions ≡ self.old.interruptions)
+            × CountedUp self.old.faults self.new.faults
+            × (self.new.last_failure ≡ Some (error_kind e))) }
     {
         self.calls = self.calls.saturating_add(1);
         self.interrupted = !self.interrupted && self.interruptions > 0;
@@ -113,10 +133,9 @@ impl Course {
             Some((0, failure)) => {
                 self.failure = None;
                 self.faults = self.faults.saturating_add(1);
-                return Err(match failure {
-                    Failure::Aborted => Error::new(ErrorKind::ConnectionAborted, ABORTED),
-                    Failure::End => Error::new(ErrorKind::UnexpectedEof, "the device says so"),
-                });
+                let error = failure.error();
+                self.last_failure = Some(error.kind());
+                return Err(error);
             }
             Some((after, failure)) => self.failure = Some((after - 1, failure)),
             None => {}

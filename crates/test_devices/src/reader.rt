@@ -40,7 +40,7 @@ impl<'a> TestReader<'a> {
 }
 
 impl Read for TestReader<'_> {
-    ghost stream = { λ r. slice_stream r.bytes.now r.course.faults r.course.interruptions };
+    ghost stream = { λ r. slice_stream r.bytes.now r.course };
 
     fn read(&mut self, buf: &mut [u8]) -> Result<usize> {
         let most = self.course.begin()?;

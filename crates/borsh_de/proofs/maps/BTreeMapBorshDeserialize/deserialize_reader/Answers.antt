@@ -11,4 +11,4 @@ pub returns : goal.returns
 returns g c =
     let codec = g.K.BorshType.codec in
     let made = c.in_ok-collected.field-0 in
-    decodes_as (made_ok (λ m. m.entries) (λ h. h) c.in_ok-read.ensures (reads_ordered codec.is_zero_width made.entries (c.in_ok-collected.ensures tt).0 (c.in_ok-collected.ensures tt).1 c.in_ok-read.ensures.ok))
+    decodes_as (made_ok (λ m. m.entries) (λ h. h) c.in_ok-read.ensures (reads_ordered codec.is_zero_width made.entries g.met.K.Ord.total (c.in_ok-collected.ensures tt).0 (c.in_ok-collected.ensures tt).1 c.in_ok-read.ensures.ok))

@@ -16,4 +16,4 @@ returns g c =
     let made = c.in_ok-collected.field-0 in
     let values = set_values g.met.K.Ord.total c.in_ok-read.read.items made.keys (c.in_ok-collected.ensures tt).0 in
     let up = subst (IsStrictlySortedBy g.K.Ord.cmp) (sym (keys-bare_entries made.keys)) (c.in_ok-collected.ensures tt).1 in
-    decodes_as (made_ok (λ s. unit_entries s.keys) (λ h. h) c.in_ok-read.ensures (reads_ordered codec.is_zero_width (unit_entries made.keys) values up c.in_ok-read.ensures.ok))
+    decodes_as (made_ok (λ s. unit_entries s.keys) (λ h. h) c.in_ok-read.ensures (reads_ordered codec.is_zero_width (unit_entries made.keys) g.met.K.Ord.total values up c.in_ok-read.ensures.ok))

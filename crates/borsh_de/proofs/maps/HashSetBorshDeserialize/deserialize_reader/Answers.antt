@@ -1,7 +1,10 @@
+use Rattle.std.proofs.Common.{sym, subst}
 use Rattle.std.specs.Bool.{⊤}
+use Rattle.std.specs.List.{IsDistinct}
+use Rattle.std.specs.Ordering.{eq_by_cmp}
 use Rattle.borsh_codec.specs.Maps.{unit_entries}
 use Rattle.borsh_codec.proofs.DecodeViews.{decodes_as, made_exit, made_ok}
-use Rattle.borsh_codec.proofs.ReadMaps.{reads_sorted, denied_sorted, set_values, members_from_eq}
+use Rattle.borsh_codec.proofs.ReadMaps.{reads_sorted, denied_sorted, set_values, members_from_eq, distinct_from_eq, keys-bare_entries}
 use Rattle.borsh_de.proofs.maps.HashSetBorshDeserialize.deserialize_reader.Goals as goal
 
 pub returns-in_err-read : goal.returns-in_err-read
@@ -15,4 +18,5 @@ returns g c =
     let made = c.in_ok-collected.field-0 in
     let members = members_from_eq g.K.PartialEq.eq g.K.Ord.cmp g.met.K.Ord.matches_eq c.in_ok-read.read.items made.keys (c.in_ok-collected.ensures tt).0 in
     let values = set_values g.met.K.Ord.total c.in_ok-read.read.items made.keys members in
-    decodes_as (made_ok (λ s. unit_entries s.keys) (λ h. h) c.in_ok-read.ensures (reads_sorted codec.is_zero_width (λ v w. ⊤) (unit_entries made.keys) values c.in_ok-read.ensures.ok))
+    let apart = subst (IsDistinct (eq_by_cmp g.K.Ord.cmp)) (sym (keys-bare_entries made.keys)) (distinct_from_eq g.K.PartialEq.eq g.K.Ord.cmp g.met.K.Ord.matches_eq made.keys (c.in_ok-collected.ensures tt).1) in
+    decodes_as (made_ok (λ s. unit_entries s.keys) (λ h. h) c.in_ok-read.ensures (reads_sorted codec.is_zero_width (λ v w. ⊤) (unit_entries made.keys) g.met.K.Ord.total values apart c.in_ok-read.ensures.ok))
