@@ -264,7 +264,7 @@ module _ (F : List ℕ → Option Form) where
       elim (which i.0 e s.1 s.2 s.3 s.4) [
         | inl v ↦ elim s.6 [
           | inl a ↦ of_none e f own qs cs more ts rs (own_is (pos 0) v.0) a.2 h r
-          | inr a ↦ absurd (a.2 (subst (λ p. HasNoBytes F p) (sym v.1) i.2))
+          | inr a ↦ absurd (a.2 (subst (λ p. HasNoBytes F p) (sym v.1) i.2.1))
         ]
         | inr v ↦ elim s.6 [
           | inl a ↦ of_some e f null own cs more ts rs (own_is (pos 1) v.0) (null_said (subst (λ p. HasNoBytes F p) v.1 a.1) (no_parts F h a.2)) r
