@@ -1,5 +1,6 @@
 mod Inserted
 mod Lengths
+mod Room
 mod Signing
 mod WellFormed
 mod WithSchema

@@ -2,6 +2,7 @@ pub mod Counting
 pub mod Derived
 pub mod Inserted
 pub mod Length
+pub mod Room
 pub mod Schema
 pub mod Signing
 pub mod WellFormed

@@ -1,10 +1,12 @@
 //! Laws of the words that contracts use, each as the contract of a function that does nothing: a function whose proof needs
 //! one calls it. Left open of each call: none.
-ghost use Rattle.std.specs.Prelude.{List};
+ghost use Rattle.std.specs.Borrow.{MutBor};
+ghost use Rattle.std.specs.Prelude.{ℕ, List};
 ghost use Rattle.borsh_codec.specs.Maps.{after_inserts};
 ghost use Rattle.borsh.specs.Inserted.{HasEachKeyOnce};
+ghost use Rattle.borsh.specs.Room.{FitsIntoRoom, TakesAByteEach};
 
-use borsh_types::BorshKey;
+use borsh_types::{BorshKey, BorshType};
 
 /// What inserting entries in turn leaves (`after_inserts`), as in a decoded index map: each key once, in its first place and
 /// with its last value.
@@ -14,4 +16,25 @@ use borsh_types::BorshKey;
 /// ```
 pub fn index_map_entries<K: BorshKey, V>()
     ensures { (read : List (K × V)) → HasEachKeyOnce K.eq read (after_inserts K.eq read) }
+{}
+
+/// A list that was decoded took at least four bytes, for its count, and one for each element: so a short input gives no long
+/// list. `list` is the codec of `Vec<T>` and of every other list of `T`.
+///
+/// ```
+/// list_takes_bytes::<u8>();
+/// ```
+pub fn list_takes_bytes<T: BorshType>()
+    ensures { TakesAByteEach T.codec }
+{}
+
+/// A value that has an encoding is written over the front of a `&mut [u8]` with room for it, if encoding its type doesn't
+/// allocate: `serialize` and `to_writer` return `Ok`. So are all types of the library but hashed maps
+/// and sets, and types that contain one.
+///
+/// ```
+/// slice_with_room_takes::<u64>();
+/// ```
+pub fn slice_with_room_takes<T: BorshType>()
+    ensures { FitsIntoRoom T.codec (λ (s : MutBor (List ℕ)). s.now) }
 {}

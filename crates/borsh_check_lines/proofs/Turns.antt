@@ -3,6 +3,7 @@ use Rattle.std.proofs.Common.{◌≡◌, ℕ, ◌<◌, inr, List, [], ◌∷◌,
 use Rattle.std.specs.Io.KnownBytes.{IsAtEnd}
 use Rattle.std.proofs.KnownBytes.{Consumes-nil, Consumes-kept}
 use Rattle.borsh_io.specs.declared.error.Error.{Error}
+use Rattle.borsh_io.specs.declared.error.ErrorKind.{ErrorKind}
 use Rattle.borsh_io.specs.declared.error.ErrorKind.TheVariants.{OutOfMemory}
 use Rattle.borsh.specs.Errors.{error_kind}
 use Rattle.borsh.specs.Stream.{ReaderState, Consumed, ReadFailedAfterRetries}
@@ -100,7 +101,7 @@ module _ {W : Type 0} {answers : List ℕ → List ℕ → Type 0} {w : WriterMo
     counted = p.counted;
   }
 
-  pub stops-reader : {s t u : ReaderState} {a b : W} {done line out : List ℕ} {lines : List (List ℕ)} {m n : ℕ} {e : Error} → SoFar answers w s t a b done lines line out [] m n → ReadFailedAfterRetries t u → RunsCounted answers w s u a b m n (Err e)
+  pub stops-reader : {s t u : ReaderState} {a b : W} {done line out : List ℕ} {lines : List (List ℕ)} {m n : ℕ} {k : ErrorKind} {e : Error} → SoFar answers w s t a b done lines line out [] m n → ReadFailedAfterRetries t u k → RunsCounted answers w s u a b m n (Err e)
   stops-reader {s} {t} {u} {a} {b} {done} {line} {out} {lines} p f =
       let all : Consumed s t done = subst (Consumed s t) (append-nil done) p.takes in
       record {

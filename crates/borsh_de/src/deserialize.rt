@@ -112,8 +112,7 @@ pub trait BorshDeserialize: BorshType + Sized + Drop {
     /// the reader fails then, the error is `InvalidData`, "Not all bytes read"; but a failure of kind
     /// `UnexpectedEof` is taken as the end. After an error of the value itself no further byte is read.
     /// Left open: memory; what isn't encoded, but for `made` of the codec; how many bytes are left after an
-    /// error; if the reader fails after the value, whether the value or an error is returned, and of which
-    /// kind.
+    /// error.
     ///
     /// ```
     /// let mut input = StdReader::new(rt.stdin(), 1000);

@@ -1,7 +1,6 @@
 -- The walk over the bytes, by the places of a layout.
 use Rattle.std.proofs.Common.{◌≡◌, ℕ, suc, ◌+◌, ◌<◌, ◌≤◌, List, [], ◌∷◌, ◌++◌, length, take, drop, length-drop, get_or, set, replicate, Some, None, refl, sym, ◌∙◌, ap, subst, arith, add-one, append_assoc, append-nil, take-add, length-take-le, ◌⊎◌, inl, inr}
 use Rattle.std.specs.Prelude.{Option}
-use Rattle.std.proofs.lemmas.List.Elements.{All-take, All-drop}
 use Rattle.std.specs.BTreeMap.{btree_map_len}
 use Rattle.std.proofs.lemmas.List.{length-replicate, length-set}
 use Rattle.borsh_walks.specs.Container.{Shape, Reached, references}
@@ -10,8 +9,7 @@ use Rattle.borsh_walks.proofs.Names.{names_within}
 use Rattle.borsh_walks.proofs.Measure.{work}
 use Rattle.borsh_values.specs.Faults.{BeginsWith, LeadsTo}
 use Rattle.borsh_values.specs.declared.faults.Reason.{Reason}
-use Rattle.borsh_values.specs.Nodes.{Opens, NodeView, Nodes, views, ListsNode, Reads}
-use Rattle.borsh_values.specs.declared.nodes.Node.{Node}
+use Rattle.borsh_values.specs.Nodes.{Reads}
 use Rattle.borsh_values.specs.Layouts.{name_at, shape_at, IsLaidOut}
 use Rattle.borsh_values.specs.Steps.{NoneBegins, OpensAs, remaining, pending, step_count, GoesOn, AllFit, KnownAs, past_copies, mark_at}
 use Rattle.borsh_values.specs.declared.layout.Layout.{Layout}
@@ -21,22 +19,14 @@ use Rattle.borsh_values.specs.declared.frames.Rest.TheVariants.{Copies}
 use Rattle.borsh_values.specs.declared.frames.Step.{Step}
 use Rattle.borsh_values.specs.declared.frames.Opened.TheVariants.{Taken}
 use Rattle.borsh_values.specs.declared.free.Passed.{Passed}
-use Rattle.borsh_values.specs.Free.{AreFirst, IsFreeFront}
-use Rattle.borsh_values.specs.Passing.{TakesParts}
-use Rattle.borsh_values.specs.Sizes.{known_sizes}
-use Rattle.borsh_values.specs.declared.faults.Reason.TheVariants.{TooShort}
+use Rattle.borsh_values.specs.Free.{IsFreeFront}
 use Rattle.borsh_values.proofs.FreeWalk.{walk_free}
 use Rattle.borsh_values.specs.declared.members.Mark.{Mark}
 use Rattle.borsh_values.specs.declared.members.Mark.TheVariants.{Empty, Open}
 use Rattle.borsh_values.specs.declared.members.Known.TheVariants.{New}
 use Rattle.borsh_values.proofs.Building.{work_within}
 use Rattle.borsh_values.proofs.FrontLaws.{Begun}
-use Rattle.borsh_values.proofs.Listing.{front_listed, front_packed}
-use Rattle.borsh_values.proofs.OnlyLaws.{first_packed, none_short}
-use Rattle.borsh_values.proofs.SizesLaws.{parts_free}
-use Rattle.borsh_values.proofs.TakesLaws.{too_short}
 use Rattle.borsh_values.proofs.Measure.{left, left_moved, left_up, left_still, left_on, left_past, some_step}
-use Rattle.borsh_values.proofs.NodesLaws.{nodes_skip}
 use Rattle.borsh_values.proofs.Required.{not_required}
 use Rattle.borsh_values.proofs.Places.{defined_at, root_there, marked, mark_here, none_marked, passes}
 use Rattle.borsh_values.proofs.Walk.{Walk, walk_start, walk_skip, walk_still, walk_on, walk_up, walk_up_empty, undefined_none, denied, leads_back, part_reached, with_rest}
@@ -51,10 +41,6 @@ pub record Going (l : Layout) (done : List ℕ) (ms : List (Option Mark)) (fs : 
   pub fits : AllFit l.names.items (f ∷ fs)
 
 module _ (l : Layout) where
-  -- nodes of members of the names ps, whatever these are, make nodes of a member that begins with these bytes
-  abbrev pub Listed : List ℕ → List (List ℕ) → List Node → Type 0
-  Listed done ps old = (cs : List ℕ) (es : List NodeView) → Nodes (definitions_in l.map.now) ps cs es → Nodes (definitions_in l.map.now) (l.root.now ∷ []) (done ++ cs) (views old ++ es)
-
   pub defined_in : IsLaidOut l → (i : ℕ) → i < length l.names.items → (definitions_in l.map.now) (name_at l.names.items i) ≡ shape_at l.names.items i
   defined_in laid i low = defined_at l.map.now l.root.now l.names.items l.parts.items laid i low
 
@@ -89,12 +75,6 @@ module _ (l : Layout) where
           long = w.long;
           fits = (w.fits.0, p.3, w.fits.2);
         }
-
-    pub skip_listed : get_or ms s.at None ≡ Some Empty → (old : List Node) → Listed done (pending l.names.items (f ∷ fs)) old → Listed done (pending l.names.items (with_rest f (past_copies f.rest s) ∷ fs)) old
-    skip_listed k old before cs es n =
-        let p = passes l.names.items f.rest s g in
-        let same : pending l.names.items (f ∷ fs) ≡ replicate (suc p.0) (name_at l.names.items s.at) ++ (remaining l.names.items (past_copies f.rest s) ++ pending l.names.items fs) = ap (λ ps. ps ++ pending l.names.items fs) p.1 ∙ append_assoc (replicate (suc p.0) (name_at l.names.items s.at)) (remaining l.names.items (past_copies f.rest s)) (pending l.names.items fs) in
-        before cs es (subst (λ ps. Nodes (definitions_in l.map.now) ps cs es) (sym same) (nodes_skip (definitions_in l.map.now) (suc p.0) (w.state.empty (name_at l.names.items s.at) (mark_is ∙ k)) n))
 
     pub less_skip : left l.map.now l.names.items (length rest) idle (with_rest f (past_copies f.rest s) ∷ fs) < left l.map.now l.names.items (length rest) idle (f ∷ fs)
     less_skip = let p = passes l.names.items f.rest s g in left_moved l.map.now l.names.items (length rest) idle f (with_rest f (past_copies f.rest s)) fs p.2
@@ -177,70 +157,6 @@ module _ (l : Layout) where
       pub less_past : 0 < n → left l.map.now l.names.items (length (drop n rest)) 0 (with_rest f s.others ∷ fs) < left l.map.now l.names.items (length rest) idle (f ∷ fs)
       less_past more = left_past l.map.now l.names.items (length (drop n rest)) (length rest) idle f (with_rest f s.others) fs (fewer more) g.steps
 
-      -- the node is listed, and the nodes of the rest follow
-      pub listed_on : (node : Node) (old new : List Node) → node.name.now ≡ name_at l.names.items s.at → shape_of node.definition.now ≡ d → node.bytes.now ≡ take n rest → known_sizes (definitions_in l.map.now) (remaining l.names.items r) ≡ 0 → ListsNode (definitions_in l.map.now) node old new → Listed done (pending l.names.items (f ∷ fs)) old → Listed (done ++ take n rest) (remaining l.names.items r ++ (remaining l.names.items s.others ++ pending l.names.items fs)) new
-      listed_on node old new name shape own unknown lists before cs es h =
-          let C = definitions_in l.map.now in
-          let c = ap (λ x. C x) name ∙ name_defined ∙ ap (λ s. Some s) (sym shape) in
-          let opens = subst (λ s. Opens C s (take n rest) (remaining l.names.items r)) (sym shape) o.0.opens in
-          front_listed C l.root.now done node old new n rest (remaining l.names.items r) (remaining l.names.items s.others ++ pending l.names.items fs) unknown o.0.within c own opens lists
-          (λ ds fs2 m. before ds fs2 (subst (λ ps. Nodes C ps ds fs2) (sym next_names) (subst (λ x. Nodes C (x ∷ (remaining l.names.items s.others ++ pending l.names.items fs)) ds fs2) name m))) cs es h
-
-      -- ---- its parts are taken too
-      -- where there are too few bytes for them, no member of the root begins
-      short : (k : ℕ) → n ≤ length rest → length rest < n + k → 0 < k
-      short k a b = omega arith
-
-      short_denied : length rest < n + known_sizes (definitions_in l.map.now) (remaining l.names.items r) → BeginsWith (definitions_in l.map.now) l.root.now (done ++ rest) → ⊥
-      short_denied h m =
-          let C = definitions_in l.map.now in
-          let qs = remaining l.names.items r in
-          let none = none_short C d rest n (known_sizes C qs) qs name_defined o.0 (parts_free C qs (short (known_sizes C qs) o.0.within h)) h in
-          going_denied TooShort (too_short C none) [] (λ e. refl) (subst (λ b. BeginsWith C l.root.now b) (sym (append-nil (done ++ rest))) m)
-
-      pub parts_unknown : (bytes : List ℕ) → done ++ rest ≡ bytes → BeginsWith (definitions_in l.map.now) l.root.now bytes → (known_sizes (definitions_in l.map.now) (remaining l.names.items r) ≡ 0) ⊎ (length rest < n + known_sizes (definitions_in l.map.now) (remaining l.names.items r)) → known_sizes (definitions_in l.map.now) (remaining l.names.items r) ≡ 0
-      parts_unknown bytes e m k = elim k [ inl z ↦ z | inr h ↦ absurd (short_denied h (subst (λ b. BeginsWith (definitions_in l.map.now) l.root.now b) (sym e) m)) ]
-
-      module _ (p : Passed) (t : TakesParts (definitions_in l.map.now) l.names.items n r rest p) where
-        in_rest : (k i : ℕ) → i ≡ n + k → i ≤ length rest → n + k ≤ length rest
-        in_rest k i e h = omega arith
-
-        some_taken : (k i : ℕ) → i ≡ n + k → 0 < k → 0 < i
-        some_taken k i e h = omega arith
-
-        behind : (k : ℕ) → n + k ≤ length rest → k ≤ length (drop n rest)
-        behind k h = let e = length-drop n rest in omega (arith, e, h)
-
-        pub packed_front : IsFreeFront (definitions_in l.map.now) l.names.items f.rest rest (record { taken = p.taken; rest = s.others })
-        packed_front =
-            let C = definitions_in l.map.now in
-            let qs = remaining l.names.items r in
-            let k = known_sizes C qs in
-            record {
-              names = name_at l.names.items s.at ∷ [];
-              first = subst (λ i. AreFirst C (name_at l.names.items s.at ∷ []) rest i) (sym t.1) (first_packed C d rest n k qs name_defined o.0 (parts_free C qs t.0) (in_rest k p.taken t.1 t.2) t.4);
-              parts = g.parts;
-              some = some_taken k p.taken t.1 t.0;
-              fits = g.fits;
-              steps = g.steps;
-            }
-
-        pub listed_packed : (node : Node) (old new : List Node) → node.name.now ≡ name_at l.names.items s.at → shape_of node.definition.now ≡ d → node.bytes.now ≡ take p.taken rest → ListsNode (definitions_in l.map.now) node old new → Listed done (pending l.names.items (f ∷ fs)) old → Listed (done ++ take p.taken rest) (remaining l.names.items s.others ++ pending l.names.items fs) new
-        listed_packed node old new name shape own lists before cs es h =
-            let C = definitions_in l.map.now in
-            let qs = remaining l.names.items r in
-            let k = known_sizes C qs in
-            let others = remaining l.names.items s.others ++ pending l.names.items fs in
-            let more = take k (drop n rest) in
-            let long = length-take-le k (drop n rest) (behind k (in_rest k p.taken t.1 t.2)) in
-            let small = All-take (λ b. b < 256) k (drop n rest) (All-drop (λ b. b < 256) n rest t.4) in
-            let same : take p.taken rest ≡ take n rest ++ more = ap (λ i. take i rest) t.1 ∙ take-add n k rest in
-            let c = ap (λ x. C x) name ∙ name_defined ∙ ap (λ s. Some s) (sym shape) in
-            let opens = subst (λ s. Opens C s (take n rest) qs) (sym shape) o.0.opens in
-            subst (λ b. Nodes C (l.root.now ∷ []) ((done ++ b) ++ cs) (views new ++ es)) (sym same)
-            (front_packed C l.root.now done node old new (take n rest) more qs others t.0 long small c (own ∙ same) opens lists
-            (λ ds fs2 m. before ds fs2 (subst (λ ps. Nodes C ps ds fs2) (sym next_names) (subst (λ x. Nodes C (x ∷ others) ds fs2) name m))) cs es h)
-
   -- names are passed
   module _ {done rest : List ℕ} {ms : List (Option Mark)} {fs : List Frame} {f : Frame} {idle : ℕ} (w : Going l done ms fs f rest idle) (p : Passed) (g : IsFreeFront (definitions_in l.map.now) l.names.items f.rest rest p) where
     pub going_pass : Going l (done ++ take p.taken rest) ms fs (with_rest f p.rest) (drop p.taken rest) 0
@@ -271,9 +187,6 @@ module _ (l : Layout) where
     long = length-set ms f.at (Some Empty) ∙ w.long;
     fits = w.fits.2;
   }
-
-  pub up_listed : (done : List ℕ) (old : List Node) (fs : List Frame) (f h : Frame) → remaining l.names.items f.rest ≡ [] → Listed done (pending l.names.items (f ∷ h ∷ fs)) old → Listed done (pending l.names.items (h ∷ fs)) old
-  up_listed done old fs f h e = subst (λ ps. Listed done ps old) (ap (λ ps. ps ++ pending l.names.items (h ∷ fs)) e)
 
   pub less_up : (len idle : ℕ) (f : Frame) (fs : List Frame) → left l.map.now l.names.items len idle fs < left l.map.now l.names.items len idle (f ∷ fs)
   less_up len idle f fs = left_up l.map.now l.names.items len idle f fs (some_step l.names.items f.rest)

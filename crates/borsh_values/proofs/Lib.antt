@@ -14,10 +14,6 @@ pub mod KeyLaws
 pub mod DistinctLaws
 pub mod TableLaws
 pub mod NodesLaws
-pub mod Listing
-pub mod SameNodes
-pub mod ValueLaws
-pub mod Offsets
 pub mod LayoutLaws
 pub mod Building
 pub mod Places
@@ -25,8 +21,6 @@ pub mod Going
 pub mod ZeroLaws
 pub mod FreeLaws
 pub mod SizesLaws
-pub mod Packing
-pub mod PassingLaws
 pub mod ReadsLaws
 pub mod FrontLaws
 pub mod NextLaws
@@ -34,5 +28,4 @@ pub mod RecordLaws
 pub mod FreeWalk
 pub mod OnlyLaws
 pub mod WalkedLaws
-pub mod KeptLaws
 pub mod PreorderLaws

@@ -77,26 +77,3 @@ pub some_step : (ns : List Named) (r : Rest) → 0 < step_count ns r
 some_step ns (Copies at zero) = omega arith
 some_step ns (Copies at (suc k)) = omega arith
 some_step ns (Parts at n) = omega arith
-
--- ---- how many definitions are opened
-pub opened_still : (D all old now count len idle : ℕ) → suc idle ≤ D → now + opens D len idle ≤ old + opens D all 0 → count ≤ now + 1 → count + opens D len (idle + 1) ≤ old + opens D all 0
-opened_still D all old now count len idle room h k = let l = opens_still D len idle room in omega (arith, l, h, k)
-
-pub opened_on : (D all old now count a b idle : ℕ) → a < b → now + opens D b idle ≤ old + opens D all 0 → count ≤ now + 1 → count + opens D a 0 ≤ old + opens D all 0
-opened_on D all old now count a b idle less h k = let l = opens_on D a b idle less in omega (arith, l, h, k)
-
-pub few_still : (D all now count len idle : ℕ) → suc idle ≤ D → now + opens D len idle ≤ opens D all 0 → count ≤ now + 1 → count + opens D len (idle + 1) ≤ opens D all 0
-few_still D all now count len idle room h k = let l = opens_still D len idle room in omega (arith, l, h, k)
-
-pub few_on : (D all now count a b idle : ℕ) → a < b → now + opens D b idle ≤ opens D all 0 → count ≤ now + 1 → count + opens D a 0 ≤ opens D all 0
-few_on D all now count a b idle less h k = let l = opens_on D a b idle less in omega (arith, l, h, k)
-
-pub few_most : (D all now len idle : ℕ) → now + opens D len idle ≤ opens D all 0 → now ≤ suc all * suc D
-few_most D all now len idle h = let p = suc-mul all (suc D) in omega (arith, p, h)
-
-pub opened_most : (D all old now len idle : ℕ) → now + opens D len idle ≤ old + opens D all 0 → now ≤ old + suc all * suc D
-opened_most D all old now len idle h = let p = suc-mul all (suc D) in omega (arith, p, h)
-
--- a node is listed, or not
-pub listed_more : (C : List ℕ → Option Shape) (n : Node) (old new : List Node) → ListsNode C n old new → length new ≤ length old + 1
-listed_more C n old new h = elim h [ inl z ↦ (let e = ap (λ l. length l) z.2 in omega (arith, e)) | inr z ↦ (let e = ap (λ l. length l) z.1 ∙ length-append old (n ∷ []) in omega (arith, e)) ]

@@ -11,13 +11,7 @@ no_bytes : (xs ys : List ℕ) → xs ++ ys ≡ [] → length xs ≡ 0
 no_bytes [] ys e = refl
 no_bytes (x ∷ xs) ys e = cc
 
-pub some_bytes : (xs : List ℕ) (b : Bool) → b ≡ (length xs == 0) → b ≡ false → xs ≡ [] → ⊥
-some_bytes xs b e f h = absurd (true≢false (sym (eq-eqb (length xs) 0 (ap (λ l. length l) h)) ∙ sym e ∙ f))
-
 module _ (C : List ℕ → Option Shape) (root bytes : List ℕ) where
-  pub no_byte : (n : ℕ) → n ≡ 0 → IsFront C root bytes n → Member C root []
-  no_byte n z h = subst (λ i. Member C root (take i bytes)) z h.member
-
   positive : (n : ℕ) → (n ≡ 0 → ⊥) → 0 < n
   positive zero f = absurd (f refl)
   positive (suc n) f = omega arith
@@ -41,7 +35,3 @@ module _ (C : List ℕ → Option Shape) (root bytes : List ℕ) where
           let same : v ≡ take n bytes = h.only v a.0 [] a.1 (sym a.2 ∙ sym (append-nil bytes)) in
           let left : a.0 ≡ drop n bytes = append_cancel_left v a.0 (drop n bytes) (sym a.2 ∙ sym (take-append-drop n bytes) ∙ ap (λ l. l ++ drop n bytes) (sym same)) in
           (vs, ap (λ l. l ∷ vs) same, subst (λ l. AreValues C root vs l) left a.3)
-
-  pub no_values : (f : Fault) → (bytes ≡ [] → ⊥) → HasNoFront C root bytes f → (vs : List (List ℕ)) → AreValues C root vs bytes → ⊥
-  no_values f some h [] a = some a
-  no_values f some h (v ∷ vs) a = h.none (v, a.0, a.1, a.2)

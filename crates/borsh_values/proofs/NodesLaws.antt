@@ -16,12 +16,6 @@ no_bytes : (bs : List ℕ) → length bs ≡ 0 → bs ≡ []
 no_bytes [] e = refl
 no_bytes (b ∷ bs) e = absurd (omega arith)
 
-regroup : (us vs bs cs : List ℕ) → ((us ++ vs) ++ bs) ++ cs ≡ us ++ (vs ++ (bs ++ cs))
-regroup us vs bs cs = append_assoc (us ++ vs) bs cs ∙ append_assoc us vs (bs ++ cs)
-
-some_none : (n : ℕ) → 0 < n → n ≡ 0 → ⊥
-some_none n h z = omega arith
-
 -- ---- what a definition opens, once
 one_elements : (m : ℕ) (e : List ℕ) (j k : ℕ) (cs ds r s : List ℕ) {ms ns : List (List ℕ)} → j ≡ k → OpensElements m e j cs ms → OpensElements m e k ds ns → cs ++ r ≡ ds ++ s → (cs ≡ ds) × (r ≡ s) × (ms ≡ ns)
 one_elements zero e j k cs ds r s h o p q = (o.0 ∙ sym p.0, ap (λ l. l ++ r) (sym o.0) ∙ q ∙ ap (λ l. l ++ s) p.0, o.1 ∙ ap (λ i. replicate i e) h ∙ sym p.1)
@@ -112,62 +106,3 @@ module _ (C : List ℕ → Option Shape) where
       let same : variant_names vs ≡ s.0 = (let h = s.1 in cc) in
       (o.3 ∙ tag-zero o.0, λ q a. s.2 q (subst (λ l. IsIn q l) same (opens_mentioned C (choice zero vs) own ns o q a)))
   opened_zero (choice (suc w) vs) own ns c z o = let s = zero_as C (choice (suc w) vs) c z in let h = s.1 in cc
-
-  -- ---- steps
-  pub nodes_skip : {p : List ℕ} {ps : List (List ℕ)} {bs : List ℕ} {es : List NodeView} (k : ℕ) → OnlyEmpty C p → Nodes C ps bs es → Nodes C (replicate k p ++ ps) bs es
-  nodes_skip zero h n = n
-  nodes_skip (suc k) h n = nodes_zero h.1 h.0 (nodes_skip k h n)
-
-  zero_front : (ns : List (List ℕ)) {ps : List (List ℕ)} {bs : List ℕ} {es : List NodeView} → ((q : List ℕ) → IsIn q ns → IsZeroSize C q) → Nodes C (ns ++ ps) bs es → Members C ns [] × Nodes C ps bs es
-  zero_front [] f n = (no_members, n)
-  zero_front (x ∷ ns) f (nodes_zero z m n) = let r = zero_front ns (λ q a. f q (later a)) n in (more_members m r.0, r.1)
-  zero_front (x ∷ ns) f (nodes_packed d own more ms off c o k l small n) = absurd (off (f x first))
-  zero_front (x ∷ ns) f (nodes_more d ms off c o z n) = absurd (off (f x first))
-
-  -- a name of zero size was opened
-  pub nodes_opened_zero : {x bs : List ℕ} {qs : List (List ℕ)} {es : List NodeView} (d : Shape) (own : List ℕ) (ns : List (List ℕ)) → C x ≡ Some d → Opens C d own ns → IsZeroSize C x → Nodes C (ns ++ qs) bs es → Nodes C (x ∷ qs) (own ++ bs) es
-  nodes_opened_zero {x} {bs} {qs} {es} d own ns c o z n =
-      let h = opened_zero d own ns c z o in
-      let r = zero_front ns h.1 n in
-      subst (λ l. Nodes C (x ∷ qs) (l ++ bs) es) (sym h.0) (nodes_zero z (subst (λ l. Member C x (l ++ [])) h.0 (opens_member d own [] ns c o r.0)) r.1)
-
-  -- ---- the bytes are those of the nodes
-  pub nodes_bytes : {ps : List (List ℕ)} {bs : List ℕ} {es : List NodeView} → Nodes C ps bs es → bs ≡ joined_bytes es
-  nodes_bytes nodes_none = refl
-  nodes_bytes (nodes_zero z m n) = nodes_bytes n
-  nodes_bytes (nodes_packed d own more ns off c o k l small n) = ap (λ b. (own ++ more) ++ b) (nodes_bytes n)
-  nodes_bytes (nodes_more {own = own} d ns off c o z n) = ap (λ l. own ++ l) (nodes_bytes n)
-
-  -- and nodes are of members
-  module _ (root : List ℕ) (one : IsUnambiguous C root) where
-    below : {x : List ℕ} {ps : List (List ℕ)} (d : Shape) (own : List ℕ) (ns : List (List ℕ)) → C x ≡ Some d → Opens C d own ns → ((y : List ℕ) → IsIn y (x ∷ ps) → Reached C root y) → (y : List ℕ) → IsIn y (ns ++ ps) → Reached C root y
-    below {x} {ps} d own ns c o l y a = elim (among_append ns ps a) [ inl b ↦ onward d (l x first) c (opens_mentioned C d own ns o y b) | inr b ↦ l y (later b) ]
-
-    -- the bytes determine the nodes, even where more bytes follow
-    pub one_reading : {ps : List (List ℕ)} {bs cs : List ℕ} {es fs : List NodeView} (r s : List ℕ) → ((y : List ℕ) → IsIn y ps → Reached C root y) → Nodes C ps bs es → Nodes C ps cs fs → bs ++ r ≡ cs ++ s → es ≡ fs
-    one_reading r s l nodes_none nodes_none e = refl
-    one_reading r s l (nodes_zero z m n) (nodes_zero y k h) e = one_reading r s (λ y a. l y (later a)) n h e
-    one_reading r s l (nodes_zero z m n) (nodes_packed d own more ns off c o k j small h) e = absurd (off z)
-    one_reading r s l (nodes_zero z m n) (nodes_more d ns off c o k h) e = absurd (off z)
-    one_reading r s l (nodes_packed d own more ns off c o k j small n) (nodes_zero z m h) e = absurd (off z)
-    one_reading r s l (nodes_packed {x = x} {bs = us} {es = es} d own more ms off c o k j small n) (nodes_packed {bs = vs} {es = fs} f other less ns off_too b p q i little h) e =
-        let same : f ≡ d = one_definition b c in
-        let t = opens_one C d (more ++ (us ++ r)) (less ++ (vs ++ s)) (one x d (l x first) c) o (subst (λ i. Opens C i other ns) same p) (sym (regroup own more us r) ∙ e ∙ regroup other less vs s) in
-        let a = same_front more less (us ++ r) (vs ++ s) t.1 (j ∙ ap (λ l. known_sizes C l) t.2 ∙ sym i) in
-        let g = one_reading r s (λ y a. l y (later a)) n h a.1 in
-        ap (λ i. (x, d, i ++ more) ∷ es) t.0 ∙ ap (λ i. (x, d, other ++ i) ∷ es) a.0 ∙ ap (λ i. (x, d, other ++ less) ∷ i) g ∙ ap (λ i. (x, i, other ++ less) ∷ fs) (sym same)
-    one_reading r s l (nodes_packed {x = x} {bs = us} d own more ms off c o k j small n) (nodes_more {own = other} {bs = vs} f ns off_too b p z h) e =
-        let same : f ≡ d = one_definition b c in
-        let t = opens_one C d (more ++ (us ++ r)) (vs ++ s) (one x d (l x first) c) o (subst (λ i. Opens C i other ns) same p) (sym (regroup own more us r) ∙ e ∙ append_assoc other vs s) in
-        absurd (some_none (known_sizes C ms) k (ap (λ l. known_sizes C l) t.2 ∙ z))
-    one_reading r s l (nodes_more d ns off c o z n) (nodes_zero y m h) e = absurd (off y)
-    one_reading r s l (nodes_more {x = x} {own = own} {bs = us} d ms off c o z n) (nodes_packed {bs = vs} f other less ns off_too b p q i little h) e =
-        let same : f ≡ d = one_definition b c in
-        let t = opens_one C d (us ++ r) (less ++ (vs ++ s)) (one x d (l x first) c) o (subst (λ i. Opens C i other ns) same p) (sym (append_assoc own us r) ∙ e ∙ regroup other less vs s) in
-        absurd (some_none (known_sizes C ns) q (ap (λ l. known_sizes C l) (sym t.2) ∙ z))
-    one_reading r s l (nodes_more {x = x} {own = own} {bs = us} {ps = ps} {es = es} d ms off c o z n) (nodes_more {own = other} {bs = vs} {es = fs} f ns off_too b p y h) e =
-        let same : f ≡ d = one_definition b c in
-        let q : Opens C d other ns = subst (λ i. Opens C i other ns) same p in
-        let t = opens_one C d (us ++ r) (vs ++ s) (one x d (l x first) c) o q (sym (append_assoc own us r) ∙ e ∙ append_assoc other vs s) in
-        let g = one_reading r s (below d own ms c o l) n (subst (λ i. Nodes C (i ++ ps) vs fs) (sym t.2) h) t.1 in
-        ap (λ i. (x, d, i) ∷ es) t.0 ∙ ap (λ i. (x, d, other) ∷ i) g ∙ ap (λ i. (x, i, other) ∷ fs) (sym same)

@@ -11,7 +11,7 @@ use Rattle.borsh_values.specs.Faults.{BeginsWith}
 use Rattle.borsh_values.specs.Nodes.{Opens, NodeView, Nodes, nodes_zero, nodes_packed, nodes_more}
 use Rattle.borsh_values.specs.Sizes.{fitting, together, known_size, known_sizes}
 use Rattle.borsh_values.specs.Steps.{OpensOnce, Takes, FoundAs, step_count}
-use Rattle.borsh_values.specs.Free.{FreeSizes, AreOnly, AreFirst, HasOneNode, IsPayload, IsTagLength, IsRun, IsFreeFront, Passes}
+use Rattle.borsh_values.specs.Free.{FreeSize, FreeSizes, AreOnly, AreFirst, IsTagLength, IsRun, IsFreeFront, Passes}
 use Rattle.borsh_values.specs.Layouts.{name_at}
 use Rattle.borsh_values.specs.declared.free.Passed.{Passed}
 use Rattle.borsh_values.specs.declared.runs.Run.{Run}
@@ -71,37 +71,6 @@ module _ (C : List ℕ → Option Shape) where
   pub first_taken : {x : List ℕ} (d : Shape) (bytes : List ℕ) (n : ℕ) → C x ≡ Some d → Takes C d bytes n [] → AreFirst C (x ∷ []) bytes n
   first_taken {x} d bytes n c t = (t.within, subst (λ l. AreOnly C (x ∷ []) l) (append-nil (take n bytes)) (only_open d [] c t.opens t.once only_none))
 
-  -- its bytes are in one node
-  pub taken_node : {x : List ℕ} (d : Shape) (bytes : List ℕ) (n : ℕ) → C x ≡ Some d → Takes C d bytes n [] → 0 < n → HasOneNode C x (take n bytes)
-  taken_node {x} d bytes n c t some e f qs cs es m =
-      let own = take n bytes in
-      let long = length-take-le n bytes t.within in
-      let off : IsZeroSize C x → ⊥ = λ z. let k = ap (λ b. length b) (opened_zero C d own [] c z t.opens).0 in omega (arith, k, long, some) in
-      let same : d ≡ e = one_definition c f in
-      subst (λ s. Nodes C (x ∷ qs) (own ++ cs) ((x, s, own) ∷ es)) same (nodes_more d [] off c t.opens refl m)
-
-  -- bytes that aren't none are no member of a name of zero size
-  pub not_zero : {x own : List ℕ} → AreOnly C (x ∷ []) own → 0 < length own → IsZeroSize C x → ⊥
-  not_zero {x} {own} h some z = let k = ap (λ b. length b) (zero_member C (unwhole C h.members) z) in omega (arith, k, some)
-
-  -- a definition whose parts are of free sizes
-  pub first_packed : {x : List ℕ} (d : Shape) (bytes : List ℕ) (n m : ℕ) (ns : List (List ℕ)) → C x ≡ Some d → Takes C d bytes n ns → FreeSizes C ns m → n + m ≤ length bytes → All (λ b. b < 256) bytes → AreFirst C (x ∷ []) bytes (n + m)
-  first_packed {x} d bytes n m ns c t f low small =
-      let k = length-drop n bytes in
-      (low, subst (λ l. AreOnly C (x ∷ []) l) (sym (take-add n m bytes)) (only_open d ns c t.opens t.once (first_free (drop n bytes) m f (omega (arith, k, low)) (All-drop (λ b. b < 256) n bytes small)).1))
-
-  -- where there are too few bytes for them, no member begins
-  pub none_short : {x : List ℕ} (d : Shape) (bytes : List ℕ) (n m : ℕ) (ns : List (List ℕ)) → C x ≡ Some d → Takes C d bytes n ns → FreeSizes C ns m → length bytes < n + m → BeginsWith C x bytes → ⊥
-  none_short d bytes n m ns c t f low b =
-      let o = member_opens C d c b.2 in
-      let joins : o.0 ++ (o.2 ++ b.1) ≡ take n bytes ++ drop n bytes = sym (append_assoc o.0 o.2 b.1) ∙ ap (λ l. l ++ b.1) (sym o.5) ∙ sym b.3 ∙ sym (take-append-drop n bytes) in
-      let q = t.once o.0 o.1 (o.2 ++ b.1) (drop n bytes) o.3 joins in
-      let long : length o.2 ≡ m = (f o.2).0 (subst (λ l. Members C l o.2) q.2 o.4) in
-      let own : length o.0 ≡ n = ap (λ l. length l) q.0 ∙ length-take-le n bytes t.within in
-      let whole : length bytes ≡ length b.0 + length b.1 = ap (λ l. length l) b.3 ∙ length-append b.0 b.1 in
-      let part : length b.0 ≡ length o.0 + length o.2 = ap (λ l. length l) o.5 ∙ length-append o.0 o.2 in
-      omega (arith, long, own, whole, part, low)
-
   pub first_product : {x : List ℕ} (ps : List (List ℕ)) (bytes : List ℕ) (n : ℕ) → C x ≡ Some (product ps) → AreFirst C ps bytes n → AreFirst C (x ∷ []) bytes n
   first_product ps bytes n c h = (h.0, only_open (product ps) ps c (refl, refl) (opens_once C (product ps) [] ps tt (refl, refl)) h.1)
 
@@ -117,34 +86,11 @@ module _ (C : List ℕ → Option Shape) where
       copies_end (suc k) = ap (λ l. x ∷ l) (copies_end k)
 
   -- an enum whose tag is a byte, and whose variant is of a known size
-  one_together : (n : ℕ) → n < 2 ^ 64 → together (n ∷ []) ≡ n
-  one_together zero h = refl
-  one_together (suc n) h = ap (λ i. fitting i) {x = suc n + 0} {y = suc n} (omega arith) ∙ fits_small (suc n) h
-
-  one_part : (p : List ℕ) (n : ℕ) → n ≡ known_size C p → n < 2 ^ 64 → n ≡ known_sizes C (p ∷ [])
-  one_part p n e h = sym (one_together n h) ∙ ap (λ i. together (i ∷ [])) e
-
-  tag_off : {x : List ℕ} (t : ℕ) (p bs : List ℕ) (vs : List (ℤ × List ℕ)) → C x ≡ Some (choice 1 vs) → Opens C (choice 1 vs) (take 1 (t ∷ bs)) (p ∷ []) → IsZeroSize C x → ⊥
-  tag_off t p bs vs c o z = let e = (opened_zero C (choice 1 vs) (take 1 (t ∷ bs)) (p ∷ []) c z o).0 in cc
-
-  tag_node : {x : List ℕ} (t n : ℕ) (p bs : List ℕ) (vs : List (ℤ × List ℕ)) → C x ≡ Some (choice 1 vs) → Opens C (choice 1 vs) (take 1 (t ∷ bs)) (p ∷ []) → IsPayload C p n → n < 2 ^ 64 → n ≤ length bs → All (λ b. b < 256) bs → (qs : List (List ℕ)) (cs : List ℕ) (es : List NodeView) → Nodes C qs cs es → Nodes C (x ∷ qs) (take (suc n) (t ∷ bs) ++ cs) ((x, choice 1 vs, take (suc n) (t ∷ bs)) ∷ es)
-  tag_node t zero p bs vs c o f h low small qs cs es m =
-      let z = f.none refl in
-      nodes_more (choice 1 vs) (p ∷ []) (tag_off t p bs vs c o) c o (sym (one_part p zero f.known h)) (nodes_zero z.1 z.0 m)
-  tag_node t (suc n) p bs vs c o f h low small qs cs es m =
-      let k = one_part p (suc n) f.known h in
-      nodes_packed (choice 1 vs) (take 1 (t ∷ bs)) (take (suc n) bs) (p ∷ []) (tag_off t p bs vs c o) c o (subst (λ i. 0 < i) k (omega arith)) (length-take-le (suc n) bs low ∙ k) (All-take (λ b. b < 256) (suc n) bs small) m
-
-  pub tag_length : {x : List ℕ} (t i n : ℕ) (p : List ℕ) (vs : List (ℤ × List ℕ)) → C x ≡ Some (choice 1 vs) → FoundAs vs (t ∷ []) (One i) → slice_get (variant_names vs) i ≡ Some p → IsPayload C p n → n < 2 ^ 64 → IsTagLength C x t (n + 1)
-  tag_length {x} t i n p vs c found at f h = λ bs small low.
+  pub tag_length : {x : List ℕ} (t i n : ℕ) (p : List ℕ) (vs : List (ℤ × List ℕ)) → C x ≡ Some (choice 1 vs) → FoundAs vs (t ∷ []) (One i) → slice_get (variant_names vs) i ≡ Some p → FreeSize C p n → IsTagLength C x t (n + 1)
+  tag_length {x} t i n p vs c found at f = λ bs small low.
       let o = found_choice C 1 1 i p (t ∷ bs) vs refl (omega arith) found at in
-      let within : n ≤ length bs = omega arith in (
-        subst (λ k. AreOnly C (x ∷ []) (take k (t ∷ bs))) {x = suc n} {y = n + 1} (sym (add-one n)) (only_open (choice 1 vs) (p ∷ []) c o.opens o.once (first_free bs n (free_one C n f.free) within small).1),
-        λ d e qs cs es m.
-            let same : choice 1 vs ≡ d = one_definition c e in
-            subst (λ k. Nodes C (x ∷ qs) (take k (t ∷ bs) ++ cs) ((x, d, take k (t ∷ bs)) ∷ es)) {x = suc n} {y = n + 1} (sym (add-one n))
-            (subst (λ s. Nodes C (x ∷ qs) (take (suc n) (t ∷ bs) ++ cs) ((x, s, take (suc n) (t ∷ bs)) ∷ es)) same (tag_node t n p bs vs c o.opens f h within small qs cs es m)),
-      )
+      let within : n ≤ length bs = omega arith in
+      subst (λ k. AreOnly C (x ∷ []) (take k (t ∷ bs))) {x = suc n} {y = n + 1} (sym (add-one n)) (only_open (choice 1 vs) (p ∷ []) c o.opens o.once (first_free bs n (free_one C n f) within small).1)
 
 -- ---- copies of a name
 pub copies_split : (x : List ℕ) (k j : ℕ) → j ≤ k → replicate k x ≡ replicate j x ++ replicate (k - j) x
@@ -180,14 +126,7 @@ pub first_by_tag : (C : List ℕ → Option Shape) (x bytes : List ℕ) (t n : �
 first_by_tag C x bytes t n f e low small =
     let h = head_is bytes t e in
     let l = ap (λ l. length l) h in
-    (low, subst (λ b. AreOnly C (x ∷ []) (take n b)) (sym h) (f (drop 1 bytes) (All-drop (λ b. b < 256) 1 bytes small) (omega (arith, l, low))).0)
-
--- and its node
-pub node_by_tag : (C : List ℕ → Option Shape) (x bytes : List ℕ) (t n : ℕ) → IsTagLength C x t n → slice_get bytes 0 ≡ Some t → n ≤ length bytes → All (λ b. b < 256) bytes → HasOneNode C x (take n bytes)
-node_by_tag C x bytes t n f e low small =
-    let h = head_is bytes t e in
-    let l = ap (λ l. length l) h in
-    subst (λ b. HasOneNode C x (take n b)) (sym h) (f (drop 1 bytes) (All-drop (λ b. b < 256) 1 bytes small) (omega (arith, l, low))).1
+    (low, subst (λ b. AreOnly C (x ∷ []) (take n b)) (sym h) (f (drop 1 bytes) (All-drop (λ b. b < 256) 1 bytes small) (omega (arith, l, low))))
 
 pub no_first : (xs : List (List ℕ)) → slice_get xs 0 ≡ None → [] ≡ xs
 no_first [] e = refl

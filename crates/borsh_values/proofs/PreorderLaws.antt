@@ -105,12 +105,11 @@ inside l p e w sizes places done read = record {
 
 module _ (l : Layout) (laid : IsLaidOut l) where
   -- at the beginning
+  pub names_root : (outer : List Place) → outer ≡ [] → remaining l.names.items (Copies 0 1) ++ outer_names l.names.items outer ≡ l.root.now ∷ []
+  names_root outer none = ap (λ o. (name_at l.names.items 0 ∷ []) ++ outer_names l.names.items o) none ∙ ap (λ x. x ∷ []) (root_there l.map.now l.root.now l.names.items l.parts.items laid).1
+
   pub read_root : (outer : List Place) (bytes : List ℕ) → Member (definitions_in l.map.now) l.root.now bytes → outer ≡ [] → IsReadTo (definitions_in l.map.now) l.root.now [] (remaining l.names.items (Copies 0 1) ++ outer_names l.names.items outer) bytes
-  read_root outer bytes m none =
-      let C = definitions_in l.map.now in
-      let ns = l.names.items in
-      let q : l.root.now ∷ [] ≡ (name_at ns 0 ∷ []) ++ outer_names ns outer = ap (λ x. x ∷ []) (sym (root_there l.map.now l.root.now ns l.parts.items laid).1) ∙ ap (λ o. (name_at ns 0 ∷ []) ++ outer_names ns o) (sym none) in
-      subst (λ ps. IsReadTo C l.root.now [] ps bytes) q (read_start C m)
+  read_root outer bytes m none = subst (λ ps. IsReadTo (definitions_in l.map.now) l.root.now [] ps bytes) (sym (names_root outer none)) (read_start (definitions_in l.map.now) m)
 
   pub fit_root : (outer : List Place) → outer ≡ [] → (0 < length l.names.items) × OuterFit l.names.items outer
   fit_root outer none = ((root_there l.map.now l.root.now l.names.items l.parts.items laid).0, subst (λ o. OuterFit l.names.items o) (sym none) tt)

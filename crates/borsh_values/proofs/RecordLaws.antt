@@ -8,6 +8,7 @@ use Rattle.std.proofs.KnownBytes.{Consumes-nil, Consumes-kept, Consumes-trans}
 use Rattle.borsh_io.specs.Errors.{error_kind}
 use Rattle.borsh_io.specs.Stream.{ReaderState, Consumed, CountedUp, ReadFailedAfterRetries}
 use Rattle.borsh_io.specs.declared.error.Error.{Error}
+use Rattle.borsh_io.specs.declared.error.ErrorKind.{ErrorKind}
 use Rattle.borsh_io.specs.declared.error.ErrorKind.TheVariants.{OutOfMemory as NoRoom}
 use Rattle.borsh_walks.specs.Container.{Shape, Member}
 use Rattle.borsh_values.specs.Faults.{BeginsWith}
@@ -85,7 +86,7 @@ module _ {R : Type 0} (state : R → ReaderState) (old new : Buffered R) where
         failed = inl (k, ap (λ t. t.faults) same);
       }
 
-  pub read-failed : (e : Error) → held new ≡ held old → ReadFailedAfterRetries (state (reader_of old)) (state (reader_of new)) → ReadsMore state old new (Err e)
+  pub read-failed : {k : ErrorKind} (e : Error) → held new ≡ held old → ReadFailedAfterRetries (state (reader_of old)) (state (reader_of new)) k → ReadsMore state old new (Err e)
   read-failed e h f = record {
     read = [];
     held = h ∙ sym (append-nil (held old));

@@ -169,23 +169,6 @@ module _ (C : List ℕ → Option Shape) where
   pub sizes_free : (ns : List Named) (sizes : List ℕ) → AreSizes (λ x. known_size C x) ns sizes → AreFree C ns sizes
   sizes_free ns sizes f i h some = subst (λ n. FreeSize C (name_at ns i) n) (sym (f i h)) (within_free 8 (name_at ns i) (subst (λ n. 0 < n) (f i h) some))
 
-  pub parts_free : (ns : List (List ℕ)) → 0 < known_sizes C ns → FreeSizes C ns (known_sizes C ns)
-  parts_free ns h = together_free C (λ x. known_size C x) (within_free 8) ns h
-
-  -- ---- the bytes of parts of known sizes
-  pub packed_members : (ns : List (List ℕ)) (bs : List ℕ) → 0 < known_sizes C ns → length bs ≡ known_sizes C ns → All (λ b. b < 256) bs → Members C ns bs
-  packed_members ns bs h l small = ((parts_free ns h) bs).1 l small
-
-  no_bytes : {ns : List (List ℕ)} {bs : List ℕ} → Members C ns bs → ((q : List ℕ) → IsIn q ns → IsZeroSize C q) → bs ≡ []
-  no_bytes no_members z = refl
-  no_bytes (more_members {p = p} {bs = xs} {cs = ys} m ms) z = ap (λ l. l ++ ys) (zero_member C m (z p first)) ∙ no_bytes ms (λ q a. z q (later a))
-
-  nothing_of : (n : ℕ) (bs : List ℕ) → 0 < n → length bs ≡ n → bs ≡ [] → ⊥
-  nothing_of n bs h l e = let k = ap (λ b. length b) e in omega (arith, h, l, k)
-
-  pub packed_not_zero : (ns : List (List ℕ)) (bs : List ℕ) → 0 < known_sizes C ns → length bs ≡ known_sizes C ns → All (λ b. b < 256) bs → ((q : List ℕ) → IsIn q ns → IsZeroSize C q) → ⊥
-  packed_not_zero ns bs h l small z = nothing_of (known_sizes C ns) bs h l (no_bytes (packed_members ns bs h l small) z)
-
 -- ---- a list of sizes, one for each place
 module _ (P : List ℕ → ℕ) (ns : List Named) where
   abbrev pub SizedBy : List ℕ → Type 0

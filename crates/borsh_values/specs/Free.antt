@@ -1,6 +1,6 @@
 -- Names whose members are all bytes of one length.
-use Rattle.std.specs.Prelude.{◌≡◌, ◌<◌, ◌≤◌, ◌-◌, ℕ, suc, List, [], ◌∷◌, ◌++◌, length, take, replicate, All, IfSome, Option, get_or, Some}
-use Rattle.borsh_walks.specs.Container.{Shape, product, Member, Members}
+use Rattle.std.specs.Prelude.{◌≡◌, ◌<◌, ◌≤◌, ◌-◌, ℕ, suc, List, [], ◌∷◌, ◌++◌, length, take, replicate, All, IfSome, Option, get_or}
+use Rattle.borsh_walks.specs.Container.{Shape, Member, Members}
 use Rattle.borsh_walks.specs.Definitions.{definitions_in}
 use Rattle.borsh_values.specs.declared.layout.Layout.{Layout}
 use Rattle.borsh_values.specs.declared.layout.Named.{Named}
@@ -9,11 +9,10 @@ use Rattle.borsh_values.specs.declared.frames.Rest.TheVariants.{Copies}
 use Rattle.borsh_values.specs.declared.runs.Run.{Run}
 use Rattle.borsh_values.specs.declared.runs.TagLength.{TagLength}
 use Rattle.borsh_values.specs.declared.free.Passed.{Passed}
-use Rattle.borsh_values.specs.Layouts.{name_at, parts_in, shape_at}
-use Rattle.borsh_values.specs.Nodes.{NodeView, Nodes}
-use Rattle.borsh_values.specs.Steps.{remaining, step_count, Fits, OnlyEmpty}
+use Rattle.borsh_values.specs.Layouts.{name_at}
+use Rattle.borsh_values.specs.Steps.{remaining, step_count, Fits}
 use Rattle.borsh_values.specs.Zeros.{AreZeros}
-use Rattle.borsh_values.specs.Sizes.{AreSizes, known_size, known_sizes}
+use Rattle.borsh_values.specs.Sizes.{AreSizes, known_size}
 
 module _ (C : List ℕ → Option Shape) where
   -- each n bytes are a member of the name, and it has no others
@@ -37,19 +36,9 @@ module _ (C : List ℕ → Option Shape) where
   abbrev pub AreFirst : List (List ℕ) → List ℕ → ℕ → Type 0
   AreFirst ps bytes n = (n ≤ length bytes) × AreOnly ps (take n bytes)
 
-  -- the bytes are a value of the name that has one node
-  abbrev pub HasOneNode : List ℕ → List ℕ → Type 0
-  HasOneNode x own = (d : Shape) → C x ≡ Some d → (qs : List (List ℕ)) (cs : List ℕ) (es : List NodeView) → Nodes C qs cs es → Nodes C (x ∷ qs) (own ++ cs) ((x, d, own) ∷ es)
-
-  -- each member of the name that begins with the byte t has n bytes, any so many are one, and have one node
+  -- each member of the name that begins with the byte t has n bytes, and any so many are one
   abbrev pub IsTagLength : List ℕ → ℕ → ℕ → Type 0
-  IsTagLength x t n = (bs : List ℕ) → All (λ b. b < 256) bs → n ≤ suc (length bs) → AreOnly (x ∷ []) (take n (t ∷ bs)) × HasOneNode x (take n (t ∷ bs))
-
-  -- what a variant has is of the size that is known, or has no bytes
-  pub record IsPayload (p : List ℕ) (n : ℕ) : Type 0 where
-    pub free : FreeSize p n
-    pub known : n ≡ known_size C p
-    pub none : n ≡ 0 → OnlyEmpty C p
+  IsTagLength x t n = (bs : List ℕ) → All (λ b. b < 256) bs → n ≤ suc (length bs) → AreOnly (x ∷ []) (take n (t ∷ bs))
 
   abbrev pub IsRight : List ℕ → TagLength → Type 0
   IsRight x t = IfSome t.length (λ n. IsTagLength x t.tag n)
@@ -70,10 +59,6 @@ module _ (C : List ℕ → Option Shape) where
     pub some : 0 < p.taken
     pub fits : Fits ns p.rest
     pub steps : step_count ns p.rest ≤ step_count ns r
-
--- the values of the name at a place are structs or tuples, which have nodes of their own beside those of their parts
-abbrev pub HasParts : Layout → ℕ → Type 0
-HasParts l at = let s = shape_at l.names.items at in (s ≡ Some (product (parts_in s))) × (known_sizes (definitions_in l.map.now) (parts_in s) ≡ 0)
 
 -- what is passed of copies of the name at a place: a run of some bytes
 abbrev pub Passes : ℕ → ℕ → Run → Passed → Type 0

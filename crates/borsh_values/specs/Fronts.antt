@@ -1,18 +1,14 @@
 -- What is answered of the first value of some bytes.
-use Rattle.std.specs.Prelude.{◌≡◌, ⊤, ℕ, ◌-◌, ◌≤◌, List, [], ◌∷◌, ◌++◌, length, take, Option, Result, IfOk}
+use Rattle.std.specs.Prelude.{◌≡◌, ⊤, ℕ, ◌-◌, ◌≤◌, List, ◌++◌, length, take, Option, Result, IfOk}
 use Rattle.borsh_walks.specs.Container.{Shape, Member, IsValid}
 use Rattle.borsh_values.specs.Unambiguous.{IsUnambiguous}
 use Rattle.borsh_values.specs.Membership.{IsUndecided}
 use Rattle.borsh_values.specs.Faults.{BeginsWith, IsFault}
-use Rattle.borsh_values.specs.Nodes.{NodeView, Nodes, views, joined_bytes, AreOffsets}
 use Rattle.borsh_values.specs.declared.faults.Fault.{Fault}
 use Rattle.borsh_values.specs.declared.faults.Reason.{Reason}
 use Rattle.borsh_values.specs.declared.faults.Reason.TheVariants.{BytesLeft, TooShort as IsShort}
-use Rattle.borsh_values.specs.declared.nodes.Node.{Node}
 use Rattle.borsh_values.specs.declared.fronts.Front.{Front}
 use Rattle.borsh_values.specs.declared.fronts.Front.TheVariants.{Value, TooShort, NoMember, Ambiguous}
-use Rattle.borsh_values.specs.declared.fronts.DecodedFront.{DecodedFront}
-use Rattle.borsh_values.specs.declared.fronts.DecodedFront.TheVariants.{Value as DecodedValue, TooShort as DecodedShort, NoMember as DecodedNone, Ambiguous as DecodedAmbiguous}
 
 -- the fault is of the name and the reason, where so many of all bytes are left
 abbrev pub IsAt : ℕ → ℕ → List ℕ → Reason → Fault → Type 0
@@ -24,19 +20,6 @@ StopsAt all left name reason (Value n) = ⊥
 StopsAt all left name reason (TooShort f) = IsAt all left name reason f × (reason ≡ IsShort)
 StopsAt all left name reason (NoMember f) = IsAt all left name reason f × (reason ≡ IsShort → ⊥)
 StopsAt all left name reason (Ambiguous x) = ⊥
-
--- the answer without the nodes
-abbrev pub front_of : DecodedFront → Front
-front_of (DecodedValue ns n) = Value n
-front_of (DecodedShort f) = TooShort f
-front_of (DecodedNone f) = NoMember f
-front_of (DecodedAmbiguous x) = Ambiguous x
-
-abbrev pub nodes_of : DecodedFront → List Node
-nodes_of (DecodedValue ns n) = ns.items
-nodes_of (DecodedShort f) = []
-nodes_of (DecodedNone f) = []
-nodes_of (DecodedAmbiguous x) = []
 
 -- yes, no, or too short
 abbrev pub IsDecidedFront : Front → Type 0
@@ -66,31 +49,7 @@ module _ (C : List ℕ → Option Shape) (root bytes : List ℕ) where
   IsFrontAnswer (NoMember f) = (more : List ℕ) → HasNoFront C root (bytes ++ more) f
   IsFrontAnswer (Ambiguous x) = IsUndecided C root x.now
 
-  -- the nodes are those of the front, and their own bytes are its bytes
-  abbrev pub AreNodesOf : List Node → Front → Type 0
-  AreNodesOf ns (Value n) = Nodes C (root ∷ []) (take n bytes) (views ns) × (take n bytes ≡ joined_bytes (views ns))
-  AreNodesOf ns (TooShort f) = ⊤
-  AreNodesOf ns (NoMember f) = ⊤
-  AreNodesOf ns (Ambiguous x) = ⊤
-
-  -- no front has other nodes, whatever bytes follow
-  abbrev pub AreOnlyNodes : List Node → Front → Type 0
-  AreOnlyNodes ns (Value n) = (xs ys more : List ℕ) (es : List NodeView) → xs ++ ys ≡ bytes ++ more → Nodes C (root ∷ []) xs es → es ≡ views ns
-  AreOnlyNodes ns (TooShort f) = ⊤
-  AreOnlyNodes ns (NoMember f) = ⊤
-  AreOnlyNodes ns (Ambiguous x) = ⊤
-
   -- the answer is right, and a container that is valid and unambiguous gets one
   pub record AnswersFront {E : Type 0} (result : Result Front E) : Type 0 where
     pub answer : IfOk result (λ a. IsFrontAnswer a)
     pub decided : IsValid C root → IsUnambiguous C root → IfOk result (λ a. IsDecidedFront a)
-
-  -- so is the answer with the nodes
-  pub record DecodesFront {E : Type 0} (result : Result DecodedFront E) : Type 0 where
-    pub answer : IfOk result (λ a. IsFrontAnswer (front_of a))
-    pub listed : IfOk result (λ a. AreNodesOf (nodes_of a) (front_of a))
-    -- each node says where its own bytes begin
-    pub placed : IfOk result (λ a. AreOffsets 0 (nodes_of a))
-    -- where the container is unambiguous, the bytes determine the nodes
-    pub determined : IsUnambiguous C root → IfOk result (λ a. AreOnlyNodes (nodes_of a) (front_of a))
-    pub decided : IsValid C root → IsUnambiguous C root → IfOk result (λ a. IsDecidedFront (front_of a))

@@ -6,8 +6,6 @@ pub mod Keys
 pub mod Sizes
 pub mod Nodes
 pub mod Faults
-pub mod Decoding
-pub mod Encoded
 pub mod Steps
 pub mod TagTables
 pub mod Layouts

@@ -1,7 +1,5 @@
 -- What `is_member` answers.
-use Rattle.std.specs.Prelude.{◌≡◌, ⊤, ℕ, suc, ◌*◌, List, length, Option, Some, Result, IfOk, String}
-use Rattle.std.specs.BTreeMap.{BTreeMap, btree_map_len}
-use Rattle.borsh_walks.specs.declared.definition.Definition.{Definition}
+use Rattle.std.specs.Prelude.{◌≡◌, ⊤, ℕ, List, Option, Some, Result, IfOk}
 use Rattle.borsh_walks.specs.Container.{Shape, Member, Reached, IsValid}
 use Rattle.borsh_walks.specs.RulesAnswer.{KeepsWidths}
 use Rattle.borsh_values.specs.Unambiguous.{UnambiguousShape, IsUnambiguous}
@@ -16,10 +14,6 @@ IsUndecided C root x = (d : Shape) × Reached C root x × (C x ≡ Some d) × (U
 -- a name that is reached, and whose definition is ambiguous
 abbrev pub IsAmbiguousName : (List ℕ → Option Shape) → List ℕ → List ℕ → Type 0
 IsAmbiguousName C root x = (d : Shape) × Reached C root x × (C x ≡ Some d) × (UnambiguousShape d → ⊥)
-
--- how many definitions are opened at most: as many as there are, and one more, for each byte and for the end
-abbrev pub most_opened : {A : Type 0} → List ℕ → BTreeMap (String A) Definition → ℕ
-most_opened bytes m = suc (length bytes) * suc (btree_map_len m)
 
 -- yes or no
 abbrev pub IsDecided : Membership → Type 0

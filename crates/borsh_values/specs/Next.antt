@@ -1,10 +1,6 @@
--- What follows in bytes that are values, one after another.
+-- Values one after another.
 use Rattle.std.specs.Prelude.{◌≡◌, ℕ, ◌<◌, List, [], ◌∷◌, ◌++◌, length, Option}
 use Rattle.borsh_walks.specs.Container.{Shape, Member}
-use Rattle.borsh_values.specs.Membership.{IsUndecided}
-use Rattle.borsh_values.specs.Fronts.{HasNoFront}
-use Rattle.borsh_values.specs.declared.next.Next.{Next}
-use Rattle.borsh_values.specs.declared.next.Next.TheVariants.{Value, End, EmptyValue, TooShort, NoMember, Ambiguous}
 
 module _ (C : List ℕ → Option Shape) (root : List ℕ) where
   -- the bytes are these values of the root, one after another
@@ -18,12 +14,3 @@ module _ (C : List ℕ → Option Shape) (root : List ℕ) where
     pub some : 0 < length v
     pub split : bytes ≡ v ++ left
     pub only : (vs : List (List ℕ)) → AreValues vs bytes → (others : List (List ℕ)) × (vs ≡ v ∷ others) × AreValues others left
-
-  -- each answer is right; the bytes that are left are the same ones unless there was a value
-  abbrev pub IsNext : List ℕ → List ℕ → Next → Type 0
-  IsNext bytes left (Value v) = IsFirst v.now bytes left
-  IsNext bytes left End = (bytes ≡ []) × (left ≡ bytes)
-  IsNext bytes left EmptyValue = Member C root [] × (left ≡ bytes)
-  IsNext bytes left (TooShort f) = HasNoFront C root bytes f × ((vs : List (List ℕ)) → AreValues vs bytes → ⊥) × (left ≡ bytes)
-  IsNext bytes left (NoMember f) = ((more : List ℕ) → HasNoFront C root (bytes ++ more) f) × ((vs : List (List ℕ)) → AreValues vs bytes → ⊥) × (left ≡ bytes)
-  IsNext bytes left (Ambiguous x) = IsUndecided C root x.now × (left ≡ bytes)

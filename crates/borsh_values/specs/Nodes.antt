@@ -1,13 +1,8 @@
--- The nodes of a value: its parts in preorder, each with the bytes that it encodes before its own parts, and with those of parts whose sizes are known.
-use Rattle.std.specs.Prelude.{◌≡◌, ◌⊎◌, ⊤, ℕ, suc, zero, ◌+◌, ◌*◌, ◌<◌, ◌≤◌, ℤ, pos, List, [], ◌∷◌, ◌++◌, length, replicate, take, drop, Option, Some, None, MatchOption, All, String}
-use Rattle.std.specs.BTreeMap.{BTreeMap, get_by_text}
-use Rattle.borsh_walks.specs.declared.definition.Definition.{Definition}
+-- The nodes of a value: its parts in preorder, each with the bytes that it encodes before its own parts.
+use Rattle.std.specs.Prelude.{◌≡◌, ℕ, suc, zero, ◌*◌, ◌≤◌, ℤ, pos, List, [], ◌∷◌, ◌++◌, length, replicate, take, drop, Option, Some, None, MatchOption, All}
 use Rattle.borsh_values.specs.Numbers.{value_of}
 use Rattle.borsh_values.specs.Tags.{IsVariantIndex}
-use Rattle.borsh_values.specs.Sizes.{known_sizes}
-use Rattle.borsh_walks.specs.Definitions.{shape_of}
-use Rattle.borsh_values.specs.declared.nodes.Node.{Node}
-use Rattle.borsh_walks.specs.Container.{Shape, primitive, sequence, product, choice, IsListedVariant, tag, Member, IsZeroSize}
+use Rattle.borsh_walks.specs.Container.{Shape, primitive, sequence, product, choice, IsListedVariant, tag}
 
 -- how many bytes an element has, by the definition of its name, if elements are listed with their sequence: primitives of some bytes; 0 for others
 abbrev pub packed_size : Option Shape → ℕ
@@ -49,45 +44,7 @@ AreElementsOf (sequence w lo hi e) own es = es ≡ drop w own
 AreElementsOf (product ps) own es = es ≡ own
 AreElementsOf (choice w vs) own es = es ≡ own
 
--- a node: its name, the definition of the name, and its own bytes
-abbrev pub NodeView : Type 0
-NodeView = List ℕ × Shape × List ℕ
-
--- what the node of the code is
-abbrev pub view_of : Node → NodeView
-view_of n = (n.name.now, shape_of n.definition.now, n.bytes.now)
-
-abbrev pub views : List Node → List NodeView
-views [] = []
-views (n ∷ ns) = view_of n ∷ views ns
-
--- the own bytes of each node begin where those of the nodes before it end, the first at k
-abbrev pub AreOffsets : ℕ → List Node → Type 0
-AreOffsets k [] = ⊤
-AreOffsets k (n ∷ ns) = (n.offset ≡ k) × AreOffsets (k + length n.bytes.now) ns
-
--- each node has the definition that the map has for its name
-abbrev pub HaveDefinitions : {A : Type 0} → BTreeMap (String A) Definition → List Node → Type 0
-HaveDefinitions m [] = ⊤
-HaveDefinitions m (n ∷ ns) = (get_by_text m n.name.now ≡ Some n.definition.now) × HaveDefinitions m ns
-
--- all own bytes, one after another
-abbrev pub joined_bytes : List NodeView → List ℕ
-joined_bytes [] = []
-joined_bytes (e ∷ es) = e.2 ++ joined_bytes es
-
--- a node of a name of zero size is left out, and any other is added
-abbrev pub ListsNode : (List ℕ → Option Shape) → Node → List Node → List Node → Type 0
-ListsNode C n old new = ((n.bytes.now ≡ []) × IsZeroSize C n.name.now × (new ≡ old)) ⊎ ((n.bytes.now ≡ [] → IsZeroSize C n.name.now → ⊥) × (new ≡ old ++ n ∷ []))
-
 module _ (C : List ℕ → Option Shape) where
-  -- bytes are members of the names, one after another, and these are the nodes; a value of a name of zero size has no node, and where the sizes of all parts are known, their bytes are in the node around them
-  pub data Nodes : List (List ℕ) → List ℕ → List NodeView → Type 0 where
-    nodes_none : Nodes [] [] []
-    nodes_zero : {x bs : List ℕ} {ps : List (List ℕ)} {es : List NodeView} → IsZeroSize C x → Member C x [] → Nodes ps bs es → Nodes (x ∷ ps) bs es
-    nodes_packed : {x bs : List ℕ} {ps : List (List ℕ)} {es : List NodeView} (d : Shape) (own more : List ℕ) (ns : List (List ℕ)) → (IsZeroSize C x → ⊥) → C x ≡ Some d → Opens C d own ns → 0 < known_sizes C ns → length more ≡ known_sizes C ns → All (λ b. b < 256) more → Nodes ps bs es → Nodes (x ∷ ps) ((own ++ more) ++ bs) ((x, d, own ++ more) ∷ es)
-    nodes_more : {x own bs : List ℕ} {ps : List (List ℕ)} {es : List NodeView} (d : Shape) (ns : List (List ℕ)) → (IsZeroSize C x → ⊥) → C x ≡ Some d → Opens C d own ns → known_sizes C ns ≡ 0 → Nodes (ns ++ ps) bs es → Nodes (x ∷ ps) (own ++ bs) ((x, d, own) ∷ es)
-
   -- bytes are read of the names ps and the names qs are left: each definition in turn is opened, and its parts come next
   pub data Reads : List (List ℕ) → List ℕ → List (List ℕ) → Type 0 where
     reads_none : {ps : List (List ℕ)} → Reads ps [] ps

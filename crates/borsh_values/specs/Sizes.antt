@@ -36,10 +36,6 @@ known_within (suc k) C x = known_by (λ y. known_within k C y) (C x)
 abbrev pub known_size : (List ℕ → Option Shape) → List ℕ → ℕ
 known_size C x = known_within 8 C x
 
--- and of several names together
-abbrev pub known_sizes : (List ℕ → Option Shape) → List (List ℕ) → ℕ
-known_sizes C xs = together (map (λ x. known_size C x) xs)
-
 -- the sizes are those of the names of a layout
 abbrev pub AreSizes : (List ℕ → ℕ) → List Named → List ℕ → Type 0
 AreSizes P ns sizes = (i : ℕ) → i < length ns → get_or sizes i 0 ≡ P (name_at ns i)

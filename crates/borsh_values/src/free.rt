@@ -1,11 +1,10 @@
 // Names whose members are all bytes of one length: these bytes are passed at once.
 ghost use Rattle.borsh_values.specs.Free.{AreFree, IsFreeFront, KnowsSizes};
 ghost use Rattle.borsh_values.specs.Layouts.{IsLaidOut, parts_in, shape_at};
-ghost use Rattle.borsh_values.specs.Passing.{Packs};
-ghost use Rattle.borsh_values.specs.Sizes.{AreSizes, AreSizesBy, fitting, known_by, known_size, known_sizes, together};
-ghost use Rattle.borsh_values.specs.Steps.{Fits, remaining};
+ghost use Rattle.borsh_values.specs.Sizes.{AreSizes, AreSizesBy, fitting, known_by, known_size, together};
+ghost use Rattle.borsh_values.specs.Steps.{Fits};
 ghost use Rattle.borsh_walks.specs.Definitions.{definitions_in};
-ghost use Rattle.std.specs.Prelude.{IfOk, IfSome, List, Some, cond, drop, eqb, map, ℕ, ◌*◌, ◌≡◌, ◌<◌, ◌≤◌, get_or, length, replicate, slice_get};
+ghost use Rattle.std.specs.Prelude.{IfOk, IfSome, List, Some, cond, drop, eqb, map, ℕ, ◌*◌, ◌≡◌, ◌<◌, get_or, length, replicate, slice_get};
 
 use crate::frames::{Rest, part_at};
 use crate::layout::Layout;
@@ -147,57 +146,6 @@ pub fn free_sizes(alloc: Global, layout: &Layout<'_>) -> Result<Vec<u64>, AllocE
         depth += 1;
     }
     Ok(sizes)
-}
-
-/// The size of the names that are still to be read together, where that of each is known; else 0.
-pub fn size_of_rest(layout: &Layout<'_>, rest: Rest) -> u64
-    requires laid_out { IsLaidOut layout.now }
-    requires sizes { KnowsSizes layout.now }
-    requires fits { Fits layout.now.names.items rest }
-    ensures { let C = definitions_in layout.now.map.now in
-        result ≡ known_sizes C (remaining layout.now.names.items rest) }
-{
-    match rest {
-        Rest::Copies(at, count) => product(count, size_at(&layout.sizes, at)),
-        Rest::Parts(at, next) => size_of_parts(layout, &layout.sizes, at, next),
-    }
-}
-
-/// What the definition of the name at a place takes, of which `taken` bytes come before the parts `rest`: these too, if nodes are
-/// wanted, the size of each is known, and there are as many bytes.
-pub fn pack(
-    layout: &Layout<'_>,
-    wanted: bool,
-    at: usize,
-    taken: usize,
-    rest: Rest,
-    left: &[u8],
-) -> Passed
-    requires laid_out { IsLaidOut layout.now }
-    requires sizes { KnowsSizes layout.now }
-    requires within { at < length layout.now.names.items }
-    requires taken { taken ≤ length left.now }
-    requires fits { Fits layout.now.names.items rest }
-    ensures taken { result.taken ≤ length left.now }
-    ensures fits { Fits layout.now.names.items result.rest }
-    ensures packs { let C = definitions_in layout.now.map.now in
-        Packs C layout.now.names.items wanted taken rest left.now result }
-{
-    let opened = Passed { taken, rest };
-    if !wanted {
-        return opened;
-    }
-    let size = size_of_rest(layout, rest);
-    if size == 0 {
-        return opened;
-    }
-    if size > (left.len() - taken) as u64 {
-        return opened;
-    }
-    Passed {
-        taken: taken + size as usize,
-        rest: Rest::Copies(at, 0),
-    }
 }
 
 /// The next names, as many as are passed at once: those of a free size, or a run of values.

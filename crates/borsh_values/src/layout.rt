@@ -24,8 +24,8 @@ pub struct Named<'a> {
     pub definition: Option<&'a Definition>,
 }
 
-/// The definitions that a root leads to, each name looked up once. [`crate::is_member`] and [`crate::decode`] make one for each
-/// call; a caller with many values of one type makes it once, and calls [`Layout::is_member`] and [`Layout::decode`].
+/// The definitions that a root leads to, each name looked up once. [`crate::is_member`] makes one for each call; a caller with
+/// many values of one type makes it once, and calls [`Layout::is_member`].
 ///
 /// A name that a definition refers to has a place of its own also where it has no definition.
 #[derive(Drop)]

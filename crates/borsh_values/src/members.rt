@@ -1,25 +1,19 @@
 // Whether bytes are a member of a name.
-ghost use Rattle.borsh_values.specs.Membership.{AnswersMembership, IsAnswer, most_opened};
-ghost use Rattle.borsh_values.specs.Fronts.{AreNodesOf, IsFrontAnswer};
-ghost use Rattle.borsh_values.specs.declared.fronts.Front.TheVariants.{Value};
+ghost use Rattle.borsh_values.specs.Membership.{AnswersMembership, IsAnswer};
+ghost use Rattle.borsh_values.specs.Fronts.{IsFrontAnswer};
 ghost use Rattle.borsh_values.specs.Free.{KnowsSizes};
-ghost use Rattle.borsh_values.specs.Passing.{ListsFront, PassesFree};
+ghost use Rattle.borsh_values.specs.Passing.{PassesFree};
 ghost use Rattle.borsh_values.specs.Layouts.{IsLaidOut};
 ghost use Rattle.borsh_values.specs.Steps.{Fits, KnownAs};
 ghost use Rattle.borsh_walks.specs.Definitions.{definitions_in};
-ghost use Rattle.borsh_values.specs.Nodes.{AreOffsets, HaveDefinitions};
-ghost use Rattle.borsh_values.specs.Decoding.{DecodesValue, HasAtMost, HasDefinitions};
-ghost use Rattle.borsh_values.specs.declared.members.Membership.TheVariants.{Member as IsMember};
-ghost use Rattle.std.specs.Prelude.{IfOk, IfSome, None, Some, ◌+◌, ◌-◌, ◌^◌, ◌<◌, ◌≤◌, ◌≡◌, ◌∷◌, [], get_or, length, drop, replicate, slice_set, take, true};
+ghost use Rattle.std.specs.Prelude.{IfOk, IfSome, None, Some, ◌-◌, ◌<◌, ◌≤◌, ◌≡◌, get_or, length, drop, replicate, slice_set, take};
 
 use crate::faults::{Fault, Path, Reason, no_member};
 use crate::frames::{Frame, Opened, Rest, after_copies, has_parts, next_part};
-use crate::free::{free_front, pack};
+use crate::free::free_front;
 use crate::fronts::Front;
 use crate::layout::{Layout, name_of};
-use crate::nodes::{Node, list_node};
 use crate::opening::{definition_at, open_definition};
-use crate::runs::list_run;
 use crate::tag_tables::AtKey;
 use borsh_walks::Definition;
 use std::alloc::{AllocError, Global};
@@ -111,59 +105,19 @@ pub struct Behind<'a> {
     pub left: &'a [u8],
 }
 
-// Passes names of free size, unless nodes are wanted.
-fn pass_free<'a>(
-    layout: &Layout<'_>,
-    wanted: bool,
-    rest: Rest,
-    left: &'a [u8],
-) -> Option<Behind<'a>>
+// Passes names of free size.
+fn pass_free<'a>(layout: &Layout<'_>, rest: Rest, left: &'a [u8]) -> Option<Behind<'a>>
     requires laid_out { IsLaidOut layout.now }
     requires free { KnowsSizes layout.now }
     requires fits { Fits layout.now.names.items rest }
     ensures { let C = definitions_in layout.now.map.now in
-        IfSome result (λ b. PassesFree C layout.now.names.items wanted rest left.now b) }
+        IfSome result (λ b. PassesFree C layout.now.names.items rest left.now b) }
 {
-    if wanted {
-        return None;
-    }
     let passed = free_front(layout, rest, left)?;
     Some(Behind {
         rest: passed.rest,
         left: after(left, passed.taken),
     })
-}
-
-// Passes values of an enum at the front of a list that was begun, and lists their nodes, if nodes are wanted.
-fn list_front<'a, 'b>(
-    layout: &Layout<'a>,
-    wanted: bool,
-    rest: Rest,
-    left: &'b [u8],
-    offset: usize,
-    depth: usize,
-    nodes: &mut Vec<Node<'a, 'b>>,
-) -> Result<Behind<'b>, AllocError>
-    requires laid_out { IsLaidOut layout.now }
-    requires sizes { KnowsSizes layout.now }
-    requires fits { Fits layout.now.names.items rest }
-    requires room { offset + length left.now < 2 ^ 64 }
-    ensures { let m = layout.now.map.now in
-        let C = definitions_in m in
-        let ns = layout.now.names.items in
-        let old = nodes.old.items in
-        IfOk result (λ b. ListsFront C m ns rest left.now offset old nodes.new.items b) }
-{
-    if !wanted {
-        return Ok(Behind { rest, left });
-    }
-    match list_run(layout, rest, left, offset, depth, nodes)? {
-        Some(passed) => Ok(Behind {
-            rest: passed.rest,
-            left: after(left, passed.taken),
-        }),
-        None => Ok(Behind { rest, left }),
-    }
 }
 
 // How many bytes come before those that are left.
@@ -174,20 +128,12 @@ fn offset_of(bytes: &[u8], left: &[u8]) -> usize
     bytes.len() - left.len()
 }
 
-fn count_one(count: &mut u64)
-    ensures risen { count.old ≤ count.new }
-    ensures by_one { count.new ≤ count.old + 1 }
-{
-    *count = count.saturating_add(1);
-}
-
 // Whether all of the bytes are the value that they begin with.
 fn whole<'a>(alloc: Global, layout: &Layout<'a>, bytes: &[u8], front: Front<'a>) -> Membership<'a>
     requires { let C = definitions_in layout.now.map.now in
         IsFrontAnswer C layout.now.root.now bytes.now front }
-    ensures answer { let C = definitions_in layout.now.map.now in
+    ensures { let C = definitions_in layout.now.map.now in
         IsAnswer C layout.now.root.now bytes.now result }
-    ensures all { result ≡ IsMember → front.entry ≡ Value (length bytes.now) }
 {
     let root = layout.root;
     match front {
@@ -235,68 +181,7 @@ pub fn is_member<'a>(
 ) -> Result<Membership<'a>, AllocError>
     ensures { AnswersMembership (definitions_in map.now) root.now bytes.now result }
 {
-    let mut opened = 0;
-    is_member_counted(alloc, root, map, bytes, &mut opened)
-}
-
-/// As [`is_member`], and adds to `opened` how many definitions were opened: at most `(n + 1) * (d + 1)` for `n` bytes and
-/// `d` definitions. At its greatest value the count stays. Left open: as there; a count that isn't raised.
-///
-/// ```
-/// let mut opened = 0;
-/// let answer = is_member_counted(alloc, "Vec<u8>", &definitions, bytes, &mut opened)?;
-/// ```
-pub fn is_member_counted<'a>(
-    alloc: Global,
-    root: &'a str,
-    map: &'a BTreeMap<String, Definition>,
-    bytes: &[u8],
-    opened: &mut u64,
-) -> Result<Membership<'a>, AllocError>
-    ensures answer { AnswersMembership (definitions_in map.now) root.now bytes.now result }
-    ensures risen { opened.old ≤ opened.new }
-    ensures bounded_work { opened.new ≤ opened.old + most_opened bytes.now map.now }
-{
-    Layout::new(alloc, root, map)?.is_member_counted(alloc, bytes, opened)
-}
-
-/// The nodes of a value, where bytes are a member.
-#[derive(Drop)]
-pub enum Decoded<'a, 'b> {
-    /// The bytes are a member, and these are its nodes in preorder. A value of a name of zero size has none.
-    Nodes(Vec<Node<'a, 'b>>),
-    /// The bytes are no member, as [`Membership::NoMember`].
-    NoMember(Fault<'a>),
-    /// As [`Membership::Ambiguous`].
-    Ambiguous(&'a str),
-}
-
-/// The nodes of the value of `root` that all of `bytes` is, by the definitions of `map` alone.
-///
-/// The definitions may be any, as for [`is_member`], and the answer is of the same kind. Where they are
-/// unambiguous, as [`crate::find_ambiguous`] says, the bytes have these nodes and no others. The own bytes of all
-/// nodes, one after another, are `bytes`, each node says where its own begin, and its definition is that of the map. There are at most `(n + 1) * (d + 1)` for
-/// `n` bytes and `d` definitions. The only error is that an allocation failed. Left open: as of [`is_member`]; a
-/// node's depth: tested.
-///
-/// ```
-/// if let Decoded::Nodes(nodes) = decode(alloc, "Vec<u8>", &definitions, bytes)? {
-///     for node in nodes.as_slice() {
-///         println!(rt; "{} at byte {}", node.name, node.offset)?;
-///     }
-/// }
-/// ```
-pub fn decode<'a, 'b>(
-    alloc: Global,
-    root: &'a str,
-    map: &'a BTreeMap<String, Definition>,
-    bytes: &'b [u8],
-) -> Result<Decoded<'a, 'b>, AllocError>
-    ensures value { DecodesValue (definitions_in map.now) root.now bytes.now result }
-    ensures definitions { IfOk result (λ a. HasDefinitions map.now a) }
-    ensures bounded_work { IfOk result (λ a. HasAtMost (most_opened bytes.now map.now) a) }
-{
-    Layout::new(alloc, root, map)?.decode(alloc, bytes)
+    Layout::new(alloc, root, map)?.is_member(alloc, bytes)
 }
 
 impl<'a> Layout<'a> {
@@ -312,81 +197,18 @@ impl<'a> Layout<'a> {
         ensures { let C = definitions_in self.now.map.now in
             AnswersMembership C self.now.root.now bytes.now result }
     {
-        let mut opened = 0;
-        self.is_member_counted(alloc, bytes, &mut opened)
-    }
-
-    // As `is_member_counted`.
-    fn is_member_counted(
-        &self,
-        alloc: Global,
-        bytes: &[u8],
-        opened: &mut u64,
-    ) -> Result<Membership<'a>, AllocError>
-        requires laid_out { IsLaidOut self.now }
-        requires sizes { KnowsSizes self.now }
-        ensures answer { let C = definitions_in self.now.map.now in
-            AnswersMembership C self.now.root.now bytes.now result }
-        ensures risen { opened.old ≤ opened.new }
-        ensures bounded_work { opened.new ≤ opened.old + most_opened bytes.now self.now.map.now }
-    {
-        let mut nodes: Vec<Node<'a, '_>> = Vec::new(alloc);
-        let front = decide(alloc, self, bytes, false, &mut nodes, opened)?;
+        let front = decide(alloc, self, bytes)?;
         Ok(whole(alloc, self, bytes, front))
-    }
-
-    /// As [`decode`], for a layout that was made before. Left open: as there.
-    ///
-    /// ```
-    /// let layout = Layout::new(alloc, "Vec<u8>", &definitions)?;
-    /// for record in records {
-    ///     let decoded = layout.decode(alloc, record)?;
-    /// }
-    /// ```
-    pub fn decode<'b>(&self, alloc: Global, bytes: &'b [u8]) -> Result<Decoded<'a, 'b>, AllocError>
-        requires laid_out { IsLaidOut self.now }
-        requires sizes { KnowsSizes self.now }
-        ensures value { let C = definitions_in self.now.map.now in
-            DecodesValue C self.now.root.now bytes.now result }
-        ensures definitions { IfOk result (λ a. HasDefinitions self.now.map.now a) }
-        ensures bounded_work { IfOk result (λ a. HasAtMost (most_opened bytes.now self.now.map.now) a) }
-    {
-        let mut nodes: Vec<Node<'a, 'b>> = Vec::new(alloc);
-        let mut opened = 0;
-        let front = decide(alloc, self, bytes, true, &mut nodes, &mut opened)?;
-        match whole(alloc, self, bytes, front) {
-            Membership::Member => Ok(Decoded::Nodes(nodes)),
-            Membership::NoMember(fault) => Ok(Decoded::NoMember(fault)),
-            Membership::Ambiguous(name) => Ok(Decoded::Ambiguous(name)),
-        }
     }
 }
 
-/// The loop over the bytes, to the end of their first value, whose nodes it lists if they are asked for. Each frame of `stack`
-/// waits until the one after it was read; `idle` counts the names that were begun since the last byte was taken.
-pub fn decide<'a, 'b>(
-    alloc: Global,
-    layout: &Layout<'a>,
-    bytes: &'b [u8],
-    wanted: bool,
-    nodes: &mut Vec<Node<'a, 'b>>,
-    opened: &mut u64,
-) -> Result<Front<'a>, AllocError>
+/// The loop over the bytes, to the end of their first value. Each frame of `stack` waits until the one after it was read; `idle`
+/// counts the names that were begun since the last byte was taken.
+pub fn decide<'a>(alloc: Global, layout: &Layout<'a>, bytes: &[u8]) -> Result<Front<'a>, AllocError>
     requires laid_out { IsLaidOut layout.now }
     requires sizes { KnowsSizes layout.now }
-    requires empty { nodes.old.items ≡ [] }
-    ensures answer { let C = definitions_in layout.now.map.now in
+    ensures { let C = definitions_in layout.now.map.now in
         IfOk result (λ a. IsFrontAnswer C layout.now.root.now bytes.now a) }
-    ensures listed { let C = definitions_in layout.now.map.now in
-        wanted ≡ true →
-        IfOk result (λ a. AreNodesOf C layout.now.root.now bytes.now nodes.new.items a) }
-    ensures placed { wanted ≡ true → IfOk result (λ a. AreOffsets 0 nodes.new.items) }
-    ensures definitions { wanted ≡ true →
-        IfOk result (λ a. HaveDefinitions layout.now.map.now nodes.new.items) }
-    ensures risen { opened.old ≤ opened.new }
-    ensures bounded_work { opened.new ≤ opened.old + most_opened bytes.now layout.now.map.now }
-    ensures few_nodes { wanted ≡ true →
-        IfOk result (λ a. length nodes.new.items ≤ most_opened bytes.now layout.now.map.now) }
 {
     let mut marks = unmarked(alloc, layout.names.len())?;
     let mut tags: BTreeMap<&'a str, BTreeMap<u64, AtKey>> = BTreeMap::new(alloc);
@@ -401,7 +223,7 @@ pub fn decide<'a, 'b>(
         rest: Rest::Copies(0, 1),
     };
     loop {
-        match pass_free(layout, wanted, frame.rest, left) {
+        match pass_free(layout, frame.rest, left) {
             Some(behind) => {
                 frame.rest = behind.rest;
                 left = behind.left;
@@ -421,19 +243,7 @@ pub fn decide<'a, 'b>(
                         Opened::Refused(why) => {
                             return no_member(alloc, layout, bytes, &stack, frame, step, left, why);
                         }
-                        Opened::Taken(own, parts) => {
-                            let packed = pack(layout, wanted, step.at, own, parts, left);
-                            let taken = packed.taken;
-                            let rest = packed.rest;
-                            let offset = offset_of(bytes, left);
-                            let depth = stack.len();
-                            let node = Node {
-                                name,
-                                definition,
-                                bytes: front(left, taken),
-                                offset,
-                                depth,
-                            };
+                        Opened::Taken(taken, rest) => {
                             if taken == 0 {
                                 match look_up(&marks, step.at, left.len()) {
                                     Known::Empty => frame.rest = after_copies(frame.rest, step),
@@ -444,8 +254,6 @@ pub fn decide<'a, 'b>(
                                         );
                                     }
                                     Known::New => {
-                                        list_node(layout, step.at, wanted, nodes, node)?;
-                                        count_one(opened);
                                         frame.rest = step.others;
                                         stack.push(frame)?;
                                         frame = Frame {
@@ -458,24 +266,16 @@ pub fn decide<'a, 'b>(
                                     }
                                 }
                             } else {
-                                list_node(layout, step.at, wanted, nodes, node)?;
-                                count_one(opened);
                                 frame.rest = step.others;
                                 idle = 0;
                                 let start = left.len();
                                 left = after(left, taken);
                                 if has_parts(layout, rest) {
                                     stack.push(frame)?;
-                                    let next = offset_of(bytes, left);
-                                    let inner = stack.len();
-                                    let listed = list_front(
-                                        layout, wanted, rest, left, next, inner, nodes,
-                                    )?;
-                                    left = listed.left;
                                     frame = Frame {
                                         at: step.at,
                                         start,
-                                        rest: listed.rest,
+                                        rest,
                                     };
                                 }
                             }

@@ -1,21 +1,15 @@
 // The nodes of a value.
-ghost use Rattle.borsh_values.specs.Free.{KnowsSizes};
-ghost use Rattle.borsh_values.specs.Layouts.{name_at};
-ghost use Rattle.borsh_values.specs.Nodes.{AreElementsOf, IsCountOf, IsVariantOf, ListsNode, joined_bytes, views};
-ghost use Rattle.borsh_walks.specs.Definitions.{definitions_in, shape_of};
-ghost use Rattle.std.specs.Prelude.{IfOk, OnOk, ◌≡◌, ◌<◌, length, take, true};
+ghost use Rattle.borsh_values.specs.Nodes.{AreElementsOf, IsCountOf, IsVariantOf};
+ghost use Rattle.borsh_walks.specs.Definitions.{shape_of};
+ghost use Rattle.std.specs.Prelude.{◌≡◌, take};
 
-use crate::layout::Layout;
 use crate::numbers::number;
 use crate::tags::variant_at;
-use crate::zeros::is_zero_at;
 use borsh_walks::Definition;
-use std::alloc::{AllocError, Global};
 
 /// A part of a value, or the value itself, with the bytes that it encodes before its own parts: a primitive all
-/// its bytes, a sequence its count, an enum its tag, a struct and a tuple none. The bytes of parts of known sizes follow
-/// these in the same node: of primitives of some bytes, and of structs, tuples and arrays of these, up to 8 within one
-/// another. [`crate::Preorder`] gives such parts nodes of their own.
+/// its bytes, a sequence its count and its elements if these are primitives of some bytes, an enum its tag, a struct and a
+/// tuple none.
 ///
 /// [`variant_of`] gives the variant of an enum, [`count_of`] the number of elements of a sequence, and [`elements_of`] their
 /// bytes where these are in its node.
@@ -111,43 +105,4 @@ pub fn elements_of<'b>(node: &Node<'_, 'b>) -> &'b [u8]
         }
         _ => node.bytes,
     }
-}
-
-/// Lists the node of the name at a place, if nodes are wanted and its values have bytes.
-pub fn list_node<'a, 'b>(
-    layout: &Layout<'a>,
-    at: usize,
-    wanted: bool,
-    nodes: &mut Vec<Node<'a, 'b>>,
-    node: Node<'a, 'b>,
-) -> Result<(), AllocError>
-    requires sizes { KnowsSizes layout.now }
-    requires within { at < length layout.now.names.items }
-    requires name { node.name.now ≡ name_at layout.now.names.items at }
-    ensures { let C = definitions_in layout.now.map.now in
-        OnOk result (wanted ≡ true → ListsNode C node.entry nodes.old.items nodes.new.items) }
-{
-    if !wanted || node.bytes.is_empty() && is_zero_at(layout, at) {
-        return Ok(());
-    }
-    nodes.push(node)?;
-    Ok(())
-}
-
-/// The bytes of the value that has these nodes: the own bytes of each, one after another.
-///
-/// Whether they are a value at all isn't asked: [`crate::encode_value`] does. The only error is that an allocation
-/// failed. Left open: memory.
-///
-/// ```
-/// let bytes = encode(alloc, nodes.as_slice())?;
-/// ```
-pub fn encode(alloc: Global, nodes: &[Node<'_, '_>]) -> Result<Vec<u8>, AllocError>
-    ensures { IfOk result (λ bytes. bytes.items ≡ joined_bytes (views nodes.now)) }
-{
-    let mut bytes: Vec<u8> = Vec::new(alloc);
-    for node in nodes {
-        bytes.extend_from_slice(node.bytes)?;
-    }
-    Ok(bytes)
 }

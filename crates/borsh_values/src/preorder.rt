@@ -1,12 +1,12 @@
 // The nodes of a value, one after another, from its bytes.
 ghost use Rattle.borsh_values.specs.Free.{KnowsSizes};
 ghost use Rattle.borsh_values.specs.Layouts.{IsLaidOut, name_at};
-ghost use Rattle.borsh_values.specs.Preorder.{ArePlaces, ComesNext, GivesNext, IsInValue, IsNotGiven, bytes_left, layout_of, next_offset, outer_names, place_names};
+ghost use Rattle.borsh_values.specs.Preorder.{ArePlaces, ComesNext, GivesNext, IsInValue, IsNotGiven, bytes_left, layout_of, names_left, next_offset, outer_names, place_names};
 ghost use Rattle.borsh_values.specs.Steps.{Fits, GoesOn, remaining};
 ghost use Rattle.borsh_values.specs.declared.preorder.PreorderError.TheVariants.{OutOfMemory};
 ghost use Rattle.borsh_walks.specs.Container.{Member};
 ghost use Rattle.borsh_walks.specs.Definitions.{definitions_in};
-ghost use Rattle.std.specs.Prelude.{IfErr, IfOk, OnOk, ◌≡◌, ◌++◌};
+ghost use Rattle.std.specs.Prelude.{IfErr, IfOk, OnOk, [], ◌∷◌, ◌≡◌, ◌++◌};
 
 use crate::faults::{Path, PathStep, field_step};
 use crate::frames::{Rest, Step, after_copies, has_parts, next_part};
@@ -94,6 +94,7 @@ impl<'a, 'l, 'b> Preorder<'a, 'l, 'b> {
         requires member { Member (definitions_in layout.now.map.now) layout.now.root.now bytes.now }
         ensures inside { IsInValue result }
         ensures layout { layout_of result ≡ layout.entry }
+        ensures names { names_left result ≡ layout.now.root.now ∷ [] }
         ensures bytes { bytes_left result ≡ bytes.now }
         ensures offset { next_offset result ≡ 0 }
     {

@@ -28,7 +28,7 @@ pub const MOST_BYTES: usize = 67108864;
 /// let layout = Layout::new(alloc, "Vec<u8>", &definitions)?;
 /// let mut records = Records::new(alloc, &layout, StdReader::new(file, 1000), MOST_BYTES)?;
 /// while records.advance(alloc)? {
-///     let decoded = layout.decode(alloc, records.value())?;
+///     let nodes = Preorder::new(alloc, &layout, records.value());
 /// }
 /// ```
 #[derive(Drop)]

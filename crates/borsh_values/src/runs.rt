@@ -1,23 +1,18 @@
 // Values one after another that are passed without a frame for each.
-ghost use Rattle.borsh_values.specs.Free.{AreFirst, HasOneNode, HasParts, IsFreeFront, IsPayload, IsRight, IsRun, IsTagLength, KnowsSizes, Passes};
+ghost use Rattle.borsh_values.specs.Free.{AreFirst, FreeSize, IsFreeFront, IsRight, IsRun, IsTagLength, KnowsSizes, Passes};
 ghost use Rattle.borsh_values.specs.Layouts.{IsLaidOut, name_at, parts_in, shape_at};
 ghost use Rattle.borsh_values.specs.declared.frames.Rest.TheVariants.{Copies};
 ghost use Rattle.borsh_walks.specs.Container.{choice, product};
-ghost use Rattle.borsh_values.specs.Passing.{Lists, ListsPassed, ListsRun};
-ghost use Rattle.borsh_values.specs.Steps.{Fits};
 ghost use Rattle.borsh_walks.specs.Definitions.{definitions_in, shape_of};
-ghost use Rattle.std.specs.BTreeMap.{get_by_text};
-ghost use Rattle.std.specs.Prelude.{All, IfOk, IfSome, MatchOption, OnOk, Some, [], ◌∷◌, ◌+◌, ◌^◌, ◌≡◌, ◌<◌, ◌≤◌, ◌⊎◌, length, map, string_bytes, take};
+ghost use Rattle.std.specs.Prelude.{IfSome, MatchOption, Some, [], ◌∷◌, ◌≡◌, ◌<◌, ◌≤◌, ◌⊎◌, length, map, string_bytes};
 
 use crate::frames::{Opened, Rest, part_at};
-use crate::free::{Passed, size_at, size_of_rest};
-use crate::layout::{Layout, name_of};
-use crate::members::{after, front};
-use crate::nodes::Node;
+use crate::free::{Passed, size_at};
+use crate::layout::Layout;
+use crate::members::after;
 use crate::opening::{definition_at, open_sequence};
 use crate::tags::{Found, find_variant};
 use borsh_walks::{Declaration, Definition, DiscriminantValue, VariantName};
-use std::alloc::AllocError;
 
 type Variants = Vec<(DiscriminantValue, VariantName, Declaration)>;
 
@@ -41,7 +36,7 @@ fn payload_size(layout: &Layout<'_>, part: usize) -> Option<u64>
     requires sizes { KnowsSizes layout.now }
     requires within { part < length layout.now.names.items }
     ensures { let name = name_at layout.now.names.items part in
-        IfSome result (λ n. IsPayload (definitions_in layout.now.map.now) name n) }
+        IfSome result (λ n. FreeSize (definitions_in layout.now.map.now) name n) }
 {
     let size = size_at(&layout.sizes, part);
     if size > 0 {
@@ -151,280 +146,6 @@ fn run_of_enums(layout: &Layout<'_>, at: usize, variants: &Variants, count: u64,
     Run { taken, values }
 }
 
-// Lists the nodes of values of the enum at a place, at most so many; the first has the name, the definition and all bytes.
-fn list_enums<'a, 'b>(
-    layout: &Layout<'a>,
-    at: usize,
-    variants: &Variants,
-    count: u64,
-    first: Node<'a, 'b>,
-    nodes: &mut Vec<Node<'a, 'b>>,
-) -> Result<Run, AllocError>
-    requires laid_out { IsLaidOut layout.now }
-    requires sizes { KnowsSizes layout.now }
-    requires within { at < length layout.now.names.items }
-    requires shape { let vs = map (λ v. (v.0, string_bytes v.2)) variants.now.items in
-        shape_at layout.now.names.items at ≡ Some (choice 1 vs) }
-    requires name { first.name.now ≡ name_at layout.now.names.items at }
-    requires definition { get_by_text layout.now.map.now first.name.now ≡ Some first.definition.now }
-    requires room { first.offset + length first.bytes.now < 2 ^ 64 }
-    requires small { All (λ b. b < 256) first.bytes.now }
-    ensures run { let name = name_at layout.now.names.items at in
-        IfOk result (λ r. IsRun (definitions_in layout.now.map.now) name first.entry.bytes.now count r) }
-    ensures listed { let m = layout.now.map.now in
-        IfOk result (λ r. ListsRun m first.entry r.taken r.values nodes.old.items nodes.new.items) }
-{
-    let start = nodes.len();
-    let room = count.min(first.bytes.len() as u64) as usize;
-    let Some(end) = start.checked_add(room) else {
-        return Ok(Run {
-            taken: 0,
-            values: 0,
-        });
-    };
-    // A node that is passed to `push` would be copied twice.
-    nodes.resize(end, first)?;
-    let run = put_enums(layout, at, variants, room, first, start, nodes);
-    nodes.truncate(start + run.values as usize);
-    Ok(run)
-}
-
-// Puts such nodes, at most so many, in the places from `start` on.
-fn put_enums<'a, 'b>(
-    layout: &Layout<'a>,
-    at: usize,
-    variants: &Variants,
-    room: usize,
-    first: Node<'a, 'b>,
-    start: usize,
-    nodes: &mut Vec<Node<'a, 'b>>,
-) -> Run
-    requires laid_out { IsLaidOut layout.now }
-    requires sizes { KnowsSizes layout.now }
-    requires within { at < length layout.now.names.items }
-    requires shape { let vs = map (λ v. (v.0, string_bytes v.2)) variants.now.items in
-        shape_at layout.now.names.items at ≡ Some (choice 1 vs) }
-    requires name { first.name.now ≡ name_at layout.now.names.items at }
-    requires definition { get_by_text layout.now.map.now first.name.now ≡ Some first.definition.now }
-    requires bytes { first.offset + length first.bytes.now < 2 ^ 64 }
-    requires small { All (λ b. b < 256) first.bytes.now }
-    requires places { start + room ≤ length nodes.old.items }
-    ensures run { let name = name_at layout.now.names.items at in
-        IsRun (definitions_in layout.now.map.now) name first.entry.bytes.now room result }
-    ensures listed { let m = layout.now.map.now in
-        let old = take start nodes.old.items in
-        ListsRun m first.entry result.taken result.values old (take (start + result.values) nodes.new.items) }
-{
-    let left = first.bytes;
-    let length = length_by_tag(layout, at, variants, 0);
-    let mut last = TagLength { tag: 0, length };
-    let mut other = last;
-    let mut taken: usize = 0;
-    let mut values: usize = 0;
-    while values < room {
-        let next = after(left, taken);
-        let Some(tag) = next.first() else {
-            return run_of(taken, values);
-        };
-        let known = length_of(layout, at, variants, *tag, last, other);
-        other = kept(known, last, other);
-        last = known;
-        let Some(length) = known.length else {
-            return run_of(taken, values);
-        };
-        if length == 0 {
-            return run_of(taken, values);
-        }
-        if length > next.len() as u64 {
-            return run_of(taken, values);
-        }
-        nodes[start + values] = Node {
-            bytes: front(next, length as usize),
-            offset: first.offset + taken,
-            ..first
-        };
-        taken += length as usize;
-        values += 1;
-    }
-    run_of(taken, values)
-}
-
-fn run_of(taken: usize, values: usize) -> Run
-    ensures { (result.taken ≡ taken) × (result.values ≡ values) }
-{
-    Run {
-        taken,
-        values: values as u64,
-    }
-}
-
-/// Passes the next values of an enum, and lists their nodes, where what each variant has is of a free size.
-pub fn list_run<'a, 'b>(
-    layout: &Layout<'a>,
-    rest: Rest,
-    left: &'b [u8],
-    offset: usize,
-    depth: usize,
-    nodes: &mut Vec<Node<'a, 'b>>,
-) -> Result<Option<Passed>, AllocError>
-    requires laid_out { IsLaidOut layout.now }
-    requires sizes { KnowsSizes layout.now }
-    requires fits { Fits layout.now.names.items rest }
-    requires room { offset + length left.now < 2 ^ 64 }
-    ensures passes { let C = definitions_in layout.now.map.now in
-        let ns = layout.now.names.items in
-        IfOk result (λ o. IfSome o (λ p. IsFreeFront C ns rest left.now p)) }
-    ensures listed { let C = definitions_in layout.now.map.now in
-        let m = layout.now.map.now in
-        let ns = layout.now.names.items in
-        let old = nodes.old.items in
-        let new = nodes.new.items in
-        IfOk result (λ o. MatchOption o (new ≡ old) (λ p. ListsPassed C m ns rest left.now offset old new p)) }
-{
-    let Rest::Copies(at, count) = rest else {
-        return Ok(None);
-    };
-    let Some(definition) = definition_at(&layout.names, at) else {
-        return Ok(None);
-    };
-    let first = Node {
-        name: name_of(&layout.names, at),
-        definition,
-        bytes: left,
-        offset,
-        depth,
-    };
-    match definition {
-        Definition::Enum {
-            tag_width,
-            variants,
-        } => {
-            if *tag_width != 1 || !has_short_parts(layout, at, true) {
-                return Ok(None);
-            }
-            let run = list_enums(layout, at, variants, count, first, nodes)?;
-            Ok(passed(at, count, run))
-        }
-        Definition::Struct { .. } | Definition::Tuple { .. } => {
-            if size_of_rest(layout, Rest::Parts(at, 0)) > 0 {
-                return Ok(None);
-            }
-            let run = list_products(layout, at, count, first, nodes)?;
-            Ok(passed(at, count, run))
-        }
-        _ => Ok(None),
-    }
-}
-
-// Lists the nodes of values of the struct or tuple at a place, at most so many; the first has the name, the definition and all bytes.
-fn list_products<'a, 'b>(
-    layout: &Layout<'a>,
-    at: usize,
-    count: u64,
-    first: Node<'a, 'b>,
-    nodes: &mut Vec<Node<'a, 'b>>,
-) -> Result<Run, AllocError>
-    requires laid_out { IsLaidOut layout.now }
-    requires within { at < length layout.now.names.items }
-    requires parts { HasParts layout.now at }
-    requires name { first.name.now ≡ name_at layout.now.names.items at }
-    requires definition { get_by_text layout.now.map.now first.name.now ≡ Some first.definition.now }
-    requires room { first.offset + length first.bytes.now < 2 ^ 64 }
-    ensures run { let name = name_at layout.now.names.items at in
-        IfOk result (λ r. IsRun (definitions_in layout.now.map.now) name first.entry.bytes.now count r) }
-    ensures listed { let m = layout.now.map.now in
-        IfOk result (λ r. ListsRun m first.entry r.taken r.values nodes.old.items nodes.new.items) }
-{
-    make_room(layout, at, count, first.bytes, nodes);
-    let mut taken: usize = 0;
-    let mut values: u64 = 0;
-    while values < count {
-        let start = nodes.len();
-        let left = after(first.bytes, taken);
-        let own = Node {
-            bytes: front(left, 0),
-            offset: first.offset + taken,
-            ..first
-        };
-        let Some(length) = list_product(layout, at, own, left, nodes)? else {
-            nodes.truncate(start);
-            return Ok(Run { taken, values });
-        };
-        taken += length;
-        values += 1;
-    }
-    Ok(Run { taken, values })
-}
-
-// Makes room for the nodes of so many values of the struct or tuple at a place, if there is as much: at most one for each byte.
-fn make_room(layout: &Layout<'_>, at: usize, count: u64, left: &[u8], nodes: &mut Vec<Node<'_, '_>>)
-    ensures { nodes.new.items ≡ nodes.old.items }
-{
-    let parts = match layout.parts.as_slice().get(at) {
-        Some(parts) => parts.len() as u64,
-        None => 0,
-    };
-    let most = count.saturating_mul(parts.saturating_add(1));
-    let _room = nodes.reserve(most.min(left.len() as u64) as usize);
-}
-
-// Lists the nodes of the value with which the bytes begin, its own first, if each of its parts is one node, and returns its length.
-fn list_product<'a, 'b>(
-    layout: &Layout<'a>,
-    at: usize,
-    own: Node<'a, 'b>,
-    left: &'b [u8],
-    nodes: &mut Vec<Node<'a, 'b>>,
-) -> Result<Option<usize>, AllocError>
-    requires laid_out { IsLaidOut layout.now }
-    requires within { at < length layout.now.names.items }
-    requires parts { HasParts layout.now at }
-    requires name { own.name.now ≡ name_at layout.now.names.items at }
-    requires definition { get_by_text layout.now.map.now own.name.now ≡ Some own.definition.now }
-    requires none { own.bytes.now ≡ [] }
-    requires room { own.offset + length left.now < 2 ^ 64 }
-    ensures first { let name = name_at layout.now.names.items at in
-        IfOk result (λ o. IfSome o (λ n. AreFirst (definitions_in layout.now.map.now) (name ∷ []) left.now n)) }
-    ensures listed { let m = layout.now.map.now in
-        let name = own.entry.name.now in
-        let old = nodes.old.items in
-        let new = nodes.new.items in
-        IfOk result (λ o. IfSome o (λ n. Lists m (name ∷ []) left.now n own.entry.offset n old new)) }
-    ensures kept { let old = nodes.old.items in
-        OnOk result (take (length old) nodes.new.items ≡ old) }
-{
-    nodes.push(own)?;
-    let depth = own.depth.saturating_add(1);
-    let mut taken: usize = 0;
-    let mut index: usize = 0;
-    while let Some(part) = part_at(layout, at, index) {
-        let Some(definition) = definition_at(&layout.names, part) else {
-            return Ok(None);
-        };
-        let next = after(left, taken);
-        let Some(length) = own_length(layout, part, definition, next) else {
-            return Ok(None);
-        };
-        if length == 0 {
-            return Ok(None);
-        }
-        let node = Node {
-            name: name_of(&layout.names, part),
-            definition,
-            bytes: front(next, length),
-            offset: own.offset + taken,
-            depth,
-        };
-        nodes.push(node)?;
-        taken += length;
-        index += 1;
-    }
-    if taken <= index {
-        return Ok(None);
-    }
-    Ok(Some(taken))
-}
-
 // How many of the first bytes are a value of the name at a place, where its size or count tells that.
 fn value_length(layout: &Layout<'_>, at: usize, left: &[u8]) -> Option<usize>
     requires laid_out { IsLaidOut layout.now }
@@ -444,15 +165,13 @@ fn value_length(layout: &Layout<'_>, at: usize, left: &[u8]) -> Option<usize>
     own_length(layout, at, definition, left)
 }
 
-// The same where the value is one node, which its definition tells: a primitive, or a list of primitives or of nothing.
+// The same where its definition tells that: a primitive, or a list of primitives or of nothing.
 fn own_length(layout: &Layout<'_>, at: usize, definition: &Definition, left: &[u8]) -> Option<usize>
     requires laid_out { IsLaidOut layout.now }
     requires within { at < length layout.now.names.items }
     requires shape { shape_at layout.now.names.items at ≡ Some (shape_of definition.now) }
-    ensures first { let name = name_at layout.now.names.items at in
+    ensures { let name = name_at layout.now.names.items at in
         IfSome result (λ n. AreFirst (definitions_in layout.now.map.now) (name ∷ []) left.now n) }
-    ensures node { let name = name_at layout.now.names.items at in
-        IfSome result (λ n. 0 < n → HasOneNode (definitions_in layout.now.map.now) name (take n left.now)) }
 {
     match definition {
         Definition::Primitive(size) => {

@@ -6,8 +6,8 @@ use super::definitions::{Definitions, text};
 use super::wrong::{Wrong, check, expect};
 use borsh_json::{JsonError, LongNumbers, Rows, Style, check_strict, from_json, to_json, value_of};
 use borsh_values::{
-    Decoded, DecodedFront, Front, Layout, Membership, Next, Node, Preorder, RecordError, Records,
-    count_of, decode, elements_of, encode, encode_value, is_member, variant_of,
+    Front, Layout, Membership, Node, Preorder, RecordError, Records, count_of, elements_of,
+    is_member, variant_of,
 };
 use std::alloc::Global;
 use test_devices::{Course, TestReader, courses};
@@ -41,7 +41,6 @@ impl<'a> Root<'a> {
     fn judge_refused(&self, bytes: &[u8], wanted: &str) -> Result<(), Wrong> {
         let alloc = self.alloc;
         expect(alloc, "is_member", self.member(bytes)?.as_str(), wanted)?;
-        expect(alloc, "decode", self.nodes(bytes)?.as_str(), wanted)?;
         let front = self.front(bytes)?;
         let is_front = wanted.ends_with("too few bytes are left") == (front.as_str() == "short");
         check(alloc, is_front, "front", front.as_str())?;
@@ -109,34 +108,36 @@ impl<'a> Root<'a> {
         expect(self.alloc, "from_json", read.as_str(), wanted)
     }
 
-    /// That the bytes are a value, with nodes that have these bytes, and none by another name or without the last node.
+    /// That the bytes are a value, with nodes that have these bytes, each where its own begin.
     pub fn judge_member(&self, bytes: &[u8]) -> Result<(), Wrong> {
         let alloc = self.alloc;
         expect(alloc, "is_member", self.member(bytes)?.as_str(), "member")?;
-        let Decoded::Nodes(nodes) = decode(alloc, self.name, self.map, bytes)? else {
-            return check(alloc, false, "decode", "no nodes");
-        };
-        let joined = encode(alloc, nodes.as_slice())?;
-        check(alloc, joined.as_slice() == bytes, "encode", "other bytes")?;
-        let again = self.encoded(self.name, nodes.as_slice())?;
-        let is_same = again.is_some_and(|again| again.as_slice() == bytes);
-        check(alloc, is_same, "encode_value", "other bytes")?;
-        let Some((_, fewer)) = nodes.split_last() else {
-            return Ok(());
-        };
-        let none = self.encoded(self.name, fewer)?.is_none();
-        check(alloc, none, "encode_value", "bytes without the last node")?;
-        for name in self.map.keys().take(2) {
-            if name.as_str() != self.name {
-                let none = self.encoded(name.as_str(), nodes.as_slice())?.is_none();
-                check(alloc, none, "encode_value", name.as_str())?;
-            }
-        }
-        Ok(())
+        let joined = self.joined_nodes(bytes)?;
+        check(alloc, joined.as_slice() == bytes, "nodes", "other bytes")
     }
 
-    fn encoded(&self, name: &str, nodes: &[Node<'_, '_>]) -> Result<Option<Vec<u8>>, Wrong> {
-        Ok(encode_value(self.alloc, name, self.map, nodes)?)
+    /// The own bytes of all nodes of a value.
+    fn joined_nodes(&self, bytes: &[u8]) -> Result<Vec<u8>, Wrong> {
+        let alloc = self.alloc;
+        let mut joined = Vec::new(alloc);
+        let layout = Layout::new(alloc, self.name, self.map)?;
+        let Membership::Member = layout.is_member(alloc, bytes)? else {
+            return Ok(joined);
+        };
+        let mut nodes = Preorder::new(alloc, &layout, bytes);
+        for _ in 0..u64::MAX {
+            let Ok(Some(node)) = nodes.next() else {
+                break;
+            };
+            check(
+                alloc,
+                node.offset == joined.len(),
+                "a node",
+                "another offset",
+            )?;
+            joined.extend_from_slice(node.bytes)?;
+        }
+        Ok(joined)
     }
 
     /// That neither a beginning of the bytes is a value nor they with one byte more, which begin with the value.
@@ -248,21 +249,11 @@ impl<'a> Root<'a> {
         }
     }
 
-    /// Why the bytes have no nodes.
-    fn nodes(&self, bytes: &[u8]) -> Result<String, Wrong> {
-        match decode(self.alloc, self.name, self.map, bytes)? {
-            Decoded::Nodes(_) => text(self.alloc, "nodes"),
-            Decoded::NoMember(fault) => told(self.alloc, &JsonError::NoMember(fault)),
-            Decoded::Ambiguous(name) => told(self.alloc, &JsonError::Ambiguous(name)),
-        }
-    }
-
     /// That the bytes have these nodes. One is its depth, its offset, its path, and after a colon its type and its own bytes;
     /// then the number of elements and those of its bytes that are elements, or the variant.
     pub fn judge_nodes(&self, bytes: &[u8], wanted: &[&str]) -> Result<(), Wrong> {
         let alloc = self.alloc;
         self.judge_member(bytes)?;
-        self.judge_depths(bytes, wanted)?;
         let layout = Layout::new(alloc, self.name, self.map)?;
         let Membership::Member = layout.is_member(alloc, bytes)? else {
             return check(alloc, false, "is_member", "no member");
@@ -280,21 +271,6 @@ impl<'a> Root<'a> {
             expect(alloc, "a node", line.as_str(), wanted)?;
         }
         check(alloc, matches!(nodes.next(), Ok(None)), "nodes", "too many")
-    }
-
-    /// That the nodes of `decode` are among these, in order, each at its depth and offset.
-    fn judge_depths(&self, bytes: &[u8], wanted: &[&str]) -> Result<(), Wrong> {
-        let alloc = self.alloc;
-        let Decoded::Nodes(nodes) = decode(alloc, self.name, self.map, bytes)? else {
-            return check(alloc, false, "decode", "no nodes");
-        };
-        let mut wanted = wanted.iter();
-        for node in nodes.iter() {
-            let place = format!(in alloc; "{} {} ", node.depth, node.offset)?;
-            let is_there = wanted.any(|line| line.starts_with(place.as_str()));
-            check(alloc, is_there, "a node of decode", place.as_str())?;
-        }
-        Ok(())
     }
 }
 
@@ -318,31 +294,20 @@ fn list_records<'a>(
     Ok(())
 }
 
-/// How many of the first bytes are a value, with the bytes of as many nodes; or why none are.
+/// How many of the first bytes are a value; or why none are.
 fn front<'a>(
     alloc: Global,
     name: &'a str,
     map: &'a Definitions,
-    bytes: &'a [u8],
+    bytes: &[u8],
 ) -> Result<String, Wrong> {
     let layout = Layout::new(alloc, name, map)?;
-    let taken = match layout.front(alloc, bytes)? {
-        Front::Value(taken) => taken,
-        Front::TooShort(_) => return text(alloc, "short"),
-        Front::NoMember(fault) => return told(alloc, &JsonError::NoMember(fault)),
-        Front::Ambiguous(name) => return told(alloc, &JsonError::Ambiguous(name)),
-    };
-    let DecodedFront::Value(nodes, same) = layout.decode_front(alloc, bytes)? else {
-        return text(alloc, "no nodes");
-    };
-    let joined = encode(alloc, nodes.as_slice())?;
-    let is_same = same == taken && joined.len() == taken;
-    check(alloc, is_same, "decode_front", "other nodes")?;
-    let mut left = bytes;
-    let next = layout.next_value(alloc, &mut left)?;
-    let is_next = matches!(next, Next::Value(value) if value.len() == taken);
-    check(alloc, is_next || taken == 0, "next_value", "another")?;
-    Ok(format!(in alloc; "{taken}")?)
+    match layout.front(alloc, bytes)? {
+        Front::Value(taken) => Ok(format!(in alloc; "{taken}")?),
+        Front::TooShort(_) => text(alloc, "short"),
+        Front::NoMember(fault) => told(alloc, &JsonError::NoMember(fault)),
+        Front::Ambiguous(name) => told(alloc, &JsonError::Ambiguous(name)),
+    }
 }
 
 /// How many elements a node has, and which of its bytes these are; or its variant. It is known by its index.

@@ -4,27 +4,27 @@ use Rattle.borsh_values.specs.Fronts.{IsFrontAnswer}
 use Rattle.borsh_values.proofs.Answers.{all_taken, some_left, stopped, stopped_for_good}
 use Rattle.borsh_values.proofs.members.whole.Goals as goal
 
-pub returns-then-taken-bytes-clause-answer : goal.returns-then-taken-bytes-clause-answer
-returns-then-taken-bytes-clause-answer c =
+pub returns-then-taken-bytes : goal.returns-then-taken-bytes
+returns-then-taken-bytes c =
     let C = definitions_in c.args.layout.now.map.now in
     let root = c.args.layout.now.root.now in
     all_taken C root c.args.bytes.now c.in-Value.taken c.if-taken-bytes.true (subst (λ a. IsFrontAnswer C root c.args.bytes.now a) c.in-Value.is c.requires)
 
-pub returns-else-taken-bytes-clause-answer : goal.returns-else-taken-bytes-clause-answer
-returns-else-taken-bytes-clause-answer c =
+pub returns-else-taken-bytes : goal.returns-else-taken-bytes
+returns-else-taken-bytes c =
     let C = definitions_in c.args.layout.now.map.now in
     let root = c.args.layout.now.root.now in
     some_left C root c.args.bytes.now c.in-Value.taken c.if-taken-bytes.false (subst (λ a. IsFrontAnswer C root c.args.bytes.now a) c.in-Value.is c.requires) _ refl refl refl
 
-pub returns-in-TooShort-clause-answer : goal.returns-in-TooShort-clause-answer
-returns-in-TooShort-clause-answer c =
+pub returns-in-TooShort : goal.returns-in-TooShort
+returns-in-TooShort c =
     let C = definitions_in c.args.layout.now.map.now in
     let root = c.args.layout.now.root.now in
     let h = subst (λ a. IsFrontAnswer C root c.args.bytes.now a) c.in-TooShort.is c.requires in
     stopped C root c.args.bytes.now c.in-TooShort.fault h.0
 
-pub returns-in-NoMember-clause-answer : goal.returns-in-NoMember-clause-answer
-returns-in-NoMember-clause-answer c =
+pub returns-in-NoMember : goal.returns-in-NoMember
+returns-in-NoMember c =
     let C = definitions_in c.args.layout.now.map.now in
     let root = c.args.layout.now.root.now in
     stopped_for_good C root c.args.bytes.now c.in-NoMember.fault (subst (λ a. IsFrontAnswer C root c.args.bytes.now a) c.in-NoMember.is c.requires)

@@ -23,4 +23,4 @@ returns c =
     let found = subst (λ b. FoundAs vs b (One i)) c.as_slice.ensures (subst (λ f. FoundAs vs c.as_slice.result.now f) c.in-One.is c.find_variant.ensures) in
     let at = ap (λ s. slice_get (parts_in s) i) (sym c.requires.shape) ∙ c.in_ok-part.ensures.place.1 in
     let sum = c.in_ok-length.ensures in
-    subst (λ n. IsTagLength C x c.args.tag n) {x = size + 1} {y = c.in_ok-length.length} (omega (arith, sum)) (tag_length C c.args.tag i size p vs (defined_in l c.requires.laid_out c.args.at c.requires.within ∙ c.requires.shape) found at c.in_ok-size.ensures (omega (arith, sum)))
+    subst (λ n. IsTagLength C x c.args.tag n) {x = size + 1} {y = c.in_ok-length.length} (omega (arith, sum)) (tag_length C c.args.tag i size p vs (defined_in l c.requires.laid_out c.args.at c.requires.within ∙ c.requires.shape) found at c.in_ok-size.ensures)
