@@ -13,7 +13,7 @@ unsafe extern "C" {
     fn ours(kind: u32, action: u32, bytes: *const u8, len: usize, rounds: usize) -> usize;
     fn ours_of_container(sizes: bool, bytes: *const u8, len: usize, rounds: usize) -> usize;
     fn ours_by_container(
-        lists_nodes: bool,
+        gives_nodes: bool,
         schema: *const u8,
         schema_len: usize,
         bytes: *const u8,
@@ -125,9 +125,9 @@ fn values(name: &str, schema: &[u8], bytes: &[u8], other: impl Fn(usize) -> usiz
     if !is_wanted(name) {
         return;
     }
-    for (lists_nodes, word) in [(false, "is_member"), (true, "decode")] {
+    for (gives_nodes, word) in [(false, "is_member"), (true, "Preorder")] {
         let mine = |n| unsafe {
-            ours_by_container(lists_nodes, schema.as_ptr(), schema.len(), bytes.as_ptr(), bytes.len(), n)
+            ours_by_container(gives_nodes, schema.as_ptr(), schema.len(), bytes.as_ptr(), bytes.len(), n)
         };
         print(name, word, compare(5, mine, &other));
     }
@@ -139,9 +139,9 @@ fn values_alone(name: &str, schema: &BorshSchemaContainer, bytes: &[u8]) {
         return;
     }
     let schema = to_vec(schema).unwrap();
-    for (lists_nodes, word) in [(false, "is_member"), (true, "decode")] {
+    for (gives_nodes, word) in [(false, "is_member"), (true, "Preorder")] {
         let mine = |n| unsafe {
-            ours_by_container(lists_nodes, schema.as_ptr(), schema.len(), bytes.as_ptr(), bytes.len(), n)
+            ours_by_container(gives_nodes, schema.as_ptr(), schema.len(), bytes.as_ptr(), bytes.len(), n)
         };
         print(name, word, [compare(2, mine, mine)[0], f64::NAN]);
     }

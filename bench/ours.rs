@@ -4,7 +4,7 @@
 use borsh::schema::BorshSchemaContainer;
 use borsh::{BorshDeserialize, BorshSerialize, from_slice, object_length, to_vec};
 use borsh_check_lines::run;
-use borsh_values::{Decoded, Membership, decode, is_member};
+use borsh_values::{Layout, Membership, Preorder, is_member};
 use borsh_walks::Definition;
 use indexmap::IndexMap;
 use std::alloc::Global;
@@ -135,11 +135,35 @@ pub extern "C" fn ours_of_container(
     sum
 }
 
-/// Asks so many times whether the bytes are a value of the container's root, or lists their nodes; the sum of their lengths.
+/// Goes over the nodes of a value; whether the bytes are one.
+fn has_nodes(
+    alloc: Global,
+    root: &str,
+    map: &BTreeMap<String, Definition>,
+    bytes: &[u8],
+) -> bool {
+    let Ok(layout) = Layout::new(alloc, root, map) else {
+        return false;
+    };
+    let Ok(Membership::Member) = layout.is_member(alloc, bytes) else {
+        return false;
+    };
+    let mut nodes = Preorder::new(alloc, &layout, bytes);
+    for _ in 0..u64::MAX {
+        match nodes.next() {
+            Ok(Some(_)) => {}
+            Ok(None) => return true,
+            Err(_) => return false,
+        }
+    }
+    false
+}
+
+/// Asks so many times whether the bytes are a value of the container's root, or goes over its nodes too; the sum of their lengths.
 #[unsafe(no_mangle)]
 pub extern "C" fn ours_by_container(
     alloc: Global,
-    lists_nodes: bool,
+    gives_nodes: bool,
     schema: &[u8],
     bytes: &[u8],
     rounds: usize,
@@ -149,8 +173,8 @@ pub extern "C" fn ours_by_container(
     };
     let mut sum = 0usize;
     for _ in 0..rounds {
-        let answered = if lists_nodes {
-            matches!(decode(alloc, root.as_str(), &map, bytes), Ok(Decoded::Nodes(_)))
+        let answered = if gives_nodes {
+            has_nodes(alloc, root.as_str(), &map, bytes)
         } else {
             matches!(is_member(alloc, root.as_str(), &map, bytes), Ok(Membership::Member))
         };

@@ -11,7 +11,6 @@ use Rattle.borsh_walks.specs.declared.definition.Definition.{Definition}
 use Rattle.borsh_walks.specs.Container.{Shape, references}
 use Rattle.borsh_walks.proofs.Measure.{work}
 use Rattle.borsh_values.specs.Steps.{step_count}
-use Rattle.borsh_values.specs.Nodes.{ListsNode}
 use Rattle.borsh_values.specs.declared.layout.Named.{Named}
 use Rattle.borsh_values.specs.declared.nodes.Node.{Node}
 use Rattle.borsh_values.specs.declared.frames.Frame.{Frame}

@@ -5,8 +5,7 @@ use Rattle.borsh_walks.specs.Container.{Shape, primitive, sequence, product, cho
 use Rattle.borsh_walks.proofs.Names.{among_append, among_one}
 use Rattle.borsh_walks.proofs.Laws.{one_definition, variant-listed, among-replicate, length-tag, tag-zero, zero_as}
 use Rattle.borsh_values.specs.Unambiguous.{UnambiguousShape, IsUnambiguous}
-use Rattle.borsh_values.specs.Nodes.{packed_size, OpensElements, Opens, NodeView, Nodes, nodes_none, nodes_zero, nodes_packed, nodes_more, joined_bytes}
-use Rattle.borsh_values.specs.Sizes.{known_sizes}
+use Rattle.borsh_values.specs.Nodes.{packed_size, OpensElements, Opens}
 use Rattle.borsh_values.specs.Steps.{OnlyEmpty}
 use Rattle.borsh_values.proofs.PrefixFree.{same_front, same_tags, one_count, one_variant}
 use Rattle.borsh_values.proofs.Packed.{packed_is, no_more, copies_of}

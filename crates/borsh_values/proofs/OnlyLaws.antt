@@ -8,8 +8,8 @@ use Rattle.borsh_values.specs.declared.layout.Named.{Named}
 use Rattle.borsh_values.specs.declared.frames.Rest.TheVariants.{Copies}
 use Rattle.borsh_values.specs.declared.tags.Found.TheVariants.{One}
 use Rattle.borsh_values.specs.Faults.{BeginsWith}
-use Rattle.borsh_values.specs.Nodes.{Opens, NodeView, Nodes, nodes_zero, nodes_packed, nodes_more}
-use Rattle.borsh_values.specs.Sizes.{fitting, together, known_size, known_sizes}
+use Rattle.borsh_values.specs.Nodes.{Opens}
+use Rattle.borsh_values.specs.Sizes.{fitting, together, known_size}
 use Rattle.borsh_values.specs.Steps.{OpensOnce, Takes, FoundAs, step_count}
 use Rattle.borsh_values.specs.Free.{FreeSize, FreeSizes, AreOnly, AreFirst, IsTagLength, IsRun, IsFreeFront, Passes}
 use Rattle.borsh_values.specs.Layouts.{name_at}

@@ -10,7 +10,7 @@ use Rattle.borsh_walks.proofs.Laws.{zero_member}
 use Rattle.borsh_values.specs.declared.layout.Named.{Named}
 use Rattle.borsh_values.specs.Layouts.{name_at, shape_at, parts_in}
 use Rattle.borsh_values.specs.Free.{FreeSize, FreeSizes, AreFree}
-use Rattle.borsh_values.specs.Sizes.{fitting, are_known, together, known_by, known_within, known_size, known_sizes, AreSizes, AreSizesBy}
+use Rattle.borsh_values.specs.Sizes.{fitting, are_known, together, known_by, known_within, known_size, AreSizes, AreSizesBy}
 use Rattle.borsh_values.proofs.FreeLaws.{free_none, free_more, free_primitive, free_product, free_array, some_factor}
 
 -- ---- numbers of at most 64 bits

@@ -1,4 +1,4 @@
-use Rattle.std.proofs.Common.{◌≡◌, ℕ, suc, ◌+◌, ◌<◌, List, [], ◌∷◌, ◌++◌, length, take, drop, zero, reverse, replicate, set, Some, refl, sym, ◌∙◌, ap, subst, arith}
+use Rattle.std.proofs.Common.{◌≡◌, ℕ, suc, ◌+◌, ◌<◌, List, [], ◌∷◌, ◌++◌, length, take, drop, zero, reverse, replicate, set, Some, None, refl, sym, ◌∙◌, ap, subst, arith}
 use Rattle.borsh_walks.specs.Definitions.{definitions_in, shape_of}
 use Rattle.borsh_walks.proofs.Tables.{marks_none, no_items}
 use Rattle.borsh_walks.proofs.Spots.{last_first}
