@@ -101,16 +101,15 @@ module _ (F : List ℕ → Option Form) where
 
   -- a list with the name, the lengths and the elements of a `String` is one
   pub text_is : (x : List ℕ) (w lo hi : ℕ) (e : List ℕ) → F x ≡ Some (sequence w lo hi e) → IsString x (lengths_of (sequence w lo hi e)) → IsByte F e → AreKeys F x texts
-  text_is x w lo hi e d s b =
-      (
-        s.0,
-        d
-            ∙ ap (λ w. Some (sequence w lo hi e)) (ap (λ (l : Lengths). l.width) s.1)
-            ∙ ap (λ lo. Some (sequence 4 lo hi e)) (ap (λ (l : Lengths). l.least) s.1)
-            ∙ ap (λ hi. Some (sequence 4 0 hi e)) (ap (λ (l : Lengths). l.greatest) s.1)
-            ∙ ap (λ e. Some (sequence 4 0 4294967295 e)) b.0,
-        subst (λ e. IsByte F e) b.0 b,
-      )
+  text_is x w lo hi e d s b = (
+    s.0,
+    d
+        ∙ ap (λ w. Some (sequence w lo hi e)) (ap (λ (l : Lengths). l.width) s.1)
+        ∙ ap (λ lo. Some (sequence 4 lo hi e)) (ap (λ (l : Lengths). l.least) s.1)
+        ∙ ap (λ hi. Some (sequence 4 0 hi e)) (ap (λ (l : Lengths). l.greatest) s.1)
+        ∙ ap (λ e. Some (sequence 4 0 4294967295 e)) b.0,
+    subst (λ e. IsByte F e) b.0 b,
+  )
 
   -- ---- collections
   pub no_map_in : (ns : List Named) (x : List ℕ) (c : Collection) → IsCollection F ns x c → ((a b : ℕ) → c ≡ Map a b → ⊥) → (k v : List ℕ) → IsMap F x k v → ⊥
