@@ -5,8 +5,8 @@
     borsh_derive.py CRATE --check    names each file that isn't what it would write, and exits with 1
 
 The comment `// derive: borsh, schema, key` also asks for a schema, and for what makes the type a key of maps.
-CRATE is the folder of a crate. If a type can't be taken, its file, line and the reason are printed, and
-nothing is written. What is written is ordinary source, which the prover checks as any other: nothing rests on
+CRATE is the folder of a crate. For each type that can't be taken, its file, line and the reason are printed, and
+nothing is written then. What is written is ordinary source, which the prover checks as any other: nothing rests on
 this program being right.
 
 The exit status is 0 if all was written or nothing differs, 1 if a type or a file can't be taken or a file
@@ -21,7 +21,8 @@ from emit import TUPLE, WRITTEN, Place, Writer, blocks_of
 from ghost import MODULES, NO_NAME, RESERVED
 from ghost_imports import GHOST_NAMES
 from marks import mark_of
-from refusal import Refusal
+from needs import Types, refuse_needs
+from refusal import Refusal, Refusals
 from root import modules_of, refuse_taken, with_modules
 from rust_types import NO_ENCODING, arrays_in, bare_names, heads, names_on_the_heap, tuples_in, without_encoding
 from schema import with_schema
@@ -46,9 +47,17 @@ def main(arguments):
         files = texts_of(folders[0])
         return checked(folders[0], files) if check else written(folders[0], files)
     except Refusal as refusal:
-        refusal.file = os.path.join(folders[0], refusal.file)
+        return said(folders[0], [refusal])
+    except Refusals as refusals:
+        return said(folders[0], refusals.all)
+
+
+def said(folder, refusals):
+    """Prints each refusal."""
+    for refusal in refusals:
+        refusal.file = os.path.join(folder, refusal.file)
         print('borsh_derive: %s' % refusal, file=sys.stderr)
-        return 1
+    return 1
 
 
 def checked(folder, files):
@@ -110,14 +119,19 @@ def texts_of(folder):
     sources = sources_of(folder)
     root = 'lib.rt' if 'lib.rt' in sources else 'main.rt'
     with_file(root, modules_of, sources[root])
-    modules = places_of(folder, sources, root)
+    modules, refused = places_of(folder, sources, root)
     places = [(place, marked) for place in modules for marked in place.module.marked]
-    refuse_clashes(places, root)
-    refuse_unmarked(modules)
-    refuse_cycles(places, root)
+    types = Types(modules, declared_at)
+    refused += clashes(places, root) + unmarked(modules) + cycles(places, root)
     files = {}
     for place, marked in places:
-        files[file_name(place, marked)] = with_file(source_name(place, root), text_of, marked, place)
+        name = source_name(place, root)
+        try:
+            files[file_name(place, marked)] = with_file(name, text_of, marked, place, types)
+        except Refusal as refusal:
+            refused.append(refusal)
+    if refused:
+        raise Refusals(refused)
     refuse_files(sources, files)
     if not files:
         raise Refusal(None, 'no type is marked: write `// derive: borsh` above a `pub struct` or a `pub enum`', 'src')
@@ -128,11 +142,12 @@ def texts_of(folder):
     return files
 
 
-def text_of(marked, place):
+def text_of(marked, place, types):
     """The text for one type."""
     try:
         refuse_names(marked, place)
         refuse_fields(marked, place)
+        refuse_needs(marked, place, types)
         writer = Writer(marked, place)
         return writer.text(with_schema(writer, blocks_of(writer)))
     except Refusal as refusal:
@@ -169,18 +184,25 @@ def refuse_folders(src):
 
 
 def places_of(folder, sources, root):
-    """The modules that were written by hand."""
+    """The modules that were written by hand, and what is refused in them."""
     crate = os.path.basename(os.path.abspath(folder))
-    found = []
+    found, refused = [], []
     for name, text in sources.items():
         if text.startswith(HEAD):
             continue
-        module = with_file(name, read_module, text)
+        try:
+            module = with_file(name, read_module, text)
+        except Refusal as refusal:
+            refused.append(refusal)
+            continue
+        for refusal in module.refused:
+            refusal.file = 'src/' + name
+        refused += module.refused
         if module.marked and name != root and name[:-3] not in with_file(root, modules_of, sources[root]):
             reason = 'the file is no module of the crate: src/%s has no line `mod %s;`' % (root, name[:-3])
-            raise Refusal(module.marked[0].line, reason, 'src/' + name)
+            refused.append(Refusal(module.marked[0].line, reason, 'src/' + name))
         found.append(Place(crate, None if name == root else name[:-3], module, name))
-    return found
+    return found, refused
 
 
 def with_file(name, function, *arguments):
@@ -207,27 +229,29 @@ def snake(name):
 
 # ---- refusals over the whole crate
 
-def refuse_clashes(places, root):
-    """Two types of one name, or with one file, are refused."""
-    names, files = {}, {}
+def clashes(places, root):
+    """Refusals of two types of one name, or with one file."""
+    names, files, found = {}, {}, []
     for place, marked in places:
         file = source_name(place, root)
+        own = file_name(place, marked)
         if marked.name in names:
             reason = 'a second type `%s`: the other one is in src/%s' % (marked.name, names[marked.name])
-            raise Refusal(marked.line, reason, 'src/' + file)
-        own = file_name(place, marked)
-        if own in files:
+            found.append(Refusal(marked.line, reason, 'src/' + file))
+        elif own in files:
             reason = '`%s` and `%s` would have one file, %s' % (files[own], marked.name, own)
-            raise Refusal(marked.line, reason, 'src/' + file)
+            found.append(Refusal(marked.line, reason, 'src/' + file))
         names[marked.name] = file
         files[own] = marked.name
+    return found
 
 
-def refuse_unmarked(places):
-    """A field of a type of the crate that is neither marked nor implements the library's traits by hand."""
+def unmarked(places):
+    """Refusals of fields of a type of the crate that is neither marked nor implements the library's traits by hand."""
     modules = {place.module_name: place.module for place in places}
     by_hand = {name for module in modules.values() for name, traits in module.implemented.items()
                if {'BorshType', 'BorshSerialize'} & traits}
+    found = []
     for place in places:
         for marked in place.module.marked:
             own = {parameter.name for parameter in marked.parameters}
@@ -237,7 +261,8 @@ def refuse_unmarked(places):
                     if name not in own and module in modules and bare in modules[module].unmarked and bare not in by_hand:
                         reason = ('`%s`: the type `%s` of the field `%s` is not marked: mark `%s`, by `// derive: borsh` '
                                   'above it, or implement the traits by hand')
-                        raise Refusal(field.line, reason % (marked.name, name, field.name, bare), 'src/' + place.file)
+                        found.append(Refusal(field.line, reason % (marked.name, name, field.name, bare), 'src/' + place.file))
+    return found
 
 
 def declared_at(name, place):
@@ -249,16 +274,18 @@ def declared_at(name, place):
     return inner[0] if len(inner) == 2 else None if inner else '', path[-1]
 
 
-def refuse_cycles(places, root):
-    """A type that holds itself, perhaps through others, is refused."""
+def cycles(places, root):
+    """Refusals of types that hold themselves, perhaps through others."""
     held = {marked.name: marked.heads() for _, marked in places}
+    found = []
     for place, marked in places:
-        found = way_back(marked.name, held)
-        if found is not None:
-            through = ' through `%s`' % '`, `'.join(found) if found else ''
+        way = way_back(marked.name, held)
+        if way is not None:
+            through = ' through `%s`' % '`, `'.join(way) if way else ''
             reason = ('`%s` holds itself%s, and no codec is made of itself: hold the nodes in a `Vec`, and let them name '
                       'one another by index')
-            raise Refusal(marked.line, reason % (marked.name, through), 'src/' + source_name(place, root))
+            found.append(Refusal(marked.line, reason % (marked.name, through), 'src/' + source_name(place, root)))
+    return found
 
 
 def way_back(name, held):
@@ -286,8 +313,7 @@ def refuse_fields(marked, place):
         raise Refusal(marked.line, reason % (marked.name, private[0]))
     for group in marked.groups():
         encoded = group.encoded()
-        most = WRITTEN if marked.variants is None else WRITTEN - 1
-        most = TUPLE if marked.is_only_encoded() or marked.lifetimes() else most
+        most = TUPLE if marked.is_only_encoded() or marked.lifetimes() else WRITTEN
         if len(encoded) > most:
             reason = 'more than %d fields: put some of them into a struct of their own, whose bytes are the same'
             raise Refusal(encoded[most].line, reason % most)

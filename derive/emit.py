@@ -8,15 +8,16 @@ from ghost_imports import ghost_imports
 from layout import (Group, arm, binding, block_arm, call, chain, chain_fits, conjunction, doc_line, flat,
                     function_head, impl_head, import_lines, pattern, statement, struct_of, tuple_of, tuple_type,
                     type_layout, type_text, within)
-from rust_types import Array, Path, arrays_in, grows, heads, is_never_empty
-from source import Fields
+from rust_types import Array, Constant, Path, arrays_in, grows, heads, is_never_empty
+from source import Field, Fields
 
 NUMBERS = ('zero', 'one', 'two', 'three', 'four', 'five', 'six', 'seven', 'eight', 'nine', 'ten', 'eleven',
            'twelve')
 
-# the most parts that a tuple has, and that are written in one call; and how many are written where the last one is the rest
+# the most parts that a tuple has, and that are written in one call; and the most fields of a type, whose last ones are one part,
+# with one of their own where they are too many
 TUPLE = 12
-WRITTEN = 23
+WRITTEN = 200
 
 # the module of the library that has what is written here, and what it has
 DERIVED = 'borsh::derived'
@@ -55,14 +56,19 @@ class Writer:
         if not any(group.encoded() for group in marked.groups()):
             self.list = self.alias
         self.is_paired = is_paired(marked, place)
+        # of the last fields: how many types they are within, and whether these types refer to the whole value
+        self.level = 0
+        self.holds_whole = marked.variants is None and not marked.parameters
+        self.whole = self.own()
         self.sink = free_name('W', self.taken)
         self.source = free_name('R', self.taken)
 
     # ---- names
 
     def rest_name(self, variant='', kind='Rest'):
-        """The name of a type for the last fields of a struct or a variant of many."""
-        return free_name((variant or 'Last') + kind, self.taken)
+        """The name of a type for the last fields of a struct or a variant of many, or for the last ones of these."""
+        number = str(self.level + 1) if self.level else ''
+        return free_name((variant or 'Last') + kind + number, self.taken)
 
     def lib(self, name):
         """A name of the library, or its path where the type uses that name for something else."""
@@ -183,22 +189,51 @@ class Rest(Writer):
         bounds = [bound for bound in split_bounds(writer.marked.where) if bound.split(':')[0].strip() in named]
         self.marked = copy.copy(writer.marked)
         self.marked.parameters, self.marked.where = parameters, ', '.join(bounds)
-        self.marked.fields, self.marked.variants = Fields('tuple', fields), None
-        self.owner = '%s::%s' % (writer.marked.name, variant) if variant else writer.marked.name
+        self.marked.variants = None
+        if not writer.level:
+            self.owner = '%s::%s' % (writer.marked.name, variant) if variant else writer.marked.name
         self.marked.name = writer.rest_name(variant)
         self.alias = writer.rest_name(variant, 'Fields')
+        self.level = writer.level + 1
+        # one that doesn't refer to the whole value holds that of the last ones
+        self.inner = Rest(self, fields[TUPLE - 1:], variant) if len(fields) > TUPLE and not writer.holds_whole else None
+        if self.inner:
+            arguments = [Constant("'a")] + [Path([(parameter.name, [])]) for parameter in self.inner.marked.parameters]
+            held = Path([(self.inner.marked.name, arguments)])
+            fields = fields[:TUPLE - 1] + [Field('rest', held, fields[0].line, True, False)]
+        self.marked.fields = Fields('tuple', fields)
+
+    def alias_use(self, alias=None):
+        use = super().alias_use(alias)
+        return with_lifetime(use) if self.inner else use
+
+    def alias_head(self, alias=None):
+        head = super().alias_head(alias)
+        return with_lifetime(head) if self.inner else head
+
+    def value(self, names):
+        """The value that holds these references."""
+        if self.inner:
+            names = names[:TUPLE - 1] + [self.inner.value(names[TUPLE - 1:])]
+        return call(self.marked.name, names)
 
     def own(self):
         return "%s<%s>" % (self.marked.name, ', '.join(["'a"] + [parameter.name for parameter in self.marked.parameters]))
 
     def declared(self):
-        return self.alias_head(self.marked.name + "<'a>").replace('><', ', ')
+        return with_lifetime(super().alias_head(self.marked.name))
 
     def bounded(self, bound):
         return ["'a"] + super().bounded(bound)
 
     def has_lifetime(self):
         return True
+
+
+def with_lifetime(head):
+    """A name with the lifetime `'a` before its parameters."""
+    name, _, parameters = head.partition('<')
+    return "%s<'a%s" % (name, ', ' + parameters if parameters else '>')
 
 
 def key_fact(name):
@@ -344,19 +379,51 @@ def struct_fields(writer):
     fields = writer.marked.fields.encoded()
     left_out = ' that are encoded' if len(fields) < len(writer.marked.fields.all) else ''
     doc = doc_line('The fields of [`%s`]%s, in order.' % (writer.marked.name, left_out))
-    return '%s\n%s' % (doc, tuple_alias(writer, writer.alias_head(), fields))
+    declared = '%s\n%s' % (doc, tuple_alias(writer, writer.alias_head(), fields))
+    if writer.holds_whole or len(fields) < 2 * TUPLE:
+        return declared
+    return '\n\n'.join([declared] + names_of_parts(writer, fields[TUPLE - 1:], 'LastParts', writer.marked.name))
 
 
 def tuple_alias(writer, head, fields):
     """The declaration of a name for the tuple of fields; one that is too wide is named by its length."""
     types = [type_layout(field.type) for field in fields] + (['()'] if writer.is_paired else [])
     if len(fields) > TUPLE:
-        types = types[:TUPLE - 1] + [Rest(writer, fields[TUPLE - 1:]).alias_use()]
+        types = types[:TUPLE - 1] + [named(writer, fields[TUPLE - 1:], last_parts(writer, fields))]
     start = 'type %s = ' % head
     line = statement(start, parts(types, tuple_type) if types else '()', ';', 0)
     if '\n' in line:
         line = statement(start, generic_group(writer.lib('Tuple%d' % len(types)), types), ';', 0)
     return line
+
+
+def last_parts(writer, fields):
+    """The name of the tuple of the last fields: those that are written as one part, unless these hold others within."""
+    is_held = writer.holds_whole or len(fields) < 2 * TUPLE
+    return writer.rest_name(kind='Fields' if is_held else 'Parts')
+
+
+def named(writer, fields, name, declared=False):
+    """A name for the types of some fields, with the parameters that these name."""
+    heads_of = [one for field in fields for one in heads(field.type)]
+    found = [parameter for parameter in writer.marked.parameters if parameter.name in heads_of]
+    texts = ['const %s: %s' % (one.name, one.bounds) if one.constant and declared else one.name for one in found]
+    return name + ('<%s>' % ', '.join(texts) if texts else '')
+
+
+def names_of_many(writer, fields, name, what, make, number=1):
+    """The declarations of names for the types of many fields: each is made of some of them and of the next."""
+    part = fields[:TUPLE - 1] if len(fields) > TUPLE else fields
+    behind = fields[len(part):]
+    following = [named(writer, behind, free_name(name + str(number + 1), writer.taken))] if behind else []
+    head = named(writer, fields, free_name(name + (str(number) if number > 1 else ''), writer.taken), True)
+    node = make([type_layout(field.type) for field in part], following)
+    first = '%s\n%s' % (doc_line(what % ('last ' if number > 1 else '')), statement('type %s = ' % head, node, ';', 0))
+    return [first] + (names_of_many(writer, behind, name, what, make, number + 1) if behind else [])
+
+
+def names_of_parts(writer, fields, name, owner):
+    return names_of_many(writer, fields, name, 'The %%sfields of [`%s`], in order.' % owner, lambda types, last: tuple_type(types + last))
 
 
 def struct_view(writer):
@@ -438,50 +505,53 @@ def struct_encoding(writer):
     elif len(names) == 1:
         body = chain('self', [names[0][len('self'):], '.serialize(alloc, writer)'], 8)
     else:
-        body = statement('', written_parts(writer, ['&' + name for name in names]), '', 8)
-        if len(names) > TUPLE and holds_whole(writer):
+        body = statement('', written_parts(writer, ['&' + name for name in names], writer.marked.fields.encoded()), '', 8)
+        if len(names) > TUPLE and writer.holds_whole:
             body = '        let last = %s(self);\n%s' % (writer.rest_name(), body)
     rows = [serialize_head(writer, used=bool(names)), body, '    }'] + struct_put(writer, names)
     block = writer.block('BorshSerialize', 'BorshSerialize', rows)
     return '\n\n'.join(rest_blocks(writer, writer.marked.fields.encoded()[TUPLE - 1:]) + [block])
 
 
-def written_parts(writer, parts, variant=''):
-    """The call that writes parts in order; past twelve, the last ones are one part."""
+def written_parts(writer, parts, fields, variant=''):
+    """The call that writes parts in order, of which the last ones are of these fields; past twelve, they are one part."""
     if len(parts) > TUPLE:
-        last = '&last' if holds_whole(writer) else within('&', call(writer.rest_name(variant), parts[TUPLE - 1:]), '')
+        last = '&last'
+        if not writer.holds_whole:
+            last = within('&', Rest(writer, fields[TUPLE - 1 - len(parts):], variant).value(parts[TUPLE - 1:]), '')
         parts = parts[:TUPLE - 1] + [last]
     return call(writer.lib('write_' + NUMBERS[len(parts)]), parts + ['alloc', 'writer'])
 
 
-def holds_whole(writer):
-    """Whether the type for the last fields refers to the whole value. One with parameters can't quote the view of it."""
-    return writer.marked.variants is None and not writer.marked.parameters
-
-
 def rest_blocks(writer, fields, variant=''):
-    """The type of references to the last fields of a struct or a variant of many, which are written as one part."""
+    """The type of references to the last fields of a struct or a variant of many, which are written as one part. One with
+    parameters can't quote the view of the whole."""
     if len(fields) < 2:
         return []
     rest = Rest(writer, fields, variant)
-    if holds_whole(writer):
-        held = ["&'a " + writer.own()]
-        parts_of = quote(writer, writer.own(), 'FromParts', '.view').flat()
-        view = Term('(λ r. ', ['(%s r.0.now).%d' % (parts_of, TUPLE - 1)], ')')
+    within_it = rest_blocks(rest, fields[TUPLE - 1:], variant)
+    last = ''
+    if writer.holds_whole:
+        held = ["&'a " + writer.whole]
+        parts_of = quote(writer, writer.whole, 'FromParts', '.view').flat()
+        view = Term('(λ r. ', ['(%s r.0.now)%s' % (parts_of, '.%d' % (TUPLE - 1) * rest.level)], ')')
         places = ['&self.0.%s' % field.name for field in fields]
+        last = '        let last = %s(self.0);\n' % rest.rest_name() if within_it else ''
     else:
-        held = ["&'a " + type_text(field.type) for field in fields]
-        view = Term('(λ r. ', ['r.%d.now' % index for index in range(len(fields))], ')')
-        places = ['self.%d' % index for index in range(len(fields))]
+        all_fields = fields if not rest.inner else fields[:TUPLE - 1]
+        held = ["&'a " + type_text(field.type) for field in all_fields] + ([rest.inner.own()] if rest.inner else [])
+        view = Term('(λ r. ', ['r.%d.now' % index for index in range(len(all_fields))] + (['r.%d' % (TUPLE - 1)] if rest.inner else []), ')')
+        places = ['self.%d' % index for index in range(len(all_fields))] + (['&self.%d' % (TUPLE - 1)] if rest.inner else [])
     laws_of_fields = quote(rest, rest.alias_use(), 'BorshType', '.lawful_if')
     laws = ghost_member('lawful_if', 'from', [view.within('(contramap-lawful ', ')'), laws_of_fields])
-    writes = [serialize_head(rest, used=True), statement('', written_parts(rest, places), '', 8), '    }']
+    writes = [serialize_head(rest, used=True), last + statement('', written_parts(rest, places, fields, variant), '', 8), '    }']
     doc = 'The last fields of [`%s`]' % rest.owner
-    return ['%s\n%s' % (doc_line(doc + ', in order.'), tuple_alias(rest, rest.alias_head(), fields)),
-            '%s\n#[derive(Drop)]\n%s' % (doc_line(doc + ', which are written as one part.'),
-                        statement('', call('struct ' + rest.declared(), held), ';', 0)),
-            meaning(rest, view, 'BorshType', laws, encodes_empty(rest), chain_of_sizes(rest)),
-            rest.block('BorshSerialize', 'BorshSerialize', writes)]
+    return within_it + [
+        '%s\n%s' % (doc_line(doc + ', in order.'), tuple_alias(rest, rest.alias_head(), rest.marked.fields.all)),
+        '%s\n#[derive(Drop)]\n%s' % (doc_line(doc + ', which are written as one part.'),
+                                     statement('', call('struct ' + rest.declared(), held), ';', 0)),
+        meaning(rest, view, 'BorshType', laws, encodes_empty(rest), chain_of_sizes(rest)),
+        rest.block('BorshSerialize', 'BorshSerialize', writes)]
 
 
 # the head of the method by which a list writes many elements at a time
@@ -587,10 +657,22 @@ def generic_group(name, arguments):
 def enum_variants(writer):
     case, fork = writer.lib('Case'), writer.lib('Fork') if len(writer.marked.variants) > 1 else None
     node = tree(writer.marked.variants,
-                lambda v: generic_group(case, [str(v.tag), type_of_parts(v.fields.encoded())]),
+                lambda v: generic_group(case, [str(v.tag), parts_of_variant(writer, v)]),
                 lambda a, b: generic_group(fork, [a, b]))
     doc = doc_line('The variants of [`%s`]: each has a tag and its fields, in order.' % writer.marked.name)
-    return '%s\n%s' % (doc, statement('type %s = ' % writer.alias_head(), node, ';', 0))
+    wide = [variant for variant in writer.marked.variants if len(variant.fields.encoded()) > NAMED]
+    lists = [names_of_parts(writer, variant.fields.encoded(), variant.name + 'Parts', '%s::%s' % (writer.marked.name, variant.name))
+             for variant in wide]
+    return '\n\n'.join(sum(lists, []) + ['%s\n%s' % (doc, statement('type %s = ' % writer.alias_head(), node, ';', 0))])
+
+
+# the most fields of a variant whose types have no name of their own
+NAMED = 22
+
+
+def parts_of_variant(writer, variant):
+    fields = variant.fields.encoded()
+    return named(writer, fields, free_name(variant.name + 'Parts', writer.taken)) if len(fields) > NAMED else type_of_parts(fields)
 
 
 def enum_view(writer):
@@ -697,7 +779,7 @@ def written_variant(writer, variant):
     if not names:
         return arm(node, call(writer.lib('write_bytes'), ['&[%d]' % variant.tag, 'writer']), 12)
     tag = '&%s(%d)' % (writer.lib('Tag'), variant.tag)
-    return arm(node, written_parts(writer, [tag] + names, variant.name), 12)
+    return arm(node, written_parts(writer, [tag] + names, encoded, variant.name), 12)
 
 
 def matched(path, fields, names):

@@ -157,7 +157,7 @@ def broken(row):
         indent = len(row) - len(row.lstrip())
         spaces = [place for place in range(indent + 1, len(row)) if row[place] == ' ' and not is_quoted(row, place)]
         fitting = [place for place in spaces if place <= WIDTH]
-        if not spaces:
+        if not spaces or [row[place + 1:] for place in spaces] == ['};']:
             break
         end = max([place for place in fitting if row[place + 1] == '∷'] or fitting or spaces[:1])
         found.append(row[:end])

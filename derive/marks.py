@@ -49,26 +49,23 @@ def check_options(text, line):
         raise Refusal(line, 'the option `borsh` is missing: write `// derive: borsh, %s`' % ', '.join(options))
 
 
-def refuse_stray_marks(reader, seen):
-    """A mark within an item marks nothing."""
-    for comments in reader.before.values():
-        for comment in comments:
-            if mark_of(comment) is not None and comment not in seen:
-                reason = 'the comment is within an item: only types at the top of a file are taken'
-                raise Refusal(comment.line, reason)
+def stray_marks(reader, seen):
+    """Refusals of marks within an item, which mark nothing."""
+    reason = 'the comment is within an item: only types at the top of a file are taken'
+    return [Refusal(comment.line, reason) for comments in reader.before.values() for comment in comments
+            if mark_of(comment) is not None and comment not in seen]
 
 
-# a comment that is nearly a mark
-ALMOST = re.compile(r'(?://[/!]?|/\*+)\s*#?\[?(?:derive\s*[:(=]?\s*borsh\w*(?:\s*,\s*\w+)*|borsh\s*[:(]\s*derive)[)\]\s]*(?:\*/)?$',
-                    re.I)
+# a comment that is nearly a mark: all that it says is that something is derived
+DERIVED = r'(?:deriv\w*|d[a-z]{3,6}(?=\s*:))[\W_]*borsh\w*|borsh[\W_]*deriv\w+|borsh'
+ALMOST = re.compile(r'(?://[/!]*|/\*+!?)[\s*#\[(@-]*(?:%s)(?:[\W_]+(?:borsh\w*|schema|key)|\s*,\s*\w+)*[\W_]*$' % DERIVED, re.I)
 
 
-def refuse_almost_marks(reader):
-    """A comment that looks like a mark and isn't one."""
-    for comments in reader.before.values():
-        for comment in comments:
-            if mark_of(comment) is None and ALMOST.match(comment.text):
-                raise Refusal(comment.line, '`%s` marks nothing: write `// derive: borsh`' % comment.shown())
+def almost_marks(reader):
+    """Refusals of comments that look like a mark and aren't one."""
+    reason = '`%s` marks nothing: write `// derive: borsh`'
+    return [Refusal(comment.line, reason % comment.shown()) for comments in reader.before.values() for comment in comments
+            if mark_of(comment) is None and ALMOST.match(comment.text)]
 
 
 # derive macros of the original

@@ -19,3 +19,11 @@ class Refusal(Exception):
     def __str__(self):
         place = [str(part) for part in (self.file, self.line) if part is not None]
         return ': '.join([':'.join(place), self.reason])
+
+
+class Refusals(Exception):
+    """All that was refused."""
+
+    def __init__(self, all_refusals):
+        super().__init__()
+        self.all = sorted(all_refusals, key=lambda refusal: (refusal.file, refusal.line or 0))

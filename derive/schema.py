@@ -1,7 +1,7 @@
 """What is written for a type's schema: its name, its definitions, and why they describe its encodings."""
 
 from describe import describes_fields
-from emit import TUPLE, Rest, generic_group, quote, tree
+from emit import NAMED, TUPLE, Rest, free_name, generic_group, named, names_of_many, quote, tree
 from ghost import Applied, Term, ghost_list, ghost_member, ghost_name, nested_pairs
 from layout import (ARRAY_WIDTH, TUPLE_WIDTH, Group, call, doc_line, flat, function_head, statement, tuple_type,
                     type_layout)
@@ -55,10 +55,13 @@ def chain(items, end):
 
 def chain_type(fields, end='()'):
     """The types of fields one after another."""
-    node = end
-    for field in reversed(fields):
-        node = tuple_type([type_layout(field.type), node])
-    return node
+    return chain_of([type_layout(field.type) for field in fields], end)
+
+
+def chain_of(types, end):
+    for one in reversed(types):
+        end = tuple_type([one, end])
+    return end
 
 
 def fields_view(names):
@@ -88,10 +91,18 @@ def struct_schema(writer):
     block = schema(writer, data, struct_call(writer, kind, chained), describes)
     if len(fields) <= TUPLE:
         return [block]
+    if len(fields) > NAMED + 1:
+        return names_in_chain(writer, fields, writer.list, writer.marked.name) + [block]
     doc = doc_line('The fields of [`%s`] as its schema goes through them.' % writer.marked.name)
     last = '%s<%s>' % (writer.lib('Chain'), Rest(writer, fields[TUPLE - 1:]).alias_use())
     types = chain_type(fields[:TUPLE - 1], last)
     return ['%s\n%s' % (doc, statement('type %s = ' % writer.list_head(), types, ';', 0)), block]
+
+
+def names_in_chain(writer, fields, name, owner):
+    """The declarations of names for the types of many fields one after another."""
+    what = 'The %%sfields of [`%s`] as its schema goes through them.' % owner
+    return names_of_many(writer, fields, name, what, lambda types, last: chain_of(types, last[0] if last else '()'))
 
 
 def types_in_chain(writer, fields):
@@ -156,14 +167,23 @@ def enum_schema(writer):
     variants = writer.marked.variants
     case, fork = writer.lib('Case'), writer.lib('Fork') if len(variants) > 1 else None
     types = tree(variants,
-                 lambda v: generic_group(case, [str(v.tag), chain_type(v.fields.encoded())]),
+                 lambda v: generic_group(case, [str(v.tag), chain_of_variant(writer, v)]),
                  lambda a, b: generic_group(fork, [a, b]))
     doc = doc_line('The variants of [`%s`] as its schema goes through them.' % writer.marked.name)
     alias = '%s\n%s' % (doc, statement('type %s = ' % writer.list_head(), types, ';', 0))
     data = enum_parts(writer) + [''] + enum_described(writer)
     describes = '    ghost describes = { Self.described.describes };'
     block = schema(writer, data, enum_call(writer), describes)
-    return [alias, block] if has_list(writer) else [block]
+    wide = [variant for variant in variants if len(variant.fields.encoded()) > NAMED]
+    lists = [names_in_chain(writer, variant.fields.encoded(), variant.name + 'FieldList', '%s::%s' % (writer.marked.name, variant.name))
+             for variant in wide]
+    return sum(lists, []) + ([alias, block] if has_list(writer) else [block])
+
+
+def chain_of_variant(writer, variant):
+    """The types of the fields of a variant one after another; of many by a name of their own."""
+    fields = variant.fields.encoded()
+    return named(writer, fields, free_name(variant.name + 'FieldList', writer.taken)) if len(fields) > NAMED else chain_type(fields)
 
 
 def has_list(writer):
@@ -201,7 +221,7 @@ def described_case(writer, variant):
     """What describes a variant: its fields one after another, in place of a tuple."""
     fields = variant.fields.encoded()
     names = ['v'] if len(fields) == 1 else [place_of(index, len(fields)) for index in range(len(fields))]
-    described = fields_described(writer, flat(chain_type(fields)), fields)
+    described = fields_described(writer, flat(chain_of_variant(writer, variant)), fields)
     return Applied('case_described', fields_view(names), described.within('', ' refl refl'))
 
 

@@ -2,10 +2,11 @@
 
 import re
 
-from marks import mark_above, mark_of, options_of, refuse_almost_marks, refuse_macros, refuse_stray_marks
+from marks import almost_marks, mark_above, mark_of, options_of, refuse_macros, stray_marks
 from refusal import Refusal
 from rust_types import BORROWS, borrows, heads, holds_two_lifetimes, joined, parse_type
 from tokens import tokens_of
+from words import comment_of, refuse_doc, refuse_near, refuse_unused
 
 # what a key is compared by
 COMPARED = ('PartialEq', 'Eq', 'PartialOrd', 'Ord')
@@ -104,15 +105,17 @@ class Marked:
 
 class Module:
     """What a file says: its imports by the name that each brings in, its items and whether each is public, its marked
-    types, its types that aren't marked, and the types that it implements a trait of the library for, each with the
-    traits."""
+    types, its types that aren't marked, the traits that a type derives or that are implemented for it, by its name, and
+    what is refused."""
 
     def __init__(self, imports, items, marked):
         self.imports = imports
         self.items = items
         self.marked = marked
         self.unmarked = set()
+        self.derived = {}
         self.implemented = {}
+        self.refused = []
 
 
 CLOSING = {'(': ')', '[': ']', '{': '}'}
@@ -227,46 +230,75 @@ def comments_before(tokens):
 
 
 def read_module(text):
-    """What a file says, or a `Refusal`."""
+    """What a file says, with a `Refusal` for each type that can't be taken."""
     reader = Reader(tokens_of(text), text.count('\n') + 1)
     module = Module({}, {}, [])
     seen = set()
     while not reader.at_end():
-        if reader.is_next('#', '!'):
-            reader.place += 2
-            reader.group()
-            continue
         start = reader.place
-        mark = mark_above(reader, seen)
-        attributes = attributes_of(reader)
-        mark = mark or mark_above(reader, seen)
-        if reader.at_end():
-            break
-        if mark is not None:
-            check_attributes(attributes, TYPE_ATTRIBUTES, 'type')
-            marked = read_marked(reader, mark)
-            refuse_unused(reader, start)
-            marked.options = options_of(mark_of(mark))
-            marked.derived = ' '.join(text for name, text, _ in attributes if name.startswith('derive'))
-            check_options_of(marked)
-            module.marked.append(marked)
-            module.items[module.marked[-1].name] = True
-        else:
-            refuse_macros(attributes)
-            read_item(reader, module)
-    mark_above(reader, seen)
-    refuse_stray_marks(reader, seen)
-    refuse_almost_marks(reader)
+        try:
+            read_one(reader, module, seen)
+        except Refusal as refusal:
+            module.refused.append(refusal)
+            if not go_past(reader, module, start):
+                return module
+            seen.update(comment for place in range(start, reader.place) for comment in reader.before.get(place, []))
+    try:
+        mark_above(reader, seen)
+    except Refusal as refusal:
+        module.refused.append(refusal)
+    module.refused += stray_marks(reader, seen) + almost_marks(reader)
     for marked in module.marked:
         refuse_undroppable(marked, module)
     return module
+
+
+def read_one(reader, module, seen):
+    """The next item, with what is above it."""
+    if reader.is_next('#', '!'):
+        reader.place += 2
+        reader.group()
+        return
+    start = reader.place
+    mark = mark_above(reader, seen)
+    attributes = attributes_of(reader)
+    mark = mark or mark_above(reader, seen)
+    if reader.at_end():
+        return
+    derived = ' '.join(text for name, text, _ in attributes if name.startswith('derive'))
+    if mark is None:
+        refuse_macros(attributes)
+        read_item(reader, module, derived)
+        return
+    check_attributes(attributes, TYPE_ATTRIBUTES, 'type')
+    marked = read_marked(reader, mark, start)
+    marked.options = options_of(mark_of(mark))
+    marked.derived = module.derived[marked.name] = derived
+    check_options_of(marked)
+    module.marked.append(marked)
+    module.items[marked.name] = True
+
+
+def go_past(reader, module, start):
+    """Goes past an item that is refused, and says whether its end is found. Its name is taken all the same."""
+    reader.place, reader.depth = start, 0
+    try:
+        skip_item(reader)
+    except Refusal:
+        return False
+    item = reader.tokens[start:reader.place]
+    for token, behind in zip(item, item[1:]):
+        if token.text in ('struct', 'enum', 'union') and behind.kind == 'word':
+            module.items.setdefault(behind.text, True)
+            break
+    return True
 
 
 def refuse_undroppable(marked, module):
     """A type whose values can't be let go."""
     if not re.search(r'\b(Drop|Copy)\b', marked.derived) and not {'Drop', 'Copy'} & module.implemented.get(marked.name, set()):
         reason = '`%s` has values that can\'t be let go, which encoding and decoding do: write `#[derive(Drop)]` above it'
-        raise Refusal(marked.line, reason % marked.name)
+        module.refused.append(Refusal(marked.line, reason % marked.name))
 
 
 # ---- items
@@ -277,8 +309,8 @@ MODIFIERS = ('unsafe', 'const', 'final', 'extern', 'async')
 NAMED = ('struct', 'enum', 'type', 'const', 'static', 'fn', 'trait', 'mod', 'union')
 
 
-def read_item(reader, module):
-    """An item that isn't marked: its name is kept, and what it imports."""
+def read_item(reader, module, derived=''):
+    """An item that isn't marked: its name is kept, with what it derives, and what it imports."""
     start = reader.place
     if reader.is_next('ghost'):
         skip_item(reader)
@@ -295,6 +327,7 @@ def read_item(reader, module):
         module.items[reader.peek(1).text] = public
         if reader.peek().text in ('struct', 'enum', 'union'):
             module.unmarked.add(reader.peek(1).text)
+            module.derived[reader.peek(1).text] = derived
     is_impl = reader.is_next('impl')
     reader.place = start
     skip_item(reader)
@@ -403,6 +436,8 @@ def check_attributes(attributes, allowed, what):
         if name not in allowed:
             reason = 'the attribute `#%s` of a %s is not taken: %s'
             raise Refusal(line, reason % (text, what, instead_of(name, text, what)))
+        if name == 'doc' and what != 'type':
+            refuse_doc(text, line)
         if name == 'derive' and re.search(r'\bBorsh\w+', text):
             reason = '`%s` in `#%s`: the comment is in its place, so remove it'
             raise Refusal(line, reason % (re.search(r'\bBorsh\w+', text)[0], text))
@@ -507,8 +542,8 @@ def check_schema(marked):
 
 # ---- marked types
 
-def read_marked(reader, mark):
-    """The struct or the enum below a mark."""
+def read_marked(reader, mark, start):
+    """The struct or the enum below a mark; `start` is where its attributes begin."""
     line = reader.peek().line
     if reader.is_next('union') or reader.is_next('pub', 'union'):
         reason = 'a union has no encoding, since its bytes don\'t say which field they are: write an enum'
@@ -518,8 +553,12 @@ def read_marked(reader, mark):
         raise Refusal(mark.line, reason)
     what = reader.next().text
     name = reader.word()
+    body = reader.place
     try:
-        return read_type(reader, what, name, line)
+        marked = read_type(reader, what, name, line)
+        refuse_unused(reader, start)
+        refuse_near(reader, start, body)
+        return marked
     except Refusal as refusal:
         raise refusal.of(name)
 
@@ -653,12 +692,6 @@ def is_skipped(reader, comments, last_line):
     return found
 
 
-def comment_of(comment):
-    """'skip' or 'tag' for a comment that says something of a field or a variant."""
-    match = re.match(r'//(?![/!])\s*(skip\s*$|tag\s*:)', comment.text)
-    return match and match[1].rstrip(': ')
-
-
 def refuse_behind(reader, comment, last_line, what):
     """A comment behind code could be meant for what is before it."""
     if comment.line == last_line:
@@ -666,19 +699,9 @@ def refuse_behind(reader, comment, last_line, what):
     reader.used.add(comment)
 
 
-def refuse_unused(reader, start):
-    """A comment `// skip` or `// tag: 7` that is above no field and no variant, from a token on."""
-    for place in range(start, reader.place + 1):
-        for comment in reader.before.get(place, []):
-            told = comment_of(comment)
-            if told and comment not in reader.used and (place < reader.place or comment.line == reader.last_line()):
-                reason = '`%s` is not above a %s: write it in a line of its own above the one that it is for'
-                raise Refusal(comment.line, reason % (comment.shown(), {'skip': 'field'}.get(told, 'variant')))
-
-
 def read_variants(reader):
     reader.take('{')
-    found = []
+    found, discriminants = [], []
     tag = 0
     while not reader.is_next('}'):
         last_line = reader.last_line()
@@ -693,6 +716,7 @@ def read_variants(reader):
                 reason = 'the variant `%s` has a discriminant and a comment `// tag: ..`: write one of them'
                 raise Refusal(line, reason % name)
             told = number_of(reader.until(',', '}'), line)
+            discriminants.append((line, name, told))
         tag = tag if told is None else told
         refuse_tag(found, name, tag, line)
         found.append(Variant(name, tag, fields, line))
@@ -700,6 +724,11 @@ def read_variants(reader):
         if not reader.skip(','):
             break
     reader.take('}')
+    with_fields = [variant.name for variant in found if variant.fields.kind != 'unit']
+    for line, name, told in discriminants if with_fields else []:
+        reason = ('the variant `%s` has a discriminant, which Rattle takes only where no variant has fields, and `%s` has: write '
+                  '`// tag: %d` above `%s` in its place')
+        raise Refusal(line, reason % (name, with_fields[0], told, name))
     return found
 
 

@@ -13,6 +13,7 @@ import unittest.mock
 import borsh_derive
 from cases import HEAD, Cases, droppable
 from test_refused import Refused  # noqa: F401, which is run with the others
+from test_words import Words  # noqa: F401, which is run with the others
 
 
 class Taken(Cases):
@@ -122,6 +123,16 @@ class Taken(Cases):
         self.assertIn("impl<'a, A: Clone + BorshType, const N: usize> BorshType for LastRest<'a, A, N> {", text)
         self.assertIn("impl<'a, A: Clone + BorshSerialize, const N: usize> BorshSerialize for LastRest<'a, A, N> {", text)
         self.assertIn('Prim.search (key_facts, A.premises) };', text)
+
+    def test_two_hundred_fields(self):
+        fields = ''.join('    pub f%d: u8,\n' % index for index in range(200))
+        text = self.written('// derive: borsh, schema\npub struct Wide {\n%s}\n' % fields, 'types_wide')
+        for row in ('type LastFields17 = (u8, u8, u8, u8, u8, u8, u8, u8, u8, u8, u8, LastFields18);\n', 'type LastFields18 = (u8, u8);\n', "struct LastRest18<'a>(&'a Wide);\n",
+                    '        let last = LastRest18(self.0);\n', 'r.0.now)%s' % ('.11' * 18), '        write_two(&self.0.f198, &self.0.f199, alloc, writer)\n', '(u8, FieldList2)', 'type FieldList19 = (u8, (u8, ()));\n'):
+            self.assertIn(row, text)
+        text = self.written('// derive: borsh, schema\npub enum Wide<N> {\n    A(PhantomData<N>),\n    B(%s),\n}\n'.replace('<N>', '').replace('PhantomData', 'u8') % ', '.join(['u8'] * 200), 'types_wide')
+        for row in ("struct BRest18<'a>(&'a u8, &'a u8, &'a u8);", "type BFields17<'a> = (u8, u8, u8, u8, u8, u8, u8, u8, u8, u8, u8, BRest18<'a>);", 'type BParts19 = (u8, u8);', 'Case<1, BParts>', '            (u8, (u8, (u8, (u8, (u8, (u8, (u8, (u8, BFieldList2)))))))),\n', 'Case<1, BFieldList>', '⟦<BFieldList as FieldTypes>⟧.described'):
+            self.assertIn(row, text)
 
     def test_variants_of_more_than_eleven_fields(self):
         fields = ', '.join('f%d: u8' % index for index in range(13))
@@ -368,7 +379,7 @@ class Taken(Cases):
     def test_comments_beside_attributes_and_docs(self):
         field = '// derive: borsh\npub struct A {\n    pub a: u8,\n%s    pub b: u16,\n}\n'
         for above in ('    // skip\n    #[allow(unused)]\n', '    #[allow(unused)]\n    // skip\n', '    /// A doc.\n    // skip\n',
-                      '    // skip\n    /// A doc.\n', '    #[allow(unused)] // skip\n', '    /* A block. */\n    //skip\n    #[doc = "skip"]\n    /// A doc.\n'):
+                      '    // skip\n    /// A doc.\n', '    #[allow(unused)] // skip\n', '    /* A block. */\n    //skip\n    #[doc = "a skip"]\n    /// A doc.\n'):
             self.assertIn('type Fields = u8;', self.written(field % above, 'types_a'), above)
         variant = '// derive: borsh\npub enum A {\n%s    B(u8),\n    C,\n}\n'
         for above in ('    // tag: 7\n    #[default]\n', '    #[default]\n    // tag: 7\n', '    /// A doc.\n    // tag: 7\n',
@@ -449,11 +460,11 @@ class Taken(Cases):
         types = ['use std::collections::BTreeMap;\n']
         for size, name in names.items():
             title = {'short': 'S', 'long': 'ATypeWhoseNameHasMoreThanTwentyLetters'}[size]
-            for count in (1, 2, 3, 4, 5, 6, 8, 11, 12, 13, 16, 20):
+            for count in (1, 2, 3, 4, 5, 6, 8, 11, 12, 13, 16, 20, 24, 50):
                 fields = [(name % n, kinds[(n + count) % len(kinds)]) for n in range(count)]
                 rows = ''.join('    pub %s: %s,\n' % row for row in fields)
                 types.append('// derive: borsh, schema\npub struct %s%d {\n%s}\n' % (title, count, rows))
-                generic = rows.replace('String', 'Vec<A>').replace('u8;', 'Vec<A>;')
+                generic = rows.replace('(u64, String)', '(u64, Vec<A>)').replace('u8;', 'Vec<A>;')
                 types.append('// derive: borsh, schema\npub struct %sOf%d<A> {\n%s}\n' % (title, count, generic))
                 lengths = rows.replace('; 32', '; N')
                 types.append('// derive: borsh\npub struct %sWith%d<const N: usize> {\n%s}\n' % (title, count, lengths))

@@ -44,7 +44,8 @@ class Refused(Cases):
 
     def test_comments_that_are_almost_marks(self):
         for comment in ('/// derive: borsh', '//! derive: borsh', '// Derive: Borsh', '/* derive: borsh */', '// derive(borsh)', '// derive borsh, schema',
-                        '// #[derive(BorshSerialize)]', '// borsh: derive'):
+                        '// #[derive(BorshSerialize)]', '// borsh: derive', '// derive - borsh', '// derives: borsh', '// Derived: borsh, key', '// drive: borsh', '// dervie: borsh, schema',
+                        '// borsh', '// Borsh.', '// borsh: schema', '// borsh, key', '//// derive: borsh', '/// derive: borsh, json', '// deriving borsh;', '// @derive borsh'):
             self.refused(comment + '\npub struct A(pub u8);\n', 1, '`%s` marks nothing: write `// derive: borsh`' % comment)
         self.one('struct A;\n\n// This derives borsh: all of it.\n// Derive Borsh by hand.\n// Derive: of borsh.\n'.replace('struct', 'pub struct') + '/// derive: Borsh\npub fn f() {}\n', 7, 'marks nothing')
         self.refused('#[derive(Drop, BorshSerialize)]\npub struct A(pub u8);\n', 1, '`BorshSerialize` in `#[derive(Drop, BorshSerialize)]`: there is no such macro here, so write `// derive: borsh`')
@@ -66,7 +67,64 @@ class Refused(Cases):
         self.refused(two.replace('pub struct B;', 'use super::other::C as B;'), 5, 'the type `B` of the field `b` is not marked: mark `C`', root=HEAD + 'mod other;\n', other='pub enum C {\n    D,\n}\n')
         for head in ('use super::other::B;', 'use other::B;', 'pub type B = u8;', 'pub struct B;\nimpl BorshType for B {}', '// derive: borsh\npub struct B;'):
             self.written(two.replace('pub struct B;', head), 'types_a', root=HEAD + 'mod other;\n', other='pub struct B;\nimpl<T> BorshType for B {}\n')
-        self.written('// derive: borsh\npub struct A<B>(\n    pub B,\n    // skip\n    pub C,\n    pub PhantomData<C>,\n);\n\npub struct B;\n\npub struct C;\n', 'types_a')
+        self.written('// derive: borsh\npub struct A<B>(\n    pub B,\n    // skip\n    pub C,\n    pub PhantomData<C>,\n);\n\npub struct B;\n\n#[derive(Drop, Default)]\npub struct C;\n', 'types_a')
+
+    def test_discriminants_beside_fields(self):
+        self.one('pub enum A {\n    B(String) = 3,\n    C(u32, u64) = 7,\n    D = 200,\n}\n', 3, 'where no variant has fields, and `B` has: write `// tag: 3` above `B` in its place')
+        self.one('pub enum A {\n    B = 0x10,\n    C {},\n}\n', 3, '`C` has: write `// tag: 16` above `B` in its place')
+        self.written('// derive: borsh\npub enum A {\n    B = 3,\n    C,\n}\n', 'types_a')
+
+    def test_keys_of_maps(self):
+        own = 'use std::collections::{BTreeMap, HashMap as Table, BTreeSet};\n\n// derive: borsh, schema\npub struct K(pub u8);\n\n// derive: borsh\npub struct A {\n    pub a: %s,\n}\n'
+        for kind, reason in (
+                ('BTreeMap<f64, u8>', '`A`: the field `a` has a map or a set with the key `f64`, whose values have no order: hold a list, `Vec<(f64, u8)>`'),
+                ('Option<Table<(u8, [f32; 2]), String>>', 'the key `f32`, whose values have no order: hold a list, `Vec<((u8, [f32; 2]), String)>`'),
+                ('BTreeSet<Option<f32>>', 'hold a list, `Vec<Option<f32>>`'), ('std::collections::BTreeSet<f64>', 'hold a list, `Vec<f64>`'),
+                ('BTreeMap<Vec<K>, u8>', 'the key `K`, which isn\'t marked as one: write `// derive: borsh, schema, key` above it'),
+                ('BTreeMap<K, u8>', 'which isn\'t marked as one'), ('BTreeMap<u8, BTreeSet<Box<K>>>', 'which isn\'t marked as one'),
+                ('BTreeSet<Table<u8, u8>>', 'the key `HashMap`, which is no key'), ('BTreeSet<(u8, u8, u8, u8, u8, u8)>', 'a tuple of more than 5, which is no key: write some of them as a tuple within')):
+            self.refused(own % kind, 8, reason)
+        for kind in ('BTreeMap<u8, f64>', 'Vec<f64>', 'PhantomData<BTreeSet<f64>>', 'BTreeMap<(String, [u8; 4]), K>', 'Vec<(f64, u8)>', 'other::BTreeMap<f64, u8>'):
+            self.written(own % kind, 'types_a')
+        for mark in ('// derive: borsh, key\n#[derive(Drop, PartialEq, Eq, PartialOrd, Ord)]\n', '// derive: borsh\n', ''):
+            traits = 'impl BorshKey for K {}\n\nimpl BorshType for K {}\n' if 'key' not in mark else ''
+            self.written(mark + 'pub struct K(pub u8);\n\n%s\n// derive: borsh\npub struct A(pub BTreeSet<K>);\n' % traits, 'types_a')
+        self.written('pub struct BTreeSet<T>(T);\nimpl<T> BorshType for BTreeSet<T> {}\n\n// derive: borsh\npub struct A(pub BTreeSet<f64>);\n', 'types_a')
+        self.one('pub struct A<K: Ord, V>(pub BTreeMap<K, V>);\n', 2, 'the key `K`, which needs bounds: write `K: BorshKey + Ord`')
+        self.one('pub struct A<K>(pub BTreeSet<(u8, K)>)\nwhere\n    K: Clone;\n', 2, 'which needs bounds')
+        for bounds in ('<K: BorshKey + Ord>(pub BTreeSet<K>);', '<K: Mine>(pub BTreeSet<K>);', '<K>(pub BTreeSet<K>)\nwhere\n    K: BorshKey + Ord;'):
+            self.written('// derive: borsh\npub struct A%s\n' % bounds, 'types_a')
+        derive = '// derive: borsh, key\n#[derive(Drop, PartialEq, Eq, PartialOrd, Ord)]\n'
+        self.refused(derive + 'pub struct A {\n    pub a: u8,\n    pub b: f64,\n}\n', 5, 'a key is made of keys, and the field `b` holds `f64`')
+        self.refused('// derive: borsh\npub enum B {\n    C,\n}\n\n' + derive + 'pub struct A(pub B);\n', 8, 'write `// derive: borsh, key` above it')
+
+    def test_fields_that_are_left_out_have_a_default(self):
+        own = 'use std::net::IpAddr;\n\n#[derive(Drop)]\npub struct C(pub u8);\n\n#[derive(Drop, Default)]\npub struct D(pub u8);\n\n// derive: borsh\npub struct A<T> {\n    pub t: T,\n    // skip\n    pub a: %s,\n}\n'
+        for kind, reason in (
+                ('C', '`A`: the field `a` is left out, so a decoded value has the `Default` of its type there, and there is none of `C`: write `#[derive(Default)]` above `C`'),
+                ('[(u8, C); 2]', 'there is none of `C`'), ('String', 'there is none of `String`: hold an `Option` of it, whose default is `None`'), ('(u8, Vec<u8>)', 'there is none of `Vec`'),
+                ('IpAddr', 'there is none of `IpAddr`'), ('std::num::NonZeroU8', 'there is none of `NonZeroU8`'), ('RefCell<Box<u8>>', 'there is none of `Box`'), ('T', 'there is none of `T`: write `T: Default`')):
+            self.refused(own % kind, 13, reason)
+        for kind in ('D', 'Option<C>', '[(u8, D); 2]', 'PhantomData<String>', 'RefCell<u8>', 'other::String', '&\'static str', 'bool', 'Option<String>'):
+            self.written(own % kind, 'types_a')
+        self.written('// derive: borsh\npub struct A<T: Clone + Default> {\n    pub t: T,\n    // skip\n    pub a: T,\n}\n', 'types_a')
+        self.written("// derive: borsh\npub struct A<'a> {\n    pub t: &'a str,\n    // skip\n    pub a: String,\n}\n", 'types_a')
+        self.written('pub struct C(pub u8);\n\nimpl Default for C {\n    fn default() -> C {\n        C(3)\n    }\n}\n\n// derive: borsh\npub struct A {\n    // skip\n    pub a: C,\n}\n', 'types_a')
+
+    def test_each_type_that_is_refused(self):
+        good = '// derive: borsh\npub struct Good(pub u8);\n\n'
+        types = (good + '// derive: borsh\npub struct A {\n    pub a: &u8,\n}\n\n// derive: brosh\npub struct B;\n\n' + '// derive: borsh\npub enum C {\n    D(char),\n}\n\n'
+                 '// derive: borsh\npub struct E {\n    /// skip\n    pub a: u8,\n    pub b: Cell,\n}\n\n// derive: borsh\npub struct F(pub A);\n\nfn inner() {\n    // derive: borsh\n}\n\n'
+                 'pub struct G;\n\n// derive: borsh\npub struct H(pub u8, pub G);\n')
+        crate = self.crate(types, root=HEAD + 'pub mod other;\n', other='// derive: borsh\nstruct O;\n')
+        before = crate.texts()
+        status, said = crate.run()
+        self.assertEqual((status, crate.texts()), (1, before))
+        path = 'borsh_derive: ' + os.path.join(crate.folder, 'src', '')
+        rows = ('other.rt:1: no `pub struct`', 'types.rt:6: `A`: a reference without', 'types.rt:9: `brosh` is no option', 'types.rt:14: `C`: the type `char`',
+                'types.rt:19: `E`: `/// skip` changes', 'types.rt:28: the comment is within an item', 'types.rt:34: `H`: the type `G` of the field `1` is not marked')
+        self.assertEqual([line[:len(path + row)] for line, row in zip(said.split('\n'), rows)], [path + row for row in rows])
+        self.assertEqual(said.count('\n'), len(rows), said)
 
     def test_wide_tuples_and_unions(self):
         self.one('pub struct A(pub u8, pub Vec<(%s)>);\n' % ', '.join(['u8'] * 13), 2, 'a tuple of more than 12')
@@ -145,9 +203,9 @@ class Refused(Cases):
         self.refused('struct B; impl BorshType for B {}\n\n// derive: borsh\npub struct A(pub B);\n', 4, 'names `B`, which is private')
 
     def test_too_many_fields(self):
-        fields = ''.join('    pub f%d: u8,\n' % index for index in range(24))
-        self.one('pub struct A {\n%s}\n' % fields, 26, 'more than 23 fields')
-        self.one('pub enum A {\n    B(%s),\n}\n' % ', '.join(['u8'] * 23), 3, 'more than 22 fields')
+        fields = ''.join('    pub f%d: u8,\n' % index for index in range(201))
+        self.one('pub struct A {\n%s}\n' % fields, 203, 'more than 200 fields')
+        self.one('pub enum A {\n    B(%s),\n}\n' % ', '.join(['u8'] * 201), 3, 'more than 200 fields')
 
     def test_parameters(self):
         self.one('pub struct A<T = u8>(pub T);\n', 2, 'the parameter `T` has a default')

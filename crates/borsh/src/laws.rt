@@ -18,8 +18,7 @@ pub fn index_map_entries<K: BorshKey, V>()
     ensures { (read : List (K × V)) → HasEachKeyOnce K.eq read (after_inserts K.eq read) }
 {}
 
-/// A list that was decoded took at least four bytes, for its count, and one for each element: so a short input gives no long
-/// list. `list` is the codec of `Vec<T>` and of every other list of `T`.
+/// A list that was decoded (`list`, the codec of `Vec<T>` and of other lists) took at least four bytes and one for each element.
 ///
 /// ```
 /// list_takes_bytes::<u8>();
@@ -28,9 +27,8 @@ pub fn list_takes_bytes<T: BorshType>()
     ensures { TakesAByteEach T.codec }
 {}
 
-/// A value that has an encoding is written over the front of a `&mut [u8]` with room for it, if encoding its type doesn't
-/// allocate: `serialize` and `to_writer` return `Ok`. So are all types of the library but hashed maps
-/// and sets, and types that contain one.
+/// A value is written into a `&mut [u8]` with room for its encoding, unless encoding its type allocates, as that of hashed maps
+/// and sets and of what contains one does.
 ///
 /// ```
 /// slice_with_room_takes::<u64>();

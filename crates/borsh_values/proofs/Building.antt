@@ -43,10 +43,6 @@ none_here : {X : Type 0} (i : ℕ) → ◌≡◌ {A = Option X} (slice_get [] i)
 none_here zero = refl
 none_here (suc i) = refl
 
-one_here : (n : Named) (i : ℕ) (x : List ℕ) → name_of (n ∷ []) i ≡ Some x → (i ≡ 0) × (x ≡ n.name.now)
-one_here n zero x e = (refl, cc)
-one_here n (suc i) x e = (let z : slice_get [] i ≡ None = none_here {X = Named} i in let q = ap (λ o. option_map (λ n. n.name.now) o) z in cc)
-
 module _ {A : Type 0} (m : BTreeMap (String A) Definition) (x0 : List ℕ) where
   none_named : {T : List ℕ → Option ℕ} → ((x : List ℕ) → T x ≡ None) → IsIndex m [] T
   none_named none = record {

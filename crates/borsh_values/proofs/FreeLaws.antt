@@ -1,11 +1,11 @@
 -- Names whose members are all bytes of one length.
-use Rattle.std.proofs.Common.{◌≡◌, ℕ, suc, zero, ◌+◌, ◌*◌, ◌<◌, ◌≤◌, List, [], ◌∷◌, ◌++◌, length, take, drop, replicate, Some, refl, sym, ◌∙◌, ap, subst, arith, length-append, length-drop, take-append-drop, length-take-le}
+use Rattle.std.proofs.Common.{◌≡◌, ℕ, suc, zero, ◌+◌, ◌*◌, ◌<◌, ◌≤◌, List, [], ◌∷◌, length, take, drop, replicate, Some, refl, sym, ◌∙◌, ap, subst, arith, length-append, length-drop, take-append-drop, length-take-le}
 use Rattle.std.specs.Prelude.{Option}
 use Rattle.std.proofs.Math.Nat.{suc-mul}
 use Rattle.std.proofs.lemmas.List.Elements.{All-take, All-drop}
 use Rattle.borsh_walks.specs.Container.{Shape, primitive, sequence, product, of_primitive, of_sequence, of_parts, Members, no_members, more_members}
 use Rattle.borsh_values.proofs.PrefixFree.{member_as}
-use Rattle.borsh_values.proofs.Required.{members_head, whole, unwhole, joined, parted}
+use Rattle.borsh_values.proofs.Required.{members_head, whole, unwhole}
 use Rattle.borsh_values.specs.Layouts.{parts_in}
 use Rattle.borsh_values.specs.Free.{FreeSize, FreeSizes}
 
@@ -58,20 +58,6 @@ module _ (C : List ℕ → Option Shape) where
   pub free_one : {x : List ℕ} (n : ℕ) → FreeSize C x n → FreeSizes C (x ∷ []) n
   free_one n f bs = ((λ m. (f bs).0 (unwhole C m)), λ l small. whole C ((f bs).1 l small))
 
-  pub free_append : {ps qs : List (List ℕ)} (m n : ℕ) → FreeSizes C ps m → FreeSizes C qs n → FreeSizes C (ps ++ qs) (m + n)
-  free_append {ps} {qs} m n f g bs = (
-    (λ a. let s = parted C ps a in
-        let x = (f s.0).0 s.2 in
-        let y = (g s.1).0 s.3 in
-        ap (λ l. length l) s.4 ∙ length-append s.0 s.1 ∙ omega (arith, x, y)),
-    λ l small.
-        let low : m ≤ length bs = omega (arith, l) in
-        let a = (f (take m bs)).1 (length-take-le m bs low) (All-take (λ b. b < 256) m bs small) in
-        let d = length-drop m bs in
-        let b = (g (drop m bs)).1 (omega (arith, d, l)) (All-drop (λ b. b < 256) m bs small) in
-        subst (λ z. Members C (ps ++ qs) z) (take-append-drop m bs) (joined C a b),
-  )
-
   -- ---- of a definition
   pub free_named : {x : List ℕ} (n size : ℕ) (s : Shape) → C x ≡ Some s → s ≡ primitive n → size ≡ n → FreeSize C x size
   free_named {x} n size s c e z = subst (λ i. FreeSize C x i) (sym z) (free_primitive n (c ∙ ap (λ s. Some s) e))
@@ -82,7 +68,3 @@ module _ (C : List ℕ → Option Shape) where
 pub some_factor : (a b : ℕ) → 0 < a * b → 0 < b
 some_factor a zero h = absurd (omega (arith, h))
 some_factor a (suc b) h = omega arith
-
-pub some_of : (n : ℕ) → (n ≡ 0 → ⊥) → 0 < n
-some_of zero f = absurd (f refl)
-some_of (suc n) f = omega arith

@@ -58,9 +58,6 @@ parts_kept {old = old} {new = new} g (i ∷ is) (y ∷ ys) e =
     cc
 
 -- ---- how names grow
-pub grows_same : (xs : List (List ℕ)) (ns : List Named) → Grows xs ns ns
-grows_same xs ns = record { kept = λ i n e. e; added = λ x i e. inl e; long = omega arith; few = omega arith }
-
 pub grows_one : (ns : List Named) (n : Named) → Grows (n.name.now ∷ []) ns (ns ++ n ∷ [])
 grows_one ns n = record {
   kept = λ i k e. get_left ns (n ∷ []) i e;

@@ -1,18 +1,17 @@
 -- How far the loop has to go.
-use Rattle.std.proofs.Common.{◌≡◌, ℕ, suc, zero, ◌+◌, ◌-◌, ◌*◌, ◌<◌, ◌≤◌, List, [], ◌∷◌, length, ap, arith, Some, true, false, Bool, ◌∙◌, inl, inr, length-append}
+use Rattle.std.proofs.Common.{◌≡◌, ℕ, suc, zero, ◌+◌, ◌-◌, ◌*◌, ◌<◌, ◌≤◌, List, [], ◌∷◌, length, ap, arith, Some, true, false, Bool}
 use Rattle.std.specs.Prelude.{String, Option, string_bytes, cond}
 use Rattle.std.specs.Map.{lookup}
 use Rattle.std.specs.Cmp.Lexicographic.{slice_cmp}
 use Rattle.std.specs.Ordering.{nat_cmp, is_eq}
 use Rattle.borsh_walks.specs.Definitions.{shape_of}
 use Rattle.std.specs.BTreeMap.{BTreeMap, btree_map_len}
-use Rattle.std.proofs.Math.Nat.{mul-le-mul_left, suc-mul}
+use Rattle.std.proofs.Math.Nat.{mul-le-mul_left}
 use Rattle.borsh_walks.specs.declared.definition.Definition.{Definition}
-use Rattle.borsh_walks.specs.Container.{Shape, references}
+use Rattle.borsh_walks.specs.Container.{references}
 use Rattle.borsh_walks.proofs.Measure.{work}
 use Rattle.borsh_values.specs.Steps.{step_count}
 use Rattle.borsh_values.specs.declared.layout.Named.{Named}
-use Rattle.borsh_values.specs.declared.nodes.Node.{Node}
 use Rattle.borsh_values.specs.declared.frames.Frame.{Frame}
 use Rattle.borsh_values.specs.declared.frames.Rest.{Rest}
 use Rattle.borsh_values.specs.declared.frames.Rest.TheVariants.{Copies, Parts}

@@ -1,10 +1,9 @@
 -- The first of some values.
-use Rattle.std.proofs.Common.{◌≡◌, ℕ, zero, suc, ◌<◌, ◌==◌, Bool, false, true≢false, eq-eqb, List, [], ◌∷◌, ◌++◌, length, take, drop, refl, sym, ◌∙◌, ap, subst, arith, append-nil, take-append-drop, length-take-le}
+use Rattle.std.proofs.Common.{◌≡◌, ℕ, zero, suc, ◌<◌, List, [], ◌∷◌, ◌++◌, length, take, drop, refl, sym, ◌∙◌, ap, subst, arith, append-nil, take-append-drop, length-take-le}
 use Rattle.std.specs.Prelude.{Option}
 use Rattle.std.proofs.lemmas.List.{append_cancel_left}
-use Rattle.borsh_walks.specs.Container.{Shape, Member}
-use Rattle.borsh_values.specs.declared.faults.Fault.{Fault}
-use Rattle.borsh_values.specs.Fronts.{IsFront, HasNoFront}
+use Rattle.borsh_walks.specs.Container.{Shape}
+use Rattle.borsh_values.specs.Fronts.{IsFront}
 use Rattle.borsh_values.specs.Next.{AreValues, IsFirst}
 
 no_bytes : (xs ys : List ℕ) → xs ++ ys ≡ [] → length xs ≡ 0

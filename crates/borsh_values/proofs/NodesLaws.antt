@@ -1,12 +1,10 @@
 -- Laws of nodes.
-use Rattle.std.proofs.Common.{◌≡◌, ℕ, suc, zero, ◌*◌, ◌<◌, ◌≤◌, List, [], ◌∷◌, ◌++◌, length, replicate, Some, refl, sym, ◌∙◌, ap, subst, arith, append_assoc, append-nil, inl, inr}
+use Rattle.std.proofs.Common.{◌≡◌, ℕ, suc, zero, ◌*◌, List, [], ◌∷◌, ◌++◌, length, replicate, Some, refl, sym, ◌∙◌, ap, subst, arith, append_assoc, append-nil}
 use Rattle.std.specs.Prelude.{Option, pos}
-use Rattle.borsh_walks.specs.Container.{Shape, primitive, sequence, product, choice, IsIn, first, later, variant_names, references, element_unless_none, tag, Member, of_primitive, of_sequence, of_parts, of_choice, Members, no_members, more_members, IsZeroSize, onward, Reached}
-use Rattle.borsh_walks.proofs.Names.{among_append, among_one}
-use Rattle.borsh_walks.proofs.Laws.{one_definition, variant-listed, among-replicate, length-tag, tag-zero, zero_as}
-use Rattle.borsh_values.specs.Unambiguous.{UnambiguousShape, IsUnambiguous}
+use Rattle.borsh_walks.specs.Container.{Shape, primitive, sequence, product, choice, tag, Member, of_primitive, of_sequence, of_parts, of_choice, Members, no_members}
+use Rattle.borsh_walks.proofs.Laws.{length-tag}
+use Rattle.borsh_values.specs.Unambiguous.{UnambiguousShape}
 use Rattle.borsh_values.specs.Nodes.{packed_size, OpensElements, Opens}
-use Rattle.borsh_values.specs.Steps.{OnlyEmpty}
 use Rattle.borsh_values.proofs.PrefixFree.{same_front, same_tags, one_count, one_variant}
 use Rattle.borsh_values.proofs.Packed.{packed_is, no_more, copies_of}
 use Rattle.borsh_values.proofs.Required.{unwhole}
@@ -33,16 +31,6 @@ opens_one C (choice w vs) {a} {b} r s u o p e =
     let t = same_front a b r s e l in
     let k = one_variant w u o.2 p.2 (sym o.3 ∙ t.0 ∙ p.3) in
     (t.0, t.1, o.4 ∙ ap (λ z. z ∷ []) k.1 ∙ sym p.4)
-
-elements_mentioned : (m : ℕ) (e : List ℕ) (k : ℕ) (cs : List ℕ) (ns : List (List ℕ)) → OpensElements m e k cs ns → (y : List ℕ) → IsIn y ns → IsIn y (e ∷ [])
-elements_mentioned zero e k cs ns o y a = subst (λ z. IsIn y (z ∷ [])) (sym (among-replicate k (subst (λ l. IsIn y l) o.1 a))) first
-elements_mentioned (suc n) e k cs ns o y a = elim (subst (λ l. IsIn y l) o.2 a) [ ]
-
-pub opens_mentioned : (C : List ℕ → Option Shape) (d : Shape) (own : List ℕ) (ns : List (List ℕ)) → Opens C d own ns → (y : List ℕ) → IsIn y ns → IsIn y (references d)
-opens_mentioned C (primitive n) own ns o y a = elim (subst (λ l. IsIn y l) o.2 a) [ ]
-opens_mentioned C (sequence w lo hi e) own ns o y a = elements_mentioned (packed_size (C e)) e o.0 o.1 ns o.5 y a
-opens_mentioned C (product ps) own ns o y a = subst (λ l. IsIn y l) o.1 a
-opens_mentioned C (choice w vs) own ns o y a = subst (λ z. IsIn z (variant_names vs)) (sym (among_one (subst (λ l. IsIn y l) o.4 a))) (variant-listed o.2)
 
 module _ (C : List ℕ → Option Shape) where
   primitive_member : {x : List ℕ} (n : ℕ) (own bs : List ℕ) (ns : List (List ℕ)) → C x ≡ Some (primitive n) → Opens C (primitive n) own ns → Members C ns bs → Member C x (own ++ bs)
@@ -71,37 +59,3 @@ module _ (C : List ℕ → Option Shape) where
       subst (λ l. Member C x l) (sym (ap (λ l. l ++ bs) o.4 ∙ append_assoc (tag w (pos o.0)) o.1 bs)) m
   opens_member {x} (product ps) own bs ns c o ms = subst (λ l. Member C x (l ++ bs)) (sym o.0) (of_parts c (subst (λ l. Members C l bs) o.1 ms))
   opens_member {x} (choice w vs) own bs ns c o ms = subst (λ l. Member C x (l ++ bs)) (sym o.3) (of_choice c o.2 (unwhole C (subst (λ l. Members C l bs) o.4 ms)))
-
-  in_element : (q e : List ℕ) (lo hi k : ℕ) → k ≤ hi → IsIn q (replicate k e) → IsIn q (element_unless_none lo hi e)
-  in_element q e zero zero zero h a = elim a [ ]
-  in_element q e zero zero (suc k) h a = absurd (omega arith)
-  in_element q e zero (suc hi) k h a = subst (λ z. IsIn q (z ∷ [])) (sym (among-replicate k a)) first
-  in_element q e (suc lo) hi k h a = subst (λ z. IsIn q (z ∷ [])) (sym (among-replicate k a)) first
-
-  no_packed_zero : {e : List ℕ} (n : ℕ) → packed_size (C e) ≡ suc n → IsZeroSize C e → ⊥
-  no_packed_zero {e} n p z = let s = zero_as C (primitive (suc n)) (packed_is n (C e) p) z in let h = s.1 in cc
-
-  elements_zero : (e : List ℕ) (m k lo hi : ℕ) (cs : List ℕ) (ns : List (List ℕ)) → packed_size (C e) ≡ m → OpensElements m e k cs ns → k ≤ hi → ((q : List ℕ) → IsIn q (element_unless_none lo hi e) → IsZeroSize C q) → (cs ≡ []) × ((q : List ℕ) → IsIn q ns → IsZeroSize C q)
-  elements_zero e zero k lo hi cs ns p o high f = (o.0, λ q a. f q (in_element q e lo hi k high (subst (λ l. IsIn q l) o.1 a)))
-  elements_zero e (suc n) zero lo hi cs ns p o high f = (no_bytes cs (let l = o.0 in omega (arith, l)), λ q a. elim (subst (λ l. IsIn q l) o.2 a) [ ])
-  elements_zero e (suc n) (suc k) lo hi cs ns p o high f = absurd (no_packed_zero n p (f e (in_element e e lo hi (suc k) high first)))
-
-  -- a name of zero size has no own bytes, and its parts are of zero size
-  pub opened_zero : {x : List ℕ} (d : Shape) (own : List ℕ) (ns : List (List ℕ)) → C x ≡ Some d → IsZeroSize C x → Opens C d own ns → (own ≡ []) × ((q : List ℕ) → IsIn q ns → IsZeroSize C q)
-  opened_zero (primitive zero) own ns c z o = (no_bytes own o.0, λ q a. elim (subst (λ l. IsIn q l) o.2 a) [ ])
-  opened_zero (primitive (suc n)) own ns c z o = let s = zero_as C (primitive (suc n)) c z in let e = s.1 in cc
-  opened_zero (sequence zero lo hi e) own ns c z o =
-      let s = zero_as C (sequence zero lo hi e) c z in
-      let same : element_unless_none lo hi e ≡ s.0 = (let h = s.1 in cc) in
-      let t = elements_zero e (packed_size (C e)) o.0 lo hi o.1 ns refl o.5 o.3 (λ q a. s.2 q (subst (λ l. IsIn q l) same a)) in
-      (o.4 ∙ ap (λ l. l ++ o.1) (tag-zero (pos o.0)) ∙ t.0, t.1)
-  opened_zero (sequence (suc w) lo hi e) own ns c z o = let s = zero_as C (sequence (suc w) lo hi e) c z in let h = s.1 in cc
-  opened_zero (product ps) own ns c z o =
-      let s = zero_as C (product ps) c z in
-      let same : ps ≡ s.0 = (let h = s.1 in cc) in
-      (o.0, λ q a. s.2 q (subst (λ l. IsIn q l) (o.1 ∙ same) a))
-  opened_zero (choice zero vs) own ns c z o =
-      let s = zero_as C (choice zero vs) c z in
-      let same : variant_names vs ≡ s.0 = (let h = s.1 in cc) in
-      (o.3 ∙ tag-zero o.0, λ q a. s.2 q (subst (λ l. IsIn q l) same (opens_mentioned C (choice zero vs) own ns o q a)))
-  opened_zero (choice (suc w) vs) own ns c z o = let s = zero_as C (choice (suc w) vs) c z in let h = s.1 in cc

@@ -1,5 +1,5 @@
 -- Members that are the only ones where bytes begin so.
-use Rattle.std.proofs.Common.{◌≡◌, ℕ, suc, zero, ◌+◌, ◌-◌, ◌^◌, ◌<◌, ◌≤◌, List, [], ◌∷◌, ◌++◌, length, take, drop, replicate, Some, None, refl, sym, ◌∙◌, ap, subst, arith, add-one, append_assoc, append-nil, length-append, length-drop, length-take-le, take-add, take-append-drop}
+use Rattle.std.proofs.Common.{◌≡◌, ℕ, suc, zero, ◌+◌, ◌-◌, ◌<◌, ◌≤◌, List, [], ◌∷◌, ◌++◌, length, take, drop, replicate, Some, None, refl, sym, ◌∙◌, ap, subst, arith, add-one, append_assoc, append-nil, length-drop, length-take-le, take-add}
 use Rattle.std.specs.Prelude.{Option, All, IfSome, MatchOption, slice_get, ℤ}
 use Rattle.std.proofs.lemmas.List.Elements.{All-take, All-drop}
 use Rattle.borsh_walks.specs.Container.{Shape, product, choice, Members, no_members}
@@ -7,9 +7,7 @@ use Rattle.borsh_walks.specs.Container.{variant_names}
 use Rattle.borsh_values.specs.declared.layout.Named.{Named}
 use Rattle.borsh_values.specs.declared.frames.Rest.TheVariants.{Copies}
 use Rattle.borsh_values.specs.declared.tags.Found.TheVariants.{One}
-use Rattle.borsh_values.specs.Faults.{BeginsWith}
 use Rattle.borsh_values.specs.Nodes.{Opens}
-use Rattle.borsh_values.specs.Sizes.{fitting, together, known_size}
 use Rattle.borsh_values.specs.Steps.{OpensOnce, Takes, FoundAs, step_count}
 use Rattle.borsh_values.specs.Free.{FreeSize, FreeSizes, AreOnly, AreFirst, IsTagLength, IsRun, IsFreeFront, Passes}
 use Rattle.borsh_values.specs.Layouts.{name_at}
@@ -17,10 +15,7 @@ use Rattle.borsh_values.specs.declared.free.Passed.{Passed}
 use Rattle.borsh_values.specs.declared.runs.Run.{Run}
 use Rattle.borsh_values.proofs.PrefixFree.{same_front}
 use Rattle.borsh_values.proofs.Packed.{no_more}
-use Rattle.borsh_values.proofs.NodesLaws.{opens_member, opened_zero}
-use Rattle.borsh_values.proofs.SizesLaws.{fits_small}
-use Rattle.borsh_walks.proofs.Laws.{one_definition, zero_member}
-use Rattle.borsh_walks.specs.Container.{IsZeroSize}
+use Rattle.borsh_values.proofs.NodesLaws.{opens_member}
 use Rattle.borsh_values.proofs.Required.{whole, unwhole, joined, parted}
 use Rattle.borsh_values.proofs.FreeLaws.{free_one}
 use Rattle.borsh_values.proofs.FrontLaws.{member_opens, opens_once}

@@ -2,7 +2,7 @@
 use Rattle.std.proofs.Common.{◌++◌, replicate, subst, ◌≡◌, ℕ, suc, zero, ◌+◌, ◌<◌, List, [], ◌∷◌, drop, length, map, Some, None, refl, sym, ◌∙◌, ap, arith, add-one, get_or, set}
 use Rattle.std.specs.Prelude.{Option, String, Vec, slice_get, option_map}
 use Rattle.std.specs.Global.{Global}
-use Rattle.std.specs.BTreeMap.{BTreeMap, get_by_text}
+use Rattle.std.specs.BTreeMap.{BTreeMap}
 use Rattle.std.proofs.lemmas.Option.{slice_get-map}
 use Rattle.std.proofs.lemmas.List.{get_or-set_same, get_or-set_other}
 use Rattle.borsh_walks.specs.declared.definition.Definition.{Definition}
@@ -10,7 +10,7 @@ use Rattle.borsh_walks.specs.Container.{IsIn, first, later, references, Reached,
 use Rattle.borsh_walks.specs.Definitions.{definitions_in}
 use Rattle.borsh_walks.proofs.Names.{next_below}
 use Rattle.borsh_walks.proofs.Tables.{Updated}
-use Rattle.borsh_values.specs.Layouts.{name_of, name_at, named_definition, shape_at, parts_in, places_in, AreParts, IsLayout, IsPlaceOf}
+use Rattle.borsh_values.specs.Layouts.{name_of, name_at, shape_at, parts_in, places_in, AreParts, IsLayout, IsPlaceOf}
 use Rattle.borsh_values.specs.declared.layout.Named.{Named}
 use Rattle.borsh_values.specs.declared.frames.Rest.{Rest}
 use Rattle.borsh_values.specs.declared.frames.Rest.TheVariants.{Copies, Parts}
@@ -91,9 +91,6 @@ module _ {A : Type 0} (m : BTreeMap (String A) Definition) (x0 : List ℕ) (ns :
   pub defined_at : (at : ℕ) → at < length ns → definitions_in m (name_at ns at) ≡ shape_at ns at
   defined_at at low = laid.index.defined (name_at ns at) at (name_there ns at low)
 
-  pub looked_up_at : (at : ℕ) → at < length ns → get_by_text m (name_at ns at) ≡ named_definition (slice_get ns at)
-  looked_up_at at low = laid.index.looked_up (name_at ns at) at (name_there ns at low)
-
   pub root_there : (0 < length ns) × (name_at ns 0 ≡ x0)
   root_there = name_is ns 0 x0 laid.first
 
@@ -147,13 +144,6 @@ module _ {A : Type 0} (m : BTreeMap (String A) Definition) (x0 : List ℕ) (ns :
   mark_here ms i low = ap (λ o. mark_at ms o) (laid.index.back (name_at ns i) i (name_there ns i low))
 
 -- ---- no marks
-pub none_more : (n : ℕ) → ◌≡◌ {A = List (Option Mark)} (replicate n None ++ None ∷ []) (replicate (n + 1) None)
-none_more n = more n ∙ ap (λ k. replicate k None) (sym (add-one n))
-  where
-    more : (n : ℕ) → ◌≡◌ {A = List (Option Mark)} (replicate n None ++ None ∷ []) (replicate (suc n) None)
-    more zero = refl
-    more (suc n) = ap (λ l. None ∷ l) (more n)
-
 none_at : (n i : ℕ) → ◌≡◌ {A = Option Mark} (get_or (replicate n None) i None) None
 none_at zero i = refl
 none_at (suc n) zero = refl

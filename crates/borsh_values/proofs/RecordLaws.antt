@@ -1,5 +1,5 @@
 -- Values one after another, as a reader gives them.
-use Rattle.std.proofs.Common.{◌≡◌, ℕ, zero, suc, ◌+◌, ◌*◌, ◌<◌, ◌≤◌, inl, inr, true≢false, Bool, true, false, List, [], ◌∷◌, ◌++◌, length, take, drop, Result, Ok, Err, refl, sym, ◌∙◌, ap, subst, arith, le_refl, append_assoc, append-nil, take-append-drop, length-append, length-take, length-take-le}
+use Rattle.std.proofs.Common.{◌≡◌, ℕ, zero, suc, ◌+◌, ◌*◌, ◌<◌, ◌≤◌, inl, inr, true≢false, Bool, true, false, List, [], ◌++◌, length, take, drop, Result, Ok, Err, refl, sym, ◌∙◌, ap, subst, arith, le_refl, append_assoc, append-nil, take-append-drop, length-append, length-take, length-take-le}
 use Rattle.std.proofs.lemmas.List.{take-append-le, drop-append-le, take-take, take_all}
 use Rattle.std.proofs.Math.Seq.{take-append_seam, take-append-add}
 use Rattle.std.specs.Prelude.{◌-◌, ◌^◌, ◌⊎◌, min, Option, IfOk, OnOk, IfErr}
@@ -17,7 +17,7 @@ use Rattle.borsh_values.specs.Next.{IsFirst}
 use Rattle.borsh_values.specs.declared.faults.Fault.{Fault}
 use Rattle.borsh_values.proofs.NextLaws.{is_first}
 use Rattle.borsh_values.specs.declared.buffered.Buffered.{Buffered}
-use Rattle.borsh_values.specs.Records.{reader_of, held, Lost, IsUnread, ReadsMore, TakesHeld, IsFirstOf, IsRecordError, FaultsAre, Advances, AdvancesFrom, AdvancesHeld, SameRoot, Falls, most_at_once, ahead, limit_of, next_offset, source_of, value_of}
+use Rattle.borsh_values.specs.Records.{reader_of, held, Lost, IsUnread, ReadsMore, TakesHeld, IsFirstOf, IsRecordError, FaultsAre, Advances, AdvancesHeld, SameRoot, Falls, most_at_once, ahead, limit_of, next_offset, source_of, value_of}
 use Rattle.borsh_values.specs.declared.records.Records.{Records}
 use Rattle.borsh_values.specs.declared.records.RecordError.{RecordError}
 use Rattle.borsh_values.specs.declared.records.RecordError.TheVariants.{NoMember, CutShort, TooLong, EmptyValue, Ambiguous, Reader, OutOfMemory}
@@ -123,12 +123,6 @@ length-taken n xs =
     let l : length xs ≡ length (take n xs) + length (drop n xs) = ap (λ l. length l) (sym (take-append-drop n xs)) ∙ length-append (take n xs) (drop n xs) in
     omega (arith, l)
 
--- a beginning of fewer bytes than were asked for is all
-pub taken-whole : (n : ℕ) (xs : List ℕ) → length (take n xs) < n → take n xs ≡ xs
-taken-whole zero xs h = absurd (omega (arith, h))
-taken-whole (suc n) [] h = refl
-taken-whole (suc n) (x ∷ xs) h = ap (λ l. x ∷ l) (taken-whole n xs (omega (arith, h)))
-
 module _ (C : List ℕ → Option Shape) (root bytes : List ℕ) (limit : ℕ) where
   -- the bytes that are tried, and those behind them
   tried-on : (more : List ℕ) → take limit bytes ++ (drop limit bytes ++ more) ≡ bytes ++ more
@@ -216,23 +210,6 @@ module _ (C : List ℕ → Option Shape) (root : List ℕ) {R : Type 0} where
       reads_left = (let a = p.reads_left in let b = q.reads_left in omega (arith, a, b));
       strict_order = q.strict_order ∙ p.strict_order;
     }
-
-    -- no value was found, and more was read
-    pub reading-goes : (old now mid new : Records R) (e e' : Bool) (nothing ended : Type 0) (n : ℕ) → ReadSoFar state old now e → AdvancesHeld C root now mid nothing ended (Ok false) → SameRoot now mid
-        → ReadsMore state mid.input new.input (Ok n) → next_offset new ≡ next_offset mid → SameRoot mid new → (e' ≡ true → n ≡ 0) → ReadSoFar state old new e'
-    reading-goes old now mid new e e' nothing ended n p a sm m at sn z =
-        let never : ◌≡◌ {A = Result Bool RecordError} (Ok false) (Ok true) → ⊥ = λ q. absurd (cc) in
-        let kept = a.goes.kept never in
-        let lost = subst (λ r. Lost (state r) (state (source_of new)) m.read) a.reader m.lost in
-        record {
-          read = p.read ++ m.read;
-          lost = lost-more _ _ _ p.read m.read p.lost lost;
-          faults = m.faults ∙ ap (λ r. (state r).faults) a.reader ∙ p.faults;
-          ahead = m.held ∙ ap (λ l. l ++ m.read) (kept.0 ∙ p.ahead) ∙ append_assoc (ahead old) p.read m.read;
-          next = at ∙ kept.1 ∙ p.next;
-          ends = λ q. m.some (z q);
-          same = (sn.0 ∙ sm.0 ∙ p.same.0, sn.1 ∙ sm.1 ∙ p.same.1);
-        }
 
     -- the call returns what was found in what was read
     pub reading-ends : (old now new : Records R) (e : Bool) (r : Result Bool RecordError) → ReadSoFar state old now e → AdvancesHeld C root now new (e ≡ true → ahead now ≡ []) (e ≡ true) r → (r ≡ Ok false → e ≡ true) → Advances C root state old new r
@@ -326,13 +303,3 @@ module _ (C : List ℕ → Option Shape) (root : List ℕ) {R : Type 0} where
           goes = record { found = g.found; short = g.short; next = g.next; none = λ e. absurd (cc); error = tt; kept = g.kept };
         } in
         reading-ends old old new false (Ok true) (reading-begins old) h (λ e. absurd (cc))
-
-    -- none was at hand, and then more was read
-    pub advances-after : (old mid new : Records R) (nothing ended : Type 0) (r : Result Bool RecordError) → AdvancesHeld C root old mid nothing ended (Ok false) → SameRoot old mid
-        → Advances C root state mid new r → Advances C root state old new r
-    advances-after old mid new nothing ended r a s h =
-        let k = a.goes.kept (λ e. absurd (cc)) in
-        subst (λ x. AdvancesFrom C root state x (ahead old) (next_offset old) (limit_of old) new r) a.reader
-        (subst (λ x. AdvancesFrom C root state (source_of mid) x (next_offset old) (limit_of old) new r) k.0
-        (subst (λ x. AdvancesFrom C root state (source_of mid) (ahead mid) x (limit_of old) new r) k.1
-        (subst (λ x. AdvancesFrom C root state (source_of mid) (ahead mid) (next_offset mid) x new r) s.1 h)))

@@ -66,10 +66,6 @@ module _ (C : List ℕ → Option Shape) where
   only_empty_members {ps = []} h = no_members
   only_empty_members {ps = p ∷ ps} h = more_members h.0.0 (only_empty_members h.1)
 
-  pub members_only_empty : {ps : List (List ℕ)} {bs : List ℕ} → AllOnlyEmpty C ps → Members C ps bs → bs ≡ []
-  members_only_empty h no_members = refl
-  members_only_empty h (more_members {bs = xs} {cs = ys} m ms) = ap (λ l. l ++ ys) (zero_member C m h.0.1) ∙ members_only_empty h.1 ms
-
   pub whole : {x bs : List ℕ} → Member C x bs → Members C (x ∷ []) bs
   whole {x} {bs} m = subst (λ l. Members C (x ∷ []) l) (end bs) (more_members m no_members)
     where

@@ -1,12 +1,10 @@
 -- The sizes that are known.
 use Rattle.std.proofs.Common.{◌≡◌, ℕ, suc, zero, ◌+◌, ◌*◌, ◌^◌, ◌<◌, ◌≤◌, Bool, true, false, cond, eqb, ltb, List, [], ◌∷◌, ◌++◌, length, map, drop, replicate, get_or, Some, None, refl, sym, ◌∙◌, ap, subst, arith, add-one, length-append, inl, inr}
-use Rattle.std.specs.Prelude.{Option, All, slice_get, ℤ}
-use Rattle.std.proofs.Math.Nat.{suc-mul}
+use Rattle.std.specs.Prelude.{Option, slice_get, ℤ}
 use Rattle.std.proofs.lemmas.Bool.{lt-ltb, le-ltb, eqb-true, cases_lt}
 use Rattle.std.proofs.Math.ListN.{get_or-append}
 use Rattle.std.proofs.Math.Seq.{get_or-append_seam}
-use Rattle.borsh_walks.specs.Container.{Shape, primitive, sequence, product, choice, sum_of, IsIn, first, later, Members, no_members, more_members, IsZeroSize}
-use Rattle.borsh_walks.proofs.Laws.{zero_member}
+use Rattle.borsh_walks.specs.Container.{Shape, primitive, sequence, product, choice, sum_of}
 use Rattle.borsh_values.specs.declared.layout.Named.{Named}
 use Rattle.borsh_values.specs.Layouts.{name_at, shape_at, parts_in}
 use Rattle.borsh_values.specs.Free.{FreeSize, FreeSizes, AreFree}
@@ -70,27 +68,6 @@ module _ (P : List ℕ → ℕ) (all : List (List ℕ)) where
   summed_end left total e low h =
       let s : sum_of (map P all) ≡ total = h.1 ∙ ap (λ l. total + sum_of (map P l)) e ∙ omega arith in
       ap (λ b. cond b (fitting (sum_of (map P all))) 0) (h.0 ∙ ap (λ l. are_known (map P l)) e) ∙ ap (λ n. fitting n) s ∙ fits_small total low
-
--- copies of a name
-map_copies : (P : List ℕ → ℕ) (e : List ℕ) (k : ℕ) → map P (replicate k e) ≡ replicate k (P e)
-map_copies P e zero = refl
-map_copies P e (suc k) = ap (λ l. P e ∷ l) (map_copies P e k)
-
-copies_known : (n k : ℕ) → are_known (replicate k (suc n)) ≡ true
-copies_known n zero = refl
-copies_known n (suc k) = copies_known n k
-
-copies_sum : (n k : ℕ) → sum_of (replicate k n) ≡ k * n
-copies_sum n zero = omega arith
-copies_sum n (suc k) = let r = copies_sum n k in let p = suc-mul k n in omega (arith, r, p)
-
-copies_or : (n k : ℕ) → together (replicate k n) ≡ fitting (k * n)
-copies_or n zero = ap (λ i. fitting i) {x = 0} {y = 0 * n} (omega arith)
-copies_or zero (suc k) = ap (λ i. fitting i) {x = 0} {y = suc k * 0} (omega arith)
-copies_or (suc n) (suc k) = ap (λ b. cond b (fitting (sum_of (replicate (suc k) (suc n)))) 0) (copies_known n (suc k)) ∙ ap (λ i. fitting i) (copies_sum (suc n) (suc k))
-
-pub copies_together : (P : List ℕ → ℕ) (e : List ℕ) (k : ℕ) → together (map P (replicate k e)) ≡ fitting (k * P e)
-copies_together P e k = ap (λ l. together l) (map_copies P e k) ∙ copies_or (P e) k
 
 -- ---- the size of a definition
 module _ (P : List ℕ → ℕ) (o : Option Shape) (s : Shape) (there : o ≡ Some s) where

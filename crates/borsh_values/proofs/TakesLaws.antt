@@ -119,13 +119,6 @@ module _ (C : List ℕ → Option Shape) where
       let n : length ((tag w (pos b.0) ++ b.1) ++ m.1) ≡ w + length b.1 + length m.1 = simp (length-append, length-tag) in
       absurd (omega (arith, l, n))
 
-  pub short_primitive : {x : List ℕ} {n : ℕ} {bytes : List ℕ} → length bytes < n → C x ≡ Some (primitive n) → BeginsWith C x bytes → ⊥
-  short_primitive {n = n} h c m =
-      let b = member_as C (primitive n) c m.2 in
-      let l = ap (λ l. length l) m.3 ∙ length-append m.0 m.1 in
-      let s = b.0 in
-      absurd (omega (arith, l, s, h))
-
   pub short_choice : {x : List ℕ} {w : ℕ} {vs : List (ℤ × List ℕ)} {bytes : List ℕ} → length bytes < w → C x ≡ Some (choice w vs) → BeginsWith C x bytes → ⊥
   short_choice {w = w} {vs = vs} h c m =
       let b = member_as C (choice w vs) c m.2 in

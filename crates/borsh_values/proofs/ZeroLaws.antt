@@ -10,9 +10,6 @@ use Rattle.borsh_values.specs.Layouts.{parts_in}
 use Rattle.borsh_values.specs.Zeros.{IsFull, IsProduct, ZeroAt, AreZeros}
 
 module _ (C : List ℕ → Option Shape) where
-  pub undefined_full : {x : List ℕ} → C x ≡ None → IsZeroSize C x → ⊥
-  undefined_full {x} u (zeroed d ps e z h) = (let q : None ≡ Some d = sym u ∙ e in cc)
-
   pub unit_zero : {x : List ℕ} (d : Shape) → C x ≡ Some d → zero_size_references d ≡ Some [] → IsZeroSize C x
   unit_zero d e z = zeroed d [] e z (λ p a. elim a [ ])
 

@@ -1,39 +1,28 @@
 // The adapters for the readers and writers of std.
-use super::support::{FULL, SHORT, TWELVE, check, is_error, is_invalid, is_kind_alone};
+use super::support::{FULL, LONG, SHORT, TWELVE, check, is_error, is_invalid, is_kind_alone};
 use borsh::io::{Error, ErrorKind, Read, StdReader, StdWriter, Write, flush_all};
-use borsh::{BorshDeserialize, to_writer};
+use borsh::{BorshDeserialize, from_reader, to_writer};
 use std::alloc::Global;
 use std::io::ErrorKind as Kind;
 use std::test::Fail;
 
-/// The kinds of std's errors that have a kind of the same name here.
-const NAMED: [(Kind, ErrorKind); 18] = [
-    (Kind::NotFound, ErrorKind::NotFound),
-    (Kind::PermissionDenied, ErrorKind::PermissionDenied),
-    (Kind::ConnectionRefused, ErrorKind::ConnectionRefused),
-    (Kind::ConnectionReset, ErrorKind::ConnectionReset),
-    (Kind::ConnectionAborted, ErrorKind::ConnectionAborted),
-    (Kind::NotConnected, ErrorKind::NotConnected),
-    (Kind::AddrInUse, ErrorKind::AddrInUse),
-    (Kind::AddrNotAvailable, ErrorKind::AddrNotAvailable),
-    (Kind::BrokenPipe, ErrorKind::BrokenPipe),
-    (Kind::AlreadyExists, ErrorKind::AlreadyExists),
-    (Kind::WouldBlock, ErrorKind::WouldBlock),
-    (Kind::InvalidInput, ErrorKind::InvalidInput),
-    (Kind::InvalidData, ErrorKind::InvalidData),
-    (Kind::TimedOut, ErrorKind::TimedOut),
-    (Kind::WriteZero, ErrorKind::WriteZero),
-    (Kind::UnexpectedEof, ErrorKind::UnexpectedEof),
-    (Kind::OutOfMemory, ErrorKind::OutOfMemory),
-    (Kind::Other, ErrorKind::Other),
-];
+/// The kinds of std's errors, each with the kind that it has here: that of the same name, or else `Other`.
+macro_rules! kinds {
+    ($($named:ident),*; $($other:ident),*) => {
+        [$((Kind::$named, ErrorKind::$named),)* $((Kind::$other, ErrorKind::Other),)*]
+    };
+}
 
-/// Some of those that become `Other`. An interruption is no error.
-const OTHERS: [Kind; 3] = [
-    Kind::HostUnreachable,
-    Kind::StorageFull,
-    Kind::Uncategorized,
-];
+/// All but `Interrupted`, which is no error.
+const KINDS: [(Kind, ErrorKind); 41] = kinds!(
+    NotFound, PermissionDenied, ConnectionRefused, ConnectionReset, ConnectionAborted, NotConnected, AddrInUse,
+    AddrNotAvailable, BrokenPipe, AlreadyExists, WouldBlock, InvalidInput, InvalidData, TimedOut, WriteZero, UnexpectedEof,
+    OutOfMemory, Other;
+    HostUnreachable, NetworkUnreachable, NetworkDown, NotADirectory, IsADirectory, DirectoryNotEmpty, ReadOnlyFilesystem,
+    FilesystemLoop, StaleNetworkFileHandle, StorageFull, NotSeekable, QuotaExceeded, FileTooLarge, ResourceBusy,
+    ExecutableFileBusy, Deadlock, CrossesDevices, TooManyLinks, InvalidFilename, ArgumentListTooLong, Unsupported, InProgress,
+    Uncategorized
+);
 
 /// A device of std's that takes and gives single bytes. Some calls are interrupted before each call that succeeds, and one call
 /// fails.
@@ -84,7 +73,7 @@ impl std::io::Read for Device {
     fn read(&mut self, buf: &mut [u8]) -> std::io::Result<usize> {
         self.begin()?;
         let n = buf.len().min(1);
-        buf[..n].fill(12);
+        buf[..n].fill(7);
         self.bytes.extend_from_slice(&buf[..n])?;
         Ok(n)
     }
@@ -118,12 +107,24 @@ fn check_reader(alloc: Global, after: u32, kind: Kind, expected: ErrorKind) -> R
     let is_end = expected == ErrorKind::UnexpectedEof && is_invalid(&outcome, SHORT);
     let is_failed = is_end || is_kind_alone(&outcome, expected);
     check(is_failed && reader.faults() == 1, "failed read", number)?;
-    let is_right = u8::deserialize_reader(alloc, &mut reader)? == 12;
+    let is_right = u8::deserialize_reader(alloc, &mut reader)? == 7;
     check(is_right, "next read", number)?;
     let mut reader = StdReader::new(Device::new(alloc, 0, Some((0, kind))), 0);
     let first = reader.read(&mut [0u8; 2]);
     let is_right = is_kind_alone(&first, expected) && reader.faults() == 1;
     check(is_right, "first read", number)
+}
+
+/// Reads a byte and looks for the end, where the device fails so: a false end of the input is the end, and behind any other error
+/// there may be more bytes.
+fn check_last_look(alloc: Global, kind: Kind) -> Result<(), Fail> {
+    let mut reader = StdReader::new(Device::new(alloc, 0, Some((1, kind))), 0);
+    let outcome = from_reader::<_, u8>(alloc, &mut reader);
+    let is_right = match outcome {
+        Ok(value) => kind == Kind::UnexpectedEof && value == 7,
+        Err(_) => kind != Kind::UnexpectedEof && is_invalid(&outcome, LONG),
+    };
+    check(is_right && reader.faults() == 1, "last look", 0)
 }
 
 /// Writes into a device that fails so at the call after so many bytes, which is counted, and flushes it; and makes a first flush
@@ -147,6 +148,7 @@ fn check_writer(alloc: Global, after: u32, kind: Kind, expected: ErrorKind) -> R
 }
 
 fn check_kind(alloc: Global, kind: Kind, expected: ErrorKind) -> Result<(), Fail> {
+    check_last_look(alloc, kind)?;
     for after in 0..8 {
         check_reader(alloc, after, kind, expected)?;
         check_writer(alloc, after, kind, expected)?;
@@ -156,11 +158,8 @@ fn check_kind(alloc: Global, kind: Kind, expected: ErrorKind) -> Result<(), Fail
 
 #[test]
 fn errors_of_readers_and_writers_keep_their_kind(rt: HostRuntime) -> Result<(), Fail> {
-    for &(kind, expected) in &NAMED {
+    for &(kind, expected) in &KINDS {
         check_kind(rt.alloc(), kind, expected)?;
-    }
-    for &kind in &OTHERS {
-        check_kind(rt.alloc(), kind, ErrorKind::Other)?;
     }
     Ok(())
 }
@@ -179,7 +178,7 @@ fn is_read_at_last(alloc: Global, interruptions: u32) -> Result<bool, Fail> {
     let is_refused = interruptions > MOST
         && is_given_up(&u64::deserialize_reader(alloc, &mut reader));
     let is_counted = reader.faults() == u64::from(is_refused);
-    let is_read = u64::deserialize_reader(alloc, &mut reader)? == 0x0c0c0c0c0c0c0c0c;
+    let is_read = u64::deserialize_reader(alloc, &mut reader)? == 0x0707070707070707;
     Ok(is_read && is_counted && is_refused == (interruptions > MOST))
 }
 

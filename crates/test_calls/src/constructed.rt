@@ -1,6 +1,7 @@
 // Values that a program makes: which of them the bytes mean, and values that no bytes make.
 use super::shapes::named_fields;
 use super::support::{check, check_value, check_written, is_written, owned_text};
+use super::tagged::Tagged;
 use borsh::schema::LengthRange;
 use borsh::{BorshDeserialize, BorshSerialize, from_slice, schema_container_of, to_vec};
 use borsh_samples::{A, MyEnum, ShortA};
@@ -42,6 +43,9 @@ fn each_field_is_where_its_bytes_are(rt: HostRuntime) -> Result<(), Fail> {
     let y = owned_text(alloc, "liber primus")?;
     let bytes = b"\xe5\x0c\0\0\0\0\0\0\x0c\0\0\0liber primus";
     check_written(alloc, "struct", &A { x: 3301, y }, bytes)?;
+    let tag = owned_text(alloc, "hello")?;
+    let bytes = b"\x05\0\0\0hello\x2a\0\0\0\0\0\0\0";
+    check_written(alloc, "tagged", &Tagged { tag, value: 42 }, bytes)?;
     let many = MyEnum::Many(Vec::from_slice(alloc, &[8u8, 9])?);
     check_written(alloc, "enum", &many, b"\x02\x02\0\0\0\x08\x09")?;
     check_value(alloc, "range", 3u8..4, b"\x03\x04")?;

@@ -41,4 +41,8 @@ mod support;
 #[cfg(test)]
 mod sweeps;
 #[cfg(test)]
+mod tagged;
+#[cfg(test)]
 mod unwritten;
+#[cfg(test)]
+mod without_memory;

@@ -1,5 +1,5 @@
 // Runs of the program's lines over readers and writers of every kind.
-use super::support::{check, is_error};
+use super::support::{FULL, check, is_error};
 use borsh::io::{ErrorKind, Result as IoResult};
 use borsh_check_lines::{finish, run};
 use std::alloc::Global;
@@ -17,6 +17,8 @@ const OUTPUT: &[u8] =
     ok 0200000001090208\nerror no schema\nmissing 41\n";
 
 const REPORT_OF_ABORTED: &[u8] = b"borsh_check: I don't like to run\n";
+
+const REPORT_OF_FULL: &[u8] = b"borsh_check: failed to write whole buffer\n";
 
 /// Whether `finish` answers this status for the outcome, and writes these bytes.
 fn ended_with(alloc: Global, outcome: &IoResult<()>, status: u8, report: &[u8]) -> bool {
@@ -70,6 +72,26 @@ fn has_beginning(alloc: Global, len: usize) -> Result<bool, Fail> {
     let is_told = is_reported(alloc, &outcome, Failure::Aborted) && writer.faults() == 1;
     let taken = writer.taken();
     Ok(is_told && taken.len() == len && OUTPUT.starts_with(taken))
+}
+
+/// Whether a writer that is full after so many bytes has these of the answers, and the error is reported.
+fn has_room_for(alloc: Global, len: usize, course: Course) -> bool {
+    let mut reader = TestReader::new(INPUT, Course::smooth());
+    let mut writer = TestWriter::new(Vec::new(alloc), len, course);
+    let outcome = run(alloc, &mut reader, &mut writer);
+    let is_told = is_error(&outcome, ErrorKind::WriteZero, FULL)
+        && ended_with(alloc, &outcome, 1, REPORT_OF_FULL);
+    is_told && OUTPUT.get(..len) == Some(writer.taken())
+}
+
+#[test]
+fn a_full_writer_has_the_first_bytes(rt: HostRuntime) -> Result<(), Fail> {
+    for len in 0..OUTPUT.len() {
+        for course in courses() {
+            check(has_room_for(rt.alloc(), len, course), "full writer", len)?;
+        }
+    }
+    Ok(())
 }
 
 #[test]

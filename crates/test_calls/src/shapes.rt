@@ -24,7 +24,7 @@ fn unnamed_fields(alloc: Global) -> Result<Fields, Fail> {
     Ok(Fields::UnnamedFields(names(alloc)?))
 }
 
-fn choice(alloc: Global) -> Result<Definition, Fail> {
+pub(crate) fn choice(alloc: Global) -> Result<Definition, Fail> {
     let mut variants = Vec::new(alloc);
     variants.push((-1, owned_text(alloc, "Minus")?, owned_text(alloc, "u8")?))?;
     variants.push((2, owned_text(alloc, "Two")?, owned_text(alloc, "u16")?))?;
@@ -58,6 +58,13 @@ pub(crate) fn of_each_kind(alloc: Global) -> Result<BTreeMap<String, Definition>
     let fields = Fields::Empty;
     all.insert(owned_text(alloc, "empty")?, Definition::Struct { fields })?;
     Ok(all)
+}
+
+/// `u8` as one byte.
+pub(crate) fn one_byte(alloc: Global) -> Result<BTreeMap<String, Definition>, Fail> {
+    let mut definitions = BTreeMap::new(alloc);
+    definitions.insert(owned_text(alloc, "u8")?, Definition::Primitive(1))?;
+    Ok(definitions)
 }
 
 /// So many definitions: `T0` of no bytes, `T1` of one, and so on.

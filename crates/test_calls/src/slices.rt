@@ -1,8 +1,7 @@
-// Slices as readers and writers.
+// Slices as readers; as writers they are in `without_memory`.
 use super::support::{SHORT, check, is_invalid};
 use borsh::BorshDeserialize;
 use borsh::error::ERROR_ZST_FORBIDDEN;
-use borsh::io::Write;
 use std::alloc::Global;
 use std::collections::BTreeMap;
 use std::ops::Range;
@@ -24,16 +23,8 @@ fn a_slice_keeps_what_is_not_taken(rt: HostRuntime) -> Result<(), Fail> {
         && is_untouched::<Vec<Range<()>>>(alloc, none, ERROR_ZST_FORBIDDEN)
         && is_untouched::<BTreeMap<(), u8>>(alloc, none, ERROR_ZST_FORBIDDEN)
         && is_untouched::<u32>(alloc, b"\x01\x02\x03", SHORT);
-    check(are_untouched, "refused", 0)
-}
-
-#[test]
-fn one_write_takes_all_that_fits() -> Result<(), Fail> {
-    let mut space = [0u8; 3];
-    let mut rest = space.as_mut_slice();
-    let is_taken = matches!(rest.write(&[1, 2]), Ok(2));
-    let is_cut = matches!(rest.write(&[3, 4]), Ok(1));
-    let is_full = rest.is_empty();
-    let are_written = space == [1, 2, 3];
-    check(is_taken && is_cut && is_full && are_written, "write", 3)
+    check(are_untouched, "refused", 0)?;
+    let mut rest = b"\x01\0\0\0Az".as_slice();
+    let is_a = String::deserialize(alloc, &mut rest)?.as_str() == "A";
+    check(is_a && rest == b"z".as_slice(), "text", 0)
 }

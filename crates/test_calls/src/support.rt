@@ -6,6 +6,8 @@ use std::test::Fail;
 
 pub(crate) const SHORT: &str = "Unexpected length of input";
 
+pub(crate) const LONG: &str = "Not all bytes read";
+
 pub(crate) const FULL: &str = "failed to write whole buffer";
 
 /// 12 as a number of eight bytes.

@@ -1,4 +1,4 @@
-use Rattle.std.proofs.Common.{◌≡◌, ◌<◌, ◌∙◌, [], ap, subst, sym}
+use Rattle.std.proofs.Common.{◌<◌, ◌∙◌, ap, subst, sym}
 use Rattle.borsh_walks.specs.Definitions.{definitions_in, shape_of}
 use Rattle.borsh_values.specs.Layouts.{name_at, parts_in, shape_at}
 use Rattle.borsh_values.specs.Free.{FreeSize, FreeSizes}
