@@ -57,7 +57,7 @@ module _ (F : List ℕ → Option Form) (ns : List Named) (x : List ℕ) (f : Fo
       let g : f ≡ choice 1 vs = cc in
       let s : shape_of_form f ≡ choice_shape 1 us = ap shape_of_form g in
       let t = read_variant (shapes F) 1 us own parts found (subst (λ (s : Shape). Opens (shapes F) s own parts) s o.1) (subst (λ (s : Shape). IsVariantOf s own found) s v) in
-      of_two z.0 z.2 (sym s) t.0 t.1 t.2 t.3 t.4 t.5 t.6
+      of_two z.0 z.2.1 (sym s) t.0 t.1 t.2 t.3 t.4 t.5 t.6
     where
       of_two : (none : List ℕ) → HasNoBytes F none → choice_shape 1 ((pos 0, none) ∷ (pos 1, p) ∷ []) ≡ shape_of_form f → (i : ℕ) (k : ℤ) (y : List ℕ) → found ≡ Some i → slice_get {X = ℤ × List ℕ} ((pos 0, none) ∷ (pos 1, p) ∷ []) i ≡ Some (k, y) → own ≡ tag 1 k → Opens (shapes F) (choice_shape 1 ((pos 0, none) ∷ (pos 1, p) ∷ [])) own (y ∷ []) → ((found ≡ Some 0) × (own ≡ 0 ∷ []) × (none : List ℕ) × HasNoBytes F none × Opens (shapes F) (shape_of_form f) own (none ∷ [])) ⊎ ((found ≡ Some 1) × (own ≡ 1 ∷ []) × Opens (shapes F) (shape_of_form f) own (p ∷ []))
       of_two none z s zero k y e g t w =

@@ -10,7 +10,7 @@ use Rattle.std.specs.Borrow.{Bor}
 use Rattle.std.specs.Global.{Global}
 use Rattle.borsh_walks.specs.Container.{Shape, IsIn, first, references, IsZeroSize, zeroed, zero_size_references}
 use Rattle.borsh_walks.specs.Container as shape
-use Rattle.borsh_json.specs.Forms.{Form, primitive, sequence, tuple, newtype, unnamed, choice, form_of_parts, shape_of_form, HasNoBytes, IsList, IsByte, IsOption, IsMap}
+use Rattle.borsh_json.specs.Forms.{Form, primitive, sequence, tuple, newtype, unnamed, choice, form_of_parts, shape_of_form, HasNoBytes, IsList, IsByte, IsUnit, IsOption, IsMap}
 use Rattle.borsh_json.specs.Found.{joined, IsMapName, IsSetName}
 
 pub newtype_is : (ps : List (List ℕ)) → MatchBool (eqb (length ps) 1) ((p : List ℕ) × (form_of_parts ps ≡ newtype p)) ((p : List ℕ) → form_of_parts ps ≡ newtype p → ⊥)
@@ -135,7 +135,7 @@ two (x ∷ y ∷ z ∷ xs) a b l e f = absurd (omega (arith, l))
 
 -- ---- options
 module _ (F : List ℕ → Option Form) (x : List ℕ) (vs : List (ℤ × List ℕ × List ℕ)) (h : F x ≡ Some (choice 1 vs)) where
-  pub option_needs : (p : List ℕ) → IsOption F x p → (none : List ℕ) × (vs ≡ (pos 0, codes "None", none) ∷ (pos 1, codes "Some", p) ∷ []) × HasNoBytes F none × (x ≡ codes "Option<" ++ p ++ codes ">")
+  pub option_needs : (p : List ℕ) → IsOption F x p → (none : List ℕ) × (vs ≡ (pos 0, codes "None", none) ∷ (pos 1, codes "Some", p) ∷ []) × IsUnit F none × (x ≡ codes "Option<" ++ p ++ codes ">")
   option_needs p o =
       let g : Some (choice 1 vs) ≡ Some (choice 1 ((pos 0, codes "None", o.0) ∷ (pos 1, codes "Some", p) ∷ [])) = sym h ∙ o.1 in
       (o.0, cc, o.2, o.3)
@@ -204,7 +204,7 @@ module _ (F : List ℕ → Option Form) (x : List ℕ) (vs : List (ℤ × List �
       let j : b ≡ second = cc in
       elim n [ inl m ↦ m (ap (λ (v : ℤ × List ℕ × List ℕ). v.0) i, ap (λ (v : ℤ × List ℕ × List ℕ). v.1) i) | inr m ↦ m (ap (λ (v : ℤ × List ℕ × List ℕ). v.0) j, ap (λ (v : ℤ × List ℕ × List ℕ). v.1) j) ]
 
-  pub option_found : (none p : List ℕ) → vs ≡ (pos 0, codes "None", none) ∷ (pos 1, codes "Some", p) ∷ [] → HasNoBytes F none → (r : Bool) → Decides r (x ≡ codes "Option<" ++ p ++ codes ">") → IsFound r
+  pub option_found : (none p : List ℕ) → vs ≡ (pos 0, codes "None", none) ∷ (pos 1, codes "Some", p) ∷ [] → IsUnit F none → (r : Bool) → Decides r (x ≡ codes "Option<" ++ p ++ codes ">") → IsFound r
   option_found none p e z true d = (p, ap (λ vs. slice_get (map (λ v. v.2) vs) 1) e, (none, h ∙ ap (λ vs. Some (choice 1 vs)) e, z, d.0 refl))
   option_found none p e z false d = λ q o.
       let n = option_needs F x vs h q o in

@@ -33,7 +33,7 @@ module _ (F : List ℕ → Option Form) (k : List ℕ) where
   text_bytes : (s own : List ℕ) → AreKeys F k texts → SaysFirst F k (key_json texts s) own [] → (length s < 256 ^ 4) × (own ≡ tag 4 (pos (length s)) ++ s)
   text_bytes s own a f =
       let l : Lengths = record { width = 4; least = 0; greatest = 4294967295 } in
-      let h : HasKind F k (utf8 l) = inr (full_list F a.1, sequence 4 0 4294967295 (codes "u8"), a.1, a_text a.0 a.2) in
+      let h : HasKind F k (utf8 l) = inr (full_list F a.1, sequence 4 0 4294967295 (codes "u8"), a.1, a_text (a.0, refl) a.2) in
       let r = subst (λ kind. Says F kind (string s) own []) (kind_one F f.1 h) f.2 in
       let e = one_string s r.0 r.1 in
       let p : 256 ^ 4 ≡ 4294967296 = refl in

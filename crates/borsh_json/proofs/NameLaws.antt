@@ -16,7 +16,7 @@ use Rattle.borsh_json.specs.declared.kinds.Kind.{Kind as Found}
 use Rattle.borsh_json.specs.declared.kinds.Kind.TheVariants.{Number as NumberKind, Bool as Truth, Text, Bytes, Float, ByteList, Numbers, List as ElementList, Map as Entries, Row, Newtype, Object, Optional, Choice, Repeated}
 use Rattle.borsh_json.specs.declared.numbers.Number.{Number}
 use Rattle.borsh_json.specs.Forms.{Form, primitive, sequence, tuple, newtype, unnamed, named, choice, HasNoBytes, IsByte, IsOption, IsMap, shape_of_form, shapes}
-use Rattle.borsh_json.specs.Table.{Keys, texts, numbers, Kind, truth, whole, float, utf8, byte_list, list, fields, variants, optional, entries, inner, DefinedKind, number_types, number_kind, primitive_kind, AreKeys, SequenceKind, a_text, some_bytes, an_object, some_elements, nullable, by_name, HasKind, IsNullable, MayBeNull, without_bytes, an_option, in_newtype, Says}
+use Rattle.borsh_json.specs.Table.{Lengths, IsString, Keys, texts, numbers, Kind, truth, whole, float, utf8, byte_list, list, fields, variants, optional, entries, inner, DefinedKind, number_types, number_kind, primitive_kind, AreKeys, SequenceKind, a_text, some_bytes, an_object, some_elements, nullable, by_name, HasKind, IsNullable, MayBeNull, without_bytes, an_option, in_newtype, Says}
 use Rattle.borsh_json.specs.Ranks.{number_found}
 use Rattle.borsh_json.specs.Places.{IsAt, IsInfinity, IsKindOf, IsListOf, IsUnsayable, lengths_of}
 use Rattle.borsh_json.specs.Found.{IsCollection, IsPrimitiveKind, IsRefusedList}
@@ -97,7 +97,19 @@ module _ (F : List ℕ → Option Form) where
   text_keys k f e a =
       let g : Some f ≡ Some (sequence 4 0 4294967295 (codes "u8")) = sym e ∙ a.1 in
       let h : sequence 4 0 4294967295 (codes "u8") ≡ f = cc in
-      (texts, a, (refl, inr (keys_full k texts a, sequence 4 0 4294967295 (codes "u8"), a.1, subst (λ f. SequenceKind F k (record { width = 4; least = 0; greatest = 4294967295 }) (codes "u8") (utf8 (lengths_of f))) h (a_text a.0 a.2))))
+      (texts, a, (refl, inr (keys_full k texts a, sequence 4 0 4294967295 (codes "u8"), a.1, subst (λ f. SequenceKind F k (record { width = 4; least = 0; greatest = 4294967295 }) (codes "u8") (utf8 (lengths_of f))) h (a_text (a.0, refl) a.2))))
+
+  -- a list with the name, the lengths and the elements of a `String` is one
+  pub text_is : (x : List ℕ) (w lo hi : ℕ) (e : List ℕ) → F x ≡ Some (sequence w lo hi e) → IsString x (lengths_of (sequence w lo hi e)) → IsByte F e → AreKeys F x texts
+  text_is x w lo hi e d s b = (
+    s.0,
+    d
+        ∙ ap (λ w. Some (sequence w lo hi e)) (ap (λ (l : Lengths). l.width) s.1)
+        ∙ ap (λ lo. Some (sequence 4 lo hi e)) (ap (λ (l : Lengths). l.least) s.1)
+        ∙ ap (λ hi. Some (sequence 4 0 hi e)) (ap (λ (l : Lengths). l.greatest) s.1)
+        ∙ ap (λ e. Some (sequence 4 0 4294967295 e)) b.0,
+    subst (λ e. IsByte F e) b.0 b,
+  )
 
   -- ---- collections
   pub no_map_in : (ns : List Named) (x : List ℕ) (c : Collection) → IsCollection F ns x c → ((a b : ℕ) → c ≡ Map a b → ⊥) → (k v : List ℕ) → IsMap F x k v → ⊥
@@ -151,10 +163,10 @@ module _ (F : List ℕ → Option Form) where
 
     -- sequences
     module _ (w lo hi : ℕ) (e : List ℕ) (d : F x ≡ Some (sequence w lo hi e)) where
-      pub text_kind : x ≡ codes "String" → IsByte F e → HasKind F x (utf8 (lengths_of (sequence w lo hi e)))
+      pub text_kind : IsString x (lengths_of (sequence w lo hi e)) → IsByte F e → HasKind F x (utf8 (lengths_of (sequence w lo hi e)))
       text_kind s b = inr (full, sequence w lo hi e, d, a_text s b)
 
-      pub bytes_kind : (x ≡ codes "String" → ⊥) → IsByte F e → HasKind F x (byte_list (lengths_of (sequence w lo hi e)) e)
+      pub bytes_kind : (IsString x (lengths_of (sequence w lo hi e)) → ⊥) → IsByte F e → HasKind F x (byte_list (lengths_of (sequence w lo hi e)) e)
       bytes_kind s b = inr (full, sequence w lo hi e, d, some_bytes s b)
 
       pub entries_kind : (k v : List ℕ) (keys : Keys) → IsMap F x k v → AreKeys F k keys → HasKind F x (entries (lengths_of (sequence w lo hi e)) keys k v)

@@ -94,7 +94,7 @@ module _ (F : List ℕ → Option Form) where
       let o = b.1 in
       let a = member_as (shapes F) (shape.choice 1 ((pos 0, o.0) ∷ (pos 1, e) ∷ [])) (shaped (F x) o.1) m in
       elim (of_option o.0 e a.0 a.1 a.3) [
-        | inl v ↦ (let z : a.2 ≡ [] = zero_member (shapes F) (subst (λ q. Member (shapes F) q a.2) v.1 a.4) o.2 in
+        | inl v ↦ (let z : a.2 ≡ [] = zero_member (shapes F) (subst (λ q. Member (shapes F) q a.2) v.1 a.4) o.2.1 in
             counted x w e h (f e first) 0 bs [] more ts rs (subst (λ w. 0 < 256 ^ w) (sym b.0) (omega arith)) (a.5 ∙ ap (λ k. tag 1 k ++ a.2) v.0 ∙ ap (λ l. tag 1 (pos 0) ++ l) z ∙ ap (λ w. tag w (pos 0) ++ []) (sym b.0)) no_members r)
         | inr v ↦ counted x w e h (f e first) 1 bs a.2 more ts rs (subst (λ w. 1 < 256 ^ w) (sym b.0) (omega arith)) (a.5 ∙ ap (λ k. tag 1 k ++ a.2) v.0 ∙ ap (λ w. tag w (pos 1) ++ a.2) (sym b.0)) (subst (λ l. Members (shapes F) (e ∷ []) l) (append-nil a.2) (more_members (subst (λ q. Member (shapes F) q a.2) v.1 a.4) no_members)) r
       ]

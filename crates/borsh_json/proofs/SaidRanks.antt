@@ -135,7 +135,7 @@ module _ (F : List ℕ → Option Form) where
   said_text : (x : List ℕ) → HasOrder F x text → OrdersBytes F x text → SaidRanks x
   said_text x o b j bs more ts rs h r =
       let l : Lengths = record { width = 4; least = 0; greatest = 4294967295 } in
-      let k : HasKind F x (utf8 l) = inr (full_list F b.1, sequence 4 0 4294967295 (codes "u8"), b.1, a_text b.0 b.2) in
+      let k : HasKind F x (utf8 l) = inr (full_list F b.1, sequence 4 0 4294967295 (codes "u8"), b.1, a_text (b.0, refl) b.2) in
       let p = opened h in
       let s = subst (λ (kind : Kind). Says F kind j p.1 p.2) (kind_one F p.4 k) p.5 in
       let e : bs ≡ p.1 = p.7 ∙ ap (λ l. p.1 ++ l) (no_parts F p.6 s.4) ∙ append-nil p.1 in
@@ -197,7 +197,7 @@ module _ (F : List ℕ → Option Form) where
       (length s.1, cs, t.0, p.0, p.1, ap (λ b. b ++ cs) (p.2 ∙ append-nil (tag l.width (pos (length s.1)))), subst (λ n. Rank F (elements e n ∷ ts) (cs ++ more) t.0) q.1 t.1)
 
   of_sequence : {kind : Kind} (x e : List ℕ) (l : Lengths) → F x ≡ Some (sequence l.width l.least l.greatest e) → (x ≡ codes "String" → ⊥) → IsOrdered F e → SaidRanks e → (j : Json) (own : List ℕ) (qs : List Part) (cs more : List ℕ) (ts : List Ranked) (rs : List ℤ) → SequenceKind F x l e kind → Says F kind j own qs → HaveBytes F qs cs → Rank F ts more rs → SaidElements l e (own ++ cs) more ts
-  of_sequence x e l c n o f j own qs cs more ts rs (a_text t b) s h r = absurd (n t)
+  of_sequence x e l c n o f j own qs cs more ts rs (a_text t b) s h r = absurd (n t.0)
   of_sequence x e l c n o f j own qs cs more ts rs (some_bytes t b) (inl s) h r =
       let d = s.1 in
       let a = decode_of-ok d.0 s.0 d.2 in
@@ -264,7 +264,7 @@ module _ (F : List ℕ → Option Form) where
       elim (which i.0 e s.1 s.2 s.3 s.4) [
         | inl v ↦ elim s.6 [
           | inl a ↦ of_none e f own qs cs more ts rs (own_is (pos 0) v.0) a.2 h r
-          | inr a ↦ absurd (a.2 (subst (λ p. HasNoBytes F p) (sym v.1) i.2))
+          | inr a ↦ absurd (a.2 (subst (λ p. HasNoBytes F p) (sym v.1) i.2.1))
         ]
         | inr v ↦ elim s.6 [
           | inl a ↦ of_some e f null own cs more ts rs (own_is (pos 1) v.0) (null_said (subst (λ p. HasNoBytes F p) v.1 a.1) (no_parts F h a.2)) r

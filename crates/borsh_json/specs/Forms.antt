@@ -69,12 +69,16 @@ module _ (F : List ℕ → Option Form) where
   abbrev pub IsByte : List ℕ → Type 0
   IsByte e = (e ≡ codes "u8") × (F e ≡ Some (primitive 1))
 
-  -- `Option<T>`, where p is T: `None` has the tag 0 and no bytes, `Some` the tag 1 and a `T`
+  -- the part is the format's `()`, which has no bytes
+  abbrev pub IsUnit : List ℕ → Type 0
+  IsUnit e = (e ≡ codes "()") × HasNoBytes e
+
+  -- `Option<T>`, where p is T: `None` has the tag 0 and a `()`, `Some` the tag 1 and a `T`
   abbrev pub IsOption : List ℕ → List ℕ → Type 0
   IsOption x p =
       (none : List ℕ)
       × (F x ≡ Some (choice 1 ((pos 0, codes "None", none) ∷ (pos 1, codes "Some", p) ∷ [])))
-      × HasNoBytes none
+      × IsUnit none
       × (x ≡ codes "Option<" ++ p ++ codes ">")
 
   -- `BTreeMap<K, V>` or `HashMap<K, V>`, where k is K and v is V: a list of tuples of two

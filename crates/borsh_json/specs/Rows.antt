@@ -14,7 +14,8 @@ use Rattle.borsh_json.specs.declared.error.JsonError.{JsonError}
 use Rattle.borsh_json.specs.declared.rows.Rows.{Rows}
 use Rattle.borsh_json.specs.Errors.{IsNoRowsReason}
 use Rattle.borsh_json.specs.Forms.{Form, primitive, sequence, tuple, newtype, unnamed, named, choice, IsByte}
-use Rattle.borsh_json.specs.Table.{Kind, no_bytes, truth, whole, float, raw, utf8, byte_list, list, row, inner, fields, optional, variants, entries, primitive_kind, IsWhole}
+use Rattle.borsh_json.specs.Places.{lengths_of}
+use Rattle.borsh_json.specs.Table.{any_length, Kind, no_bytes, truth, whole, float, raw, utf8, byte_list, list, row, inner, fields, optional, variants, entries, primitive_kind, IsWhole}
 
 -- the layout by which rows are given
 abbrev pub rows_layout : Rows → Bor Layout
@@ -82,16 +83,20 @@ abbrev pub counted : ℕ → List ℕ
 counted k = if k == 1 then codes "1 element" else decimal k ++ codes " elements"
 
 module _ (F : List ℕ → Option Form) where
+  -- the name and the elements of the format's `String`
+  abbrev pub IsTextOf : List ℕ → List ℕ → Type 0
+  IsTextOf x e = (x ≡ codes "String") × IsByte F e
+
   -- the format's `String`
-  abbrev pub IsText : List ℕ → List ℕ → Type 0
-  IsText x e = (x ≡ codes "String") × IsByte F e
+  abbrev pub IsText : List ℕ → Form → List ℕ → Type 0
+  IsText x f e = IsTextOf x e × (lengths_of f ≡ any_length)
 
   -- what the own bytes of a part say, by its name and definition: a primitive, a text, the number of elements, or the name of a variant; nothing of others
   abbrev pub IsValueText : List ℕ → Form → List ℕ → List ℕ → Type 0
   IsValueText x (primitive n) own v = IsPrimitiveText (primitive_kind x n) own v
   IsValueText x (sequence w lo hi e) own v =
-      (IsText x e × IsQuoted (drop w own) v)
-      ⊎ ((IsText x e → ⊥) × (count : Option ℕ) × IsCountOf (counted_sequence w lo hi e) own count × MatchOption count (v ≡ []) (λ k. v ≡ counted k))
+      (IsText x (sequence w lo hi e) e × IsQuoted (drop w own) v)
+      ⊎ ((IsText x (sequence w lo hi e) e → ⊥) × (count : Option ℕ) × IsCountOf (counted_sequence w lo hi e) own count × MatchOption count (v ≡ []) (λ k. v ≡ counted k))
   IsValueText x (tuple ps) own v = v ≡ []
   IsValueText x (newtype p) own v = v ≡ []
   IsValueText x (unnamed ps) own v = v ≡ []

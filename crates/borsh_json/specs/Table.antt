@@ -22,6 +22,14 @@ pub record Lengths : Type 0 where
   pub least : ℕ
   pub greatest : ℕ
 
+-- those of the format's own lists: a length prefix of four bytes, and any length
+abbrev pub any_length : Lengths
+any_length = record { width = 4; least = 0; greatest = 4294967295 }
+
+-- the name and the lengths of the format's `String`, whose elements are `u8`
+abbrev pub IsString : List ℕ → Lengths → Type 0
+IsString x l = (x ≡ codes "String") × (l ≡ any_length)
+
 -- the keys of an object: texts, or numbers of so many bytes
 pub data Keys : Type 0 where
   texts : Keys
@@ -85,8 +93,8 @@ module _ (F : List ℕ → Option Form) where
 
   -- a sequence of elements e with these lengths
   pub data SequenceKind (x : List ℕ) (l : Lengths) (e : List ℕ) : Kind → Type 0 where
-    a_text : x ≡ codes "String" → IsByte F e → SequenceKind x l e (utf8 l)
-    some_bytes : (x ≡ codes "String" → ⊥) → IsByte F e → SequenceKind x l e (byte_list l e)
+    a_text : IsString x l → IsByte F e → SequenceKind x l e (utf8 l)
+    some_bytes : (IsString x l → ⊥) → IsByte F e → SequenceKind x l e (byte_list l e)
     an_object : {k v : List ℕ} {keys : Keys} → IsMap F x k v → AreKeys k keys → SequenceKind x l e (entries l keys k v)
     -- any other, whose elements have bytes, and a map's keys too
     some_elements :
@@ -214,7 +222,7 @@ module _ (F : List ℕ → Option Form) where
   Says (raw n) j own ps = IsHex j own × (length own ≡ n) × (ps ≡ [])
   -- a `String`: `"text"`
   Says (utf8 l) j own ps = (s : List ℕ) × (j ≡ string s) × IsUtf8 s × IsPrefixed l (length s) s own × (ps ≡ [])
-  -- a list or array of `u8`: `"0x0a1f"`, or `[10, 31]`
+  -- another list or array of `u8`: `"0x0a1f"`, or `[10, 31]`
   Says (byte_list l e) j own ps = ((bs : List ℕ) × IsHex j bs × IsPrefixed l (length bs) bs own × (ps ≡ [])) ⊎ IsArray l e j own ps
   -- another list, set or array: `[1, 2]`; or a map with other keys: `[[k, v], ..]`. The elements of a set and the keys of a map ascend: `InOrder` says so
   Says (list l e) j own ps = IsArray l e j own ps

@@ -1,6 +1,6 @@
 // The format's own types: a name is one of theirs if it is composed of the names of its parts, and has their definition. Names are
 // compared with the composed ones and never taken apart, since a container may give any definition to any name.
-ghost use Rattle.borsh_json.specs.Words.{HasForm, IsCollection, IsMapName, IsNamed, IsOption, IsSetName, choice, form_of, form_of_struct, forms_of, joined, newtype, sequence, tuple};
+ghost use Rattle.borsh_json.specs.Words.{HasForm, IsCollection, IsMapName, IsNamed, IsOption, IsSetName, IsUnit, choice, form_of, form_of_struct, forms_of, joined, newtype, sequence, tuple};
 ghost use Rattle.std.specs.Prelude.{◌≡◌, ◌++◌, ◌∷◌, [], ℕ, List, Decides, MatchBool, MatchOption, Some, codes, map, option_map, slice_get, string_bytes};
 
 use crate::definitions::Definitions;
@@ -73,10 +73,18 @@ fn are_of_option(
     if !is_variant(some, 1, "Some") {
         return false;
     }
-    if !definitions.is_zero_size(definitions.part(at, 0)) {
+    if !is_unit(definitions, definitions.part(at, 0)) {
         return false;
     }
     is_option_name(definitions.name(at), some)
+}
+
+/// Whether the name at a place is `()`, without bytes.
+fn is_unit(definitions: &Definitions<'_, '_>, at: usize) -> bool
+    ensures { (x : List ℕ) → IsNamed definitions.now at x →
+        Decides result (IsUnit (forms_of definitions.now) x) }
+{
+    definitions.name(at) == "()" && definitions.is_zero_size(at)
 }
 
 fn is_variant(variant: &(DiscriminantValue, VariantName, Declaration), tag: i64, name: &str) -> bool

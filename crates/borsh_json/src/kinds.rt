@@ -244,7 +244,7 @@ fn kind_of_bytes<'a>(
     ensures tells { HasElements definitions.old element (form_of definition.now) →
         TellsKindOrder definitions.old definitions.new.orders.items at (form_of definition.now) result }
 {
-    if definitions.name(at) == "String" {
+    if is_text(definitions, at, definition) {
         return Ok(Kind::Text);
     }
     let collection = collection_of(definitions, at, definition);

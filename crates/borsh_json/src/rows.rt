@@ -1,11 +1,12 @@
 // What each of the bytes of a value is.
 ghost use Rattle.borsh_json.specs.Words.{IsLaidOut, IsNoMemberReason, IsNoRowsReason, IsWhole, KnowsSizes, Member, definitions_in, form_of, forms_in, IsPrimitiveKind, primitive_kind};
-ghost use Rattle.borsh_json.specs.Rows.{AreRows, BeginsRows, GivesRow, IsNoRow, IsPrimitiveText, IsQuoted, IsText, IsValueText, counted, rows_layout};
+ghost use Rattle.borsh_json.specs.Rows.{AreRows, BeginsRows, GivesRow, IsNoRow, IsPrimitiveText, IsQuoted, IsTextOf, IsValueText, counted, rows_layout};
 ghost use Rattle.borsh_values.specs.Preorder.{GivesNext, IsInValue, layout_of};
 ghost use Rattle.std.specs.Prelude.{◌≡◌, ◌≤◌, [], false, ℕ, Decides, IfErr, IfOk, List, MatchOption, OnOk, string_bytes};
 
 use crate::error::{JsonError, Refusal};
 use crate::floats::shortest;
+use crate::formats::is_list;
 use crate::kinds::{Kind, kind_of_primitive};
 use crate::numbers::Number;
 use crate::strict::path_to;
@@ -143,7 +144,7 @@ pub fn value_of<'a>(
             primitive_text(alloc, kind_of_primitive(node.name, *size), node.bytes)
         }
         Definition::Sequence { elements, .. } => {
-            if is_text(map, node.name, elements.as_str()) {
+            if is_list(node.definition) && is_text(map, node.name, elements.as_str()) {
                 quoted(alloc, elements_of(node))
             } else {
                 counted_text(alloc, count_of(node))
@@ -162,9 +163,9 @@ pub fn value_of<'a>(
     }
 }
 
-/// Whether the name, of a sequence of these elements, is the format's `String`.
+/// Whether the name, of a list of these elements, is the format's `String`.
 fn is_text(map: &BTreeMap<String, Definition>, name: &str, element: &str) -> bool
-    ensures { Decides result (IsText (forms_in map.now) name.now element.now) }
+    ensures { Decides result (IsTextOf (forms_in map.now) name.now element.now) }
 {
     name == "String"
         && element == "u8"

@@ -19,9 +19,10 @@ use std::{fs, io};
 use test_devices::{Section, sections_of};
 
 /// The files of `data/`.
-const FILES: [&str; 5] = [
+const FILES: [&str; 6] = [
     "json.tsv",
     "formats.tsv",
+    "names.tsv",
     "members.tsv",
     "nodes.tsv",
     "types.tsv",

@@ -1,10 +1,12 @@
 use Rattle.std.proofs.Common.{◌∙◌, sym, ap, subst, Some, None, string_bytes}
 use Rattle.borsh_json.specs.Forms.{form_of, forms_in}
-use Rattle.borsh_json.specs.Rows.{IsText, IsValueText}
-use Rattle.borsh_json.proofs.FoundLaws.{got, got_at}
+use Rattle.borsh_json.specs.Places.{lengths_of}
+use Rattle.borsh_json.specs.Rows.{IsText, IsTextOf, IsValueText}
+use Rattle.borsh_json.proofs.FoundLaws.{got, got_at, not_true, on_false, on_true}
 use Rattle.std.specs.Option.{option_copied}
-use Rattle.borsh_json.proofs.RowsLaws.{primitive_value, text_value, count_value, variant_value, variant_there, nothing_value, if_same}
+use Rattle.borsh_json.proofs.RowsLaws.{any_lengths, primitive_value, text_value, count_value, variant_value, variant_there, nothing_value, if_same}
 use Rattle.borsh_json.proofs.rows.value_of.Goals as goal
+use Rattle.borsh_json.proofs.rows.value_of.Goals.{else-is_list-via-then-is_list+else-is_text, else-is_list-via-else-is_list}
 
 pub returns-in-Primitive : goal.returns-in-Primitive
 returns-in-Primitive c =
@@ -15,14 +17,19 @@ pub returns-then-is_text : goal.returns-then-is_text
 returns-then-is_text c =
     let n = c.args.node.now in
     let F = forms_in c.args.map.now in
+    let l = on_true _ c.is_list.result c.if-is_list.true c.is_list.ensures in
     let t = c.is_text.ensures.0 c.if-is_text.true in
-    text_value F n.name.now n.bytes.now n.definition.now _ _ _ c.in-Sequence.is (subst (λ e. IsText F n.name.now e) c.as_str.ensures.value t) c.elements_of.result.now c.elements_of.ensures c.quoted.result c.quoted.ensures
+    text_value F n.name.now n.bytes.now n.definition.now _ _ _ c.in-Sequence.is (subst (λ e. IsTextOf F n.name.now e) c.as_str.ensures.value t, ap (λ f. lengths_of f) l.1) c.elements_of.result.now c.elements_of.ensures c.quoted.result c.quoted.ensures
 
-pub returns-else-is_text : goal.returns-else-is_text
-returns-else-is_text c =
+pub returns-else-is_list : goal.returns-else-is_list
+returns-else-is_list c =
     let n = c.args.node.now in
     let F = forms_in c.args.map.now in
-    count_value F n.name.now n.bytes.now n.definition.now _ _ _ c.in-Sequence.is (λ t. let q = c.is_text.ensures.1 (subst (λ e. IsText F n.name.now e) (sym c.as_str.ensures.value) t) in let f = c.if-is_text.false in cc) c.count_of.result c.count_of.ensures c.counted_text.result c.counted_text.ensures
+    let no_text : IsText F n.name.now (form_of n.definition.now) (string_bytes c.in-Sequence.elements) → ⊥ = λ t. elim c.else-is_list.branch [
+      | else-is_list-via-then-is_list+else-is_text w ↦ not_true w.is_text.result w.is_text.ensures w.if-is_text.false (subst (λ e. IsTextOf F n.name.now e) (sym w.as_str.ensures.value) t.0)
+      | else-is_list-via-else-is_list w ↦ (let a = any_lengths n.definition.now _ _ _ c.in-Sequence.is t.1 in on_false _ c.is_list.result w.if-is_list.false c.is_list.ensures a.0 a.1)
+    ] in
+    count_value F n.name.now n.bytes.now n.definition.now _ _ _ c.in-Sequence.is no_text c.count_of.result c.count_of.ensures c.counted_text.result c.counted_text.ensures
 
 pub returns-in_default-variant_of : goal.returns-in_default-variant_of
 returns-in_default-variant_of c =
