@@ -76,6 +76,7 @@ fn tuples(alloc: Global, name: &str, call: &Call<'_>) -> Result<Report, Fault> {
         (u8, u8, u8, u8, u8, u8, u8, u8, u8, u8, u8, u8)),
         (RangeFull, PhantomData<u64>, Range<()>),
         (Range<i16>, RangeInclusive<u8>, RangeFrom<u8>, RangeTo<u8>, RangeToInclusive<u8>),
+        (RangeTo<String>, RangeToInclusive<String>),
         (Range<i32>, RangeInclusive<i32>, RangeFrom<i32>, RangeTo<i32>, RangeToInclusive<i32>,
         RangeFull))
 }
