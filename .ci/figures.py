@@ -17,7 +17,7 @@ BARS = {
     "lines of .rt": 36400,
     "of these, tests and examples": 9000,
     "must-fail edits": 75,
-    "crates with must-fail edits": 7,
+    "crates with must-fail edits": 8,
 }
 
 
