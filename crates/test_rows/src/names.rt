@@ -193,7 +193,7 @@ fn schemas(alloc: Global, name: &str, call: &Call<'_>) -> Result<Report, Fault> 
         LinkedList<u64>, Vec<Vec<u64>>, Vec<i64>, BTreeMap<u64, String>, HashMap<u64, String>,
         (u64, NonZeroU16, String), (u64, (u8, bool), String), PhantomData<String>,
         PhantomData<Vec<u8>>, RangeFull, Range<u64>, RangeTo<u64>, Rc<i32>, Arc<i32>;
-        "&str" = &str, "&[i64]" = &[i64], "Cow<[Cow<str>]>" = CowSlice<CowStr>,
+        "&str" = &str, "&[i64]" = &[i64], "Cow<[String]>" = CowSlice<String>,
         "Rc<[i32]>" = RcSlice<i32>, "Arc<[i32]>" = ArcSlice<i32>)
 }
 
