@@ -7,7 +7,10 @@ use crate::definition::{
 };
 use borsh_de::{BorshDeserialize, EnumExt, FromParts, invalid_data, read_parts, read_tag};
 use borsh_io::{Read, Result, Write};
-use borsh_ser::{BorshSerialize, put_bytes, put_tagged, put_three, put_two, write_bytes, write_tagged, write_three, write_two};
+use borsh_ser::{
+    BorshSerialize, put_bytes, put_tagged, put_three, put_two, write_bytes, write_tagged,
+    write_three, write_two,
+};
 use borsh_types::BorshType;
 use std::alloc::Global;
 
